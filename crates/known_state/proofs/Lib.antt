@@ -1,0 +1,4 @@
+pub mod LastsLemmas
+pub mod KnownLemmas
+pub mod StepLemmas
+pub mod RefusalLaws

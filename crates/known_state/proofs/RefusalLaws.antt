@@ -1,0 +1,62 @@
+-- What a known state refuses is no step.
+use Rattle.std.proofs.Common.{◌≡◌, ℕ, Bool, true, false, not, ◌&&◌, cond, List, [], ◌∷◌, Option, Some, None, refl, sym, ap, ◌∙◌, subst}
+use Rattle.std.specs.Prelude.{is_none, is_some}
+use Rattle.table_types.specs.declared.update.Update.{Update}
+use Rattle.table_types.specs.Tables.{Definition}
+use Rattle.table_types.specs.Rosters.{table_at, has_id}
+use Rattle.peers_msg.specs.declared.message.Message.{Message}
+use Rattle.peers_msg.specs.declared.message.Message.TheVariants as messages
+use Rattle.peers_msg.specs.declared.name_field.NameField.{NameField}
+use Rattle.peers_msg.specs.declared.name_field.NameField.TheVariants as names
+use Rattle.peers_msg.specs.Messages.{UpdateFields}
+use Rattle.peers_msg.specs.Heard.{Heard, selected_table}
+use Rattle.peers_msg.specs.Fitting.{fits}
+use Rattle.peers_msg.specs.Steps.{State, Step, Named, IsOwn, last_of, resolved_number}
+use Rattle.known_state.specs.declared.known.StepError.{StepError}
+use Rattle.known_state.specs.Known.{KnownState, AreOwn, Refuses, switch_refusal, update_refusal, reads_empty}
+use Rattle.known_state.proofs.KnownLemmas.{table_at-id, table_at-passes}
+use Rattle.known_state.proofs.StepLemmas.{has_id-table_at, selected-id}
+
+switch_found : (h : Heard) (id : ℕ) → fits h (messages.Switch id) ≡ true → (d : Definition) × (table_at h.tables id ≡ Some d)
+unfolding fits
+switch_found h id fit = at (table_at h.tables id) refl
+  where
+    at : (o : Option Definition) → table_at h.tables id ≡ o → (d : Definition) × (table_at h.tables id ≡ Some d)
+    at (Some d) e = (d, e)
+    at None e = let bad : false ≡ true = sym (rw e refl) ∙ fit in cc
+
+selection : (h : Heard) (u : UpdateFields) → fits h (messages.Update u) ≡ true → (d : Definition) × (selected_table h ≡ Some d)
+unfolding fits
+selection h u fit = at (selected_table h) refl
+  where
+    at : (o : Option Definition) → selected_table h ≡ o → (d : Definition) × (selected_table h ≡ Some d)
+    at (Some d) e = (d, e)
+    at None e = let bad : false ≡ true = sym (rw e refl) ∙ fit in cc
+
+names_read : (slots : List (Option (List ℕ))) (field : NameField) (name : Option (List ℕ)) (after : List (Option (List ℕ))) → Named slots field name after → reads_empty slots field ≡ false
+names_read slots names.NotStored name after n = refl
+names_read slots names.NoName name after n = refl
+names_read slots (names.Written slot bytes) name after n = refl
+names_read slots (names.Held slot) name after (bytes, held, is, same) = rw held refl
+
+pub no_step : (k : KnownState) (m : Message) (e : StepError) (us : List Update) (after : State) → AreOwn k.roster k.state.heard.tables → Refuses k m e → IsOwn k.roster m → Step k.state m us after → ⊥
+no_step k (messages.Define d) e us after own refuses is_own step = refuses.0 is_own
+no_step k (messages.Switch id) e us after own refuses is_own step =
+    let found = switch_found k.state.heard id step.0 in
+    let listed : table_at k.roster found.0.id ≡ Some found.0 = table_at-passes (λ (t : Definition). table_at k.roster t.id ≡ Some t) k.state.heard.tables id found.0 own found.1 in
+    let here : table_at k.roster id ≡ Some found.0 = subst (λ (n : ℕ). table_at k.roster n ≡ Some found.0) (table_at-id k.state.heard.tables id found.0 found.1) listed in
+    let none : switch_refusal k id ≡ None = rw (has_id-table_at k.roster id, here, found.1) refl in
+    let bad : None ≡ Some e = sym none ∙ refuses in
+    cc
+no_step k (messages.Update u) e us after own refuses is_own (fit, table, is_table, number, is_number, name, named, carried, heard, lasts) =
+    let sel = selection k.state.heard u fit in
+    let same : Some sel.0.id ≡ Some table = sym (selected-id k.state.heard sel.0 sel.1) ∙ is_table in
+    let id_is : sel.0.id ≡ table = cc in
+    let numbered : resolved_number u.number (last_of k.state.lasts sel.0.id) ≡ Some number = subst (λ (n : ℕ). resolved_number u.number (last_of k.state.lasts n) ≡ Some number) (sym id_is) is_number in
+    let none : update_refusal k u (selected_table k.state.heard) ≡ None = rw (sel.1, fit, numbered, names_read k.state.slots u.name name after.slots named) refl in
+    let bad : None ≡ Some e = sym none ∙ refuses in
+    cc
+no_step k (messages.Control c) e us after own refuses is_own step = refuses
+no_step k (messages.Error c) e us after own refuses is_own step = refuses
+no_step k (messages.Ack table number) e us after own refuses is_own step = refuses
+no_step k (messages.Other o) e us after own refuses is_own step = refuses

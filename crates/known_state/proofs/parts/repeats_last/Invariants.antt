@@ -1,0 +1,6 @@
+use Rattle.std.proofs.Common.{◌≡◌, drop}
+use Rattle.known_state.specs.Known.{repeats_last}
+use Rattle.known_state.proofs.parts.repeats_last.Given as goal
+
+abbrev pub invariant-loop-place : goal.invariant-loop-place
+invariant-loop-place l = repeats_last (drop l.place l.lasts) ≡ repeats_last l.lasts

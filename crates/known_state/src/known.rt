@@ -1,0 +1,276 @@
+//! Known states.
+
+ghost use Rattle.std.specs.Prelude.{◌≡◌, ◌≢◌, true, Some, None, IfOk, IfErr, OnOk, OnErr, List};
+ghost use Rattle.table_types.specs.declared.update.Update.{Update};
+ghost use Rattle.peers_msg.specs.declared.message.Message.TheVariants as messages;
+ghost use Rattle.peers_msg.specs.Steps.{Step, IsOwn, resolved_number};
+ghost use Rattle.known_state.specs.declared.known.KnownError.TheVariants as build_errors;
+ghost use Rattle.known_state.specs.declared.known.StepError.TheVariants as step_errors;
+ghost use Rattle.known_state.specs.Known.{KnownState, AreOwn, stores_no_name, fresh_of, build_fault, built, Refuses};
+
+use crate::lasts::Lasts;
+use crate::parts::{are_defined, are_known, repeats, repeats_last};
+use peers_msg::{Heard, Message, UpdateMsg};
+use std::alloc::Global;
+use std::marker::Model;
+use table_types::{Memory, Roster, TableDef};
+use thiserror::Error;
+
+/// Why a known state can't be built: the first that applies, in this order.
+#[derive(Clone, Copy, Debug, PartialEq, Eq, Error)]
+pub enum KnownError {
+    /// An id isn't in the roster.
+    #[error("a table that the roster lacks")]
+    NoTable,
+    /// A table is selected or has a last number, and isn't defined.
+    #[error("a table that isn't defined")]
+    NotDefined,
+    /// An id is given twice.
+    #[error("a table is given twice")]
+    Repeated,
+    /// Memory was wanted, and the growth was refused.
+    #[error("memory")]
+    Memory,
+}
+
+impl From<Memory> for KnownError {
+    ghost from_gives = { λ _ e. e ≡ build_errors.Memory };
+
+    fn from(_refused: Memory) -> KnownError {
+        KnownError::Memory
+    }
+}
+
+/// Why a message isn't legal in a known state. The state is then as before.
+#[derive(Clone, Copy, Debug, PartialEq, Eq, Error)]
+pub enum StepError {
+    /// A switch to a table of the roster that isn't defined yet.
+    #[error("a switch to a table that isn't defined yet")]
+    NotDefined,
+    /// An update with no table selected.
+    #[error("an update with no table selected")]
+    NoTable,
+    /// An incremental update of a table that has no last number.
+    #[error("an incremental update of a table without a number")]
+    NoNumber,
+    /// A name read from a slot that holds none.
+    #[error("a name read from an empty slot")]
+    EmptySlot,
+    /// A definition or a switch's id that isn't the roster's, or an update that doesn't fit its table.
+    #[error("a table that isn't the roster's, or an update that doesn't fit")]
+    Foreign,
+    /// Memory was wanted, and the growth was refused.
+    #[error("memory")]
+    Memory,
+}
+
+impl From<Memory> for StepError {
+    ghost from_gives = { λ _ e. e ≡ step_errors.Memory };
+
+    fn from(_refused: Memory) -> StepError {
+        StepError::Memory
+    }
+}
+
+/// What a teacher knows of its learner (own): the tables that it keeps, those that were defined to it and the one
+/// selected, and the last number of each.
+///
+/// No table of the roster stores the server's name.
+#[derive(Debug, Drop)]
+pub struct Known {
+    alloc: Global,
+    roster: Roster,
+    heard: Heard,
+    lasts: Lasts,
+}
+
+impl Model for Known {
+    ghost use Rattle.std.specs.Prelude.{◌≡◌, true};
+    ghost use Rattle.peers_msg.specs.Steps.{no_names};
+    ghost use Rattle.known_state.specs.Known.{KnownState, AreOwn, stores_no_name};
+
+    ghost Value = { KnownState };
+
+    ghost view = { λ k. record { roster = k.roster; state = record { heard = k.heard; lasts = k.lasts; slots = no_names } } };
+
+    ghost invariant = { λ k. AreOwn k.roster k.heard.tables × (stores_no_name k.roster ≡ true) };
+}
+
+/// The number of an update: its own, or one more than the last, modulo 2^32.
+fn resolved_number(number: Option<u32>, last: Option<u32>) -> Option<u32>
+    ensures { result ≡ resolved_number number last }
+{
+    match (number, last) {
+        (Some(number), _) => Some(number),
+        (None, Some(last)) => Some(last.wrapping_add(1)),
+        (None, None) => None,
+    }
+}
+
+impl Known {
+    /// The state of a learner that heard nothing. Takes no memory.
+    pub fn fresh(alloc: Global, roster: Roster) -> Known
+        requires { stores_no_name roster ≡ true }
+        ensures { result ≡ fresh_of roster }
+    {
+        Known {
+            alloc,
+            roster,
+            heard: Heard::new(alloc),
+            lasts: Lasts::new(alloc),
+        }
+    }
+
+    /// The state of a learner to which these tables were defined, one of them selected, with these last numbers.
+    ///
+    /// Refuses in this order: `NoTable` where an id isn't in the roster, `NotDefined` where a table that isn't defined
+    /// is selected or has a last number, `Repeated` where an id is defined twice or has two last numbers, `Memory`.
+    pub fn build(
+        alloc: Global,
+        roster: Roster,
+        selected: Option<u64>,
+        defined: Vec<u64>,
+        last: Vec<(u64, u32)>,
+    ) -> Result<Known, KnownError>
+        requires { stores_no_name roster ≡ true }
+        ensures built { IfOk result (λ known. (known ≡ built roster selected defined.items last.items)
+            × (build_fault roster selected defined.items last.items ≡ None)) }
+        ensures refused { IfErr result (λ e. e ≢ build_errors.Memory →
+            build_fault roster selected defined.items last.items ≡ Some e) }
+    {
+        let (ids, lasts) = (defined.as_slice(), last.as_slice());
+        if !are_known(&roster, selected, ids, lasts) {
+            return Err(KnownError::NoTable);
+        }
+        if !are_defined(selected, ids, lasts) {
+            return Err(KnownError::NotDefined);
+        }
+        if repeats(ids) || repeats_last(lasts) {
+            return Err(KnownError::Repeated);
+        }
+        let heard = Heard::resume(alloc, &roster, ids, selected)?;
+        let lasts = Lasts::of(alloc, lasts)?;
+        Ok(Known {
+            alloc,
+            roster,
+            heard,
+            lasts,
+        })
+    }
+
+    /// The roster of the state.
+    pub fn roster(&self) -> &Roster
+        ensures roster { result.now ≡ self.now.roster }
+        ensures nameless { stores_no_name self.now.roster ≡ true }
+        ensures own { AreOwn self.now.roster self.now.state.heard.tables }
+    {
+        &self.roster
+    }
+
+    /// What the learner heard: the tables defined, and the one selected.
+    pub fn heard(&self) -> &Heard
+        ensures { result.now ≡ self.now.state.heard }
+    {
+        &self.heard
+    }
+
+    /// The last number of each table.
+    pub fn lasts(&self) -> &Lasts
+        ensures { result.now ≡ self.now.state.lasts }
+    {
+        &self.lasts
+    }
+
+    /// Moves the state by one message that is legal from it: the message makes the step that the definition
+    /// of `Step` says, and a definition is the roster's own. A refused message changes nothing.
+    ///
+    /// Refuses in this order: `NoTable`, `Foreign`, `NotDefined`, `NoNumber`, `EmptySlot`, `Memory`.
+    pub fn after(&mut self, message: &Message) -> Result<(), StepError>
+        ensures step { OnOk result ((us : List Update)
+            × Step self.old.state message.now us self.new.state × IsOwn self.old.roster message.now) }
+        ensures roster { self.new.roster ≡ self.old.roster }
+        ensures refused { IfErr result (λ e. e ≢ step_errors.Memory → Refuses self.old message.now e) }
+        ensures stays { OnErr result (self.new ≡ self.old) }
+    {
+        match message {
+            Message::Define(table) => self.define(table),
+            Message::Switch(id) => self.select(*id),
+            Message::Update(update) => self.take(update),
+            Message::Control(_) | Message::Error(_) | Message::Ack { .. } | Message::Other(_) => {
+                let fits = message.fits(&self.heard);
+                prove!(fits);
+                Ok(())
+            }
+        }
+    }
+
+    fn define(&mut self, table: &TableDef) -> Result<(), StepError>
+        ensures step { OnOk result ((us : List Update)
+            × Step self.old.state (messages.Define table.now) us self.new.state
+            × IsOwn self.old.roster (messages.Define table.now)) }
+        ensures roster { self.new.roster ≡ self.old.roster }
+        ensures refused { IfErr result (λ e. e ≢ step_errors.Memory → Refuses self.old (messages.Define table.now) e) }
+        ensures stays { OnErr result (self.new ≡ self.old) }
+    {
+        match self.roster.table(table.id()) {
+            Some(own) if own.is_same(table) => {}
+            _ => return Err(StepError::Foreign),
+        }
+        let own = table.copy(self.alloc)?;
+        let mut lasts = self.lasts.copy(self.alloc)?;
+        lasts.keep_at(table, &self.heard);
+        self.heard.define(own)?;
+        self.lasts = lasts;
+        Ok(())
+    }
+
+    fn select(&mut self, id: u64) -> Result<(), StepError>
+        ensures step { OnOk result ((us : List Update)
+            × Step self.old.state (messages.Switch id) us self.new.state) }
+        ensures roster { self.new.roster ≡ self.old.roster }
+        ensures refused { IfErr result (λ e. Refuses self.old (messages.Switch id) e) }
+        ensures stays { OnErr result (self.new ≡ self.old) }
+    {
+        let Some(_) = self.roster.table(id) else {
+            return Err(StepError::Foreign);
+        };
+        let Some(_) = self.heard.table(id) else {
+            return Err(StepError::NotDefined);
+        };
+        self.heard.select(id);
+        Ok(())
+    }
+
+    fn take(&mut self, update: &UpdateMsg) -> Result<(), StepError>
+        ensures step { OnOk result ((us : List Update)
+            × Step self.old.state (messages.Update update.now) us self.new.state) }
+        ensures roster { self.new.roster ≡ self.old.roster }
+        ensures refused { IfErr result (λ e. e ≢ step_errors.Memory → Refuses self.old (messages.Update update.now) e) }
+        ensures stays { OnErr result (self.new ≡ self.old) }
+    {
+        let Some(table) = self.heard.selected_table() else {
+            return Err(StepError::NoTable);
+        };
+        if !update.fits(table) {
+            return Err(StepError::Foreign);
+        }
+        let id = table.id();
+        let Some(number) = resolved_number(update.number(), self.lasts.last(id)) else {
+            return Err(StepError::NoNumber);
+        };
+        self.lasts.put(id, number)?;
+        Ok(())
+    }
+
+    /// An equal state.
+    pub fn copy(&self, alloc: Global) -> Result<Known, Memory>
+        ensures { IfOk result (λ copy. copy ≡ self.now) }
+    {
+        Ok(Known {
+            alloc,
+            roster: self.roster.copy(alloc)?,
+            heard: self.heard.copy(alloc)?,
+            lasts: self.lasts.copy(alloc)?,
+        })
+    }
+}

@@ -1,0 +1,137 @@
+//! The last number of each table.
+
+ghost use Rattle.std.specs.Prelude.{◌≡◌, IfOk, OnOk, OnErr, [], filter, option_copied};
+ghost use Rattle.table_types.specs.Rosters.{table_at};
+ghost use Rattle.peers_msg.specs.Steps.{last_of, put_last, keeps_last};
+ghost use Rattle.known_state.specs.Known.{lasts_put};
+
+use peers_msg::Heard;
+use std::alloc::Global;
+use std::marker::Model;
+use table_types::{Memory, TableDef};
+
+/// The number of the last update of each table id that had one, in rising id.
+#[derive(Debug, Drop)]
+pub struct Lasts {
+    numbers: Vec<(u64, u32)>,
+}
+
+impl Model for Lasts {
+    ghost use Rattle.std.specs.Prelude.{List, ℕ};
+
+    ghost Value = { List (ℕ × ℕ) };
+
+    ghost view = { λ a. a.numbers.items };
+}
+
+fn last_of(numbers: &[(u64, u32)], id: u64) -> Option<u32>
+    ensures { result ≡ last_of numbers.now id }
+{
+    for last in numbers {
+        if last.0 == id {
+            return Some(last.1);
+        }
+    }
+    None
+}
+
+/// Puts a last number in its place, in place of the one that the id had.
+fn put_last(numbers: &mut Vec<(u64, u32)>, id: u64, number: u32) -> Result<(), Memory>
+    ensures put { OnOk result (numbers.new.items ≡ put_last id number numbers.old.items) }
+    ensures stays { OnErr result (numbers.new.items ≡ numbers.old.items) }
+{
+    for place in 0..numbers.len() {
+        let last = numbers[place];
+        if last.0 == id {
+            numbers[place] = (id, number);
+            return Ok(());
+        }
+        if id < last.0 {
+            numbers.insert(place, (id, number))?;
+            return Ok(());
+        }
+    }
+    numbers.push((id, number))?;
+    Ok(())
+}
+
+/// Whether an id keeps its last number at a definition: the id defined only where the name is as before, and
+/// another id unless it stood for a table of that name.
+fn keeps_last(new: &TableDef, stood_for: Option<&TableDef>, id: u64) -> bool
+    ensures { result ≡ keeps_last new.now (option_copied stood_for.entry) id }
+{
+    match stood_for {
+        None => id != new.id(),
+        Some(table) if id == new.id() => table.name() == new.name(),
+        Some(table) => table.name() != new.name(),
+    }
+}
+
+fn keep_at(numbers: &mut Vec<(u64, u32)>, new: &TableDef, heard: &Heard)
+    ensures { numbers.new.items
+        ≡ filter (λ last. keeps_last new.now (table_at heard.now.tables last.0) last.0) numbers.old.items }
+{
+    let mut place = 0;
+    while place < numbers.len() {
+        let id = numbers[place].0;
+        if keeps_last(new, heard.table(id), id) {
+            place += 1;
+        } else {
+            numbers.remove(place);
+        }
+    }
+}
+
+impl Lasts {
+    /// No table has a last number. Takes no memory.
+    pub fn new(alloc: Global) -> Lasts
+        ensures { result ≡ [] }
+    {
+        Lasts {
+            numbers: Vec::new(alloc),
+        }
+    }
+
+    /// These last numbers, put one after another.
+    pub fn of(alloc: Global, lasts: &[(u64, u32)]) -> Result<Lasts, Memory>
+        ensures { IfOk result (λ made. made ≡ lasts_put lasts.now) }
+    {
+        let mut made = Lasts::new(alloc);
+        for last in lasts {
+            made.put(last.0, last.1)?;
+        }
+        Ok(made)
+    }
+
+    /// The last number of a table.
+    pub fn last(&self, id: u64) -> Option<u32>
+        ensures { result ≡ last_of self.now id }
+    {
+        last_of(self.numbers.as_slice(), id)
+    }
+
+    /// Makes a number the last one of a table. After `Memory` nothing has changed.
+    pub fn put(&mut self, id: u64, number: u32) -> Result<(), Memory>
+        ensures put { OnOk result (self.new ≡ put_last id number self.old) }
+        ensures stays { OnErr result (self.new ≡ self.old) }
+    {
+        put_last(&mut self.numbers, id, number)
+    }
+
+    /// Drops the last numbers that a definition takes away, by what was heard before it.
+    pub fn keep_at(&mut self, new: &TableDef, heard: &Heard)
+        ensures { self.new
+            ≡ filter (λ last. keeps_last new.now (table_at heard.now.tables last.0) last.0) self.old }
+    {
+        keep_at(&mut self.numbers, new, heard);
+    }
+
+    /// Equal last numbers.
+    pub fn copy(&self, alloc: Global) -> Result<Lasts, Memory>
+        ensures { IfOk result (λ copy. copy ≡ self.now) }
+    {
+        Ok(Lasts {
+            numbers: Vec::from_slice(alloc, self.numbers.as_slice())?,
+        })
+    }
+}

@@ -1,0 +1,139 @@
+//! What the parts of a known state have to be.
+
+ghost use Rattle.std.specs.Prelude.{◌≡◌};
+ghost use Rattle.std.specs.List.{list_all, list_any};
+ghost use Rattle.table_types.specs.Updates.{stores_name};
+ghost use Rattle.table_types.specs.Rosters.{has_id};
+ghost use Rattle.known_state.specs.Known.{holds, repeats, has_last, repeats_last, are_known, are_defined, stores_no_name};
+
+use table_types::{Roster, TableDef};
+
+fn has_id(tables: &[TableDef], id: u64) -> bool
+    ensures { result ≡ has_id id tables.now }
+{
+    for table in tables {
+        if table.id() == id {
+            return true;
+        }
+    }
+    false
+}
+
+fn all_own(roster: &Roster, ids: &[u64]) -> bool
+    ensures { result ≡ list_all (λ id. has_id id roster.now) ids.now }
+{
+    for id in ids {
+        if !has_id(roster.tables(), *id) {
+            return false;
+        }
+    }
+    true
+}
+
+fn all_lasts_own(roster: &Roster, lasts: &[(u64, u32)]) -> bool
+    ensures { result ≡ list_all (λ last. has_id last.0 roster.now) lasts.now }
+{
+    for last in lasts {
+        if !has_id(roster.tables(), last.0) {
+            return false;
+        }
+    }
+    true
+}
+
+fn holds(ids: &[u64], id: u64) -> bool
+    ensures { result ≡ holds id ids.now }
+{
+    ids.contains(&id)
+}
+
+fn all_lasts_held(defined: &[u64], lasts: &[(u64, u32)]) -> bool
+    ensures { result ≡ list_all (λ last. holds last.0 defined.now) lasts.now }
+{
+    for last in lasts {
+        if !holds(defined, last.0) {
+            return false;
+        }
+    }
+    true
+}
+
+/// Whether no table of the roster stores the server's name.
+pub fn stores_no_name(roster: &Roster) -> bool
+    ensures { result ≡ stores_no_name roster.now }
+{
+    !any_stores_name(roster.tables())
+}
+
+fn any_stores_name(tables: &[TableDef]) -> bool
+    ensures { result ≡ list_any stores_name tables.now }
+{
+    for table in tables {
+        if table.stores_name() {
+            return true;
+        }
+    }
+    false
+}
+
+/// Whether each id is the roster's.
+pub fn are_known(
+    roster: &Roster,
+    selected: Option<u64>,
+    defined: &[u64],
+    lasts: &[(u64, u32)],
+) -> bool
+    ensures { result ≡ are_known roster.now selected defined.now lasts.now }
+{
+    let selects_own = match selected {
+        Some(id) => has_id(roster.tables(), id),
+        None => true,
+    };
+    selects_own && all_own(roster, defined) && all_lasts_own(roster, lasts)
+}
+
+/// Whether what is selected and what has a last number is defined.
+pub fn are_defined(selected: Option<u64>, defined: &[u64], lasts: &[(u64, u32)]) -> bool
+    ensures { result ≡ are_defined selected defined.now lasts.now }
+{
+    let selects_defined = match selected {
+        Some(id) => holds(defined, id),
+        None => true,
+    };
+    selects_defined && all_lasts_held(defined, lasts)
+}
+
+/// Whether an id stands twice. Of 65 ids of a roster one does, so this looks at 64 of them at most.
+pub fn repeats(ids: &[u64]) -> bool
+    ensures { result ≡ repeats ids.now }
+{
+    for (place, id) in ids.iter().enumerate() {
+        if holds(&ids[place + 1..], *id) {
+            return true;
+        }
+    }
+    false
+}
+
+fn has_last(lasts: &[(u64, u32)], id: u64) -> bool
+    ensures { result ≡ has_last id lasts.now }
+{
+    for last in lasts {
+        if last.0 == id {
+            return true;
+        }
+    }
+    false
+}
+
+/// Whether an id has two last numbers.
+pub fn repeats_last(lasts: &[(u64, u32)]) -> bool
+    ensures { result ≡ repeats_last lasts.now }
+{
+    for (place, last) in lasts.iter().enumerate() {
+        if has_last(&lasts[place + 1..], last.0) {
+            return true;
+        }
+    }
+    false
+}

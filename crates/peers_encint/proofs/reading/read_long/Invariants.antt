@@ -1,0 +1,14 @@
+use Rattle.std.proofs.Common.{◌≡◌, ◌+◌, ◌*◌, ◌^◌, ◌<◌, ◌≤◌, take}
+use Rattle.peers_encint.specs.Integers.{added_from, tail_length}
+use Rattle.peers_encint.proofs.ReadingSteps.{counted}
+use Rattle.peers_encint.proofs.reading.read_long.Given as goal
+
+-- the bytes so far are added, and none of them ends the number
+abbrev pub invariant-loop-place : goal.invariant-loop-place
+invariant-loop-place l =
+    record {
+      within : l.place ≤ 8;
+      added : l.sum ≡ l.first + added_from 4 (take l.place l.later);
+      below : l.sum < 256 + l.place * 2 ^ 68;
+      counts : counted l.place l.later ≡ tail_length 8 l.later;
+    }

@@ -1,0 +1,97 @@
+ghost use Rattle.std.specs.Prelude.{◌≡◌, ℕ, ◌+◌, ◌*◌, ◌^◌, ◌<◌, Some};
+ghost use Rattle.peers_encint.specs.Integers.{Reads, read_of, long_of, whole_of, tail_length};
+ghost use Rattle.peers_encint.specs.declared.reading.Read.{Read};
+
+/// What the front of some bytes says of a number.
+#[derive(Debug, Clone, Copy, PartialEq, Eq)]
+pub enum Read {
+    /// The number, and how many bytes spell it, 1 to 10. Other bytes may follow them.
+    Value(u64, usize),
+    /// The bytes end before the number does, so the number can't be told yet.
+    Short,
+    /// Ten bytes stand, none of the first nine ends the number, and with the tenth it is 2^64 or more.
+    Over,
+}
+
+/// Reads the number at the front of the bytes.
+pub fn get(b: &[u8]) -> Read
+    ensures read { Reads b.now result }
+    // No other answer is right.
+    ensures only { (r : Read) → Reads b.now r → r ≡ result }
+    ensures computes { result ≡ read_of b.now }
+{
+    answer(b)
+}
+
+#[tactic(auto, unfolding(crate::specs::Integers::read_of))]
+fn answer(bytes: &[u8]) -> Read
+    ensures { result ≡ read_of bytes.now }
+{
+    match bytes {
+        [] => Read::Short,
+        [first, ..] if *first < 240 => Read::Value(u64::from(*first), 1),
+        [first, later @ ..] => read_long(*first, later),
+    }
+}
+
+// What a first byte of 240 or more and the bytes after it say.
+fn read_long(first: u8, later: &[u8]) -> Read
+    ensures { result ≡ long_of first later.now (tail_length 8 later.now) }
+{
+    let mut sum = u128::from(first);
+    for place in 0..later.len().min(9) {
+        sum += shifted(later[place], place);
+        if later[place] < 128 || place == 8 {
+            return whole(sum, place + 2);
+        }
+    }
+    Read::Short
+}
+
+// A later byte in its place.
+fn shifted(byte: u8, place: usize) -> u128
+    requires { place < 9 }
+    ensures exact { result ≡ byte * 2 ^ (4 + 7 * place) }
+    ensures below { result < 2 ^ 68 }
+{
+    u128::from(byte) << (4 + 7 * place)
+}
+
+// The answer for all bytes of a number.
+fn whole(sum: u128, used: usize) -> Read
+    ensures { result ≡ whole_of sum used }
+{
+    match u64::try_from(sum) {
+        Ok(n) => Read::Value(n, used),
+        Err(_) => Read::Over,
+    }
+}
+
+#[cfg(test)]
+mod tests {
+    use super::*;
+    use std::test::*;
+
+    #[test]
+    fn values(rt: HostRuntime) {
+        assert_eq!(rt; get(&[0xEF]), Read::Value(239, 1));
+        assert_eq!(rt; get(&[0xF0, 0x00]), Read::Value(240, 2));
+        assert_eq!(rt; get(&[0xFF, 0x7F]), Read::Value(2287, 2));
+        assert_eq!(rt; get(&[0xF0, 0x80, 0x00]), Read::Value(2288, 3));
+        assert_eq!(rt; get(&[0xF0, 0x80, 0x80, 0x00]), Read::Value(264_432, 4));
+    }
+
+    #[test]
+    fn limits(rt: HostRuntime) {
+        let mut bytes = [0xFF, 0xF0, 0xFE, 0xFE, 0xFE, 0xFE, 0xFE, 0xFE, 0xFE, 0x0E];
+        assert_eq!(rt; get(&bytes), Read::Value(u64::MAX, 10));
+        bytes[9] = 0x0F;
+        assert_eq!(rt; get(&bytes), Read::Over);
+        let more = [
+            0xFF, 0xF0, 0xFE, 0xFE, 0xFE, 0xFE, 0xFE, 0xFE, 0xFE, 0x8E, 0x00,
+        ];
+        assert_eq!(rt; get(&more), Read::Over);
+        assert_eq!(rt; get(&[0xF0]), Read::Short);
+        assert_eq!(rt; get(&[]), Read::Short);
+    }
+}

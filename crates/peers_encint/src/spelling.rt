@@ -1,0 +1,92 @@
+ghost use Rattle.std.specs.Prelude.{◌≡◌, ℕ, ◌≤◌, length, take, drop};
+ghost use Rattle.peers_encint.specs.Integers.{SpellsInteger, spelling};
+
+/// How many bytes spell a number, 1 to 10.
+pub fn len(n: u64) -> usize
+    ensures exact { result ≡ length (spelling n) }
+    ensures within { (1 ≤ result) × (result ≤ 10) }
+{
+    if n < 240 {
+        return 1;
+    }
+    let mut rest = (n - 240) >> 4;
+    for used in 2..10 {
+        if rest < 128 {
+            return used;
+        }
+        rest = (rest - 128) >> 7;
+    }
+    10
+}
+
+/// Writes the spelling of a number to the front of `out`, and answers how many bytes it has, 1 to 10. The bytes after
+/// it stay.
+pub fn put(n: u64, out: &mut [u8; 10]) -> usize
+    ensures spelled { take result out.new ≡ spelling n }
+    ensures means { SpellsInteger (take result out.new) n }
+    ensures rest { drop result out.new ≡ drop result out.old }
+    ensures length { result ≡ length (spelling n) }
+    ensures within { (1 ≤ result) × (result ≤ 10) }
+{
+    write(n, out)
+}
+
+fn write(n: u64, out: &mut [u8; 10]) -> usize
+    ensures spelled { take result out.new ≡ spelling n }
+    ensures rest { drop result out.new ≡ drop result out.old }
+    ensures within { (1 ≤ result) × (result ≤ 10) }
+{
+    if n < 240 {
+        out[0] = n as u8;
+        return 1;
+    }
+    out[0] = 240 | (n & 15) as u8;
+    let mut rest = (n - 240) >> 4;
+    for place in 1..9 {
+        if rest < 128 {
+            out[place] = rest as u8;
+            return place + 1;
+        }
+        out[place] = (rest & 255) as u8 | 128;
+        rest = (rest - 128) >> 7;
+    }
+    out[9] = rest as u8;
+    10
+}
+
+#[cfg(test)]
+mod tests {
+    use super::*;
+    use std::test::*;
+
+    fn spells(n: u64, bytes: &[u8]) -> bool {
+        let mut out = [0xAA; 10];
+        let used = put(n, &mut out);
+        used == len(n) && &out[..used] == bytes
+    }
+
+    #[test]
+    fn spellings(rt: HostRuntime) {
+        assert!(rt; spells(239, &[0xEF]));
+        assert!(rt; spells(240, &[0xF0, 0x00]));
+        assert!(rt; spells(2287, &[0xFF, 0x7F]));
+        assert!(rt; spells(2288, &[0xF0, 0x80, 0x00]));
+        assert!(rt; spells(264_432, &[0xF0, 0x80, 0x80, 0x00]));
+        assert!(rt;
+            spells(
+                u64::MAX,
+                &[0xFF, 0xF0, 0xFE, 0xFE, 0xFE, 0xFE, 0xFE, 0xFE, 0xFE, 0x0E],
+            )
+        );
+    }
+
+    #[test]
+    fn lengths(rt: HostRuntime) {
+        assert_eq!(rt; len(264_431), 3);
+        assert_eq!(rt; len(33_818_863), 4);
+        assert_eq!(rt; len(33_818_864), 5);
+        assert_eq!(rt; len(4_328_786_159), 5);
+        assert_eq!(rt; len(4_328_786_160), 6);
+        assert_eq!(rt; len(u64::MAX), 10);
+    }
+}

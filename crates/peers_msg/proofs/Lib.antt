@@ -1,0 +1,11 @@
+pub mod SizeLaws
+pub mod DataLaws
+pub mod Lessons
+pub mod FieldsAgain
+pub mod TypesAgain
+pub mod MessagesAgain
+pub mod OneSpelling
+pub mod FieldsTake
+pub mod TypesTake
+pub mod MessagesTake
+pub mod ReadingStays

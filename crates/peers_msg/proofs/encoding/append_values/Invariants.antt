@@ -1,0 +1,8 @@
+use Rattle.std.proofs.Common.{◌≡◌, ◌++◌, drop}
+use Rattle.std.specs.List.{flat_map}
+use Rattle.peers_msg.specs.Spelling.{value_text}
+use Rattle.peers_msg.proofs.encoding.append_values.Given as goal
+
+abbrev pub invariant-loop-value : goal.invariant-loop-value
+invariant-loop-value l =
+    l.out.items ++ flat_map value_text (drop l.value-index l.values) ≡ l.fn.out.items ++ flat_map value_text l.values

@@ -1,0 +1,5 @@
+use Rattle.peers_msg.proofs.OneSpelling.{one_list}
+use Rattle.peers_msg.proofs.laws.one_list.Goals as goal
+
+pub returns : goal.returns
+returns c = one_list

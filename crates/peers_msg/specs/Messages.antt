@@ -1,0 +1,43 @@
+-- The messages of the peers protocol, as their fields (HAProxy, doc/peers-v2.0.txt, "Messages").
+use Rattle.std.specs.Prelude.{ℕ, Bool, true, false, not, ◌&&◌, ◌||◌, ◌==◌, nat_lt, nat_le, List, length, Option, if◌then◌else◌}
+use Rattle.table_types.specs.declared.key.Key.{Key}
+use Rattle.table_types.specs.declared.key.Key.TheVariants as keys
+use Rattle.table_types.specs.declared.update.Value.{Value}
+use Rattle.peers_msg.specs.declared.name_field.NameField.{NameField}
+
+-- an update of the selected table: its number (none: one more than the table's last), the remaining life of the
+-- row in ms (none: untold), the key, the values, and what stands where the server's name goes
+pub record UpdateFields : Type 0 where
+  pub number : Option ℕ
+  pub life : Option ℕ
+  pub key : Key
+  pub values : List Value
+  pub name : NameField
+
+-- a message of a pair of class and type that has no other meaning here
+pub record OtherFields : Type 0 where
+  pub class : ℕ
+  pub kind : ℕ
+  pub body : List ℕ
+
+-- the pairs of class and type that have a meaning: control messages 0 to 4, errors 0 and 1, and the messages of
+-- stick tables 128 to 134
+abbrev pub is_known_pair : ℕ → ℕ → Bool
+is_known_pair class kind = class == 0 && nat_le kind 4 || class == 1 && nat_le kind 1 || class == 10 && (nat_le 128 kind && nat_le kind 134)
+
+-- a message of another pair: its class and type are bytes, it has data only where the type is 128 or more,
+-- and then at most 16,384 bytes
+abbrev pub is_other : OtherFields → Bool
+is_other o = nat_lt o.class 256 && nat_lt o.kind 256 && not (is_known_pair o.class o.kind) && (if nat_lt o.kind 128 then length o.body == 0 else nat_le (length o.body) 16384)
+
+-- how many bytes a key has, without a length before them
+abbrev pub key_bytes : Key → ℕ
+key_bytes (keys.Int n) = 4
+key_bytes (keys.Ip4 bytes) = length bytes
+key_bytes (keys.Ip6 bytes) = length bytes
+key_bytes (keys.Str bytes) = length bytes
+key_bytes (keys.Bin bytes) = length bytes
+
+-- what any update of any table keeps to: a key of at most 8,192 bytes, and at most 20 values
+abbrev pub is_small : Key → List Value → Bool
+is_small key values = nat_le (key_bytes key) 8192 && nat_le (length values) 20

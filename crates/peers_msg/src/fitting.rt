@@ -1,0 +1,83 @@
+//! Which messages fit what was heard.
+
+ghost use Rattle.std.specs.Prelude.{◌≡◌, ◌^◌, ◌&&◌, nat_lt, IsTrue};
+ghost use Rattle.table_types.specs.Updates.{is_optional_word, is_word};
+ghost use Rattle.peers_msg.specs.Fitting.{is_slot, name_fits, update_fits, IsPlain, has_shape, fits};
+
+use crate::heard::Heard;
+use crate::message::{Message, UpdateMsg};
+use crate::name_field::NameField;
+use crate::sizes::{definition_size, update_size};
+use peers_encint::len;
+use table_types::TableDef;
+
+/// True of each number of 32 bits, as the wire's four bytes hold.
+fn is_optional_word(number: Option<u32>) -> bool
+    ensures { result ≡ is_optional_word number }
+{
+    match number {
+        Some(number) => u64::from(number) < 1 << 32,
+        None => true,
+    }
+}
+
+fn is_slot(slot: u8) -> bool
+    ensures { result ≡ is_slot slot }
+{
+    1 <= slot && slot <= 128
+}
+
+fn name_fits(table: &TableDef, field: &NameField) -> bool
+    ensures { result ≡ name_fits table.now field.now }
+{
+    match field {
+        NameField::NotStored => !table.stores_name(),
+        NameField::NoName => table.stores_name(),
+        NameField::Held(slot) => table.stores_name() && is_slot(*slot),
+        NameField::Written(slot, name) => {
+            table.stores_name() && is_slot(*slot) && !name.as_slice().is_empty()
+        }
+    }
+}
+
+impl UpdateMsg {
+    /// Whether the update is one of that table: its key, values and name field have the table's shape and ranges.
+    /// The life isn't tested.
+    pub fn fits(&self, table: &TableDef) -> bool
+        ensures { result ≡ update_fits table.now self.now }
+    {
+        is_optional_word(self.number())
+            && is_optional_word(self.life())
+            && table.row_fits(self.key(), self.values())
+            && name_fits(table, self.name())
+    }
+}
+
+fn is_acknowledgement(table: u64, number: u32) -> bool
+    ensures { result ≡ (nat_lt table (2 ^ 64) && is_word number) }
+{
+    u128::from(table) < 1 << 64 && u64::from(number) < 1 << 32
+}
+
+impl Message {
+    /// Whether the message fits what was heard: an update fits the selected table, a switch names an id that stands
+    /// for a table, and any other message fits as it is.
+    #[tactic(auto, unfolding(crate::specs::Fitting::fits, crate::specs::Spelling::data_of))]
+    pub fn fits(&self, heard: &Heard) -> bool
+        ensures exact { result ≡ fits heard.now self.now }
+        ensures plain { IsPlain self.now → IsTrue result }
+    {
+        match self {
+            Message::Control(_) | Message::Error(_) => true,
+            Message::Define(table) => definition_size(table) <= 16_384,
+            Message::Switch(id) => heard.table(*id).is_some() && len(*id) <= 16_384,
+            Message::Ack { table, number } => is_acknowledgement(*table, *number)
+                && len(*table) <= 10,
+            Message::Update(update) => match heard.selected_table() {
+                Some(table) => update.fits(table) && update_size(update) <= 16_384,
+                None => false,
+            },
+            Message::Other(other) => other.body().len() <= 16_384,
+        }
+    }
+}

@@ -1,0 +1,69 @@
+//! What holds of the definitions, whatever the program does.
+
+ghost use Rattle.std.specs.Prelude.{List, length, true, ℕ, ◌≡◌, ◌≤◌, [], ◌++◌, Ok, Some, ◌≢◌, None};
+ghost use Rattle.peers_encint.specs.Integers.{IsBytes};
+ghost use Rattle.peers_msg.specs.Reading.{IsReadable, message_at, with_more};
+ghost use Rattle.peers_msg.specs.Stream.{AllFit};
+ghost use Rattle.peers_msg.specs.Heard.{Heard};
+ghost use Rattle.peers_msg.specs.Fitting.{update_fits, fits};
+ghost use Rattle.peers_msg.specs.Messages.{UpdateFields, is_small};
+ghost use Rattle.peers_msg.specs.Spelling.{update_text, definition_text, spelled, stream_of};
+ghost use Rattle.peers_msg.specs.Steps.{State, Step, Teaches};
+ghost use Rattle.peers_msg.specs.declared.message.Message.{Message};
+ghost use Rattle.table_types.specs.Tables.{Definition, is_definition};
+ghost use Rattle.table_types.specs.Updates.{row_fits};
+ghost use Rattle.table_types.specs.declared.key.Key.{Key};
+ghost use Rattle.table_types.specs.declared.update.Update.{Update};
+ghost use Rattle.table_types.specs.declared.update.Value.{Value};
+
+/// From one state a message carries one thing and leads to one state.
+pub fn one_step()
+    ensures { (s a b : State) (m : Message) (us vs : List Update) → Step s m us a → Step s m vs b → (us ≡ vs) × (a ≡ b) }
+{}
+
+/// From one state messages carry one list of updates and lead to one state.
+pub fn one_lesson()
+    ensures { (s a b : State) (ms : List Message) (us vs : List Update) → Teaches s ms us a → Teaches s ms vs b → (us ≡ vs) × (a ≡ b) }
+{}
+
+/// Two messages that fit what was heard and have one spelling are one message. Where each of two begins the same
+/// bytes, they are one message too, and what comes behind is the same.
+pub fn one_message()
+    ensures same { (h : Heard) (m n : Message) → fits h m ≡ true → fits h n ≡ true → spelled m ≡ spelled n → m ≡ n }
+    ensures apart { (h : Heard) (m n : Message) (x y : List ℕ) → fits h m ≡ true → fits h n ≡ true → spelled m ++ x ≡ spelled n ++ y → (m ≡ n) × (x ≡ y) }
+{}
+
+/// No message's spelling begins another's, whatever was heard before each of them.
+pub fn no_prefix()
+    ensures { (g h : Heard) (m n : Message) (rest : List ℕ) → fits g m ≡ true → fits h n ≡ true → spelled m ++ rest ≡ spelled n → rest ≡ [] }
+{}
+
+/// Two lists of messages that fit what was heard and have one spelling are one list.
+pub fn one_list()
+    ensures { (h : Heard) (ms ns : List Message) → AllFit h ms → AllFit h ns → stream_of ms ≡ stream_of ns → ms ≡ ns }
+{}
+
+/// What is read is spelled so, and fits.
+pub fn read_is_spelled()
+    ensures { (h : Heard) (m : Message) (bytes rest : List ℕ) → IsBytes bytes → message_at h bytes ≡ Ok (Some (m, rest)) → (bytes ≡ spelled m ++ rest) × (fits h m ≡ true) }
+{}
+
+/// What fits and is spelled is read, whatever follows it. While some of its bytes are still to come it isn't whole, and
+/// shows no breach.
+pub fn spelled_is_read()
+    ensures whole { (h : Heard) (m : Message) (rest : List ℕ) → fits h m ≡ true → IsReadable m → message_at h (spelled m ++ rest) ≡ Ok (Some (m, rest)) }
+    ensures cut { (h : Heard) (m : Message) (bytes more : List ℕ) → IsBytes bytes → fits h m ≡ true → IsReadable m → bytes ++ more ≡ spelled m → more ≢ [] → message_at h bytes ≡ Ok None }
+{}
+
+/// More bytes behind change only the answer that a message isn't whole.
+pub fn reading_stays()
+    ensures { (h : Heard) (bytes more : List ℕ) → IsBytes bytes → message_at h bytes ≢ Ok None → message_at h (bytes ++ more) ≡ with_more more (message_at h bytes) }
+{}
+
+/// The data of an update that fits a table, and of a definition, have at most 16,384 bytes; and key and values that
+/// fit a table are those of an update.
+pub fn data_is_small()
+    ensures updates { (d : Definition) (u : UpdateFields) → is_definition d ≡ true → update_fits d u ≡ true → length (update_text u) ≤ 16384 }
+    ensures definitions { (d : Definition) → is_definition d ≡ true → length (definition_text d) ≤ 16384 }
+    ensures rows { (d : Definition) (key : Key) (values : List Value) → is_definition d ≡ true → row_fits d key values ≡ true → is_small key values ≡ true }
+{}

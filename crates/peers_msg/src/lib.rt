@@ -1,0 +1,24 @@
+//! The messages of HAProxy's peers protocol: what they are, what is heard of them, and their bytes.
+#![tactic(auto)]
+
+mod control;
+mod encoding;
+mod fault;
+mod fitting;
+mod heard;
+mod laws;
+mod meaning;
+mod message;
+mod name_field;
+mod sizes;
+
+pub use control::{Control, ErrorKind};
+pub use encoding::encode;
+pub use heard::Heard;
+pub use laws::{
+    data_is_small, no_prefix, one_lesson, one_list, one_message, one_step, read_is_spelled,
+    reading_stays, spelled_is_read,
+};
+pub use message::{Message, Other, UpdateMsg};
+pub use name_field::NameField;
+pub use sizes::size;

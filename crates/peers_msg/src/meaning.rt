@@ -1,0 +1,27 @@
+//! What the pairs of class and type stand for.
+
+use crate::control::{Control, ErrorKind};
+
+/// What a pair of class and type stands for (HAProxy, doc/peers-v2.0.txt, "Messages").
+#[derive(Clone, Copy, Debug, PartialEq, Eq)]
+pub enum Meaning {
+    /// Class 0, types 0 to 4.
+    Control(Control),
+    /// Class 1, types 0 and 1.
+    Error(ErrorKind),
+    /// Class 10, type 130.
+    Define,
+    /// Class 10, type 131.
+    Switch,
+    /// Class 10, type 132.
+    Ack,
+    /// Class 10, types 128, 129, 133 and 134.
+    Update {
+        /// It has a number: 128 and 133.
+        numbered: bool,
+        /// It has a life: 133 and 134.
+        timed: bool,
+    },
+    /// Any other pair.
+    Other,
+}

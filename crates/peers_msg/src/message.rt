@@ -1,0 +1,216 @@
+//! Messages.
+
+ghost use Rattle.std.specs.Prelude.{◌≡◌, true, ◌↔◌, IfSome, IsSome};
+ghost use Rattle.peers_msg.specs.Messages.{UpdateFields, OtherFields, is_known_pair, is_other, is_small};
+
+use crate::control::{Control, ErrorKind};
+use crate::name_field::NameField;
+use std::marker::Model;
+use table_types::{Items, Key, TableDef, Value};
+
+/// An update of a row of the selected table (HAProxy, doc/peers-v2.0.txt, "Update Messages").
+///
+/// It has a key of at most 8,192 bytes and at most 20 values, as each update of any table does.
+#[derive(Debug, Drop)]
+pub struct UpdateMsg {
+    number: Option<u32>,
+    life: Option<u32>,
+    key: Key,
+    values: Items<Value>,
+    name: NameField,
+}
+
+impl Model for UpdateMsg {
+    ghost use Rattle.std.specs.Prelude.{◌≡◌, true};
+    ghost use Rattle.peers_msg.specs.Messages.{UpdateFields, is_small};
+
+    ghost Value = { UpdateFields };
+
+    ghost view = { λ u. record { number = u.number; life = u.life; key = u.key; values = u.values; name = u.name } };
+
+    ghost invariant = { λ u. is_small u.key u.values ≡ true };
+}
+
+impl UpdateMsg {
+    /// The update with these fields.
+    ///
+    /// * `number`: the sender's number of the update; `None` is incremental, one more than the table's last;
+    /// * `life`: the remaining life of the row in milliseconds; `None` leaves it untold;
+    /// * `key`: at most 8,192 bytes;
+    /// * `values`: at most 20, in rising id, without the server's name.
+    pub fn new(
+        number: Option<u32>,
+        life: Option<u32>,
+        key: Key,
+        values: Items<Value>,
+        name: NameField,
+    ) -> UpdateMsg
+        requires { is_small key values ≡ true }
+        ensures { result ≡ record { number = number; life = life; key = key; values = values; name = name } }
+    {
+        UpdateMsg {
+            number,
+            life,
+            key,
+            values,
+            name,
+        }
+    }
+
+    /// The sender's number; `None` where it is one more than the table's last.
+    pub fn number(&self) -> Option<u32>
+        ensures value { result ≡ self.now.number }
+        ensures small { is_small self.now.key self.now.values ≡ true }
+    {
+        self.number
+    }
+
+    /// The remaining life of the row in milliseconds; `None` where it is untold.
+    pub fn life(&self) -> Option<u32>
+        ensures { result ≡ self.now.life }
+    {
+        self.life
+    }
+
+    /// The row's key.
+    pub fn key(&self) -> &Key
+        ensures { result.now ≡ self.now.key }
+    {
+        &self.key
+    }
+
+    /// The values in rising id, without the server's name.
+    pub fn values(&self) -> &[Value]
+        ensures { result.now ≡ self.now.values }
+    {
+        self.values.as_slice()
+    }
+
+    /// What stands where the server's name goes.
+    pub fn name(&self) -> &NameField
+        ensures { result.now ≡ self.now.name }
+    {
+        &self.name
+    }
+
+    /// Key, values and name field, given up.
+    pub fn into_parts(self) -> (Key, Items<Value>, NameField)
+        ensures key { result.0 ≡ self.key }
+        ensures values { result.1 ≡ self.values }
+        ensures name { result.2 ≡ self.name }
+    {
+        let UpdateMsg {
+            number: _,
+            life: _,
+            key,
+            values,
+            name,
+        } = self;
+        (key, values, name)
+    }
+}
+
+/// Whether a pair of class and type has a meaning of its own.
+fn is_known_pair(class: u8, kind: u8) -> bool
+    ensures { result ≡ is_known_pair class kind }
+{
+    match class {
+        0 => kind <= 4,
+        1 => kind <= 1,
+        10 => 128 <= kind && kind <= 134,
+        _ => false,
+    }
+}
+
+/// A message of a pair of class and type that has no meaning here. A learner passes it over (own).
+///
+/// Its body is empty where `kind` is below 128, and has at most 16,384 bytes.
+#[derive(Debug, Drop)]
+pub struct Other {
+    class: u8,
+    kind: u8,
+    body: Items<u8>,
+}
+
+impl Model for Other {
+    ghost use Rattle.std.specs.Prelude.{◌≡◌, true};
+    ghost use Rattle.peers_msg.specs.Messages.{OtherFields, is_other};
+
+    ghost Value = { OtherFields };
+
+    ghost view = { λ o. record { class = o.class; kind = o.kind; body = o.body } };
+
+    ghost invariant = { λ o. is_other (record { class = o.class; kind = o.kind; body = o.body }) ≡ true };
+}
+
+impl Other {
+    /// The message of that class and type with these data. `None` where the pair has a meaning of its own, where
+    /// data stand behind a type below 128, and above 16,384 bytes.
+    pub fn new(class: u8, kind: u8, body: Vec<u8>) -> Option<Other>
+        ensures made { IfSome result (λ o. o ≡ record { class = class; kind = kind; body = body.items }) }
+        ensures exactly { IsSome result ↔ (is_other (record { class = class; kind = kind; body = body.items }) ≡ true) }
+    {
+        let most = if kind < 128 { 0 } else { 16_384 };
+        if is_known_pair(class, kind) || body.len() > most {
+            return None;
+        }
+        Some(Other {
+            class,
+            kind,
+            body: Items::new(body),
+        })
+    }
+
+    /// Its class.
+    pub fn class(&self) -> u8
+        ensures value { result ≡ self.now.class }
+        ensures other { is_other self.now ≡ true }
+    {
+        self.class
+    }
+
+    /// Its type.
+    pub fn kind(&self) -> u8
+        ensures { result ≡ self.now.kind }
+    {
+        self.kind
+    }
+
+    /// Its data.
+    pub fn body(&self) -> &[u8]
+        ensures value { result.now ≡ self.now.body }
+        ensures other { is_other self.now ≡ true }
+    {
+        self.body.as_slice()
+    }
+}
+
+/// A message of the peers protocol, version 2.1 (HAProxy, doc/peers-v2.0.txt, "Messages").
+///
+/// On the wire: a class byte and a type byte; behind a type of 128 or more an encoded data length and the data.
+#[derive(Debug, Drop)]
+pub enum Message {
+    /// Class 0. No data.
+    Control(Control),
+    /// Class 1. No data.
+    Error(ErrorKind),
+    /// Class 10, type 130. Data: encoded table id, encoded name length, name, encoded key kind, encoded key
+    /// length, encoded bitfield of the data types, encoded expire in ms; then for each rate in rising id its
+    /// encoded id and its encoded period in ms. It also selects the table.
+    Define(TableDef),
+    /// Class 10, type 131. Data: the encoded id of a table that was defined, and is now selected.
+    Switch(u64),
+    /// Class 10, type 132. Data: the encoded id that the sender of the updates gave the table, and the number
+    /// of the last update taken, in 4 bytes.
+    Ack {
+        /// The id that the sender of the updates gave the table.
+        table: u64,
+        /// The number of the last update taken.
+        number: u32,
+    },
+    /// Class 10, type 133: number and remaining life in 4 bytes each, key, values, name field. Type 134 has no
+    /// number, type 128 no life, type 129 neither.
+    Update(UpdateMsg),
+    /// Any other class and type.
+    Other(Other),
+}

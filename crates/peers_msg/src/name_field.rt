@@ -1,0 +1,20 @@
+//! The name of a server in an update, by the dictionary.
+
+use table_types::Name;
+
+/// What stands where an update's server name goes. The dictionary's slots, 1 to 128, belong to the session and
+/// direction, and are shared by its tables.
+///
+/// On the wire: an encoded length, 0 for no name; within that length an encoded slot, and where the slot is
+/// written an encoded name length and the name.
+#[derive(Debug, Drop)]
+pub enum NameField {
+    /// The table stores no server name: no bytes.
+    NotStored,
+    /// The row has no name: a length of 0.
+    NoName,
+    /// The name is what that slot holds.
+    Held(u8),
+    /// The slot is written with the name.
+    Written(u8, Name),
+}

@@ -1,0 +1,173 @@
+//! How many bytes messages have.
+
+ghost use Rattle.std.specs.Prelude.{◌≡◌, ◌≤◌, ◌<◌, ◌+◌, ◌++◌, ◌^◌, true, length, flat_map};
+ghost use Rattle.peers_encint.specs.Integers.{spelling};
+ghost use Rattle.table_types.specs.Tables.{rise_from, is_definition};
+ghost use Rattle.peers_msg.specs.Messages.{key_bytes};
+ghost use Rattle.peers_msg.specs.Spelling.{counted, key_text, value_text, name_text, update_text, optional_word, period_text, bits_of, definition_text, size_of};
+
+use crate::message::{Message, UpdateMsg};
+use crate::name_field::NameField;
+use peers_encint::len;
+use table_types::{DataType, Key, Name, TableDef, Value};
+
+/// How many bytes so many have with their encoded length before them.
+pub fn counted_size(count: usize) -> usize
+    requires { count < 2 ^ 63 }
+    ensures exact { result ≡ length (spelling count) + count }
+    ensures within { result ≤ 10 + count }
+{
+    len(count as u64) + count
+}
+
+/// How many bytes a number has where it may be absent.
+fn optional_size(word: Option<u32>) -> usize
+    ensures exact { result ≡ length (optional_word word) }
+    ensures within { result ≤ 4 }
+{
+    match word {
+        Some(_) => 4,
+        None => 0,
+    }
+}
+
+fn key_size(key: &Key) -> usize
+    requires { key_bytes key.now ≤ 8192 }
+    ensures exact { result ≡ length (key_text key.now) }
+    ensures within { result ≤ 8202 }
+{
+    match key {
+        Key::Int(_) => 4,
+        Key::Ip4(address) => address.as_slice().len(),
+        Key::Ip6(address) => address.as_slice().len(),
+        Key::Str(text) => counted_size(text.len()),
+        Key::Bin(bytes) => bytes.len(),
+    }
+}
+
+fn value_size(value: &Value) -> usize
+    ensures exact { result ≡ length (value_text value.now) }
+    ensures within { result ≤ 30 }
+{
+    match value {
+        Value::Count(count) => len(*count),
+        Value::Rate {
+            elapsed,
+            current,
+            previous,
+        } => len(u64::from(*elapsed)) + len(u64::from(*current)) + len(u64::from(*previous)),
+    }
+}
+
+fn values_size(values: &[Value]) -> usize
+    requires { length values.now ≤ 20 }
+    ensures exact { result ≡ length (flat_map value_text values.now) }
+    ensures within { result ≤ 600 }
+{
+    let mut total = 0;
+    for value in values {
+        total += value_size(value);
+    }
+    total
+}
+
+/// How many bytes a slot and the name that is written to it have.
+pub fn written_size(slot: u8, name: &Name) -> usize
+    ensures exact { result ≡ length (spelling slot ++ counted name.now) }
+    ensures within { result ≤ 275 }
+{
+    len(u64::from(slot)) + counted_size(name.as_slice().len())
+}
+
+fn name_size(name: &NameField) -> usize
+    ensures exact { result ≡ length (name_text name.now) }
+    ensures within { result ≤ 285 }
+{
+    match name {
+        NameField::NotStored => 0,
+        NameField::NoName => len(0),
+        NameField::Held(slot) => counted_size(len(u64::from(*slot))),
+        NameField::Written(slot, name) => counted_size(written_size(*slot, name)),
+    }
+}
+
+/// How many bytes of data an update has.
+pub fn update_size(update: &UpdateMsg) -> usize
+    ensures exact { result ≡ length (update_text update.now) }
+    ensures within { result ≤ 16384 }
+{
+    let words = optional_size(update.number()) + optional_size(update.life());
+    let row = key_size(update.key()) + values_size(update.values());
+    words + row + name_size(update.name())
+}
+
+/// The data types as bits.
+pub fn bits(types: &[(DataType, Option<u32>)]) -> u64
+    requires { rise_from 0 types.now ≡ true }
+    ensures { result ≡ bits_of types.now }
+{
+    let mut bits = 0;
+    for entry in types {
+        bits += 1 << entry.0.id();
+    }
+    bits
+}
+
+fn period_size(entry: &(DataType, Option<u32>)) -> usize
+    ensures exact { result ≡ length (period_text entry.now) }
+    ensures within { result ≤ 20 }
+{
+    match entry.1 {
+        Some(period) => len(u64::from(entry.0.id())) + len(u64::from(period)),
+        None => 0,
+    }
+}
+
+fn periods_size(types: &[(DataType, Option<u32>)]) -> usize
+    requires { length types.now ≤ 20 }
+    ensures exact { result ≡ length (flat_map period_text types.now) }
+    ensures within { result ≤ 400 }
+{
+    let mut total = 0;
+    for entry in types {
+        total += period_size(entry);
+    }
+    total
+}
+
+/// How many bytes of data a definition has.
+#[tactic(auto, using(crate::proofs::SizeLaws::types_short))]
+pub fn definition_size(table: &TableDef) -> usize
+    ensures exact { result ≡ length (definition_text table.now) }
+    ensures within { result ≤ 16384 }
+    ensures defined { is_definition table.now ≡ true }
+{
+    let named = len(table.id()) + counted_size(table.name().len());
+    let keyed = len(u64::from(table.kind().number())) + len(table.key_length());
+    let types = table.types();
+    named + keyed + len(bits(types)) + len(u64::from(table.expire())) + periods_size(types)
+}
+
+/// How many bytes a message with that many bytes of data has.
+fn framed_size(count: usize) -> usize
+    requires { count < 2 ^ 63 }
+    ensures { result ≡ 2 + (length (spelling count) + count) }
+{
+    2 + counted_size(count)
+}
+
+/// How many bytes a message has. This takes no memory.
+#[tactic(auto, unfolding(crate::specs::Spelling::size_of, crate::specs::Spelling::spelled))]
+pub fn size(message: &Message) -> usize
+    ensures { result ≡ size_of message.now }
+{
+    match message {
+        Message::Control(_) | Message::Error(_) => 2,
+        Message::Define(table) => framed_size(definition_size(table)),
+        Message::Switch(id) => framed_size(len(*id)),
+        Message::Ack { table, .. } => framed_size(len(*table) + 4),
+        Message::Update(update) => framed_size(update_size(update)),
+        Message::Other(other) if other.kind() < 128 => 2,
+        Message::Other(other) => framed_size(other.body().len()),
+    }
+}

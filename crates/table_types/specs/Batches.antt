@@ -1,0 +1,34 @@
+-- Batches: updates that fit the tables of a roster (own).
+use Rattle.std.specs.Prelude.{◌≡◌, ℕ, ◌+◌, not, nat_lt, List, [], ◌∷◌, length, Option, Some, None, is_none, if◌then◌else◌}
+use Rattle.table_types.specs.declared.update.Update.{Update}
+use Rattle.table_types.specs.declared.batch.BatchError.{BatchError}
+use Rattle.table_types.specs.declared.batch.BatchError.TheVariants as errors
+use Rattle.table_types.specs.Tables.{Definition}
+use Rattle.table_types.specs.Updates.{fits}
+use Rattle.table_types.specs.Rosters.{table_at}
+
+-- what is wrong with the update at a place, given the table of the roster that its id stands for
+abbrev pub fault_in : ℕ → Option Definition → Update → Option BatchError
+fault_in place None u = Some (errors.NoTable place)
+fault_in place (Some d) u =
+    if not (fits d u) then Some (errors.Misfit place)
+    else (if is_none u.life then Some (errors.Untimed place) else None)
+
+-- the first of two faults
+abbrev pub or_else : Option BatchError → Option BatchError → Option BatchError
+or_else (Some e) next = Some e
+or_else None next = next
+
+-- the first fault of updates that stand from a place on
+abbrev pub faults_from : ℕ → List Definition → List Update → Option BatchError
+faults_from place roster [] = None
+faults_from place roster (u ∷ us) = or_else (fault_in place (table_at roster u.table) u) (faults_from (place + 1) roster us)
+
+-- what is first wrong with updates that are to be a batch for a roster: they are at most 512,
+-- and each has a table in the roster, fits it, and has a life
+abbrev pub batch_fault : List Definition → List Update → Option BatchError
+batch_fault roster us = if nat_lt 512 (length us) then Some errors.TooMany else faults_from 0 roster us
+
+-- the updates are a batch for the roster
+abbrev pub IsBatchFor : List Definition → List Update → Type 0
+IsBatchFor roster us = batch_fault roster us ≡ None

@@ -1,0 +1,7 @@
+-- Names: of tables, of servers and of peers (the bounds are own).
+use Rattle.std.specs.Prelude.{ℕ, Bool, not, ◌&&◌, ◌==◌, nat_le, List, length}
+use Rattle.std.specs.List.{list_any}
+
+-- 1 to 255 bytes, and no NUL among them
+abbrev pub is_name : List ℕ → Bool
+is_name bytes = not (length bytes == 0) && nat_le (length bytes) 255 && not (list_any (λ byte. byte == 0) bytes)

@@ -1,0 +1,155 @@
+//! The keys of stick tables.
+
+ghost use Rattle.std.specs.Prelude.{◌≡◌, IfOk, IfSome, IsTrue, Some, ◌↔◌};
+ghost use Rattle.table_types.specs.Keys.{number_of, kind_name, fits_length, key_fits};
+
+use crate::items::Items;
+use crate::memory::Memory;
+use std::alloc::Global;
+
+/// What a table's keys are (HAProxy Configuration Manual, stick-table `type`; the numbers are those of
+/// doc/peers-v2.0.txt, "Table Definition Message", key type).
+#[derive(Clone, Copy, Debug, PartialEq, Eq)]
+pub enum KeyKind {
+    /// A number of 32 bits; key type 2.
+    Integer,
+    /// An IPv4 address; key type 4.
+    Ip4,
+    /// An IPv6 address; key type 5.
+    Ip6,
+    /// A text; key type 6.
+    String,
+    /// Bytes of one length; key type 7.
+    Binary,
+}
+
+impl KeyKind {
+    /// Each kind, in rising number.
+    pub const ALL: [KeyKind; 5] = [
+        KeyKind::Integer,
+        KeyKind::Ip4,
+        KeyKind::Ip6,
+        KeyKind::String,
+        KeyKind::Binary,
+    ];
+
+    /// The number that stands for the kind in a definition.
+    pub fn number(self) -> u8
+        ensures { result ≡ number_of self }
+    {
+        match self {
+            KeyKind::Integer => 2,
+            KeyKind::Ip4 => 4,
+            KeyKind::Ip6 => 5,
+            KeyKind::String => 6,
+            KeyKind::Binary => 7,
+        }
+    }
+
+    /// The kind of that number, and `None` where no kind has it.
+    pub fn from_number(number: u64) -> Option<KeyKind>
+        ensures told { IfSome result (λ kind. number_of kind ≡ number) }
+        ensures exactly { (kind : KeyKind) → number_of kind ≡ number → result ≡ Some kind }
+    {
+        match number {
+            2 => Some(KeyKind::Integer),
+            4 => Some(KeyKind::Ip4),
+            5 => Some(KeyKind::Ip6),
+            6 => Some(KeyKind::String),
+            7 => Some(KeyKind::Binary),
+            _ => None,
+        }
+    }
+
+    /// The word for the kind (own): `integer`, `ipv4`, `ipv6`, `string` or `binary`.
+    pub fn name(self) -> &'static str
+        ensures { result.now ≡ kind_name self }
+    {
+        match self {
+            KeyKind::Integer => "integer",
+            KeyKind::Ip4 => "ipv4",
+            KeyKind::Ip6 => "ipv6",
+            KeyKind::String => "string",
+            KeyKind::Binary => "binary",
+        }
+    }
+
+    /// The kind that a word stands for, and `None` where it stands for none.
+    pub fn from_name(name: &str) -> Option<KeyKind>
+        ensures told { IfSome result (λ kind. kind_name kind ≡ name.now) }
+        ensures exactly { (kind : KeyKind) → kind_name kind ≡ name.now → result ≡ Some kind }
+    {
+        Some(match name {
+            "integer" => KeyKind::Integer,
+            "ipv4" => KeyKind::Ip4,
+            "ipv6" => KeyKind::Ip6,
+            "string" => KeyKind::String,
+            "binary" => KeyKind::Binary,
+            _ => return None,
+        })
+    }
+
+    /// Whether a table of this kind may have that key length: 4 for integers and IPv4, 16 for IPv6,
+    /// 1 to 8,192 for texts and bytes (the greatest is own).
+    pub fn fits_length(self, key_length: u64) -> bool
+        ensures { result ≡ fits_length self key_length }
+    {
+        match self {
+            KeyKind::Integer | KeyKind::Ip4 => key_length == 4,
+            KeyKind::Ip6 => key_length == 16,
+            KeyKind::String | KeyKind::Binary => 1 <= key_length && key_length <= 8192,
+        }
+    }
+}
+
+/// A key of one of the five kinds.
+#[derive(Debug, Drop, PartialEq, Eq, PartialOrd, Ord)]
+pub enum Key {
+    /// A number.
+    Int(u32),
+    /// The four bytes of an IPv4 address, in network order.
+    Ip4([u8; 4]),
+    /// The sixteen bytes of an IPv6 address, in network order.
+    Ip6([u8; 16]),
+    /// A text's bytes; in a table of key length L, fewer than L.
+    Str(Items<u8>),
+    /// Bytes; in a table of key length L, exactly L.
+    Bin(Items<u8>),
+}
+
+impl Key {
+    /// Whether the key is one of a table of that kind and key length.
+    pub fn fits(&self, kind: KeyKind, key_length: u64) -> bool
+        ensures { result ≡ key_fits kind key_length self.now }
+    {
+        // What the type of a number or an address says already is tested for the contract to see.
+        match (kind, self) {
+            (KeyKind::Integer, Key::Int(number)) => u64::from(*number) < 1 << 32,
+            (KeyKind::Ip4, Key::Ip4(address)) => address.as_slice().len() == 4,
+            (KeyKind::Ip6, Key::Ip6(address)) => address.as_slice().len() == 16,
+            (KeyKind::String, Key::Str(text)) => (text.len() as u64) < key_length,
+            (KeyKind::Binary, Key::Bin(bytes)) => bytes.len() as u64 == key_length,
+            _ => false,
+        }
+    }
+
+    /// Whether both are the same key.
+    pub fn is_same(&self, other: &Key) -> bool
+        ensures { IsTrue result ↔ (self.now ≡ other.now) }
+    {
+        self == other
+    }
+
+    /// An equal key.
+    pub fn copy(&self, alloc: Global) -> Result<Key, Memory>
+        ensures { IfOk result (λ copy. copy ≡ self.now) }
+    {
+        Ok(match self {
+            Key::Int(number) => Key::Int(*number),
+            Key::Ip4(bytes) => Key::Ip4(*bytes),
+            Key::Ip6(bytes) => Key::Ip6(*bytes),
+            Key::Str(text) => Key::Str(text.copy(alloc)?),
+            Key::Bin(bytes) => Key::Bin(bytes.copy(alloc)?),
+        })
+    }
+}

@@ -1,0 +1,26 @@
+//! What stick tables are made of: keys, data types, values, definitions, updates, rosters and batches.
+#![tactic(auto)]
+
+mod batch;
+mod data_type;
+mod items;
+mod key;
+mod memory;
+mod moment;
+mod name;
+mod roster;
+mod table_def;
+#[cfg(test)]
+mod tests;
+mod update;
+
+pub use batch::{Batch, BatchError};
+pub use data_type::{DataType, Shape};
+pub use items::Items;
+pub use key::{Key, KeyKind};
+pub use memory::Memory;
+pub use moment::Moment;
+pub use name::Name;
+pub use roster::{Roster, RosterError};
+pub use table_def::{DefError, TableDef};
+pub use update::{Update, Value};

@@ -1,0 +1,75 @@
+//! Names of tables, of servers and of peers.
+
+ghost use Rattle.std.specs.Prelude.{◌≡◌, true, ◌↔◌, IsSome, IfSome, IfOk, IsTrue};
+ghost use Rattle.table_types.specs.Names.{is_name};
+
+use crate::items::Items;
+use crate::memory::Memory;
+use std::alloc::Global;
+use std::marker::Model;
+
+/// A name of 1 to 255 bytes, none of them NUL (the bounds are own).
+#[derive(Debug, Drop, PartialEq, Eq, PartialOrd, Ord)]
+pub struct Name {
+    bytes: Items<u8>,
+}
+
+impl Model for Name {
+    ghost use Rattle.std.specs.Prelude.{List, ℕ, ◌≡◌, true};
+    ghost use Rattle.table_types.specs.Names.{is_name};
+
+    ghost Value = { List ℕ };
+
+    ghost view = { λ a. a.bytes };
+
+    ghost invariant = { λ a. is_name a.bytes ≡ true };
+
+    ghost inverse = { λ bytes. record { bytes = bytes } };
+}
+
+/// Whether bytes are a name: 1 to 255 of them, none NUL.
+pub fn is_name(bytes: &[u8]) -> bool
+    ensures { result ≡ is_name bytes.now }
+{
+    !bytes.is_empty() && bytes.len() <= 255 && !bytes.contains(&0)
+}
+
+impl Name {
+    /// The name of these bytes, and `None` where they are none.
+    pub fn new(bytes: Vec<u8>) -> Option<Name>
+        ensures named { IfSome result (λ name. name ≡ bytes.items) }
+        ensures exactly { IsSome result ↔ (is_name bytes.items ≡ true) }
+    {
+        if is_name(bytes.as_slice()) {
+            Some(Name {
+                bytes: Items::new(bytes),
+            })
+        } else {
+            None
+        }
+    }
+
+    /// The name's bytes.
+    pub fn as_slice(&self) -> &[u8]
+        ensures bytes { result.now ≡ self.now }
+        ensures named { is_name self.now ≡ true }
+    {
+        self.bytes.as_slice()
+    }
+
+    /// Whether both are the same name.
+    pub fn is_same(&self, other: &Name) -> bool
+        ensures { IsTrue result ↔ (self.now ≡ other.now) }
+    {
+        self == other
+    }
+
+    /// An equal name.
+    pub fn copy(&self, alloc: Global) -> Result<Name, Memory>
+        ensures { IfOk result (λ copy. copy ≡ self.now) }
+    {
+        Ok(Name {
+            bytes: self.bytes.copy(alloc)?,
+        })
+    }
+}

@@ -1,0 +1,277 @@
+//! Definitions of tables.
+
+ghost use Rattle.std.specs.Prelude.{◌≡◌, true, Some, None, Ok, IfOk, MatchResult, List, ℕ, ◌≢◌, ◌≤◌, length, ◌↔◌, IsTrue};
+ghost use Rattle.std.specs.List.{list_all};
+ghost use Rattle.table_types.specs.declared.table_def.DefError.{DefError};
+ghost use Rattle.table_types.specs.declared.table_def.DefError.TheVariants.{Memory as OutOfMemory};
+ghost use Rattle.table_types.specs.Tables.{Definition, is_definition, is_id, has_its_period, stores, repeats, fault_of, entry_of, in_rising_id};
+
+use crate::data_type::DataType;
+use crate::items::Items;
+use crate::key::KeyKind;
+use crate::memory::Memory;
+use crate::name::is_name;
+use std::alloc::Global;
+use std::marker::Model;
+use thiserror::Error;
+
+/// What a definition was refused for: the first that applies, in this order.
+#[derive(Clone, Copy, Debug, PartialEq, Eq, Error)]
+pub enum DefError {
+    /// The id is 0 or above 2^32 - 1.
+    #[error("a table's id is 1 to 4294967295")]
+    Id,
+    /// The name is empty, longer than 255 bytes, or has a NUL.
+    #[error("a table's name has 1 to 255 bytes and no NUL")]
+    Name,
+    /// The kind of keys can't have that length.
+    #[error("keys of this kind can't have that length")]
+    KeyLength,
+    /// A rate's period is 0 or absent, or another type has one.
+    #[error("a rate needs a period above 0, and no other type has one")]
+    Period,
+    /// A data type is given twice.
+    #[error("a data type is given twice")]
+    RepeatedType,
+    /// Memory was wanted, and the growth was refused.
+    #[error("memory")]
+    Memory,
+}
+
+impl From<Memory> for DefError {
+    ghost from_gives = { λ _ e. e ≡ OutOfMemory };
+
+    fn from(_refused: Memory) -> DefError {
+        DefError::Memory
+    }
+}
+
+/// A stick table's definition: what a definition message carries
+/// (HAProxy, doc/peers-v2.0.txt, "Table Definition Message").
+#[derive(Debug, Drop)]
+pub struct TableDef {
+    id: u64,
+    name: Items<u8>,
+    kind: KeyKind,
+    key_length: u64,
+    expire: u32,
+    types: Items<(DataType, Option<u32>)>,
+}
+
+impl Model for TableDef {
+    ghost use Rattle.std.specs.Prelude.{◌≡◌, true};
+    ghost use Rattle.table_types.specs.Tables.{Definition, is_definition};
+
+    ghost Value = { Definition };
+
+    ghost view = { λ d. record { id = d.id; name = d.name; kind = d.kind; key_length = d.key_length; expire = d.expire; types = d.types } };
+
+    ghost invariant = { λ d. is_definition (record { id = d.id; name = d.name; kind = d.kind; key_length = d.key_length; expire = d.expire; types = d.types }) ≡ true };
+}
+
+fn is_id(id: u64) -> bool
+    ensures { result ≡ is_id id }
+{
+    1 <= id && id < 1 << 32
+}
+
+fn has_its_period(entry: &(DataType, Option<u32>)) -> bool
+    ensures { result ≡ has_its_period entry.now }
+{
+    match entry.1 {
+        Some(period) => entry.0.is_rate() && 1 <= period,
+        None => !entry.0.is_rate(),
+    }
+}
+
+fn have_periods(types: &[(DataType, Option<u32>)]) -> bool
+    ensures { result ≡ list_all has_its_period types.now }
+{
+    for entry in types {
+        if !has_its_period(entry) {
+            return false;
+        }
+    }
+    true
+}
+
+fn stores(types: &[(DataType, Option<u32>)], wanted: DataType) -> bool
+    ensures { result ≡ stores wanted types.now }
+{
+    for entry in types {
+        if wanted.id() == entry.0.id() {
+            return true;
+        }
+    }
+    false
+}
+
+/// Whether a data type is given twice. Of 21 types one is, so this looks at 20 of them at most.
+fn repeats(types: &[(DataType, Option<u32>)]) -> bool
+    ensures { result ≡ repeats types.now }
+{
+    for (index, entry) in types.iter().enumerate() {
+        if stores(&types[index + 1..], entry.0) {
+            return true;
+        }
+    }
+    false
+}
+
+fn entry_of(types: &[(DataType, Option<u32>)], wanted: DataType) -> Option<(DataType, Option<u32>)>
+    ensures { result ≡ entry_of types.now wanted }
+{
+    for entry in types {
+        if wanted.id() == entry.0.id() {
+            return Some(*entry);
+        }
+    }
+    None
+}
+
+fn in_rising_id(
+    alloc: Global,
+    types: &[(DataType, Option<u32>)],
+) -> Result<Vec<(DataType, Option<u32>)>, Memory>
+    ensures { IfOk result (λ sorted. sorted.items ≡ in_rising_id types.now) }
+{
+    let entries = DataType::ALL
+        .iter()
+        .filter_map(|data_type| entry_of(types, *data_type));
+    Ok(entries.collect(alloc)?)
+}
+
+fn is_same_name(one: &[u8], other: &[u8]) -> bool
+    ensures { IsTrue result ↔ (one.now ≡ other.now) }
+{
+    one == other
+}
+
+fn is_same_kind(one: KeyKind, other: KeyKind) -> bool
+    ensures { IsTrue result ↔ (one ≡ other) }
+{
+    one == other
+}
+
+fn are_same_types(one: &[(DataType, Option<u32>)], other: &[(DataType, Option<u32>)]) -> bool
+    ensures { IsTrue result ↔ (one.now ≡ other.now) }
+{
+    one == other
+}
+
+impl TableDef {
+    /// The definition of these parts. The types may come in any order, each rate with its period in
+    /// milliseconds, and are kept in rising id.
+    ///
+    /// * `id`: 1 to 2^32 - 1, the number that its messages give the table;
+    /// * `name`: 1 to 255 bytes without NUL;
+    /// * `key_length`: in bytes, as `KeyKind::fits_length` says;
+    /// * `expire`: how long a row lives after its last update, in milliseconds; 0 is for ever.
+    pub fn new(
+        alloc: Global,
+        id: u64,
+        name: Vec<u8>,
+        kind: KeyKind,
+        key_length: u64,
+        expire: u32,
+        types: Vec<(DataType, Option<u32>)>,
+    ) -> Result<TableDef, DefError>
+        ensures made { IfOk result (λ d. d ≡ record { id = id; name = name.items; kind = kind; key_length = key_length; expire = expire; types = in_rising_id types.items }) }
+        ensures refused { (e : DefError) → e ≢ DefError.Memory →
+            (result ≡ Err e) ↔ (fault_of id name.items kind key_length types.items ≡ Some e) }
+    {
+        if !is_id(id) {
+            return Err(DefError::Id);
+        }
+        if !is_name(name.as_slice()) {
+            return Err(DefError::Name);
+        }
+        if !kind.fits_length(key_length) {
+            return Err(DefError::KeyLength);
+        }
+        if !have_periods(types.as_slice()) {
+            return Err(DefError::Period);
+        }
+        if repeats(types.as_slice()) {
+            return Err(DefError::RepeatedType);
+        }
+        let types = in_rising_id(alloc, types.as_slice())?;
+        Ok(TableDef {
+            id,
+            name: Items::new(name),
+            kind,
+            key_length,
+            expire,
+            types: Items::new(types),
+        })
+    }
+
+    /// The id that messages give the table: 1 to 2^32 - 1.
+    pub fn id(&self) -> u64
+        ensures value { result ≡ self.now.id }
+        ensures defined { is_definition self.now ≡ true }
+    {
+        self.id
+    }
+
+    /// The table's name.
+    pub fn name(&self) -> &[u8]
+        ensures { result.now ≡ self.now.name }
+    {
+        self.name.as_slice()
+    }
+
+    /// What its keys are.
+    pub fn kind(&self) -> KeyKind
+        ensures { result ≡ self.now.kind }
+    {
+        self.kind
+    }
+
+    /// The key length in bytes.
+    pub fn key_length(&self) -> u64
+        ensures { result ≡ self.now.key_length }
+    {
+        self.key_length
+    }
+
+    /// How long a row lives after its last update, in milliseconds; 0 is for ever.
+    pub fn expire(&self) -> u32
+        ensures { result ≡ self.now.expire }
+    {
+        self.expire
+    }
+
+    /// What it stores, in rising id, each rate with its period in milliseconds.
+    pub fn types(&self) -> &[(DataType, Option<u32>)]
+        ensures { result.now ≡ self.now.types }
+    {
+        self.types.as_slice()
+    }
+
+    /// Whether both are the same definition, part for part.
+    pub fn is_same(&self, other: &TableDef) -> bool
+        ensures { IsTrue result ↔ (self.now ≡ other.now) }
+    {
+        self.id == other.id
+            && is_same_name(self.name.as_slice(), other.name.as_slice())
+            && is_same_kind(self.kind, other.kind)
+            && self.key_length == other.key_length
+            && self.expire == other.expire
+            && are_same_types(self.types.as_slice(), other.types.as_slice())
+    }
+
+    /// An equal definition.
+    pub fn copy(&self, alloc: Global) -> Result<TableDef, Memory>
+        ensures { IfOk result (λ copy. copy ≡ self.now) }
+    {
+        Ok(TableDef {
+            id: self.id,
+            name: self.name.copy(alloc)?,
+            kind: self.kind,
+            key_length: self.key_length,
+            expire: self.expire,
+            types: self.types.copy(alloc)?,
+        })
+    }
+}

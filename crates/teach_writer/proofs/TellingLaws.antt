@@ -1,0 +1,305 @@
+-- What is selected for an update, that it is told as it is, and that both are legal.
+use Rattle.std.proofs.Common.{◌≡◌, ℕ, zero, suc, ◌+◌, ◌%◌, ◌^◌, ◌<◌, ◌≤◌, Bool, true, false, not, ◌&&◌, ◌||◌, cond, eqb, List, [], ◌∷◌, ◌++◌, length, get_or, Option, Some, None, refl, sym, ap, ◌∙◌, subst, inl, inr, arith, append_assoc}
+use Rattle.std.specs.Prelude.{is_some, is_none, filter, nat_lt, flat_map}
+use Rattle.std.specs.List.{AllByRecursion, list_any}
+use Rattle.std.proofs.lemmas.Bool.{cases_eq, eq-eqb, ne_eqb}
+use Rattle.std.proofs.lemmas.Bool.Decides.{nat_tests}
+use Rattle.std.proofs.lemmas.Grind.{flat_map-append}
+use Rattle.table_types.specs.declared.update.Update.{Update}
+use Rattle.table_types.specs.Tables.{Definition, is_definition}
+use Rattle.table_types.specs.Updates.{fits, is_optional_word, stores_name, row_fits, may_be_named, life_fits}
+use Rattle.table_types.specs.Rosters.{table_at, has_id, is_same_name}
+use Rattle.table_types.specs.declared.batch.BatchError.{BatchError}
+use Rattle.table_types.specs.declared.batch.BatchError.TheVariants as errors
+use Rattle.table_types.specs.Batches.{faults_from, fault_in, or_else, batch_fault, IsBatchFor}
+use Rattle.peers_msg.specs.declared.message.Message.{Message}
+use Rattle.peers_msg.specs.declared.message.Message.TheVariants as messages
+use Rattle.peers_msg.specs.declared.name_field.NameField.TheVariants as names
+use Rattle.peers_msg.specs.Messages.{UpdateFields}
+use Rattle.peers_msg.specs.Heard.{Heard, put_table, outlives, defined, selected_table, heard_after}
+use Rattle.peers_msg.specs.Spelling.{spelled, stream_of}
+use Rattle.peers_msg.specs.Fitting.{update_fits}
+use Rattle.peers_msg.specs.Steps.{State, Step, Teaches, IsOwn, Legal, last_of, resolved_number, resolved}
+use Rattle.known_state.specs.declared.known.StepError.{StepError}
+use Rattle.known_state.specs.Known.{KnownState, AreOwn, Refuses, switch_refusal, update_refusal, stores_no_name}
+use Rattle.known_state.proofs.KnownLemmas.{table_at-id, table_at-passes, table_at-nameless}
+use Rattle.known_state.proofs.StepLemmas.{has_id-table_at, selected-id, selected-found, update_fits_heard}
+use Rattle.teach_writer.specs.Telling.{is_table, selection, follows, number_told, update_told, IsTaught, IsTaken}
+
+-- a table that is heard is the roster's of its id
+pub found_is_own : (roster ds : List Definition) (id : ℕ) (t d : Definition) → AreOwn roster ds → table_at ds id ≡ Some t → table_at roster id ≡ Some d → t ≡ d
+found_is_own roster ds id t d own found listed =
+    let own_t : table_at roster t.id ≡ Some t = table_at-passes (λ (x : Definition). table_at roster x.id ≡ Some x) ds id t own found in
+    let here : table_at roster id ≡ Some t = subst (λ (n : ℕ). table_at roster n ≡ Some t) (table_at-id ds id t found) own_t in
+    let same : Some t ≡ Some d = sym here ∙ listed in
+    cc
+
+-- the table selected is the roster's of its id
+pub selected_is_own : (k : KnownState) (t d : Definition) → AreOwn k.roster k.state.heard.tables → selected_table k.state.heard ≡ Some t → table_at k.roster t.id ≡ Some d → t ≡ d
+selected_is_own k t d own sel listed =
+    let found = selected-found k.state.heard t sel in
+    let own_t : table_at k.roster t.id ≡ Some t = table_at-passes (λ (x : Definition). table_at k.roster x.id ≡ Some x) k.state.heard.tables found.0 t own found.1 in
+    let same : Some t ≡ Some d = sym own_t ∙ listed in
+    cc
+
+-- where the table of an id is selected, it is the roster's
+pub kept_selected : (k : KnownState) (d : Definition) → AreOwn k.roster k.state.heard.tables → table_at k.roster d.id ≡ Some d → is_table (selected_table k.state.heard) d.id ≡ true → selected_table k.state.heard ≡ Some d
+kept_selected k d own listed is = at (selected_table k.state.heard) refl
+  where
+    at : (o : Option Definition) → selected_table k.state.heard ≡ o → selected_table k.state.heard ≡ Some d
+    at None e = let bad : false ≡ true = sym (rw e refl) ∙ is in cc
+    at (Some t) e =
+        let same_id : eqb t.id d.id ≡ true = sym (rw e refl) ∙ is in
+        let ids : t.id ≡ d.id = grind (arith, nat_tests) in
+        let listed_t : table_at k.roster t.id ≡ Some d = subst (λ (n : ℕ). table_at k.roster n ≡ Some d) (sym ids) listed in
+        e ∙ ap (λ (x : Definition). Some x) (selected_is_own k t d own e listed_t)
+
+-- a switch to a table of the roster that is heard is taken
+pub switch_taken : (k : KnownState) (d : Definition) → table_at k.roster d.id ≡ Some d → is_some (table_at k.state.heard.tables d.id) ≡ true → IsTaken k (messages.Switch d.id)
+switch_taken k d listed found = λ e refuses.
+    let none : switch_refusal k d.id ≡ None = rw (has_id-table_at k.roster d.id, listed, some-not-none (table_at k.state.heard.tables d.id) found) refl in
+    let bad : None ≡ Some e = sym none ∙ refuses in
+    cc
+  where
+    some-not-none : (o : Option Definition) → is_some o ≡ true → is_none o ≡ false
+    some-not-none None h = cc
+    some-not-none (Some x) h = refl
+
+-- behind it that table is selected
+pub switch_selects : (roster : List Definition) (h : Heard) (d : Definition) → AreOwn roster h.tables → table_at roster d.id ≡ Some d → is_some (table_at h.tables d.id) ≡ true → selected_table (heard_after h (messages.Switch d.id)) ≡ Some d
+switch_selects roster h d own listed found = at (table_at h.tables d.id) refl
+  where
+    at : (o : Option Definition) → table_at h.tables d.id ≡ o → table_at h.tables d.id ≡ Some d
+    at None e = let bad : false ≡ true = sym (rw e refl) ∙ found in cc
+    at (Some t) e = e ∙ ap (λ (x : Definition). Some x) (found_is_own roster h.tables d.id t d own e listed)
+
+-- the roster's own definition is taken
+pub define_taken : (k : KnownState) (d : Definition) → table_at k.roster d.id ≡ Some d → IsTaken k (messages.Define d)
+define_taken k d listed = λ e refuses. refuses.0 listed
+
+-- a table put among tables that lack its id is found there
+put_found : (d : Definition) (ds : List Definition) → has_id d.id ds ≡ false → table_at (put_table d ds) d.id ≡ Some d
+put_found d [] none = rw (eq-eqb d.id d.id refl) refl
+put_found d (x ∷ xs) none =
+    let other : eqb x.id d.id ≡ false = or-false-left (eqb x.id d.id) (has_id d.id xs) none in
+    let rest : has_id d.id xs ≡ false = or-false-right (eqb x.id d.id) (has_id d.id xs) none in
+    elim (nat_lt d.id x.id) as (λ b. table_at (cond b (d ∷ (x ∷ xs)) (x ∷ put_table d xs)) d.id ≡ Some d) [
+      | true ↦ rw (eq-eqb d.id d.id refl) refl
+      | false ↦ rw other (put_found d xs rest)
+    ]
+  where
+    or-false-left : (a b : Bool) → (a || b) ≡ false → a ≡ false
+    or-false-left true b h = h
+    or-false-left false b h = refl
+
+    or-false-right : (a b : Bool) → (a || b) ≡ false → b ≡ false
+    or-false-right true b h = cc
+    or-false-right false b h = h
+
+-- no table that outlives a definition has its id
+outliving_lacks : (d : Definition) (ds : List Definition) → has_id d.id (filter (outlives d) ds) ≡ false
+outliving_lacks d [] = refl
+outliving_lacks d (x ∷ xs) = at (outlives d x) refl (outliving_lacks d xs)
+  where
+    not-first : (a b : Bool) → (not a && b) ≡ true → a ≡ false
+    not-first true b h = cc
+    not-first false b h = refl
+
+    at : (b : Bool) → outlives d x ≡ b → has_id d.id (filter (outlives d) xs) ≡ false → has_id d.id (cond b (x ∷ filter (outlives d) xs) (filter (outlives d) xs)) ≡ false
+    at false e rest = rest
+    at true e rest =
+        let other : eqb x.id d.id ≡ false = not-first (eqb x.id d.id) (not (is_same_name x.name d.name)) e in
+        rw other rest
+
+-- behind a definition its table is selected
+pub define_selects : (h : Heard) (d : Definition) → selected_table (heard_after h (messages.Define d)) ≡ Some d
+define_selects h d = put_found d (filter (outlives d) h.tables) (outliving_lacks d h.tables)
+
+-- the number told is resolved to the update's
+told_resolved : (last : Option ℕ) (number : ℕ) → resolved_number (number_told last number) last ≡ Some number
+told_resolved None number = refl
+told_resolved (Some last) number = elim (cases_eq ((last + 1) % 2 ^ 32) number) [
+  | inl same ↦ rw (eq-eqb ((last + 1) % 2 ^ 32) number same) (ap (λ (n : ℕ). Some n) same)
+  | inr other ↦ rw (ne_eqb ((last + 1) % 2 ^ 32) number other) refl
+]
+
+and-left : (a b : Bool) → (a && b) ≡ true → a ≡ true
+and-left true b h = refl
+and-left false b h = h
+
+and-right : (a b : Bool) → (a && b) ≡ true → b ≡ true
+and-right true b h = h
+and-right false b h = cc
+
+-- a life that fits a table is below 2^32
+life_word : (d : Definition) (life : Option ℕ) → d.expire < 2 ^ 32 → life_fits d life ≡ true → is_optional_word life ≡ true
+life_word d None small fit = refl
+life_word d (Some n) small fit = grind (arith, nat_tests)
+
+expire_small : (d : Definition) → is_definition d ≡ true → d.expire < 2 ^ 32
+expire_small d is = grind (arith, nat_tests)
+
+-- a table that stores no name has updates without one
+pub unnamed : (d : Definition) (name : Option (List ℕ)) → stores_name d ≡ false → may_be_named d name ≡ true → name ≡ None
+unnamed d None no_name fit = refl
+unnamed d (Some name) no_name fit = let bad : false ≡ true = sym (rw no_name refl) ∙ fit in cc
+
+-- the parts of what fits
+pub row_of_fits : (d : Definition) (u : Update) → fits d u ≡ true → row_fits d u.key u.values ≡ true
+row_of_fits d u fit = and-left (row_fits d u.key u.values) (may_be_named d u.name) (and-left (row_fits d u.key u.values && may_be_named d u.name) (life_fits d u.life) fit)
+
+pub name_of_fits : (d : Definition) (u : Update) → fits d u ≡ true → may_be_named d u.name ≡ true
+name_of_fits d u fit = and-right (row_fits d u.key u.values) (may_be_named d u.name) (and-left (row_fits d u.key u.values && may_be_named d u.name) (life_fits d u.life) fit)
+
+life_of_fits : (d : Definition) (u : Update) → fits d u ≡ true → life_fits d u.life ≡ true
+life_of_fits d u fit = and-right (row_fits d u.key u.values && may_be_named d u.name) (life_fits d u.life) fit
+
+-- an update of a table without names fits as it is told
+told_fits : (last : Option ℕ) (d : Definition) (u : Update) → is_definition d ≡ true → stores_name d ≡ false → fits d u ≡ true → is_optional_word (number_told last u.number) ≡ true → update_fits d (update_told last u) ≡ true
+told_fits last d u is no_name fit word = rw (word, life_word d u.life (expire_small d is) (life_of_fits d u fit), row_of_fits d u fit, no_name) refl
+
+-- it is taken where its table is selected
+pub told_taken : (k : KnownState) (d : Definition) (u : Update) (last : Option ℕ) → last ≡ last_of k.state.lasts d.id → selected_table k.state.heard ≡ Some d → is_definition d ≡ true → stores_name d ≡ false → fits d u ≡ true → is_optional_word (number_told last u.number) ≡ true → IsTaken k (messages.Update (update_told last u))
+told_taken k d u last is_last sel is no_name fit word = λ e refuses.
+    let resolved_here : resolved_number (number_told last u.number) (last_of k.state.lasts d.id) ≡ Some u.number = subst (λ (l : Option ℕ). resolved_number (number_told last u.number) l ≡ Some u.number) is_last (told_resolved last u.number) in
+    let none : update_refusal k (update_told last u) (selected_table k.state.heard) ≡ None = rw (sel, update_fits_heard k.state.heard (update_told last u) d sel (told_fits last d u is no_name fit word) is, resolved_here) refl in
+    let bad : None ≡ Some e = sym none ∙ refuses in
+    cc
+
+-- and carries exactly the update
+pub told_carries : (s : State) (d : Definition) (u : Update) (last : Option ℕ) (us : List Update) (e : State) → last ≡ last_of s.lasts d.id → selected_table s.heard ≡ Some d → u.table ≡ d.id → u.name ≡ None → Step s (messages.Update (update_told last u)) us e → us ≡ u ∷ []
+told_carries s d u last us e is_last sel table_of is_name (fit, table, on_table, number, is_number, name, named, carried, heard, lasts) =
+    let same_table : Some d.id ≡ Some table = sym (selected-id s.heard d sel) ∙ on_table in
+    let id_is : d.id ≡ table = cc in
+    let last_is : last_of s.lasts table ≡ last = sym (subst (λ (n : ℕ). last ≡ last_of s.lasts n) id_is is_last) in
+    let numbers : Some u.number ≡ Some number = sym (told_resolved last u.number) ∙ ap (λ (l : Option ℕ). resolved_number (number_told last u.number) l) (sym last_is) ∙ is_number in
+    let number_is : u.number ≡ number = cc in
+    let table_is : table ≡ u.table = sym id_is ∙ sym table_of in
+    let name_is : name ≡ u.name = named.0 ∙ sym is_name in
+    carried ∙ rw (table_is, ← number_is, name_is) refl
+
+-- legal messages one after another are legal, and carry what each part carries
+teaches-append : (a b : List Message) (s m e : State) (us vs : List Update) → Teaches s a us m → Teaches m b vs e → Teaches s (a ++ b) (us ++ vs) e
+teaches-append [] b s m e us vs (none, same) second =
+    let moved : Teaches s b vs e = subst (λ (x : State). Teaches x b vs e) same second in
+    subst (λ (x : List Update). Teaches s b (x ++ vs) e) (sym none) moved
+teaches-append (x ∷ xs) b s m e us vs (one, rest, mid, is, step, later) second =
+    (one, rest ++ vs, mid, ap (λ (l : List Update). l ++ vs) is ∙ append_assoc one rest vs, step, teaches-append xs b mid m e rest vs later second)
+
+own-append : (roster : List Definition) (a b : List Message) → AllByRecursion (IsOwn roster) a → AllByRecursion (IsOwn roster) b → AllByRecursion (IsOwn roster) (a ++ b)
+own-append roster [] b first second = second
+own-append roster (x ∷ xs) b first second = (first.0, own-append roster xs b first.1 second)
+
+pub legal-append : (roster : List Definition) (a b : List Message) (s m e : State) (us vs : List Update) → Legal roster s a us m → Legal roster m b vs e → Legal roster s (a ++ b) (us ++ vs) e
+legal-append roster a b s m e us vs first second = (own-append roster a b first.0 second.0, teaches-append a b s m e us vs first.1 second.1)
+
+-- one message
+pub legal-one : (roster : List Definition) (m : Message) (s e : State) (us : List Update) → IsOwn roster m → Step s m us e → Legal roster s (m ∷ []) us e
+legal-one roster m s e us own step = ((own, tt), (us, [], e, sym (append-none us), step, (refl, refl)))
+  where
+    append-none : (xs : List Update) → xs ++ [] ≡ xs
+    append-none [] = refl
+    append-none (x ∷ xs) = ap (λ (l : List Update). x ∷ l) (append-none xs)
+
+-- no message
+pub legal-none : (roster : List Definition) (s : State) → Legal roster s [] [] s
+legal-none roster s = (tt, (refl, refl))
+
+first-none : (a b : Option BatchError) → or_else a b ≡ None → a ≡ None
+first-none None b h = refl
+first-none (Some e) b h = cc
+
+second-none : (a b : Option BatchError) → or_else a b ≡ None → b ≡ None
+second-none None b h = h
+second-none (Some e) b h = cc
+
+-- an update without a fault is one of a table of the roster
+faultless : (place : ℕ) (roster : List Definition) (u : Update) → fault_in place (table_at roster u.table) u ≡ None → IsTaught roster u
+faultless place roster u h = at (table_at roster u.table) refl
+  where
+    fitting : (d : Definition) (b : Bool) → fits d u ≡ b → fault_in place (Some d) u ≡ None → fits d u ≡ true
+    fitting d true e none = e
+    fitting d false e none = let bad : Some (errors.Misfit place) ≡ None = sym (rw e refl) ∙ none in cc
+
+    at : (o : Option Definition) → table_at roster u.table ≡ o → IsTaught roster u
+    at None e = let bad : Some (errors.NoTable place) ≡ None = sym (rw e refl) ∙ h in cc
+    at (Some d) e =
+        let none : fault_in place (Some d) u ≡ None = ap (λ (o : Option Definition). fault_in place o u) (sym e) ∙ h in
+        (d, e, fitting d (fits d u) refl none)
+
+taught_from : (place : ℕ) (roster : List Definition) (us : List Update) (i : ℕ) (u : Update) → faults_from place roster us ≡ None → i < length us → u ≡ get_or us i u → IsTaught roster u
+taught_from place roster [] i u none lt at = absurd (omega arith)
+taught_from place roster (x ∷ xs) zero u none lt at =
+    subst (λ (y : Update). IsTaught roster y) (sym at) (faultless place roster x (first-none (fault_in place (table_at roster x.table) x) (faults_from (place + 1) roster xs) none))
+taught_from place roster (x ∷ xs) (suc i) u none lt at =
+    taught_from (place + 1) roster xs i u (second-none (fault_in place (table_at roster x.table) x) (faults_from (place + 1) roster xs) none) (omega arith) at
+
+-- each update of a batch is one of a table of the roster
+pub batch_taught : (roster : List Definition) (us : List Update) (i : ℕ) (u : Update) → IsBatchFor roster us → i < length us → u ≡ get_or us i u → IsTaught roster u
+batch_taught roster us i u is lt at = taught_from 0 roster us i u (within (nat_lt 512 (length us)) refl) lt at
+  where
+    within : (b : Bool) → nat_lt 512 (length us) ≡ b → faults_from 0 roster us ≡ None
+    within true e = let bad : Some errors.TooMany ≡ None = sym (rw e refl) ∙ is in cc
+    within false e = sym (rw e refl) ∙ is
+
+-- what selects a table of the roster is taken
+pub selection_taken : (k : KnownState) (d : Definition) (m : Message) → AreOwn k.roster k.state.heard.tables → table_at k.roster d.id ≡ Some d → m ∷ [] ≡ selection k.state.heard d → IsTaken k m
+selection_taken k d m own listed is = at (is_table (selected_table k.state.heard) d.id) refl (is_some (table_at k.state.heard.tables d.id)) refl
+  where
+    at : (a : Bool) → is_table (selected_table k.state.heard) d.id ≡ a → (b : Bool) → is_some (table_at k.state.heard.tables d.id) ≡ b → IsTaken k m
+    at true e b f = let bad : m ∷ [] ≡ [] = is ∙ rw e refl in cc
+    at false e true f = let same : m ∷ [] ≡ messages.Switch d.id ∷ [] = is ∙ rw (e, f) refl in let one : messages.Switch d.id ≡ m = cc in subst (λ (x : Message). IsTaken k x) one (switch_taken k d listed f)
+    at false e false f = let same : m ∷ [] ≡ messages.Define d ∷ [] = is ∙ rw (e, f) refl in let one : messages.Define d ≡ m = cc in subst (λ (x : Message). IsTaken k x) one (define_taken k d listed)
+
+-- it carries nothing, and behind it the table is selected
+pub selection_selects : (k : KnownState) (d : Definition) (m : Message) (us : List Update) (e : State) → AreOwn k.roster k.state.heard.tables → table_at k.roster d.id ≡ Some d → m ∷ [] ≡ selection k.state.heard d → Step k.state m us e → (us ≡ []) × (selected_table e.heard ≡ Some d)
+selection_selects k d m us e own listed is step = at (is_table (selected_table k.state.heard) d.id) refl (is_some (table_at k.state.heard.tables d.id)) refl
+  where
+    switched : is_some (table_at k.state.heard.tables d.id) ≡ true → Step k.state (messages.Switch d.id) us e → (us ≡ []) × (selected_table e.heard ≡ Some d)
+    switched f (fit, none, after) = (none, subst (λ (s : State). selected_table s.heard ≡ Some d) (sym after) (switch_selects k.roster k.state.heard d own listed f))
+
+    defined_so : Step k.state (messages.Define d) us e → (us ≡ []) × (selected_table e.heard ≡ Some d)
+    defined_so (fit, none, after) = (none, subst (λ (s : State). selected_table s.heard ≡ Some d) (sym after) (define_selects k.state.heard d))
+
+    at : (a : Bool) → is_table (selected_table k.state.heard) d.id ≡ a → (b : Bool) → is_some (table_at k.state.heard.tables d.id) ≡ b → (us ≡ []) × (selected_table e.heard ≡ Some d)
+    at true h b f = let bad : m ∷ [] ≡ [] = is ∙ rw h refl in absurd (cc)
+    at false h true f = let same : m ∷ [] ≡ messages.Switch d.id ∷ [] = is ∙ rw (h, f) refl in let one : m ≡ messages.Switch d.id = cc in switched f (subst (λ (x : Message). Step k.state x us e) one step)
+    at false h false f = let same : m ∷ [] ≡ messages.Define d ∷ [] = is ∙ rw (h, f) refl in let one : m ≡ messages.Define d = cc in defined_so (subst (λ (x : Message). Step k.state x us e) one step)
+
+-- where nothing has to select it, it is selected
+pub selection_none : (k : KnownState) (d : Definition) → AreOwn k.roster k.state.heard.tables → table_at k.roster d.id ≡ Some d → [] ≡ selection k.state.heard d → selected_table k.state.heard ≡ Some d
+selection_none k d own listed is = at (is_table (selected_table k.state.heard) d.id) refl (is_some (table_at k.state.heard.tables d.id)) refl
+  where
+    at : (a : Bool) → is_table (selected_table k.state.heard) d.id ≡ a → (b : Bool) → is_some (table_at k.state.heard.tables d.id) ≡ b → selected_table k.state.heard ≡ Some d
+    at true e b f = kept_selected k d own listed e
+    at false e true f = let bad : [] ≡ messages.Switch d.id ∷ [] = is ∙ rw (e, f) refl in cc
+    at false e false f = let bad : [] ≡ messages.Define d ∷ [] = is ∙ rw (e, f) refl in cc
+
+-- the bytes of one message
+pub stream-one : (m : Message) → stream_of (m ∷ []) ≡ spelled m
+stream-one m = append-nothing (spelled m)
+  where
+    append-nothing : (xs : List ℕ) → xs ++ [] ≡ xs
+    append-nothing [] = refl
+    append-nothing (x ∷ xs) = ap (λ (l : List ℕ). x ∷ l) (append-nothing xs)
+
+-- a selection and an update told behind it are legal, and carry the update
+pub told_legal : (roster : List Definition) (s mid e : State) (ms : List Message) (m : Message) (u : Update) (us : List Update) → Legal roster s ms [] mid → IsOwn roster m → us ≡ u ∷ [] → Step mid m us e → Legal roster s (ms ++ m ∷ []) (u ∷ []) e
+told_legal roster s mid e ms m u us first own is step =
+    legal-append roster ms (m ∷ []) s mid e [] (u ∷ []) first (legal-one roster m mid e (u ∷ []) own (subst (λ (x : List Update). Step mid m x e) is step))
+
+-- a table of the roster stands there under its own id
+pub listed_by_id : (roster : List Definition) (id : ℕ) (d : Definition) → table_at roster id ≡ Some d → table_at roster d.id ≡ Some d
+listed_by_id roster id d listed = subst (λ (n : ℕ). table_at roster n ≡ Some d) (sym (table_at-id roster id d listed)) listed
+
+-- no table of a roster that stores no names stores one
+pub nameless_own : (roster : List Definition) (id : ℕ) (d : Definition) → stores_no_name roster ≡ true → table_at roster id ≡ Some d → stores_name d ≡ false
+nameless_own roster id d no_name listed = table_at-nameless roster id d (not-true (list_any stores_name roster) no_name) listed
+  where
+    not-true : (b : Bool) → not b ≡ true → b ≡ false
+    not-true true h = cc
+    not-true false h = refl
+
+-- the bytes of messages one after another
+pub stream-append : (a b : List Message) → stream_of (a ++ b) ≡ stream_of a ++ stream_of b
+stream-append a b = flat_map-append spelled a b

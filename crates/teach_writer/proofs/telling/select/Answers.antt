@@ -1,0 +1,52 @@
+use Rattle.std.proofs.Common.{◌≡◌, Some, None, [], ◌∷◌, ◌++◌, rules, sym, ap, ◌∙◌, subst, List}
+use Rattle.table_types.specs.declared.update.Update.{Update}
+use Rattle.table_types.specs.Rosters.{table_at}
+use Rattle.peers_msg.specs.declared.message.Message.{Message}
+use Rattle.peers_msg.specs.Heard.{selected_table}
+use Rattle.peers_msg.specs.Spelling.{spelled, stream_of}
+use Rattle.peers_msg.specs.Steps.{Step, IsOwn, Legal}
+use Rattle.teach_writer.specs.Telling.{selection}
+use Rattle.teach_writer.proofs.TellingLaws.{selection_taken, selection_selects, selection_none, listed_by_id, legal-one, stream-one}
+use Rattle.teach_writer.proofs.telling.select.Goals as goal
+
+pub say_owned-requires : goal.say_owned-requires
+say_owned-requires c =
+    let k = c.args.known.now in
+    let d = c.in-Some.table.now in
+    let listed : table_at k.roster c.args.id ≡ Some d = search rules in
+    let is : c.in-Some-chosen.message ∷ [] ≡ selection k.state.heard d = search rules in
+    selection_taken k d c.in-Some-chosen.message c.roster.ensures.own (listed_by_id k.roster c.args.id d listed) is
+
+pub returns-in_ok-say_owned-clause-legal : goal.returns-in_ok-say_owned-clause-legal
+returns-in_ok-say_owned-clause-legal c =
+    let k = c.args.known.now in
+    let d = c.in-Some.table.now in
+    let m = c.in-Some-chosen.message in
+    let listed : table_at k.roster c.args.id ≡ Some d = search rules in
+    let is : m ∷ [] ≡ selection k.state.heard d = search rules in
+    let said : c.say_owned.new.bytes.items ≡ c.args.bytes.now.items ++ spelled m = search rules in
+    let step : (us : List Update) × Step k.state m us c.say_owned.new.known.state × IsOwn k.roster m = search rules in
+    let none = selection_selects k d m step.0 c.say_owned.new.known.state c.roster.ensures.own (listed_by_id k.roster c.args.id d listed) is step.1 in (
+      m ∷ [],
+      said ∙ ap (λ x. c.args.bytes.now.items ++ x) (sym (stream-one m)),
+      subst (λ (us : List Update). Legal k.roster k.state (m ∷ []) us c.say_owned.new.known.state) none.0 (legal-one k.roster m k.state c.say_owned.new.known.state step.0 step.2 step.1),
+    )
+
+pub returns-in_ok-say_owned-clause-selected : goal.returns-in_ok-say_owned-clause-selected
+returns-in_ok-say_owned-clause-selected c =
+    let k = c.args.known.now in
+    let d = c.in-Some.table.now in
+    let m = c.in-Some-chosen.message in
+    let listed : table_at k.roster c.args.id ≡ Some d = search rules in
+    let is : m ∷ [] ≡ selection k.state.heard d = search rules in
+    let step : (us : List Update) × Step k.state m us c.say_owned.new.known.state × IsOwn k.roster m = search rules in
+    let none = selection_selects k d m step.0 c.say_owned.new.known.state c.roster.ensures.own (listed_by_id k.roster c.args.id d listed) is step.1 in
+    none.1 ∙ sym listed
+
+pub returns-in_default-clause-selected : goal.returns-in_default-clause-selected
+returns-in_default-clause-selected c =
+    let k = c.args.known.now in
+    let d = c.in-Some.table.now in
+    let listed : table_at k.roster c.args.id ≡ Some d = search rules in
+    let is : [] ≡ selection k.state.heard d = search rules in
+    selection_none k d c.roster.ensures.own (listed_by_id k.roster c.args.id d listed) is ∙ sym listed

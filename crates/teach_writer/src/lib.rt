@@ -1,0 +1,7 @@
+//! Lessons: the stream that teaches a learner one batch.
+#![tactic(auto)]
+
+mod lesson;
+mod telling;
+
+pub use lesson::{Lesson, TeachError, teach};
