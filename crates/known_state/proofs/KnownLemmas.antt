@@ -6,8 +6,9 @@ use Rattle.std.proofs.lemmas.Bool.{cases_eq, eq-eqb, ne_eqb}
 use Rattle.std.proofs.lemmas.Bool.Decides.{nat_tests}
 use Rattle.table_types.specs.Tables.{Definition}
 use Rattle.table_types.specs.Updates.{stores_name}
-use Rattle.table_types.specs.Rosters.{table_at, has_id}
-use Rattle.peers_msg.specs.Heard.{put_table, outlives, defined, with_own, resumed}
+use Rattle.table_types.specs.Rosters.{table_at, has_id, is_same_name}
+use Rattle.peers_msg.specs.declared.message.Message.TheVariants as messages
+use Rattle.peers_msg.specs.Heard.{Heard, put_table, outlives, defined, with_own, resumed, selected_table, heard_after}
 use Rattle.known_state.specs.Known.{AreOwn, stores_no_name}
 
 -- the table that an id stands for has that id
@@ -74,3 +75,41 @@ AreOwn-fold roster (id ∷ ids) ds own = AreOwn-fold roster ids (with_own roster
 -- and so is what is resumed
 pub AreOwn-resumed : (roster : List Definition) (ids : List ℕ) (selected : Option ℕ) → AreOwn roster (resumed roster ids selected).tables
 AreOwn-resumed roster ids selected = AreOwn-fold roster ids [] tt
+
+-- a table put among tables that lack its id is found there
+put_found : (d : Definition) (ds : List Definition) → has_id d.id ds ≡ false → table_at (put_table d ds) d.id ≡ Some d
+put_found d [] none = rw (eq-eqb d.id d.id refl) refl
+put_found d (x ∷ xs) none =
+    let other : eqb x.id d.id ≡ false = or-false-left (eqb x.id d.id) (has_id d.id xs) none in
+    let rest : has_id d.id xs ≡ false = or-false-right (eqb x.id d.id) (has_id d.id xs) none in
+    elim (nat_lt d.id x.id) as (λ b. table_at (cond b (d ∷ (x ∷ xs)) (x ∷ put_table d xs)) d.id ≡ Some d) [
+      | true ↦ rw (eq-eqb d.id d.id refl) refl
+      | false ↦ rw other (put_found d xs rest)
+    ]
+  where
+    or-false-left : (a b : Bool) → (a || b) ≡ false → a ≡ false
+    or-false-left true b h = h
+    or-false-left false b h = refl
+
+    or-false-right : (a b : Bool) → (a || b) ≡ false → b ≡ false
+    or-false-right true b h = cc
+    or-false-right false b h = h
+
+-- no table that outlives a definition has its id
+outliving_lacks : (d : Definition) (ds : List Definition) → has_id d.id (filter (outlives d) ds) ≡ false
+outliving_lacks d [] = refl
+outliving_lacks d (x ∷ xs) = at (outlives d x) refl (outliving_lacks d xs)
+  where
+    not-first : (a b : Bool) → (not a && b) ≡ true → a ≡ false
+    not-first true b h = cc
+    not-first false b h = refl
+
+    at : (b : Bool) → outlives d x ≡ b → has_id d.id (filter (outlives d) xs) ≡ false → has_id d.id (cond b (x ∷ filter (outlives d) xs) (filter (outlives d) xs)) ≡ false
+    at false e rest = rest
+    at true e rest =
+        let other : eqb x.id d.id ≡ false = not-first (eqb x.id d.id) (not (is_same_name x.name d.name)) e in
+        rw other rest
+
+-- behind a definition its table is selected
+pub define_selects : (h : Heard) (d : Definition) → selected_table (heard_after h (messages.Define d)) ≡ Some d
+define_selects h d = put_found d (filter (outlives d) h.tables) (outliving_lacks d h.tables)

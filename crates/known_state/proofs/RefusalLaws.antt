@@ -1,6 +1,7 @@
 -- What a known state refuses is no step.
 use Rattle.std.proofs.Common.{◌≡◌, ℕ, Bool, true, false, not, ◌&&◌, cond, List, [], ◌∷◌, Option, Some, None, refl, sym, ap, ◌∙◌, subst}
-use Rattle.std.specs.Prelude.{is_none, is_some}
+use Rattle.std.specs.Prelude.{is_none, is_some, nat_lt, nat_le, ◌^◌, length}
+use Rattle.peers_msg.specs.Spelling.{data_of}
 use Rattle.table_types.specs.declared.update.Update.{Update}
 use Rattle.table_types.specs.Tables.{Definition}
 use Rattle.table_types.specs.Rosters.{table_at, has_id}
@@ -17,15 +18,19 @@ use Rattle.known_state.specs.Known.{KnownState, AreOwn, Refuses, switch_refusal,
 use Rattle.known_state.proofs.KnownLemmas.{table_at-id, table_at-passes}
 use Rattle.known_state.proofs.StepLemmas.{has_id-table_at, selected-id}
 
-switch_found : (h : Heard) (id : ℕ) → fits h (messages.Switch id) ≡ true → (d : Definition) × (table_at h.tables id ≡ Some d)
+pub switch_found : (h : Heard) (id : ℕ) → fits h (messages.Switch id) ≡ true → (d : Definition) × (table_at h.tables id ≡ Some d)
 unfolding fits
-switch_found h id fit = at (table_at h.tables id) refl
+switch_found h id fit = at (table_at h.tables id) refl (middle (nat_lt id (2 ^ 64)) (is_some (table_at h.tables id)) (nat_le (length (data_of (messages.Switch id))) 16384) fit)
   where
-    at : (o : Option Definition) → table_at h.tables id ≡ o → (d : Definition) × (table_at h.tables id ≡ Some d)
-    at (Some d) e = (d, e)
-    at None e = let bad : false ≡ true = sym (rw e refl) ∙ fit in cc
+    middle : (a b c : Bool) → ((a && b) && c) ≡ true → b ≡ true
+    middle true true c h = refl
+    middle true false c h = h
+    middle false b c h = cc
+    at : (o : Option Definition) → table_at h.tables id ≡ o → is_some (table_at h.tables id) ≡ true → (d : Definition) × (table_at h.tables id ≡ Some d)
+    at (Some d) e is = (d, e)
+    at None e is = let bad : false ≡ true = sym (rw e refl) ∙ is in cc
 
-selection : (h : Heard) (u : UpdateFields) → fits h (messages.Update u) ≡ true → (d : Definition) × (selected_table h ≡ Some d)
+pub selection : (h : Heard) (u : UpdateFields) → fits h (messages.Update u) ≡ true → (d : Definition) × (selected_table h ≡ Some d)
 unfolding fits
 selection h u fit = at (selected_table h) refl
   where

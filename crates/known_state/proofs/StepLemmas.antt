@@ -44,19 +44,19 @@ pub define_fits : (h : Heard) (d : Definition) → is_definition d ≡ true → 
 unfolding fits data_of
 define_fits h d is = rw (is, le-leb (length (definition_text d)) 16384 (definition_small d is)) refl
 
-pub switch_fits : (h : Heard) (id : ℕ) → is_some (table_at h.tables id) ≡ true → fits h (messages.Switch id) ≡ true
+pub switch_fits : (h : Heard) (id : ℕ) → id < 2 ^ 64 → is_some (table_at h.tables id) ≡ true → fits h (messages.Switch id) ≡ true
 unfolding fits data_of
-switch_fits h id found =
+switch_fits h id small found =
     let short : length (spelling id) ≤ 16384 = omega (arith, (integers.within id).1) in
-    rw (found, le-leb (length (spelling id)) 16384 short) refl
+    rw (lt-ltb id (2 ^ 64) small, found, le-leb (length (spelling id)) 16384 short) refl
 
 pub update_fits_heard : (h : Heard) (u : UpdateFields) (d : Definition) → selected_table h ≡ Some d → update_fits d u ≡ true → is_definition d ≡ true → fits h (messages.Update u) ≡ true
 unfolding fits data_of
 update_fits_heard h u d sel fit is = rw (sel, fit, le-leb (length (update_text u)) 16384 (update_small d u is fit)) refl
 
 -- a switch to a table that was defined selects it
-pub switch_step : (s : State) (id : ℕ) → is_some (table_at s.heard.tables id) ≡ true → Step s (messages.Switch id) [] (record { heard = record { tables = s.heard.tables; selected = Some id }; lasts = s.lasts; slots = s.slots })
-switch_step s id found = (switch_fits s.heard id found, refl, refl)
+pub switch_step : (s : State) (id : ℕ) → id < 2 ^ 64 → is_some (table_at s.heard.tables id) ≡ true → Step s (messages.Switch id) [] (record { heard = record { tables = s.heard.tables; selected = Some id }; lasts = s.lasts; slots = s.slots })
+switch_step s id small found = (switch_fits s.heard id small found, refl, refl)
 
 -- a definition is heard, and takes last numbers away
 pub define_step : (s : State) (d : Definition) → is_definition d ≡ true → Step s (messages.Define d) [] (record { heard = heard_after s.heard (messages.Define d); lasts = lasts_after s (messages.Define d); slots = s.slots })

@@ -1,2 +1,3 @@
 pub mod Known
 pub mod Shortest
+pub mod Cost

@@ -1,14 +1,44 @@
 //! What holds of known states, whatever the program does.
 
-ghost use Rattle.std.specs.Prelude.{List};
+ghost use Rattle.std.specs.Prelude.{◌≡◌, ◌≤◌, ◌+◌, ◌++◌, ℕ, true, List};
+ghost use Rattle.std.specs.List.{AllByRecursion};
 ghost use Rattle.table_types.specs.declared.update.Update.{Update};
+ghost use Rattle.table_types.specs.Tables.{Definition};
 ghost use Rattle.peers_msg.specs.declared.message.Message.{Message};
-ghost use Rattle.peers_msg.specs.Steps.{State, Step, IsOwn};
+ghost use Rattle.peers_msg.specs.Spelling.{size_of_all};
+ghost use Rattle.peers_msg.specs.Steps.{State, Step, IsOwn, Legal};
 ghost use Rattle.known_state.specs.declared.known.StepError.{StepError};
-ghost use Rattle.known_state.specs.Known.{KnownState, AreOwn, Refuses};
+ghost use Rattle.known_state.specs.Known.{KnownState, AreOwn, stores_no_name, Refuses};
+ghost use Rattle.known_state.specs.Cost.{IsOfRoster, Pays, Saves, full};
 
 /// What is refused is no step: a message that a known state refuses for whatever cause but memory is not legal there.
 pub fn refused_is_no_step()
     ensures { (k : KnownState) (m : Message) (e : StepError) (us : List Update) (after : State) →
         AreOwn k.roster k.state.heard.tables → Refuses k m e → IsOwn k.roster m → Step k.state m us after → ⊥ }
 {}
+
+/// A step pays for what it saves: with every name written, what is to be told costs no more before a message than
+/// the message's size, the saving of its read, and what is left to tell behind it. So for every message: early
+/// definitions, second definitions, switches, reads and writes of names, acknowledgements and spare messages.
+pub fn a_step_pays()
+    ensures { (roster : List Definition) (s mid : State) (m : Message) (one rest : List Update) →
+        AreOwn roster s.heard.tables → IsOwn roster m → AllByRecursion (IsOfRoster roster) rest →
+        Step s m one mid → Pays roster s m one rest mid }
+{
+}
+
+/// A legal list of messages has at least the size of the lesson with every name written, less what its reads save.
+pub fn a_list_pays()
+    ensures { (roster : List Definition) (s e : State) (ms : List Message) (us : List Update) →
+        AreOwn roster s.heard.tables → AllByRecursion (IsOfRoster roster) us → Legal roster s ms us e →
+        (saved : ℕ) × Saves roster s ms us saved × (full roster s us ≤ size_of_all ms + saved) }
+{
+}
+
+/// Where no table stores names, no legal list is shorter than the lesson.
+pub fn none_is_shorter()
+    ensures { (roster : List Definition) (s e : State) (ms : List Message) (us : List Update) →
+        AreOwn roster s.heard.tables → stores_no_name roster ≡ true → AllByRecursion (IsOfRoster roster) us →
+        Legal roster s ms us e → full roster s us ≤ size_of_all ms }
+{
+}

@@ -5,8 +5,10 @@ mod known;
 mod lasts;
 mod laws;
 mod parts;
+#[cfg(test)]
+mod tests;
 
 pub use known::{Known, KnownError, StepError};
 pub use lasts::Lasts;
-pub use laws::refused_is_no_step;
+pub use laws::{a_list_pays, a_step_pays, none_is_shorter, refused_is_no_step};
 pub use parts::stores_no_name;

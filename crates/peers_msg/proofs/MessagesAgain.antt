@@ -31,7 +31,7 @@ use Rattle.peers_msg.specs.Messages.{UpdateFields, OtherFields, is_known_pair, i
 use Rattle.peers_msg.specs.Heard.{Heard, selected_table}
 use Rattle.peers_msg.specs.Spelling.{word, optional_word, counted, framed, key_text, value_text, name_text, update_text, update_kind, bits_of, period_text, definition_text, control_kind, error_kind, data_of, spelled}
 use Rattle.peers_msg.specs.Fitting.{is_slot, name_fits, update_fits, fits_table, has_shape, fits}
-use Rattle.peers_msg.specs.Reading.{integer_at, word_at, name_at, update_at, kind_of, named_at, keyed_at, stored_at, definition_at, switch_at, ack_at, update_of, control_meant, error_meant, table_meant, meant, message_of, body_at, Frame, data_at, frame_at, message_at, IsReadable}
+use Rattle.peers_msg.specs.Reading.{integer_at, word_at, name_at, update_at, kind_of, named_at, keyed_at, stored_at, definition_at, switch_at, ack_at, update_of, control_meant, error_meant, table_meant, meant, message_of, body_at, Frame, data_at, frame_at, message_at}
 use Rattle.peers_msg.proofs.FieldsAgain.{then, integer_again, word_again, bytes_again, is_there, optional_again, key_again, values_again, not_stored_again, no_name_again, held_field_again, written_field_again, name_below}
 use Rattle.peers_msg.proofs.TypesAgain.{all_are, bits_within, types_again}
 
@@ -310,27 +310,29 @@ update_of_again : (table : Option Definition) (u : UpdateFields) → length (upd
 update_of_again None u short is = absurd cc
 update_of_again (Some d) u short is = then _ _ _ (update_again d u short is)
 
-pub data_again : (h : Heard) (m : Message) → IsReadable m → fits h m ≡ true → message_of h (meaning_of m) (frame_of m).class (frame_of m).kind (frame_of m).body ≡ Ok m
+pub data_again : (h : Heard) (m : Message) → fits h m ≡ true → message_of h (meaning_of m) (frame_of m).class (frame_of m).kind (frame_of m).body ≡ Ok m
 unfolding fits data_of
-data_again h (messages.Control c) readable is = refl
-data_again h (messages.Error e) readable is = refl
-data_again h (messages.Define d) readable is = then _ _ _ (definition_again d (and_parts _ _ is).0)
-data_again h (messages.Switch id) readable is = switch_again h id readable (and_parts _ _ is).0
-data_again h (messages.Ack table number) readable is =
+data_again h (messages.Control c) is = refl
+data_again h (messages.Error e) is = refl
+data_again h (messages.Define d) is = then _ _ _ (definition_again d (and_parts _ _ is).0)
+data_again h (messages.Switch id) is =
+    let a = and_parts (ltb id (2 ^ 64)) (is_some (table_at h.tables id)) (and_parts _ _ is).0 in
+    switch_again h id (ltb-true _ _ a.0) a.1
+data_again h (messages.Ack table number) is =
     let a = and_parts (ltb table (2 ^ 64)) (is_word number) (and_parts _ _ is).0 in
     ack_again table number (ltb-true _ _ a.0) (ltb-true _ _ a.1)
-data_again h (messages.Update u) readable is = update_of_again (selected_table h) u (leb-true _ _ (and_parts _ _ is).1) (and_parts _ _ is).0
-data_again h (messages.Other o) readable is = refl
+data_again h (messages.Update u) is = update_of_again (selected_table h) u (leb-true _ _ (and_parts _ _ is).1) (and_parts _ _ is).0
+data_again h (messages.Other o) is = refl
 
 pub shape : (h : Heard) (m : Message) → fits h m ≡ true → has_shape h m ≡ true
 unfolding fits
 shape h m is = (and_parts _ _ is).0
 
-pub body_again : (h : Heard) (m : Message) → IsReadable m → fits h m ≡ true → body_at h (frame_of m).class (frame_of m).kind (frame_of m).body ≡ Ok m
+pub body_again : (h : Heard) (m : Message) → fits h m ≡ true → body_at h (frame_of m).class (frame_of m).kind (frame_of m).body ≡ Ok m
 unfolding body_at
-body_again h m readable is = rw (meaning_again h m (shape h m is)) (data_again h m readable is)
+body_again h m is = rw (meaning_again h m (shape h m is)) (data_again h m is)
 
 -- what is spelled is read, whatever follows it
-pub message_again : (h : Heard) (m : Message) (rest : List ℕ) → IsReadable m → fits h m ≡ true → message_at h (spelled m ++ rest) ≡ Ok (Some (m, rest))
+pub message_again : (h : Heard) (m : Message) (rest : List ℕ) → fits h m ≡ true → message_at h (spelled m ++ rest) ≡ Ok (Some (m, rest))
 unfolding message_at
-message_again h m rest readable is = rw (frame_again h m rest is, body_again h m readable is) refl
+message_again h m rest is = rw (frame_again h m rest is, body_again h m is) refl

@@ -198,14 +198,14 @@ definition_takes bytes d good e =
     let whole : is_definition made ≡ true = and_from _ _ (and_from _ _ (and_from _ _ (and_from _ _ (and_from _ _ t0.1 t0.2) t1.1) t2.1) t2.2) t2.3 in
     subst (IsDefinition bytes) end.1 (all, whole)
 
-pub switch_takes : (h : Heard) (bytes : List ℕ) (m : Message) → IsBytes bytes → switch_at h bytes ≡ Ok m → (id : ℕ) × (m ≡ messages.Switch id) × (bytes ≡ spelling id) × (is_some (table_at h.tables id) ≡ true)
+pub switch_takes : (h : Heard) (bytes : List ℕ) (m : Message) → IsBytes bytes → switch_at h bytes ≡ Ok m → (id : ℕ) × (m ≡ messages.Switch id) × (bytes ≡ spelling id) × (has_shape h (messages.Switch id) ≡ true)
 unfolding switch_at
 switch_takes h bytes m fits e =
     let id = bind_ok (integer_at BadInteger bytes) _ _ e in
     let ok = wanted_ok (is_some (table_at h.tables id.0.0)) NoTable _ _ id.2 in
     let t = integer_takes BadInteger bytes id.0 fits id.1 in
     let end = ended_ok (messages.Switch id.0.0) m id.0.1 ok.1 in
-    (id.0.0, sym end.1, all_taken bytes (spelling id.0.0) id.0.1 t.0 end.0, ok.0)
+    (id.0.0, sym end.1, all_taken bytes (spelling id.0.0) id.0.1 t.0 end.0, and_from _ _ (lt-ltb _ _ t.1) ok.0)
 
 pub ack_takes : (bytes : List ℕ) (m : Message) → IsBytes bytes → ack_at bytes ≡ Ok m → (table : ℕ) × (number : ℕ) × (m ≡ messages.Ack table number) × (bytes ≡ spelling table ++ word number) × (table < 2 ^ 64) × (number < 2 ^ 32)
 unfolding ack_at

@@ -1,65 +1,23 @@
 -- One spelling is one message, none begins another, and one stream is one list of messages.
-use Rattle.std.proofs.Common.{◌≡◌, ℕ, ◌+◌, ◌-◌, ◌/◌, ◌%◌, ◌<◌, ◌≤◌, true, List, [], ◌∷◌, ◌++◌, Option, Some, None, Result, Ok, refl, sym, ap, subst, ◌∙◌, arith, inl, inr}
-use Rattle.std.proofs.lemmas.Bool.{cases_lt}
+use Rattle.std.proofs.Common.{◌≡◌, ℕ, true, List, [], ◌∷◌, ◌++◌, Option, Some, None, Result, Ok, refl, sym, ap, subst, ◌∙◌}
 use Rattle.std.proofs.lemmas.List.{append-nil}
 use Rattle.std.proofs.lemmas.List.Concat.{flat_map-cons}
-use Rattle.peers_encint.specs.Integers.{tail_of, spelling}
-use Rattle.peers_encint.proofs.TailLaws.{value_of, value-tail_of}
-use Rattle.peers_encint.proofs.SpellingLaws.{spelling-low, spelling-high}
 use Rattle.peers_msg.specs.declared.fault.Breach.{Breach}
 use Rattle.peers_msg.specs.declared.message.Message.{Message}
-use Rattle.peers_msg.specs.declared.message.Message.TheVariants as messages
 use Rattle.peers_msg.specs.Heard.{Heard, heard_after}
 use Rattle.peers_msg.specs.Spelling.{spelled, stream_of}
 use Rattle.peers_msg.specs.Fitting.{fits}
 use Rattle.peers_msg.specs.Stream.{AllFit}
-use Rattle.peers_msg.specs.Reading.{Frame, meant, body_at, frame_at, IsReadable}
-use Rattle.peers_msg.proofs.MessagesAgain.{meaning_of, frame_of, shape, meaning_again, frame_again, body_again}
-
--- ---- one number
-
-same_low : (m n : ℕ) → m < 240 → n < 240 → spelling m ≡ spelling n → m ≡ n
-same_low m n p q e =
-    let cells : ◌≡◌ {A = List ℕ} (m ∷ []) (n ∷ []) = sym (spelling-low m p) ∙ e ∙ spelling-low n q in
-    cc
-
-low_is_not_high : (m n : ℕ) → m < 240 → 240 ≤ n → spelling m ≡ spelling n → ⊥
-low_is_not_high m n p q e =
-    let cells : ◌≡◌ {A = List ℕ} (m ∷ []) ((240 + n % 16) ∷ tail_of 8 ((n - 240) / 16)) = sym (spelling-low m p) ∙ e ∙ spelling-high n q in
-    let head : m ≡ 240 + n % 16 = cc in
-    omega arith
-
-same_high : (m n : ℕ) → 240 ≤ m → 240 ≤ n → spelling m ≡ spelling n → m ≡ n
-same_high m n p q e =
-    let cells : ◌≡◌ {A = List ℕ} ((240 + m % 16) ∷ tail_of 8 ((m - 240) / 16)) ((240 + n % 16) ∷ tail_of 8 ((n - 240) / 16)) = sym (spelling-high m p) ∙ e ∙ spelling-high n q in
-    let head : 240 + m % 16 ≡ 240 + n % 16 = cc in
-    let tail : tail_of 8 ((m - 240) / 16) ≡ tail_of 8 ((n - 240) / 16) = cc in
-    let later : (m - 240) / 16 ≡ (n - 240) / 16 = sym (value-tail_of 8 ((m - 240) / 16)) ∙ ap value_of tail ∙ value-tail_of 8 ((n - 240) / 16) in
-    omega arith
-
-pub same_number : (m n : ℕ) → spelling m ≡ spelling n → m ≡ n
-same_number m n e =
-    elim (cases_lt m 240) [
-      | inl p ↦ elim (cases_lt n 240) [ inl q ↦ same_low m n p q e | inr q ↦ absurd (low_is_not_high m n p q e) ]
-      | inr p ↦ elim (cases_lt n 240) [ inl q ↦ absurd (low_is_not_high n m q p (sym e)) | inr q ↦ same_high m n p q e ]
-    ]
+use Rattle.peers_msg.specs.Reading.{Frame, body_at, frame_at}
+use Rattle.peers_msg.proofs.MessagesAgain.{frame_of, frame_again, body_again}
 
 -- ---- one message
 
-both_read : (h : Heard) (m n : Message) → IsReadable m → IsReadable n → fits h m ≡ true → fits h n ≡ true → frame_of m ≡ frame_of n → m ≡ n
-both_read h m n a b p q e =
-    let read : ◌≡◌ {A = Result Message Breach} (Ok m) (Ok n) = sym (body_again h m a p) ∙ ap (λ (f : Frame). body_at h f.class f.kind f.body) e ∙ body_again h n b q in
-    cc
-
-same_meaning : (h : Heard) (m n : Message) → fits h m ≡ true → fits h n ≡ true → frame_of m ≡ frame_of n → meaning_of m ≡ meaning_of n
-same_meaning h m n p q e = sym (meaning_again h m (shape h m p)) ∙ ap (λ (f : Frame). meant f.class f.kind) e ∙ meaning_again h n (shape h n q)
-
 -- class, type and data of a message are no other's
 one_frame : (h : Heard) (m n : Message) → fits h m ≡ true → fits h n ≡ true → frame_of m ≡ frame_of n → m ≡ n
-one_frame h (messages.Switch a) (messages.Switch b) p q e = ap (λ (id : ℕ). messages.Switch id) (same_number a b (ap (λ (f : Frame). f.body) e))
-one_frame h (messages.Switch a) n p q e = let means = same_meaning h (messages.Switch a) n p q e in absurd cc
-one_frame h m (messages.Switch b) p q e = let means = same_meaning h m (messages.Switch b) p q e in absurd cc
-one_frame h m n p q e = both_read h m n tt tt p q e
+one_frame h m n p q e =
+    let read : ◌≡◌ {A = Result Message Breach} (Ok m) (Ok n) = sym (body_again h m p) ∙ ap (λ (f : Frame). body_at h f.class f.kind f.body) e ∙ body_again h n q in
+    cc
 
 -- what stands at the front of the same bytes is the same
 same_front : (g h : Heard) (m n : Message) (x y : List ℕ) → fits g m ≡ true → fits h n ≡ true → spelled m ++ x ≡ spelled n ++ y → (frame_of m ≡ frame_of n) × (x ≡ y)

@@ -11,7 +11,7 @@ use Rattle.peers_msg.specs.declared.message.Message.{Message}
 use Rattle.peers_msg.specs.Heard.{Heard}
 use Rattle.peers_msg.specs.Spelling.{spelled}
 use Rattle.peers_msg.specs.Fitting.{fits}
-use Rattle.peers_msg.specs.Reading.{◌>>=◌, Frame, whole_data, data_from, data_at, frame_with, frame_at, body_at, message_in, message_at, with_more, IsReadable}
+use Rattle.peers_msg.specs.Reading.{◌>>=◌, Frame, whole_data, data_from, data_at, frame_with, frame_at, body_at, message_in, message_at, with_more}
 use Rattle.peers_msg.proofs.MessagesAgain.{message_again}
 
 whole_stays : (n : ℕ) (bytes more : List ℕ) → whole_data n bytes ≢ Ok None → whole_data n (bytes ++ more) ≡ with_more more (whole_data n bytes)
@@ -93,7 +93,7 @@ whole_or_not h m more (Err breach) some e =
     absurd cc
 
 -- a message of which some bytes are still to come isn't whole, and shows no breach
-pub cut_is_not_whole : (h : Heard) (m : Message) (bytes more : List ℕ) → IsBytes bytes → fits h m ≡ true → IsReadable m → bytes ++ more ≡ spelled m → more ≢ [] → message_at h bytes ≡ Ok None
-cut_is_not_whole h m bytes more good is readable e some =
-    let all : message_at h (bytes ++ more) ≡ Ok (Some (m, [])) = ap (message_at h) (e ∙ sym (append-nil (spelled m))) ∙ message_again h m [] readable is in
+pub cut_is_not_whole : (h : Heard) (m : Message) (bytes more : List ℕ) → IsBytes bytes → fits h m ≡ true → bytes ++ more ≡ spelled m → more ≢ [] → message_at h bytes ≡ Ok None
+cut_is_not_whole h m bytes more good is e some =
+    let all : message_at h (bytes ++ more) ≡ Ok (Some (m, [])) = ap (message_at h) (e ∙ sym (append-nil (spelled m))) ∙ message_again h m [] is in
     whole_or_not h m more (message_at h bytes) some (λ found. sym all ∙ message_stays h bytes more good found)

@@ -38,7 +38,7 @@ abbrev pub has_shape : Heard → Message → Bool
 has_shape h (messages.Control c) = true
 has_shape h (messages.Error e) = true
 has_shape h (messages.Define d) = is_definition d
-has_shape h (messages.Switch id) = is_some (table_at h.tables id)
+has_shape h (messages.Switch id) = nat_lt id (2 ^ 64) && is_some (table_at h.tables id)
 has_shape h (messages.Ack table number) = nat_lt table (2 ^ 64) && is_word number
 has_shape h (messages.Update u) = fits_table (selected_table h) u
 has_shape h (messages.Other o) = is_other o

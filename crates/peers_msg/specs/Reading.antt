@@ -1,6 +1,6 @@
 -- Reading messages from left to right, with the first breach that is met (HAProxy, doc/peers-v2.0.txt, "Messages";
 -- which breach it is, is own). A field is its value and the bytes after it.
-use Rattle.std.specs.Prelude.{ℕ, ◌/◌, ◌%◌, ◌^◌, ◌<◌, Bool, true, false, ◌&&◌, ◌==◌, nat_lt, List, [], ◌∷◌, ◌++◌, length, take, drop, Option, Some, None, is_some, Result, Ok, Err, if◌then◌else◌}
+use Rattle.std.specs.Prelude.{ℕ, ◌/◌, ◌%◌, ◌^◌, Bool, true, false, ◌&&◌, ◌==◌, nat_lt, List, [], ◌∷◌, ◌++◌, length, take, drop, Option, Some, None, is_some, Result, Ok, Err, if◌then◌else◌}
 use Rattle.std.specs.Int.{w32, from_be_bytes}
 use Rattle.peers_encint.specs.declared.reading.Read.{Read}
 use Rattle.peers_encint.specs.declared.reading.Read.TheVariants.{Value, Short, Over}
@@ -339,11 +339,6 @@ unfoldable pub message_at : Heard → List ℕ → Result (Option (Message × Li
 message_at h bytes = do
   found ← frame_at bytes
   message_in h found
-
--- the id of a switch is a number below 2 ^ 64
-abbrev pub IsReadable : Message → Type 0
-IsReadable (messages.Switch id) = id < 2 ^ 64
-IsReadable m = Unit {0}
 
 -- what was read, with more bytes behind it
 abbrev pub with_more : {A : Type 0} → List ℕ → Result (Option (A × List ℕ)) Breach → Result (Option (A × List ℕ)) Breach

@@ -2,7 +2,7 @@
 
 ghost use Rattle.std.specs.Prelude.{List, length, true, ℕ, ◌≡◌, ◌≤◌, [], ◌++◌, Ok, Some, ◌≢◌, None};
 ghost use Rattle.peers_encint.specs.Integers.{IsBytes};
-ghost use Rattle.peers_msg.specs.Reading.{IsReadable, message_at, with_more};
+ghost use Rattle.peers_msg.specs.Reading.{message_at, with_more};
 ghost use Rattle.peers_msg.specs.Stream.{AllFit};
 ghost use Rattle.peers_msg.specs.Heard.{Heard};
 ghost use Rattle.peers_msg.specs.Fitting.{update_fits, fits};
@@ -51,8 +51,8 @@ pub fn read_is_spelled()
 /// What fits and is spelled is read, whatever follows it. While some of its bytes are still to come it isn't whole, and
 /// shows no breach.
 pub fn spelled_is_read()
-    ensures whole { (h : Heard) (m : Message) (rest : List ℕ) → fits h m ≡ true → IsReadable m → message_at h (spelled m ++ rest) ≡ Ok (Some (m, rest)) }
-    ensures cut { (h : Heard) (m : Message) (bytes more : List ℕ) → IsBytes bytes → fits h m ≡ true → IsReadable m → bytes ++ more ≡ spelled m → more ≢ [] → message_at h bytes ≡ Ok None }
+    ensures whole { (h : Heard) (m : Message) (rest : List ℕ) → fits h m ≡ true → message_at h (spelled m ++ rest) ≡ Ok (Some (m, rest)) }
+    ensures cut { (h : Heard) (m : Message) (bytes more : List ℕ) → IsBytes bytes → fits h m ≡ true → bytes ++ more ≡ spelled m → more ≢ [] → message_at h bytes ≡ Ok None }
 {}
 
 /// More bytes behind change only the answer that a message isn't whole.

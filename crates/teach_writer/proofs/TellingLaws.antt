@@ -22,7 +22,7 @@ use Rattle.peers_msg.specs.Fitting.{update_fits}
 use Rattle.peers_msg.specs.Steps.{State, Step, Teaches, IsOwn, Legal, last_of, resolved_number, resolved}
 use Rattle.known_state.specs.declared.known.StepError.{StepError}
 use Rattle.known_state.specs.Known.{KnownState, AreOwn, Refuses, switch_refusal, update_refusal, stores_no_name}
-use Rattle.known_state.proofs.KnownLemmas.{table_at-id, table_at-passes, table_at-nameless}
+use Rattle.known_state.proofs.KnownLemmas.{table_at-id, table_at-passes, table_at-nameless, define_selects}
 use Rattle.known_state.proofs.StepLemmas.{has_id-table_at, selected-id, selected-found, update_fits_heard}
 use Rattle.teach_writer.specs.Telling.{is_table, selection, follows, number_told, update_told, IsTaught, IsTaken}
 
@@ -76,44 +76,6 @@ switch_selects roster h d own listed found = at (table_at h.tables d.id) refl
 -- the roster's own definition is taken
 pub define_taken : (k : KnownState) (d : Definition) → table_at k.roster d.id ≡ Some d → IsTaken k (messages.Define d)
 define_taken k d listed = λ e refuses. refuses.0 listed
-
--- a table put among tables that lack its id is found there
-put_found : (d : Definition) (ds : List Definition) → has_id d.id ds ≡ false → table_at (put_table d ds) d.id ≡ Some d
-put_found d [] none = rw (eq-eqb d.id d.id refl) refl
-put_found d (x ∷ xs) none =
-    let other : eqb x.id d.id ≡ false = or-false-left (eqb x.id d.id) (has_id d.id xs) none in
-    let rest : has_id d.id xs ≡ false = or-false-right (eqb x.id d.id) (has_id d.id xs) none in
-    elim (nat_lt d.id x.id) as (λ b. table_at (cond b (d ∷ (x ∷ xs)) (x ∷ put_table d xs)) d.id ≡ Some d) [
-      | true ↦ rw (eq-eqb d.id d.id refl) refl
-      | false ↦ rw other (put_found d xs rest)
-    ]
-  where
-    or-false-left : (a b : Bool) → (a || b) ≡ false → a ≡ false
-    or-false-left true b h = h
-    or-false-left false b h = refl
-
-    or-false-right : (a b : Bool) → (a || b) ≡ false → b ≡ false
-    or-false-right true b h = cc
-    or-false-right false b h = h
-
--- no table that outlives a definition has its id
-outliving_lacks : (d : Definition) (ds : List Definition) → has_id d.id (filter (outlives d) ds) ≡ false
-outliving_lacks d [] = refl
-outliving_lacks d (x ∷ xs) = at (outlives d x) refl (outliving_lacks d xs)
-  where
-    not-first : (a b : Bool) → (not a && b) ≡ true → a ≡ false
-    not-first true b h = cc
-    not-first false b h = refl
-
-    at : (b : Bool) → outlives d x ≡ b → has_id d.id (filter (outlives d) xs) ≡ false → has_id d.id (cond b (x ∷ filter (outlives d) xs) (filter (outlives d) xs)) ≡ false
-    at false e rest = rest
-    at true e rest =
-        let other : eqb x.id d.id ≡ false = not-first (eqb x.id d.id) (not (is_same_name x.name d.name)) e in
-        rw other rest
-
--- behind a definition its table is selected
-pub define_selects : (h : Heard) (d : Definition) → selected_table (heard_after h (messages.Define d)) ≡ Some d
-define_selects h d = put_found d (filter (outlives d) h.tables) (outliving_lacks d h.tables)
 
 -- the number told is resolved to the update's
 told_resolved : (last : Option ℕ) (number : ℕ) → resolved_number (number_told last number) last ≡ Some number

@@ -1,4 +1,4 @@
-use Rattle.std.proofs.Common.{◌≡◌, [], rules}
+use Rattle.std.proofs.Common.{◌≡◌, [], rules, arith}
 use Rattle.known_state.proofs.StepLemmas.{switch_step, foreign_switch, undefined_switch}
 use Rattle.known_state.proofs.known.Known.select.Goals as goal
 
@@ -10,4 +10,4 @@ returns-in_default-table-clause-refused c = undefined_switch c.args.self.now c.a
 
 pub returns-clause-step : goal.returns-clause-step
 returns-clause-step c =
-    rw (c.select.ensures, ← c.self.view_is) ([], switch_step _ c.args.id (search rules))
+    rw (c.select.ensures, ← c.self.view_is) ([], switch_step _ c.args.id (omega arith) (search rules))

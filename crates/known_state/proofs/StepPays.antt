@@ -1,0 +1,173 @@
+-- A step pays for what it saves.
+use Rattle.std.proofs.Common.{◌≡◌, ℕ, ◌==◌, ◌+◌, ◌-◌, ◌≤◌, Bool, true, false, ◌&&◌, ◌||◌, cond, eqb, List, [], ◌∷◌, ◌++◌, Option, Some, None, refl, sym, ap, ◌∙◌, subst, inl, inr, ◌⊎◌, arith}
+use Rattle.std.specs.Prelude.{is_some, option_map, filter, nat_le, length}
+use Rattle.std.proofs.lemmas.Bool.{eq-eqb}
+use Rattle.std.proofs.lemmas.List.Sums.{sum_by-cons}
+use Rattle.table_types.specs.Updates.{stores_name}
+use Rattle.peers_msg.specs.declared.name_field.NameField.TheVariants as names
+use Rattle.std.specs.List.{AllByRecursion}
+use Rattle.table_types.specs.declared.update.Update.{Update}
+use Rattle.table_types.specs.Tables.{Definition}
+use Rattle.table_types.specs.Rosters.{table_at}
+use Rattle.peers_msg.specs.declared.message.Message.{Message}
+use Rattle.peers_msg.specs.declared.message.Message.TheVariants as messages
+use Rattle.peers_msg.specs.Messages.{UpdateFields}
+use Rattle.peers_msg.specs.Heard.{Heard, heard_after, defined, selected_table}
+use Rattle.peers_msg.specs.Spelling.{size_of, size_of_all, data_of}
+use Rattle.peers_msg.specs.Fitting.{fits, name_fits, update_fits}
+use Rattle.peers_msg.specs.Steps.{State, Step, Named, IsOwn, Legal, keeps_last, last_of, put_last, resolved, resolved_number}
+use Rattle.known_state.specs.Known.{KnownState, AreOwn, stores_no_name}
+use Rattle.known_state.specs.Cost.{Knowledge, knowledge_of, knowledge_after, full_from, full, saving, selection_cost, definition_cost, is_held, Saves, IsOfRoster, Pays}
+use Rattle.known_state.proofs.KnownLemmas.{table_at-id, table_at-passes, define_selects, AreOwn-defined}
+use Rattle.known_state.proofs.StepLemmas.{selected-id, selected-found, selected-nameless, nameless}
+use Rattle.known_state.proofs.RefusalLaws.{switch_found, selection}
+use Rattle.known_state.proofs.CostLaws.{KnowsLess, falls, with_selected, defining_pays, switched_pays, update_pays, found_before, last-filter, last-put}
+
+-- what moves nothing pays
+stays_pays : (roster : List Definition) (s mid : State) (m : Message) (one rest : List Update) → one ≡ [] → mid ≡ s → full roster s (one ++ rest) ≤ size_of m + saving roster (knowledge_of s) m one + full roster mid rest
+stays_pays roster s mid m one rest none same = rw (none, same) (omega arith)
+
+or_true : (a b : Bool) → b ≡ true → (a || b) ≡ true
+or_true true b h = refl
+or_true false b h = h
+
+-- a definition of the roster's own pays
+define_pays : (roster : List Definition) (s : State) (d : Definition) (rest : List Update) → table_at roster d.id ≡ Some d → AllByRecursion (IsOfRoster roster) rest
+    → full roster s rest ≤ size_of (messages.Define d) + full roster (record { heard = heard_after s.heard (messages.Define d); lasts = filter (λ l. keeps_last d (table_at s.heard.tables l.0) l.0) s.lasts; slots = s.slots }) rest
+define_pays roster s d rest own all =
+    let k = knowledge_of s in
+    let after : State = record { heard = heard_after s.heard (messages.Define d); lasts = filter (λ l. keeps_last d (table_at s.heard.tables l.0) l.0) s.lasts; slots = s.slots } in
+    let cost : definition_cost (table_at roster d.id) ≡ size_of (messages.Define d) = rw own refl in
+    let paid = defining_pays roster k d.id rest all in
+    let knows : KnowsLess (knowledge_of after) (with_selected k d.id) = record {
+      defined = λ id h. found_before d s.heard.tables id h;
+      selected = ap (option_map (λ (t : Definition). t.id)) (define_selects s.heard d);
+      last = λ id. last-filter (λ id. keeps_last d (table_at s.heard.tables id) id) s.lasts id;
+    } in
+    let less = falls roster (knowledge_of after) (with_selected k d.id) rest knows all in
+    omega arith
+
+-- a switch to a table that is heard pays
+switch_pays : (roster : List Definition) (s : State) (id : ℕ) (d : Definition) (rest : List Update) → table_at s.heard.tables id ≡ Some d → AllByRecursion (IsOfRoster roster) rest
+    → full roster s rest ≤ size_of (messages.Switch id) + full roster (record { heard = heard_after s.heard (messages.Switch id); lasts = s.lasts; slots = s.slots }) rest
+switch_pays roster s id d rest found all =
+    let k = knowledge_of s in
+    let after : State = record { heard = heard_after s.heard (messages.Switch id); lasts = s.lasts; slots = s.slots } in
+    let known : k.is_defined id ≡ true = rw found refl in
+    let paid = switched_pays roster k id rest known all in
+    let knows : KnowsLess (knowledge_of after) (with_selected k id) = record {
+      defined = λ other h. or_true (eqb other id) (is_some (table_at s.heard.tables other)) h;
+      selected = ap (option_map (λ (t : Definition). t.id)) found ∙ ap (λ (n : ℕ). Some n) (table_at-id s.heard.tables id d found);
+      last = λ other. inl refl;
+    } in
+    let less = falls roster (knowledge_of after) (with_selected k id) rest knows all in
+    omega arith
+
+-- the table's part of a fitting update
+name_fitting : (h : Heard) (m : UpdateFields) (d : Definition) → fits h (messages.Update m) ≡ true → selected_table h ≡ Some d → name_fits d m.name ≡ true
+unfolding fits
+name_fitting h m d fit sel = last-part (sym (rw sel refl) ∙ fit)
+  where
+    and-left : (a b : Bool) → (a && b) ≡ true → a ≡ true
+    and-left true b h = refl
+    and-left false b h = h
+    and-right : (a b : Bool) → (a && b) ≡ true → b ≡ true
+    and-right true b h = h
+    and-right false b h = cc
+    last-part : (update_fits d m && nat_le (length (data_of (messages.Update m))) 16384) ≡ true → name_fits d m.name ≡ true
+    last-part e = and-right _ (name_fits d m.name) (and-left (update_fits d m) _ e)
+
+-- an update pays, and what it saves by reading a name
+take_pays : (roster : List Definition) (s mid : State) (m : UpdateFields) (d : Definition) (table number : ℕ) (name : Option (List ℕ)) (rest : List Update) → AreOwn roster s.heard.tables → AllByRecursion (IsOfRoster roster) rest
+    → selected_table s.heard ≡ Some d → d.id ≡ table → name_fits d m.name ≡ true → Named s.slots m.name name mid.slots → resolved_number m.number (last_of s.lasts table) ≡ Some number → mid.heard ≡ s.heard → mid.lasts ≡ put_last table number s.lasts
+    → full roster s (resolved m table number name ∷ rest) ≤ size_of (messages.Update m) + saving roster (knowledge_of s) (messages.Update m) (resolved m table number name ∷ []) + full roster mid rest
+take_pays roster s mid m d table number name rest own all sel is fit named numbered heard lasts =
+    let k = knowledge_of s in
+    let u : Update = resolved m table number name in
+    let found = selected-found s.heard d sel in
+    let listed_d : table_at roster d.id ≡ Some d = table_at-passes (λ (t : Definition). table_at roster t.id ≡ Some t) s.heard.tables found.0 d own found.1 in
+    let listed : table_at roster table ≡ Some d = subst (λ (n : ℕ). table_at roster n ≡ Some d) is listed_d in
+    let paid = update_pays roster k d m u s.slots mid.slots listed fit named refl refl refl numbered in
+    let selected : selection_cost roster k table ≡ 0 = rw (sel, eq-eqb d.id table is) refl in
+    let knows : KnowsLess (knowledge_of mid) (knowledge_after k u) = record {
+      defined = λ id h. or_true (eqb id table) (is_some (table_at s.heard.tables id)) (subst (λ (x : Heard). is_some (table_at x.tables id) ≡ true) heard h);
+      selected = ap (λ (x : Heard). option_map (λ (t : Definition). t.id) (selected_table x)) heard ∙ ap (option_map (λ (t : Definition). t.id)) sel ∙ ap (λ (n : ℕ). Some n) is;
+      last = λ id. inl (ap (λ (ls : List (ℕ × ℕ)). last_of ls id) lasts ∙ last-put table number s.lasts id);
+    } in
+    let less = falls roster (knowledge_of mid) (knowledge_after k u) rest knows all in
+    omega arith
+
+-- a step pays for what it saves
+pub step_pays : (roster : List Definition) (s mid : State) (m : Message) (one rest : List Update) → AreOwn roster s.heard.tables → IsOwn roster m → AllByRecursion (IsOfRoster roster) rest → Step s m one mid → Pays roster s m one rest mid
+step_pays roster s mid (messages.Define d) one rest own is_own all (fit, none, is) =
+    let paid = define_pays roster s d rest is_own all in
+    rw (none, is) (omega arith)
+step_pays roster s mid (messages.Switch id) one rest own is_own all (fit, none, is) =
+    let found = switch_found s.heard id fit in
+    let paid = switch_pays roster s id found.0 rest found.1 all in
+    rw (none, is) (omega arith)
+step_pays roster s mid (messages.Update m) one rest own is_own all (fit, table, on, number, numbered, name, named, carried, heard, lasts) =
+    let sel = selection s.heard m fit in
+    let same : Some sel.0.id ≡ Some table = sym (selected-id s.heard sel.0 sel.1) ∙ on in
+    let id : sel.0.id ≡ table = cc in
+    let paid = take_pays roster s mid m sel.0 table number name rest own all sel.1 id (name_fitting s.heard m sel.0 fit sel.1) named numbered heard lasts in
+    rw carried (omega arith)
+step_pays roster s mid (messages.Control c) one rest own is_own all (fit, none, is) = stays_pays roster s mid (messages.Control c) one rest none is
+step_pays roster s mid (messages.Error e) one rest own is_own all (fit, none, is) = stays_pays roster s mid (messages.Error e) one rest none is
+step_pays roster s mid (messages.Ack table number) one rest own is_own all (fit, none, is) = stays_pays roster s mid (messages.Ack table number) one rest none is
+step_pays roster s mid (messages.Other o) one rest own is_own all (fit, none, is) = stays_pays roster s mid (messages.Other o) one rest none is
+
+-- what is heard behind a legal step is the roster's own
+own_stays : (roster : List Definition) (s mid : State) (m : Message) (one : List Update) → AreOwn roster s.heard.tables → IsOwn roster m → Step s m one mid → AreOwn roster mid.heard.tables
+own_stays roster s mid (messages.Define d) one own is_own (fit, none, is) = subst (λ (x : State). AreOwn roster x.heard.tables) (sym is) (AreOwn-defined roster d s.heard.tables is_own own)
+own_stays roster s mid (messages.Switch id) one own is_own (fit, none, is) = subst (λ (x : State). AreOwn roster x.heard.tables) (sym is) own
+own_stays roster s mid (messages.Update m) one own is_own (fit, table, on, number, numbered, name, named, carried, heard, lasts) = subst (λ (x : Heard). AreOwn roster x.tables) (sym heard) own
+own_stays roster s mid (messages.Control c) one own is_own (fit, none, is) = subst (λ (x : State). AreOwn roster x.heard.tables) (sym is) own
+own_stays roster s mid (messages.Error e) one own is_own (fit, none, is) = subst (λ (x : State). AreOwn roster x.heard.tables) (sym is) own
+own_stays roster s mid (messages.Ack table number) one own is_own (fit, none, is) = subst (λ (x : State). AreOwn roster x.heard.tables) (sym is) own
+own_stays roster s mid (messages.Other o) one own is_own (fit, none, is) = subst (λ (x : State). AreOwn roster x.heard.tables) (sym is) own
+
+rest_of_roster : (roster : List Definition) (one rest us : List Update) → us ≡ one ++ rest → AllByRecursion (IsOfRoster roster) us → AllByRecursion (IsOfRoster roster) rest
+rest_of_roster roster one rest us is all = behind one (subst (λ (l : List Update). AllByRecursion (IsOfRoster roster) l) is all)
+  where
+    behind : (one : List Update) → AllByRecursion (IsOfRoster roster) (one ++ rest) → AllByRecursion (IsOfRoster roster) rest
+    behind [] all = all
+    behind (u ∷ us) all = behind us all.1
+
+-- messages pay for what they save
+pub list_pays : (roster : List Definition) (s e : State) (ms : List Message) (us : List Update) → AreOwn roster s.heard.tables → AllByRecursion (IsOfRoster roster) us → Legal roster s ms us e → (saved : ℕ) × Saves roster s ms us saved × (full roster s us ≤ size_of_all ms + saved)
+list_pays roster s e [] us own all (owns, (none, same)) = (0, refl, rw none (omega arith))
+list_pays roster s e (m ∷ ms) us own all (owns, (one, rest, mid, is, step, later)) =
+    let all_rest = rest_of_roster roster one rest us is all in
+    let others = list_pays roster mid e ms rest (own_stays roster s mid m one own owns.0 step) all_rest (owns.1, later) in
+    let here = step_pays roster s mid m one rest own owns.0 all_rest step in
+    let sum : size_of_all (m ∷ ms) ≡ size_of m + size_of_all ms = sum_by-cons size_of m ms in
+    let both : full roster s us ≡ full roster s (one ++ rest) = ap (full roster s) is in
+    (saving roster (knowledge_of s) m one + others.0, (one, rest, mid, others.0, is, step, refl, others.1), omega arith)
+
+-- in a table without names nothing is saved
+saves_nothing : (roster : List Definition) (s mid : State) (m : Message) (one : List Update) → AreOwn roster s.heard.tables → stores_no_name roster ≡ true → Step s m one mid → saving roster (knowledge_of s) m one ≡ 0
+saves_nothing roster s mid (messages.Update m) one own no_name (fit, table, on, number, numbered, name, named, carried, heard, lasts) =
+    let sel = selection s.heard m fit in
+    let none : stores_name sel.0 ≡ false = selected-nameless (record { roster = roster; state = s }) sel.0 own no_name sel.1 in
+    let field : m.name ≡ names.NotStored = nameless sel.0 m.name none (name_fitting s.heard m sel.0 fit sel.1) in
+    let unread : is_held m.name ≡ false = rw field refl in
+    rw (carried, unread) refl
+saves_nothing roster s mid (messages.Define d) one own no_name step = refl
+saves_nothing roster s mid (messages.Switch id) one own no_name step = refl
+saves_nothing roster s mid (messages.Control c) one own no_name step = refl
+saves_nothing roster s mid (messages.Error e) one own no_name step = refl
+saves_nothing roster s mid (messages.Ack table number) one own no_name step = refl
+saves_nothing roster s mid (messages.Other o) one own no_name step = refl
+
+-- where no table stores names, no legal list is shorter than the whole cost
+pub none_shorter : (roster : List Definition) (s e : State) (ms : List Message) (us : List Update) → AreOwn roster s.heard.tables → stores_no_name roster ≡ true → AllByRecursion (IsOfRoster roster) us → Legal roster s ms us e → full roster s us ≤ size_of_all ms
+none_shorter roster s e [] us own no_name all (owns, (none, same)) = rw none (omega arith)
+none_shorter roster s e (m ∷ ms) us own no_name all (owns, (one, rest, mid, is, step, later)) =
+    let all_rest = rest_of_roster roster one rest us is all in
+    let others = none_shorter roster mid e ms rest (own_stays roster s mid m one own owns.0 step) no_name all_rest (owns.1, later) in
+    let here = step_pays roster s mid m one rest own owns.0 all_rest step in
+    let nothing = saves_nothing roster s mid m one own no_name step in
+    let sum : size_of_all (m ∷ ms) ≡ size_of m + size_of_all ms = sum_by-cons size_of m ms in
+    let both : full roster s us ≡ full roster s (one ++ rest) = ap (full roster s) is in
+    omega arith

@@ -1,0 +1,106 @@
+-- What a lesson costs in bytes where every name is written (own).
+use Rattle.std.specs.Prelude.{ℕ, ◌+◌, ◌-◌, ◌%◌, ◌^◌, ◌≤◌, Bool, true, false, ◌||◌, ◌==◌, List, [], ◌∷◌, ◌++◌, ◌≡◌, is_some, Option, Some, None, option_map, if◌then◌else◌}
+use Rattle.std.specs.List.{AllByRecursion}
+use Rattle.table_types.specs.declared.update.Update.{Update}
+use Rattle.table_types.specs.Tables.{Definition}
+use Rattle.table_types.specs.Updates.{stores_name}
+use Rattle.table_types.specs.Rosters.{table_at}
+use Rattle.peers_msg.specs.declared.name_field.NameField.{NameField}
+use Rattle.peers_msg.specs.declared.name_field.NameField.TheVariants as names
+use Rattle.peers_msg.specs.declared.message.Message.{Message}
+use Rattle.peers_msg.specs.declared.message.Message.TheVariants as messages
+use Rattle.peers_msg.specs.Messages.{UpdateFields}
+use Rattle.peers_msg.specs.Heard.{selected_table}
+use Rattle.peers_msg.specs.Spelling.{size_of}
+use Rattle.peers_msg.specs.Steps.{State, Step, last_of}
+
+-- what bears on the cost of a lesson: which ids are defined, the one selected, and each id's last number
+pub record Knowledge : Type 0 where
+  pub is_defined : ℕ → Bool
+  pub selected : Option ℕ
+  pub last : ℕ → Option ℕ
+
+abbrev pub knowledge_of : State → Knowledge
+knowledge_of s = record { is_defined = λ id. is_some (table_at s.heard.tables id); selected = option_map (λ d. d.id) (selected_table s.heard); last = last_of s.lasts }
+
+-- and behind an update: its table is defined and selected, and its number is the table's last
+abbrev pub knowledge_after : Knowledge → Update → Knowledge
+knowledge_after k u = record { is_defined = λ id. id == u.table || k.is_defined id; selected = Some u.table; last = λ id. if id == u.table then Some u.number else k.last id }
+
+-- whether a number is one more than the last, modulo 2^32
+abbrev pub follows : Option ℕ → ℕ → Bool
+follows None number = false
+follows (Some last) number = (last + 1) % 2 ^ 32 == number
+
+-- the number that is told: none where the learner finds it by itself
+abbrev pub number_told : Option ℕ → ℕ → Option ℕ
+number_told last number = if follows last number then None else Some number
+
+-- an update in its shortest number form, with that name field
+abbrev pub told_as : Option ℕ → NameField → Update → UpdateFields
+told_as last field u = record { number = number_told last u.number; life = u.life; key = u.key; values = u.values; name = field }
+
+-- the name field with the name written; each slot is as long as the first
+abbrev pub written_field : Bool → Option (List ℕ) → NameField
+written_field false name = names.NotStored
+written_field true None = names.NoName
+written_field true (Some name) = names.Written 1 name
+
+abbrev pub is_named_table : Option Definition → Bool
+is_named_table None = false
+is_named_table (Some d) = stores_name d
+
+-- what an update costs with its name written
+abbrev pub written_cost : List Definition → Knowledge → Update → ℕ
+written_cost roster k u = size_of (messages.Update (told_as (k.last u.table) (written_field (is_named_table (table_at roster u.table)) u.name) u))
+
+abbrev pub is_selected : Option ℕ → ℕ → Bool
+is_selected None id = false
+is_selected (Some selected) id = selected == id
+
+abbrev pub definition_cost : Option Definition → ℕ
+definition_cost None = 0
+definition_cost (Some d) = size_of (messages.Define d)
+
+-- what it costs to select a table: nothing, a switch, or its definition
+abbrev pub selection_cost : List Definition → Knowledge → ℕ → ℕ
+selection_cost roster k id =
+    if is_selected k.selected id then 0
+    else (if k.is_defined id then size_of (messages.Switch id) else definition_cost (table_at roster id))
+
+-- what the updates cost, one after another
+abbrev pub full_from : List Definition → Knowledge → List Update → ℕ
+full_from roster k [] = 0
+full_from roster k (u ∷ us) = selection_cost roster k u.table + written_cost roster k u + full_from roster (knowledge_after k u) us
+
+-- the size of the lesson with every name written
+abbrev pub full : List Definition → State → List Update → ℕ
+full roster s us = full_from roster (knowledge_of s) us
+
+abbrev pub is_held : NameField → Bool
+is_held (names.Held slot) = true
+is_held field = false
+
+-- what a message saves that reads a name: the cost of its update with the name written, less that with the name read
+abbrev pub saving : List Definition → Knowledge → Message → List Update → ℕ
+saving roster k (messages.Update m) (u ∷ []) = if is_held m.name then written_cost roster k u - size_of (messages.Update (told_as (k.last u.table) m.name u)) else 0
+saving roster k m us = 0
+
+-- the update is of a table of the roster
+abbrev pub IsOfRoster : List Definition → Update → Type 0
+IsOfRoster roster u = (d : Definition) × (table_at roster u.table ≡ Some d)
+
+-- A step pays for what it saves: what is to be told costs no more before the message than its size, the saving of
+-- its read, and what is left to tell behind it.
+abbrev pub Pays : List Definition → State → Message → List Update → List Update → State → Type 0
+Pays roster s m one rest mid = full roster s (one ++ rest) ≤ size_of m + saving roster (knowledge_of s) m one + full roster mid rest
+
+-- what messages save that carry these updates from s on
+abbrev pub Saves : List Definition → State → List Message → List Update → ℕ → Type 0
+Saves roster s [] us saved = saved ≡ 0
+Saves roster s (m ∷ ms) us saved =
+    (one : List Update) × (rest : List Update) × (mid : State) × (later : ℕ)
+    × (us ≡ one ++ rest)
+    × Step s m one mid
+    × (saved ≡ saving roster (knowledge_of s) m one + later)
+    × Saves roster mid ms rest later
