@@ -1,7 +1,6 @@
 -- What a lesson costs falls with what is known, and no message saves more than it costs.
-use Rattle.std.proofs.Common.{◌≡◌, ℕ, ◌==◌, ◌+◌, ◌-◌, ◌%◌, ◌^◌, ◌<◌, ◌≤◌, Bool, true, false, not, ◌&&◌, ◌||◌, cond, eqb, List, [], ◌∷◌, ◌++◌, length, Option, Some, None, refl, sym, ap, ◌∙◌, subst, inl, inr, ◌⊎◌, arith, length-append}
-use Rattle.std.specs.Prelude.{is_some, option_map, flat_map, filter, nat_lt}
-use Rattle.std.specs.Int.{w32, to_be_bytes}
+use Rattle.std.proofs.Common.{◌≡◌, ℕ, ◌==◌, ◌+◌, ◌-◌, ◌%◌, ◌^◌, ◌≤◌, Bool, true, false, not, ◌&&◌, ◌||◌, cond, eqb, List, [], ◌∷◌, ◌++◌, length, Option, Some, None, refl, sym, ap, ◌∙◌, subst, inl, inr, ◌⊎◌, arith, length-append}
+use Rattle.std.specs.Prelude.{is_some, flat_map, filter, nat_lt}
 use Rattle.std.specs.List.{AllByRecursion}
 use Rattle.std.proofs.lemmas.Bool.{cases_eq, eq-eqb, ne_eqb}
 use Rattle.std.proofs.lemmas.Bool.Decides.{nat_tests}
@@ -15,7 +14,6 @@ use Rattle.table_types.specs.Rosters.{table_at, has_id}
 use Rattle.peers_msg.specs.Heard.{put_table, outlives, defined}
 use Rattle.peers_msg.specs.declared.name_field.NameField.{NameField}
 use Rattle.peers_msg.specs.declared.name_field.NameField.TheVariants as names
-use Rattle.peers_msg.specs.declared.message.Message.{Message}
 use Rattle.peers_msg.specs.declared.message.Message.TheVariants as messages
 use Rattle.table_types.specs.declared.key.Key.{Key}
 use Rattle.table_types.specs.declared.update.Value.{Value}
@@ -25,7 +23,7 @@ use Rattle.peers_msg.specs.Messages.{UpdateFields}
 use Rattle.peers_msg.specs.Spelling.{spelled, size_of, framed, counted, definition_text, update_text, update_kind, optional_word, word, key_text, value_text, name_text}
 use Rattle.known_state.proofs.KnownLemmas.{table_at-id}
 use Rattle.known_state.proofs.StepLemmas.{has_id-table_at}
-use Rattle.known_state.specs.Cost.{Knowledge, knowledge_after, follows, number_told, told_as, written_field, is_named_table, written_cost, is_selected, definition_cost, selection_cost, full_from, saving, is_held, IsOfRoster}
+use Rattle.known_state.specs.Cost.{Knowledge, KnowsLess, with_selected, knowledge_after, follows, number_told, told_as, written_field, is_named_table, written_cost, is_selected, definition_cost, selection_cost, full_from, saving, is_held, IsOfRoster}
 
 -- framed data grow with the data
 framed_longer : (c k c' k' : ℕ) (a b : List ℕ) → length a ≤ length b → length (framed c k a) ≤ length (framed c' k' b)
@@ -45,19 +43,13 @@ incremental_shorter n u =
     framed_longer 10 (update_kind (record u { number = None })) 10 (update_kind (record u { number = Some n })) rest (word n ++ rest) (omega (arith, length-append (word n) rest))
 
 -- an update in its shortest number form is no longer than with its number
-told_shorter : (last : Option ℕ) (field : NameField) (u : Update) → size_of (messages.Update (told_as last field u)) ≤ size_of (messages.Update (told_as None field u))
+pub told_shorter : (last : Option ℕ) (field : NameField) (u : Update) → size_of (messages.Update (told_as last field u)) ≤ size_of (messages.Update (told_as None field u))
 told_shorter None field u = omega arith
 told_shorter (Some last) field u = at (follows (Some last) u.number) refl
   where
     at : (b : Bool) → follows (Some last) u.number ≡ b → size_of (messages.Update (told_as (Some last) field u)) ≤ size_of (messages.Update (told_as None field u))
     at true e = rw e (incremental_shorter u.number (told_as None field u))
     at false e = rw e (omega arith)
-
--- less is known: what is defined was defined, and a last number is as it was or gone
-pub record KnowsLess (less more : Knowledge) : Type 0 where
-  pub defined : (id : ℕ) → less.is_defined id ≡ true → more.is_defined id ≡ true
-  pub selected : less.selected ≡ more.selected
-  pub last : (id : ℕ) → (less.last id ≡ more.last id) ⊎ (less.last id ≡ None)
 
 -- a switch costs no more than a definition of the roster
 switch_cheaper : (roster : List Definition) (u : Update) → IsOfRoster roster u → size_of (messages.Switch u.table) ≤ definition_cost (table_at roster u.table)
@@ -95,6 +87,7 @@ knows_after less more u knows = record {
     or-implied : (a b c : Bool) → (b ≡ true → c ≡ true) → (a || b) ≡ true → (a || c) ≡ true
     or-implied true b c implied h = refl
     or-implied false b c implied h = implied h
+
     last-chosen : (a : Bool) (x y : Option ℕ) → (x ≡ y) ⊎ (x ≡ None) → (cond a (Some u.number) x ≡ cond a (Some u.number) y) ⊎ (cond a (Some u.number) x ≡ None)
     last-chosen true x y h = inl refl
     last-chosen false x y h = h
@@ -111,10 +104,6 @@ falls roster less more (u ∷ us) knows all =
 -- one more table is defined
 abbrev pub with_defined : Knowledge → ℕ → Knowledge
 with_defined k t = record { is_defined = λ id. id == t || k.is_defined id; selected = k.selected; last = k.last }
-
--- and selected
-abbrev pub with_selected : Knowledge → ℕ → Knowledge
-with_selected k t = record { is_defined = λ id. id == t || k.is_defined id; selected = Some t; last = k.last }
 
 or_swap : (a b c : Bool) → (a || (b || c)) ≡ true → (b || (a || c)) ≡ true
 or_swap true true c h = refl
@@ -147,22 +136,23 @@ defined_pays roster k t [] all = omega arith
 defined_pays roster k t (u ∷ us) all =
     elim (cases_eq u.table t) [
       | inl same ↦
-        let cheap = switch_cheaper roster u all.0 in
-        let dear : definition_cost (table_at roster u.table) ≡ definition_cost (table_at roster t) = ap (λ (n : ℕ). definition_cost (table_at roster n)) same in
-        let first = choice_most (is_selected k.selected u.table) (k.is_defined u.table) (size_of (messages.Switch u.table)) (definition_cost (table_at roster u.table)) cheap in
-        let rest = falls roster (knowledge_after (with_defined k t) u) (knowledge_after k u) us (gains_nothing k (with_defined k t) t u same (λ id h. h) (λ id. refl)) all.1 in
-        omega arith
+          let cheap = switch_cheaper roster u all.0 in
+          let dear : definition_cost (table_at roster u.table) ≡ definition_cost (table_at roster t) = ap (λ (n : ℕ). definition_cost (table_at roster n)) same in
+          let first = choice_most (is_selected k.selected u.table) (k.is_defined u.table) (size_of (messages.Switch u.table)) (definition_cost (table_at roster u.table)) cheap in
+          let rest = falls roster (knowledge_after (with_defined k t) u) (knowledge_after k u) us (gains_nothing k (with_defined k t) t u same (λ id h. h) (λ id. refl)) all.1 in
+          omega arith
       | inr other ↦
-        let alike : selection_cost roster (with_defined k t) u.table ≡ selection_cost roster k u.table = rw (ne_eqb u.table t other) refl in
-        let later = defined_pays roster (knowledge_after k u) t us all.1 in
-        let rest = falls roster (knowledge_after (with_defined k t) u) (with_defined (knowledge_after k u) t) us (swapped k t u) all.1 in
-        omega arith
+          let alike : selection_cost roster (with_defined k t) u.table ≡ selection_cost roster k u.table = rw (ne_eqb u.table t other) refl in
+          let later = defined_pays roster (knowledge_after k u) t us all.1 in
+          let rest = falls roster (knowledge_after (with_defined k t) u) (with_defined (knowledge_after k u) t) us (swapped k t u) all.1 in
+          omega arith
     ]
   where
     choice_most : (sel b : Bool) (w d : ℕ) → w ≤ d → cond sel 0 (cond b w d) ≤ d
     choice_most true b w d le = omega arith
     choice_most false true w d le = le
     choice_most false false w d le = omega arith
+
     swapped : (k : Knowledge) (t : ℕ) (u : Update) → KnowsLess (knowledge_after (with_defined k t) u) (with_defined (knowledge_after k u) t)
     swapped k t u = record { defined = λ id h. or_swap (eqb id u.table) (eqb id t) (k.is_defined id) h; selected = refl; last = λ id. inl refl }
 
@@ -184,27 +174,30 @@ switched_pays roster k t [] known all = omega arith
 switched_pays roster k t (u ∷ us) known all =
     elim (cases_eq u.table t) [
       | inl same ↦
-        let first : selection_cost roster k u.table ≤ size_of (messages.Switch t) = rw (same, known) (at_most (is_selected k.selected t) (size_of (messages.Switch t))) in
-        let none = selection_same roster k t u same in
-        let rest = falls roster (knowledge_after (with_selected k t) u) (knowledge_after k u) us (gains_nothing k (with_selected k t) t u same (λ id h. h) (λ id. refl)) all.1 in
-        omega arith
+          let first : selection_cost roster k u.table ≤ size_of (messages.Switch t) = rw (same, known) (at_most (is_selected k.selected t) (size_of (messages.Switch t))) in
+          let none = selection_same roster k t u same in
+          let rest = falls roster (knowledge_after (with_selected k t) u) (knowledge_after k u) us (gains_nothing k (with_selected k t) t u same (λ id h. h) (λ id. refl)) all.1 in
+          omega arith
       | inr other ↦
-        let first = selection_other roster k t u other in
-        let rest = falls roster (knowledge_after (with_selected k t) u) (knowledge_after k u) us (known_already k t u known) all.1 in
-        omega arith
+          let first = selection_other roster k t u other in
+          let rest = falls roster (knowledge_after (with_selected k t) u) (knowledge_after k u) us (known_already k t u known) all.1 in
+          omega arith
     ]
   where
     at_most : (sel : Bool) (n : ℕ) → cond sel 0 n ≤ n
     at_most true n = omega arith
     at_most false n = omega arith
+
     absorbed : (k : Knowledge) (t id : ℕ) → k.is_defined t ≡ true → (id == t || k.is_defined id) ≡ true → k.is_defined id ≡ true
     absorbed k t id known h = elim (cases_eq id t) [
-        | inl same ↦ subst (λ (n : ℕ). k.is_defined n ≡ true) (sym same) known
-        | inr other ↦ sym (rw (ne_eqb id t other) refl) ∙ h
-      ]
+      | inl same ↦ subst (λ (n : ℕ). k.is_defined n ≡ true) (sym same) known
+      | inr other ↦ sym (rw (ne_eqb id t other) refl) ∙ h
+    ]
+
     or_right : (a b c : Bool) → (b ≡ true → c ≡ true) → (a || b) ≡ true → (a || c) ≡ true
     or_right true b c implied h = refl
     or_right false b c implied h = implied h
+
     known_already : (k : Knowledge) (t : ℕ) (u : Update) → k.is_defined t ≡ true → KnowsLess (knowledge_after (with_selected k t) u) (knowledge_after k u)
     known_already k t u known = record { defined = λ id h. or_right (eqb id u.table) (id == t || k.is_defined id) (k.is_defined id) (absorbed k t id known) h; selected = refl; last = λ id. inl refl }
 
@@ -214,23 +207,24 @@ defining_pays roster k t [] all = omega arith
 defining_pays roster k t (u ∷ us) all =
     elim (cases_eq u.table t) [
       | inl same ↦
-        let cheap = switch_cheaper roster u all.0 in
-        let dear : definition_cost (table_at roster u.table) ≡ definition_cost (table_at roster t) = ap (λ (n : ℕ). definition_cost (table_at roster n)) same in
-        let first = choice_most (is_selected k.selected u.table) (k.is_defined u.table) (size_of (messages.Switch u.table)) (definition_cost (table_at roster u.table)) cheap in
-        let none = selection_same roster k t u same in
-        let rest = falls roster (knowledge_after (with_selected k t) u) (knowledge_after k u) us (gains_nothing k (with_selected k t) t u same (λ id h. h) (λ id. refl)) all.1 in
-        omega arith
+          let cheap = switch_cheaper roster u all.0 in
+          let dear : definition_cost (table_at roster u.table) ≡ definition_cost (table_at roster t) = ap (λ (n : ℕ). definition_cost (table_at roster n)) same in
+          let first = choice_most (is_selected k.selected u.table) (k.is_defined u.table) (size_of (messages.Switch u.table)) (definition_cost (table_at roster u.table)) cheap in
+          let none = selection_same roster k t u same in
+          let rest = falls roster (knowledge_after (with_selected k t) u) (knowledge_after k u) us (gains_nothing k (with_selected k t) t u same (λ id h. h) (λ id. refl)) all.1 in
+          omega arith
       | inr other ↦
-        let first = selection_other roster k t u other in
-        let later = defined_pays roster (knowledge_after k u) t us all.1 in
-        let rest = falls roster (knowledge_after (with_selected k t) u) (with_defined (knowledge_after k u) t) us (swapped k t u) all.1 in
-        omega arith
+          let first = selection_other roster k t u other in
+          let later = defined_pays roster (knowledge_after k u) t us all.1 in
+          let rest = falls roster (knowledge_after (with_selected k t) u) (with_defined (knowledge_after k u) t) us (swapped k t u) all.1 in
+          omega arith
     ]
   where
     choice_most : (sel b : Bool) (w d : ℕ) → w ≤ d → cond sel 0 (cond b w d) ≤ d
     choice_most true b w d le = omega arith
     choice_most false true w d le = le
     choice_most false false w d le = omega arith
+
     swapped : (k : Knowledge) (t : ℕ) (u : Update) → KnowsLess (knowledge_after (with_selected k t) u) (with_defined (knowledge_after k u) t)
     swapped k t u = record { defined = λ id h. or_swap (eqb id u.table) (eqb id t) (k.is_defined id) h; selected = refl; last = λ id. inl refl }
 
@@ -295,6 +289,7 @@ update_pays roster k d m u slots after listed fit named life key values number =
         let least = told_least m.number (k.last u.table) field u number in
         let same : record { number = m.number; life = u.life; key = u.key; values = u.values; name = field } ≡ m = rw (← life, ← key, ← values, ← e) refl in
         subst (λ (f : UpdateFields). size_of (messages.Update (told_as (k.last u.table) field u)) ≤ size_of (messages.Update f)) same least
+
     by : (field : NameField) → m.name ≡ field → name_fits d field ≡ true → Named slots field u.name after → written_cost roster k u ≤ size_of (messages.Update m) + saving roster k (messages.Update m) (u ∷ [])
     by names.NotStored e f n =
         let none : stores_name d ≡ false = not-true (stores_name d) f in
@@ -321,9 +316,11 @@ put_has d (x ∷ xs) id other h = at (nat_lt d.id x.id) refl (put_has d xs id ot
   where
     skip : (b : Bool) → (false || b) ≡ true → b ≡ true
     skip b h = h
+
     or_rest : (a b c : Bool) → (b ≡ true → c ≡ true) → (a || b) ≡ true → (a || c) ≡ true
     or_rest true b c f h = refl
     or_rest false b c f h = f h
+
     at : (b : Bool) → nat_lt d.id x.id ≡ b → (has_id id (put_table d xs) ≡ true → has_id id xs ≡ true) → has_id id (x ∷ xs) ≡ true
     at true e later = sym (rw (e, ne_eqb d.id id (λ e. other (sym e))) refl) ∙ h
     at false e later = or_rest (eqb x.id id) (has_id id (put_table d xs)) (has_id id xs) later (sym (rw e refl) ∙ h)
@@ -335,9 +332,11 @@ filter_has p (x ∷ xs) id h = at (p x) refl (filter_has p xs id)
     or_rest : (a b c : Bool) → (b ≡ true → c ≡ true) → (a || b) ≡ true → (a || c) ≡ true
     or_rest true b c f h = refl
     or_rest false b c f h = f h
+
     or_true : (a b : Bool) → b ≡ true → (a || b) ≡ true
     or_true true b h = refl
     or_true false b h = h
+
     at : (b : Bool) → p x ≡ b → (has_id id (filter p xs) ≡ true → has_id id xs ≡ true) → has_id id (x ∷ xs) ≡ true
     at true e later = or_rest (eqb x.id id) (has_id id (filter p xs)) (has_id id xs) later (sym (rw e refl) ∙ h)
     at false e later = or_true (eqb x.id id) (has_id id xs) (later (sym (rw e refl) ∙ h))
@@ -349,9 +348,9 @@ found_before d ds id h =
     elim (cases_eq id d.id) [
       | inl same ↦ rw (eq-eqb id d.id same) refl
       | inr other ↦
-        let kept : has_id id (filter (outlives d) ds) ≡ true = put_has d (filter (outlives d) ds) id other listed in
-        let before : has_id id ds ≡ true = filter_has (outlives d) ds id kept in
-        or_true (eqb id d.id) (is_some (table_at ds id)) (sym (has_id-table_at ds id) ∙ before)
+          let kept : has_id id (filter (outlives d) ds) ≡ true = put_has d (filter (outlives d) ds) id other listed in
+          let before : has_id id ds ≡ true = filter_has (outlives d) ds id kept in
+          or_true (eqb id d.id) (is_some (table_at ds id)) (sym (has_id-table_at ds id) ∙ before)
     ]
   where
     or_true : (a b : Bool) → b ≡ true → (a || b) ≡ true
@@ -359,57 +358,61 @@ found_before d ds id h =
     or_true false b h = h
 
 -- no last number of an id that keeps none
-last-dropped : (q : ℕ → Bool) (ls : List (ℕ × ℕ)) (id : ℕ) → q id ≡ false → last_of (filter (λ l. q l.0) ls) id ≡ None
+pub last-dropped : (q : ℕ → Bool) (ls : List (ℕ × ℕ)) (id : ℕ) → q id ≡ false → last_of (filter (λ l. q l.0) ls) id ≡ None
 last-dropped q [] id e = refl
 last-dropped q (l ∷ ls) id e = at (q l.0) refl (last-dropped q ls id e)
   where
     at : (b : Bool) → q l.0 ≡ b → last_of (filter (λ l. q l.0) ls) id ≡ None → last_of (filter (λ l. q l.0) (l ∷ ls)) id ≡ None
     at false f later = rw f later
     at true f later = elim (cases_eq l.0 id) [
-        | inl same ↦ let bad : true ≡ false = sym f ∙ subst (λ (n : ℕ). q n ≡ false) (sym same) e in cc
-        | inr other ↦ rw (f, ne_eqb l.0 id other) later
-      ]
+      | inl same ↦ let bad : true ≡ false = sym f ∙ subst (λ (n : ℕ). q n ≡ false) (sym same) e in cc
+      | inr other ↦ rw (f, ne_eqb l.0 id other) later
+    ]
+
+-- those of an id that keeps them
+pub last-kept : (q : ℕ → Bool) (ls : List (ℕ × ℕ)) (id : ℕ) → q id ≡ true → last_of (filter (λ l. q l.0) ls) id ≡ last_of ls id
+last-kept q [] id e = refl
+last-kept q (l ∷ ls) id e =
+    let later = last-kept q ls id e in
+    elim (cases_eq l.0 id) [
+      | inl same ↦ let keeps : q l.0 ≡ true = subst (λ (n : ℕ). q n ≡ true) (sym same) e in rw (keeps, eq-eqb l.0 id same) refl
+      | inr other ↦ passed (q l.0) refl other later
+    ]
+  where
+    passed : (b : Bool) → q l.0 ≡ b → (l.0 ≡ id → ⊥) → last_of (filter (λ l. q l.0) ls) id ≡ last_of ls id → last_of (filter (λ l. q l.0) (l ∷ ls)) id ≡ last_of (l ∷ ls) id
+    passed true f other later = rw (f, ne_eqb l.0 id other) later
+    passed false f other later = rw (f, ne_eqb l.0 id other) later
 
 -- last numbers that are kept by their id
 pub last-filter : (q : ℕ → Bool) (ls : List (ℕ × ℕ)) (id : ℕ) → (last_of (filter (λ l. q l.0) ls) id ≡ last_of ls id) ⊎ (last_of (filter (λ l. q l.0) ls) id ≡ None)
 last-filter q ls id = at (q id) refl
   where
-    kept : (ls : List (ℕ × ℕ)) → q id ≡ true → last_of (filter (λ l. q l.0) ls) id ≡ last_of ls id
-    kept [] e = refl
-    kept (l ∷ ls) e = elim (cases_eq l.0 id) [
-        | inl same ↦ let keeps : q l.0 ≡ true = subst (λ (n : ℕ). q n ≡ true) (sym same) e in rw (keeps, eq-eqb l.0 id same) refl
-        | inr other ↦ passed (q l.0) refl other (kept ls e)
-      ]
-      where
-        passed : (b : Bool) → q l.0 ≡ b → (l.0 ≡ id → ⊥) → last_of (filter (λ l. q l.0) ls) id ≡ last_of ls id → last_of (filter (λ l. q l.0) (l ∷ ls)) id ≡ last_of (l ∷ ls) id
-        passed true f other later = rw (f, ne_eqb l.0 id other) later
-        passed false f other later = rw (f, ne_eqb l.0 id other) later
     at : (b : Bool) → q id ≡ b → (last_of (filter (λ l. q l.0) ls) id ≡ last_of ls id) ⊎ (last_of (filter (λ l. q l.0) ls) id ≡ None)
-    at true e = inl (kept ls e)
+    at true e = inl (last-kept q ls id e)
     at false e = inr (last-dropped q ls id e)
 
 -- the last number put is found, and the others are as before
 pub last-put : (t n : ℕ) (ls : List (ℕ × ℕ)) (id : ℕ) → last_of (put_last t n ls) id ≡ cond (eqb id t) (Some n) (last_of ls id)
 last-put t n [] id = elim (cases_eq t id) [
-    | inl same ↦ rw (eq-eqb t id same, eq-eqb id t (sym same)) refl
-    | inr other ↦ rw (ne_eqb t id other, ne_eqb id t (λ e. other (sym e))) refl
-  ]
+  | inl same ↦ rw (eq-eqb t id same, eq-eqb id t (sym same)) refl
+  | inr other ↦ rw (ne_eqb t id other, ne_eqb id t (λ e. other (sym e))) refl
+]
 last-put t n (l ∷ ls) id =
     let later = last-put t n ls id in
     elim (cases_eq l.0 t) [
       | inl same ↦ elim (cases_eq t id) [
-          | inl here ↦ rw (eq-eqb l.0 t same, eq-eqb t id here, eq-eqb id t (sym here)) refl
-          | inr other ↦ rw (eq-eqb l.0 t same, ne_eqb t id other, ne_eqb id t (λ e. other (sym e)), ne_eqb l.0 id (λ e. other (sym same ∙ e))) refl
-        ]
+        | inl here ↦ rw (eq-eqb l.0 t same, eq-eqb t id here, eq-eqb id t (sym here)) refl
+        | inr other ↦ rw (eq-eqb l.0 t same, ne_eqb t id other, ne_eqb id t (λ e. other (sym e)), ne_eqb l.0 id (λ e. other (sym same ∙ e))) refl
+      ]
       | inr apart ↦ before (nat_lt t l.0) refl apart later
     ]
   where
     before : (b : Bool) → nat_lt t l.0 ≡ b → (l.0 ≡ t → ⊥) → last_of (put_last t n ls) id ≡ cond (eqb id t) (Some n) (last_of ls id) → last_of (put_last t n (l ∷ ls)) id ≡ cond (eqb id t) (Some n) (last_of (l ∷ ls) id)
     before true e apart later = elim (cases_eq t id) [
-        | inl here ↦ rw (ne_eqb l.0 t apart, e, eq-eqb t id here, eq-eqb id t (sym here)) refl
-        | inr other ↦ rw (ne_eqb l.0 t apart, e, ne_eqb t id other, ne_eqb id t (λ f. other (sym f))) refl
-      ]
+      | inl here ↦ rw (ne_eqb l.0 t apart, e, eq-eqb t id here, eq-eqb id t (sym here)) refl
+      | inr other ↦ rw (ne_eqb l.0 t apart, e, ne_eqb t id other, ne_eqb id t (λ f. other (sym f))) refl
+    ]
     before false e apart later = elim (cases_eq l.0 id) [
-        | inl here ↦ rw (ne_eqb l.0 t apart, e, eq-eqb l.0 id here, ne_eqb id t (λ f. apart (here ∙ f))) refl
-        | inr other ↦ rw (ne_eqb l.0 t apart, e, ne_eqb l.0 id other) later
-      ]
+      | inl here ↦ rw (ne_eqb l.0 t apart, e, eq-eqb l.0 id here, ne_eqb id t (λ f. apart (here ∙ f))) refl
+      | inr other ↦ rw (ne_eqb l.0 t apart, e, ne_eqb l.0 id other) later
+    ]

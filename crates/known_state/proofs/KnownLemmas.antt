@@ -9,7 +9,7 @@ use Rattle.table_types.specs.Updates.{stores_name}
 use Rattle.table_types.specs.Rosters.{table_at, has_id, is_same_name}
 use Rattle.peers_msg.specs.declared.message.Message.TheVariants as messages
 use Rattle.peers_msg.specs.Heard.{Heard, put_table, outlives, defined, with_own, resumed, selected_table, heard_after}
-use Rattle.known_state.specs.Known.{AreOwn, stores_no_name}
+use Rattle.known_state.specs.Known.{AreOwn}
 
 -- the table that an id stands for has that id
 pub table_at-id : (ds : List Definition) (id : ℕ) (d : Definition) → table_at ds id ≡ Some d → d.id ≡ id

@@ -1,5 +1,5 @@
 -- A last number put where its id stands already.
-use Rattle.std.proofs.Common.{◌≡◌, ℕ, ◌+◌, ◌<◌, List, [], ◌∷◌, ◌++◌, length, get_or, take, drop, set, cond, eqb, refl, sym, ap, ◌∙◌, arith}
+use Rattle.std.proofs.Common.{◌≡◌, ℕ, ◌+◌, ◌<◌, List, ◌∷◌, ◌++◌, length, get_or, take, drop, set, refl, sym, ap, ◌∙◌}
 use Rattle.std.proofs.lemmas.List.{take-append-drop, take-set, drop-set, drop_more}
 use Rattle.std.proofs.lemmas.Bool.{eq-eqb}
 use Rattle.peers_msg.specs.Steps.{put_last}

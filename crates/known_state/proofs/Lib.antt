@@ -2,5 +2,6 @@ pub mod LastsLemmas
 pub mod KnownLemmas
 pub mod StepLemmas
 pub mod RefusalLaws
+pub mod Unrefused
 pub mod CostLaws
 pub mod StepPays

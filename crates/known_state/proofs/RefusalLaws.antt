@@ -1,10 +1,10 @@
 -- What a known state refuses is no step.
-use Rattle.std.proofs.Common.{◌≡◌, ℕ, Bool, true, false, not, ◌&&◌, cond, List, [], ◌∷◌, Option, Some, None, refl, sym, ap, ◌∙◌, subst}
-use Rattle.std.specs.Prelude.{is_none, is_some, nat_lt, nat_le, ◌^◌, length}
+use Rattle.std.proofs.Common.{◌≡◌, ℕ, Bool, true, false, ◌&&◌, List, Option, Some, None, refl, sym, ◌∙◌, subst}
+use Rattle.std.specs.Prelude.{is_some, nat_lt, nat_le, ◌^◌, length}
 use Rattle.peers_msg.specs.Spelling.{data_of}
 use Rattle.table_types.specs.declared.update.Update.{Update}
 use Rattle.table_types.specs.Tables.{Definition}
-use Rattle.table_types.specs.Rosters.{table_at, has_id}
+use Rattle.table_types.specs.Rosters.{table_at}
 use Rattle.peers_msg.specs.declared.message.Message.{Message}
 use Rattle.peers_msg.specs.declared.message.Message.TheVariants as messages
 use Rattle.peers_msg.specs.declared.name_field.NameField.{NameField}
@@ -26,6 +26,7 @@ switch_found h id fit = at (table_at h.tables id) refl (middle (nat_lt id (2 ^ 6
     middle true true c h = refl
     middle true false c h = h
     middle false b c h = cc
+
     at : (o : Option Definition) → table_at h.tables id ≡ o → is_some (table_at h.tables id) ≡ true → (d : Definition) × (table_at h.tables id ≡ Some d)
     at (Some d) e is = (d, e)
     at None e is = let bad : false ≡ true = sym (rw e refl) ∙ is in cc

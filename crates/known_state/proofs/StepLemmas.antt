@@ -1,26 +1,21 @@
 -- The steps that a known state makes, and why it refuses.
-use Rattle.std.proofs.Common.{◌≡◌, ℕ, ◌+◌, ◌^◌, ◌<◌, ◌≤◌, Bool, true, false, not, ◌&&◌, cond, eqb, List, [], ◌∷◌, ◌++◌, length, Option, Some, None, refl, sym, ap, ◌∙◌, subst, inl, inr, arith, rules, length-append}
+use Rattle.std.proofs.Common.{◌≡◌, ℕ, ◌^◌, ◌<◌, ◌≤◌, Bool, true, false, not, ◌&&◌, List, [], ◌∷◌, length, Option, Some, None, refl, sym, ap, ◌∙◌, subst, inl, inr, arith}
 use Rattle.std.specs.Option.{option_and_then}
-use Rattle.std.specs.Prelude.{is_none, is_some, nat_lt, nat_le, filter}
-use Rattle.std.specs.Int.{w32, to_be_bytes}
-use Rattle.std.specs.List.{AllByRecursion, list_any}
+use Rattle.std.specs.Prelude.{is_some, filter}
+use Rattle.std.specs.List.{list_any}
 use Rattle.std.proofs.lemmas.Bool.{cases_eq, eq-eqb, ne_eqb, le-leb, lt-ltb}
-use Rattle.std.proofs.lemmas.Bool.Decides.{nat_tests}
 use Rattle.peers_encint.specs.Integers.{spelling}
 use Rattle.peers_encint.proofs.SpellingLaws as integers
 use Rattle.table_types.specs.declared.update.Update.{Update}
 use Rattle.table_types.specs.Tables.{Definition, is_definition}
-use Rattle.table_types.specs.Updates.{is_word, stores_name}
+use Rattle.table_types.specs.Updates.{stores_name}
 use Rattle.table_types.specs.Rosters.{table_at, has_id}
-use Rattle.peers_msg.specs.declared.control.Control.{Control}
-use Rattle.peers_msg.specs.declared.control.ErrorKind.{ErrorKind}
-use Rattle.peers_msg.specs.declared.message.Message.{Message}
 use Rattle.peers_msg.specs.declared.message.Message.TheVariants as messages
 use Rattle.peers_msg.specs.declared.name_field.NameField.{NameField}
 use Rattle.peers_msg.specs.declared.name_field.NameField.TheVariants as names
-use Rattle.peers_msg.specs.Messages.{UpdateFields, OtherFields, is_other}
+use Rattle.peers_msg.specs.Messages.{UpdateFields}
 use Rattle.peers_msg.specs.Heard.{Heard, heard_after, selected_table}
-use Rattle.peers_msg.specs.Spelling.{data_of, word, update_text, definition_text}
+use Rattle.peers_msg.specs.Spelling.{data_of, update_text, definition_text}
 use Rattle.peers_msg.specs.Fitting.{fits, update_fits, name_fits}
 use Rattle.peers_msg.specs.Steps.{State, Step, Named, IsOwn, no_names, lasts_after, keeps_last, last_of, put_last, resolved_number, resolved}
 use Rattle.peers_msg.proofs.DataLaws.{update_small, definition_small}

@@ -1,7 +1,7 @@
 -- A step pays for what it saves.
-use Rattle.std.proofs.Common.{◌≡◌, ℕ, ◌==◌, ◌+◌, ◌-◌, ◌≤◌, Bool, true, false, ◌&&◌, ◌||◌, cond, eqb, List, [], ◌∷◌, ◌++◌, Option, Some, None, refl, sym, ap, ◌∙◌, subst, inl, inr, ◌⊎◌, arith}
+use Rattle.std.proofs.Common.{◌≡◌, ℕ, ◌+◌, ◌≤◌, Bool, true, false, ◌&&◌, ◌||◌, cond, eqb, List, [], ◌∷◌, ◌++◌, Option, Some, None, refl, sym, ap, ◌∙◌, subst, inl, inr, ◌⊎◌, arith}
 use Rattle.std.specs.Prelude.{is_some, option_map, filter, nat_le, length}
-use Rattle.std.proofs.lemmas.Bool.{eq-eqb}
+use Rattle.std.proofs.lemmas.Bool.{cases_eq, eq-eqb, ne_eqb}
 use Rattle.std.proofs.lemmas.List.Sums.{sum_by-cons}
 use Rattle.table_types.specs.Updates.{stores_name}
 use Rattle.peers_msg.specs.declared.name_field.NameField.TheVariants as names
@@ -16,12 +16,12 @@ use Rattle.peers_msg.specs.Heard.{Heard, heard_after, defined, selected_table}
 use Rattle.peers_msg.specs.Spelling.{size_of, size_of_all, data_of}
 use Rattle.peers_msg.specs.Fitting.{fits, name_fits, update_fits}
 use Rattle.peers_msg.specs.Steps.{State, Step, Named, IsOwn, Legal, keeps_last, last_of, put_last, resolved, resolved_number}
-use Rattle.known_state.specs.Known.{KnownState, AreOwn, stores_no_name}
-use Rattle.known_state.specs.Cost.{Knowledge, knowledge_of, knowledge_after, full_from, full, saving, selection_cost, definition_cost, is_held, Saves, IsOfRoster, Pays}
+use Rattle.known_state.specs.Known.{AreOwn, stores_no_name}
+use Rattle.known_state.specs.Cost.{KnowsLess, with_selected, knowledge_of, knowledge_after, full, saving, selection_cost, definition_cost, is_held, Saves, IsOfRoster, Pays}
 use Rattle.known_state.proofs.KnownLemmas.{table_at-id, table_at-passes, define_selects, AreOwn-defined}
 use Rattle.known_state.proofs.StepLemmas.{selected-id, selected-found, selected-nameless, nameless}
 use Rattle.known_state.proofs.RefusalLaws.{switch_found, selection}
-use Rattle.known_state.proofs.CostLaws.{KnowsLess, falls, with_selected, defining_pays, switched_pays, update_pays, found_before, last-filter, last-put}
+use Rattle.known_state.proofs.CostLaws.{falls, defining_pays, switched_pays, update_pays, found_before, last-dropped, last-filter, last-put}
 
 -- what moves nothing pays
 stays_pays : (roster : List Definition) (s mid : State) (m : Message) (one rest : List Update) → one ≡ [] → mid ≡ s → full roster s (one ++ rest) ≤ size_of m + saving roster (knowledge_of s) m one + full roster mid rest
@@ -42,10 +42,29 @@ define_pays roster s d rest own all =
     let knows : KnowsLess (knowledge_of after) (with_selected k d.id) = record {
       defined = λ id h. found_before d s.heard.tables id h;
       selected = ap (option_map (λ (t : Definition). t.id)) (define_selects s.heard d);
-      last = λ id. last-filter (λ id. keeps_last d (table_at s.heard.tables id) id) s.lasts id;
+      last = λ id. kept_or_gone id (is_some (table_at after.heard.tables id)) refl (is_some (table_at s.heard.tables id)) refl;
     } in
     let less = falls roster (knowledge_of after) (with_selected k d.id) rest knows all in
     omega arith
+  where
+    keeps : ℕ → Bool
+    keeps id = keeps_last d (table_at s.heard.tables id) id
+
+    nothing : (o : Option Definition) → is_some o ≡ false → o ≡ None
+    nothing None e = refl
+    nothing (Some t) e = cc
+
+    or_first : (a b : Bool) → (a || b) ≡ true → b ≡ false → a ≡ true
+    or_first true b h e = refl
+    or_first false b h e = let bad : true ≡ false = sym h ∙ e in cc
+
+    kept_or_gone : (id : ℕ) (b : Bool) → is_some (table_at (defined d s.heard.tables) id) ≡ b → (c : Bool) → is_some (table_at s.heard.tables id) ≡ c → (cond b (last_of (filter (λ l. keeps_last d (table_at s.heard.tables l.0) l.0) s.lasts) id) None ≡ cond c (last_of s.lasts id) None) ⊎ (cond b (last_of (filter (λ l. keeps_last d (table_at s.heard.tables l.0) l.0) s.lasts) id) None ≡ None)
+    kept_or_gone id false e c f = inr refl
+    kept_or_gone id true e true f = last-filter keeps s.lasts id
+    kept_or_gone id true e false f =
+        let here : eqb id d.id ≡ true = or_first (eqb id d.id) (is_some (table_at s.heard.tables id)) (found_before d s.heard.tables id e) f in
+        let dropped : keeps id ≡ false = rw (nothing (table_at s.heard.tables id) f, here) refl in
+        inr (last-dropped keeps s.lasts id dropped)
 
 -- a switch to a table that is heard pays
 switch_pays : (roster : List Definition) (s : State) (id : ℕ) (d : Definition) (rest : List Update) → table_at s.heard.tables id ≡ Some d → AllByRecursion (IsOfRoster roster) rest
@@ -71,11 +90,25 @@ name_fitting h m d fit sel = last-part (sym (rw sel refl) ∙ fit)
     and-left : (a b : Bool) → (a && b) ≡ true → a ≡ true
     and-left true b h = refl
     and-left false b h = h
+
     and-right : (a b : Bool) → (a && b) ≡ true → b ≡ true
     and-right true b h = h
     and-right false b h = cc
+
     last-part : (update_fits d m && nat_le (length (data_of (messages.Update m))) 16384) ≡ true → name_fits d m.name ≡ true
     last-part e = and-right _ (name_fits d m.name) (and-left (update_fits d m) _ e)
+
+pub moved_last : (b c : Bool) (l : Option ℕ) (n : ℕ) → (c ≡ true → b ≡ true) → cond b (cond c (Some n) l) None ≡ cond c (Some n) (cond b l None)
+moved_last true true l n there = refl
+moved_last true false l n there = refl
+moved_last false true l n there = let bad : false ≡ true = there refl in cc
+moved_last false false l n there = refl
+
+pub is_there : (ds : List Definition) (table id : ℕ) (d : Definition) → table_at ds table ≡ Some d → eqb id table ≡ true → is_some (table_at ds id) ≡ true
+is_there ds table id d here same = elim (cases_eq id table) [
+  | inl is ↦ subst (λ (n : ℕ). is_some (table_at ds n) ≡ true) (sym is) (rw here refl)
+  | inr other ↦ let bad : false ≡ true = sym (ne_eqb id table other) ∙ same in cc
+]
 
 -- an update pays, and what it saves by reading a name
 take_pays : (roster : List Definition) (s mid : State) (m : UpdateFields) (d : Definition) (table number : ℕ) (name : Option (List ℕ)) (rest : List Update) → AreOwn roster s.heard.tables → AllByRecursion (IsOfRoster roster) rest
@@ -87,12 +120,19 @@ take_pays roster s mid m d table number name rest own all sel is fit named numbe
     let found = selected-found s.heard d sel in
     let listed_d : table_at roster d.id ≡ Some d = table_at-passes (λ (t : Definition). table_at roster t.id ≡ Some t) s.heard.tables found.0 d own found.1 in
     let listed : table_at roster table ≡ Some d = subst (λ (n : ℕ). table_at roster n ≡ Some d) is listed_d in
-    let paid = update_pays roster k d m u s.slots mid.slots listed fit named refl refl refl numbered in
+    let here : table_at s.heard.tables table ≡ Some d = subst (λ (n : ℕ). table_at s.heard.tables n ≡ Some d) (sym (table_at-id s.heard.tables found.0 d found.1) ∙ is) found.1 in
+    let known : k.last table ≡ last_of s.lasts table = rw here refl in
+    let paid = update_pays roster k d m u s.slots mid.slots listed fit named refl refl refl (ap (λ (l : Option ℕ). resolved_number m.number l) known ∙ numbered) in
     let selected : selection_cost roster k table ≡ 0 = rw (sel, eq-eqb d.id table is) refl in
     let knows : KnowsLess (knowledge_of mid) (knowledge_after k u) = record {
       defined = λ id h. or_true (eqb id table) (is_some (table_at s.heard.tables id)) (subst (λ (x : Heard). is_some (table_at x.tables id) ≡ true) heard h);
       selected = ap (λ (x : Heard). option_map (λ (t : Definition). t.id) (selected_table x)) heard ∙ ap (option_map (λ (t : Definition). t.id)) sel ∙ ap (λ (n : ℕ). Some n) is;
-      last = λ id. inl (ap (λ (ls : List (ℕ × ℕ)). last_of ls id) lasts ∙ last-put table number s.lasts id);
+      last = λ id. inl (
+          ap (λ (x : Heard). cond (is_some (table_at x.tables id)) (last_of mid.lasts id) None) heard
+          ∙ ap (λ (ls : List (ℕ × ℕ)). cond (is_some (table_at s.heard.tables id)) (last_of ls id) None) lasts
+          ∙ ap (λ (l : Option ℕ). cond (is_some (table_at s.heard.tables id)) l None) (last-put table number s.lasts id)
+          ∙ moved_last (is_some (table_at s.heard.tables id)) (eqb id table) (last_of s.lasts id) number (is_there s.heard.tables table id d here)
+          );
     } in
     let less = falls roster (knowledge_of mid) (knowledge_after k u) rest knows all in
     omega arith

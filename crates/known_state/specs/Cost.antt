@@ -1,6 +1,5 @@
 -- What a lesson costs in bytes where every name is written (own).
-use Rattle.std.specs.Prelude.{ℕ, ◌+◌, ◌-◌, ◌%◌, ◌^◌, ◌≤◌, Bool, true, false, ◌||◌, ◌==◌, List, [], ◌∷◌, ◌++◌, ◌≡◌, is_some, Option, Some, None, option_map, if◌then◌else◌}
-use Rattle.std.specs.List.{AllByRecursion}
+use Rattle.std.specs.Prelude.{ℕ, ◌+◌, ◌-◌, ◌%◌, ◌^◌, ◌≤◌, Bool, true, false, ◌||◌, ◌==◌, ◌⊎◌, List, [], ◌∷◌, ◌++◌, ◌≡◌, is_some, Option, Some, None, option_map, if◌then◌else◌}
 use Rattle.table_types.specs.declared.update.Update.{Update}
 use Rattle.table_types.specs.Tables.{Definition}
 use Rattle.table_types.specs.Updates.{stores_name}
@@ -14,18 +13,32 @@ use Rattle.peers_msg.specs.Heard.{selected_table}
 use Rattle.peers_msg.specs.Spelling.{size_of}
 use Rattle.peers_msg.specs.Steps.{State, Step, last_of}
 
--- what bears on the cost of a lesson: which ids are defined, the one selected, and each id's last number
+-- what bears on the cost of a lesson: which ids are defined, the one selected, and the last number of each id defined
 pub record Knowledge : Type 0 where
   pub is_defined : ℕ → Bool
   pub selected : Option ℕ
   pub last : ℕ → Option ℕ
 
 abbrev pub knowledge_of : State → Knowledge
-knowledge_of s = record { is_defined = λ id. is_some (table_at s.heard.tables id); selected = option_map (λ d. d.id) (selected_table s.heard); last = last_of s.lasts }
+knowledge_of s = record {
+  is_defined = λ id. is_some (table_at s.heard.tables id);
+  selected = option_map (λ d. d.id) (selected_table s.heard);
+  last = λ id. if is_some (table_at s.heard.tables id) then last_of s.lasts id else None;
+}
 
 -- and behind an update: its table is defined and selected, and its number is the table's last
 abbrev pub knowledge_after : Knowledge → Update → Knowledge
 knowledge_after k u = record { is_defined = λ id. id == u.table || k.is_defined id; selected = Some u.table; last = λ id. if id == u.table then Some u.number else k.last id }
+
+-- and behind the selection of a table
+abbrev pub with_selected : Knowledge → ℕ → Knowledge
+with_selected k t = record { is_defined = λ id. id == t || k.is_defined id; selected = Some t; last = k.last }
+
+-- less is known: what is defined was defined, and a last number is as it was or gone
+pub record KnowsLess (less more : Knowledge) : Type 0 where
+  pub defined : (id : ℕ) → less.is_defined id ≡ true → more.is_defined id ≡ true
+  pub selected : less.selected ≡ more.selected
+  pub last : (id : ℕ) → (less.last id ≡ more.last id) ⊎ (less.last id ≡ None)
 
 -- whether a number is one more than the last, modulo 2^32
 abbrev pub follows : Option ℕ → ℕ → Bool

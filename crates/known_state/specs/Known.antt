@@ -9,7 +9,7 @@ use Rattle.peers_msg.specs.declared.name_field.NameField.TheVariants as names
 use Rattle.peers_msg.specs.declared.message.Message.{Message}
 use Rattle.peers_msg.specs.declared.message.Message.TheVariants as messages
 use Rattle.peers_msg.specs.Messages.{UpdateFields}
-use Rattle.peers_msg.specs.Heard.{Heard, silence, resumed, selected_table}
+use Rattle.peers_msg.specs.Heard.{silence, resumed, selected_table}
 use Rattle.peers_msg.specs.Fitting.{fits}
 use Rattle.peers_msg.specs.Steps.{State, no_names, last_of, put_last, resolved_number, slot_at}
 use Rattle.known_state.specs.declared.known.KnownError.{KnownError}

@@ -1,10 +1,12 @@
 //! Known states.
 
-ghost use Rattle.std.specs.Prelude.{◌≡◌, ◌≢◌, true, Some, None, IfOk, IfErr, OnOk, OnErr, List};
+ghost use Rattle.std.specs.Prelude.{◌≡◌, ◌≢◌, true, Some, None, Err, IfOk, IfErr, OnOk, OnErr, List};
 ghost use Rattle.table_types.specs.declared.update.Update.{Update};
 ghost use Rattle.peers_msg.specs.declared.message.Message.TheVariants as messages;
 ghost use Rattle.peers_msg.specs.Steps.{Step, IsOwn, resolved_number};
+ghost use Rattle.known_state.specs.declared.known.KnownError.{KnownError};
 ghost use Rattle.known_state.specs.declared.known.KnownError.TheVariants as build_errors;
+ghost use Rattle.known_state.specs.declared.known.StepError.{StepError};
 ghost use Rattle.known_state.specs.declared.known.StepError.TheVariants as step_errors;
 ghost use Rattle.known_state.specs.Known.{KnownState, AreOwn, stores_no_name, fresh_of, build_fault, built, Refuses};
 
@@ -25,8 +27,8 @@ pub enum KnownError {
     /// A table is selected or has a last number, and isn't defined.
     #[error("a table that isn't defined")]
     NotDefined,
-    /// An id is given twice.
-    #[error("a table is given twice")]
+    /// An id is defined twice, or has two last numbers.
+    #[error("a table is defined twice, or has two last numbers")]
     Repeated,
     /// Memory was wanted, and the growth was refused.
     #[error("memory")]
@@ -72,8 +74,8 @@ impl From<Memory> for StepError {
     }
 }
 
-/// What a teacher knows of its learner (own): the tables that it keeps, those that were defined to it and the one
-/// selected, and the last number of each.
+/// What a teacher knows of its learner (own): the roster of the tables that are shared, those that were defined to it
+/// and the one selected, and the last number of each.
 ///
 /// No table of the roster stores the server's name.
 #[derive(Debug, Drop)]
@@ -137,6 +139,8 @@ impl Known {
             × (build_fault roster selected defined.items last.items ≡ None)) }
         ensures refused { IfErr result (λ e. e ≢ build_errors.Memory →
             build_fault roster selected defined.items last.items ≡ Some e) }
+        ensures exactly { (e : KnownError) →
+            build_fault roster selected defined.items last.items ≡ Some e → result ≡ Err e }
     {
         let (ids, lasts) = (defined.as_slice(), last.as_slice());
         if !are_known(&roster, selected, ids, lasts) {
@@ -190,6 +194,7 @@ impl Known {
             × Step self.old.state message.now us self.new.state × IsOwn self.old.roster message.now) }
         ensures roster { self.new.roster ≡ self.old.roster }
         ensures refused { IfErr result (λ e. e ≢ step_errors.Memory → Refuses self.old message.now e) }
+        ensures exactly { (e : StepError) → Refuses self.old message.now e → result ≡ Err e }
         ensures stays { OnErr result (self.new ≡ self.old) }
     {
         match message {
@@ -210,6 +215,7 @@ impl Known {
             × IsOwn self.old.roster (messages.Define table.now)) }
         ensures roster { self.new.roster ≡ self.old.roster }
         ensures refused { IfErr result (λ e. e ≢ step_errors.Memory → Refuses self.old (messages.Define table.now) e) }
+        ensures exactly { (e : StepError) → Refuses self.old (messages.Define table.now) e → result ≡ Err e }
         ensures stays { OnErr result (self.new ≡ self.old) }
     {
         match self.roster.table(table.id()) {
@@ -229,6 +235,7 @@ impl Known {
             × Step self.old.state (messages.Switch id) us self.new.state) }
         ensures roster { self.new.roster ≡ self.old.roster }
         ensures refused { IfErr result (λ e. Refuses self.old (messages.Switch id) e) }
+        ensures exactly { (e : StepError) → Refuses self.old (messages.Switch id) e → result ≡ Err e }
         ensures stays { OnErr result (self.new ≡ self.old) }
     {
         let Some(_) = self.roster.table(id) else {
@@ -246,6 +253,7 @@ impl Known {
             × Step self.old.state (messages.Update update.now) us self.new.state) }
         ensures roster { self.new.roster ≡ self.old.roster }
         ensures refused { IfErr result (λ e. e ≢ step_errors.Memory → Refuses self.old (messages.Update update.now) e) }
+        ensures exactly { (e : StepError) → Refuses self.old (messages.Update update.now) e → result ≡ Err e }
         ensures stays { OnErr result (self.new ≡ self.old) }
     {
         let Some(table) = self.heard.selected_table() else {
@@ -264,7 +272,9 @@ impl Known {
 
     /// An equal state.
     pub fn copy(&self, alloc: Global) -> Result<Known, Memory>
-        ensures { IfOk result (λ copy. copy ≡ self.now) }
+        ensures copy { IfOk result (λ copy. copy ≡ self.now) }
+        ensures nameless { stores_no_name self.now.roster ≡ true }
+        ensures own { AreOwn self.now.roster self.now.state.heard.tables }
     {
         Ok(Known {
             alloc,

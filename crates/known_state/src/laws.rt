@@ -24,21 +24,18 @@ pub fn a_step_pays()
     ensures { (roster : List Definition) (s mid : State) (m : Message) (one rest : List Update) →
         AreOwn roster s.heard.tables → IsOwn roster m → AllByRecursion (IsOfRoster roster) rest →
         Step s m one mid → Pays roster s m one rest mid }
-{
-}
+{}
 
 /// A legal list of messages has at least the size of the lesson with every name written, less what its reads save.
 pub fn a_list_pays()
     ensures { (roster : List Definition) (s e : State) (ms : List Message) (us : List Update) →
         AreOwn roster s.heard.tables → AllByRecursion (IsOfRoster roster) us → Legal roster s ms us e →
         (saved : ℕ) × Saves roster s ms us saved × (full roster s us ≤ size_of_all ms + saved) }
-{
-}
+{}
 
 /// Where no table stores names, no legal list is shorter than the lesson.
 pub fn none_is_shorter()
     ensures { (roster : List Definition) (s e : State) (ms : List Message) (us : List Update) →
         AreOwn roster s.heard.tables → stores_no_name roster ≡ true → AllByRecursion (IsOfRoster roster) us →
         Legal roster s ms us e → full roster s us ≤ size_of_all ms }
-{
-}
+{}

@@ -103,7 +103,7 @@ pub fn are_defined(selected: Option<u64>, defined: &[u64], lasts: &[(u64, u32)])
     selects_defined && all_lasts_held(defined, lasts)
 }
 
-/// Whether an id stands twice. Of 65 ids of a roster one does, so this looks at 64 of them at most.
+/// Whether an id stands twice. Of 65 ids of a roster one does, so this compares at most 64 of them with the rest.
 pub fn repeats(ids: &[u64]) -> bool
     ensures { result ≡ repeats ids.now }
 {

@@ -136,7 +136,8 @@ impl Roster {
 
     /// The table that an id stands for.
     pub fn table(&self, id: u64) -> Option<&TableDef>
-        ensures { option_copied result ≡ table_at self.now id }
+        ensures found { option_copied result ≡ table_at self.now id }
+        ensures sound { roster_fault self.now ≡ None }
     {
         table_at(self.tables.as_slice(), id)
     }

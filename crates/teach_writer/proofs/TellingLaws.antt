@@ -1,6 +1,6 @@
 -- What is selected for an update, that it is told as it is, and that both are legal.
-use Rattle.std.proofs.Common.{◌≡◌, ℕ, zero, suc, ◌+◌, ◌%◌, ◌^◌, ◌<◌, ◌≤◌, Bool, true, false, not, ◌&&◌, ◌||◌, cond, eqb, List, [], ◌∷◌, ◌++◌, length, get_or, Option, Some, None, refl, sym, ap, ◌∙◌, subst, inl, inr, arith, append_assoc}
-use Rattle.std.specs.Prelude.{is_some, is_none, filter, nat_lt, flat_map}
+use Rattle.std.proofs.Common.{◌≡◌, ℕ, zero, suc, ◌+◌, ◌%◌, ◌^◌, ◌<◌, Bool, true, false, not, ◌&&◌, eqb, List, [], ◌∷◌, ◌++◌, length, get_or, Option, Some, None, refl, sym, ap, ◌∙◌, subst, inl, inr, arith, append_assoc}
+use Rattle.std.specs.Prelude.{is_some, is_none, nat_lt}
 use Rattle.std.specs.List.{AllByRecursion, list_any}
 use Rattle.std.proofs.lemmas.Bool.{cases_eq, eq-eqb, ne_eqb}
 use Rattle.std.proofs.lemmas.Bool.Decides.{nat_tests}
@@ -8,23 +8,21 @@ use Rattle.std.proofs.lemmas.Grind.{flat_map-append}
 use Rattle.table_types.specs.declared.update.Update.{Update}
 use Rattle.table_types.specs.Tables.{Definition, is_definition}
 use Rattle.table_types.specs.Updates.{fits, is_optional_word, stores_name, row_fits, may_be_named, life_fits}
-use Rattle.table_types.specs.Rosters.{table_at, has_id, is_same_name}
+use Rattle.table_types.specs.Rosters.{table_at}
 use Rattle.table_types.specs.declared.batch.BatchError.{BatchError}
 use Rattle.table_types.specs.declared.batch.BatchError.TheVariants as errors
-use Rattle.table_types.specs.Batches.{faults_from, fault_in, or_else, batch_fault, IsBatchFor}
+use Rattle.table_types.specs.Batches.{faults_from, fault_in, or_else, IsBatchFor}
 use Rattle.peers_msg.specs.declared.message.Message.{Message}
 use Rattle.peers_msg.specs.declared.message.Message.TheVariants as messages
-use Rattle.peers_msg.specs.declared.name_field.NameField.TheVariants as names
-use Rattle.peers_msg.specs.Messages.{UpdateFields}
-use Rattle.peers_msg.specs.Heard.{Heard, put_table, outlives, defined, selected_table, heard_after}
+use Rattle.peers_msg.specs.Heard.{Heard, selected_table, heard_after}
 use Rattle.peers_msg.specs.Spelling.{spelled, stream_of}
 use Rattle.peers_msg.specs.Fitting.{update_fits}
-use Rattle.peers_msg.specs.Steps.{State, Step, Teaches, IsOwn, Legal, last_of, resolved_number, resolved}
-use Rattle.known_state.specs.declared.known.StepError.{StepError}
-use Rattle.known_state.specs.Known.{KnownState, AreOwn, Refuses, switch_refusal, update_refusal, stores_no_name}
+use Rattle.peers_msg.specs.Steps.{State, Step, Teaches, IsOwn, Legal, last_of, resolved_number}
+use Rattle.known_state.specs.Known.{KnownState, AreOwn, switch_refusal, update_refusal, stores_no_name}
 use Rattle.known_state.proofs.KnownLemmas.{table_at-id, table_at-passes, table_at-nameless, define_selects}
 use Rattle.known_state.proofs.StepLemmas.{has_id-table_at, selected-id, selected-found, update_fits_heard}
-use Rattle.teach_writer.specs.Telling.{is_table, selection, follows, number_told, update_told, IsTaught, IsTaken}
+use Rattle.known_state.specs.Cost.{number_told}
+use Rattle.teach_writer.specs.Telling.{is_table, selection, update_told, IsTaught, IsTaken}
 
 -- a table that is heard is the roster's of its id
 pub found_is_own : (roster ds : List Definition) (id : ℕ) (t d : Definition) → AreOwn roster ds → table_at ds id ≡ Some t → table_at roster id ≡ Some d → t ≡ d

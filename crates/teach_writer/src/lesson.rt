@@ -5,6 +5,7 @@ ghost use Rattle.table_types.specs.Batches.{IsBatchFor};
 ghost use Rattle.peers_msg.specs.declared.message.Message.{Message};
 ghost use Rattle.peers_msg.specs.Spelling.{stream_of};
 ghost use Rattle.peers_msg.specs.Steps.{Legal};
+ghost use Rattle.known_state.specs.Shortest.{Shortest};
 
 use crate::telling::tell;
 use known_state::Known;
@@ -31,7 +32,7 @@ impl From<Memory> for TeachError {
 pub struct Lesson {
     /// The bytes of its messages, one after another.
     pub bytes: Items<u8>,
-    /// One price for each named update of the batch: none, since no table stores names.
+    /// One price for each named update of the batch: none, since no table of the roster stores names.
     pub prices: Items<u64>,
     /// What the learner knows behind it.
     pub known: Known,
@@ -41,11 +42,13 @@ pub struct Lesson {
 /// update's table isn't selected, its definition comes first if it isn't defined yet, and else a switch. An update
 /// comes without its number exactly where that is one more than its table's last, modulo 2^32, and with its life.
 ///
-/// The batch was made for the roster of the known state.
+/// The batch was made for the roster of the known state. No legal stream that carries the same updates in that order has
+/// fewer bytes.
 pub fn teach(alloc: Global, known: &Known, batch: &Batch) -> Result<Lesson, TeachError>
     requires { IsBatchFor known.now.roster batch.now }
     ensures lesson { IfOk result (λ lesson. (ms : List Message) × (lesson.bytes ≡ stream_of ms)
-        × Legal known.now.roster known.now.state ms batch.now lesson.known.state) }
+        × Legal known.now.roster known.now.state ms batch.now lesson.known.state
+        × Shortest known.now batch.now ms) }
     ensures roster { IfOk result (λ lesson. lesson.known.roster ≡ known.now.roster) }
     ensures prices { IfOk result (λ lesson. lesson.prices ≡ []) }
 {

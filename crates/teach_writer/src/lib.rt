@@ -3,5 +3,7 @@
 
 mod lesson;
 mod telling;
+#[cfg(test)]
+mod tests;
 
 pub use lesson::{Lesson, TeachError, teach};

@@ -1,6 +1,6 @@
 //! How one update is told.
 
-ghost use Rattle.std.specs.Prelude.{◌≡◌, ◌^◌, ◌<◌, ◌∷◌, [], ◌++◌, true, List, Some, IfOk, OnOk, option_to_list};
+ghost use Rattle.std.specs.Prelude.{◌≡◌, ◌≤◌, ◌+◌, ◌^◌, ◌<◌, ◌∷◌, [], ◌++◌, true, List, Some, IfOk, OnOk, option_to_list};
 ghost use Rattle.std.specs.List.{AllByRecursion};
 ghost use Rattle.table_types.specs.declared.update.Update.{Update};
 ghost use Rattle.table_types.specs.Tables.{Definition, is_definition};
@@ -10,9 +10,10 @@ ghost use Rattle.peers_msg.specs.declared.message.Message.{Message};
 ghost use Rattle.peers_msg.specs.Messages.{is_small};
 ghost use Rattle.peers_msg.specs.Heard.{selected_table};
 ghost use Rattle.known_state.specs.Known.{stores_no_name};
-ghost use Rattle.peers_msg.specs.Spelling.{spelled, stream_of};
+ghost use Rattle.peers_msg.specs.Spelling.{spelled, stream_of, size_of_all};
 ghost use Rattle.peers_msg.specs.Steps.{Step, Teaches, IsOwn, Legal};
-ghost use Rattle.teach_writer.specs.Telling.{selection, follows, number_told, update_told, IsTaught, IsTaken};
+ghost use Rattle.known_state.specs.Cost.{number_told, knowledge_of, with_selected, selection_cost, KnowsLess, IsOfRoster, full};
+ghost use Rattle.teach_writer.specs.Telling.{selection, update_told, IsTaught, IsTaken};
 
 use known_state::{Known, StepError};
 use peers_msg::{Heard, Message, NameField, UpdateMsg, encode};
@@ -103,7 +104,9 @@ fn say_owned(
 fn select(alloc: Global, known: &mut Known, id: u64, bytes: &mut Vec<u8>) -> Result<(), Memory>
     requires { (d : Definition) × (table_at known.old.roster id ≡ Some d) }
     ensures legal { OnOk result ((ms : List Message) × (bytes.new.items ≡ bytes.old.items ++ stream_of ms)
-        × Legal known.old.roster known.old.state ms [] known.new.state) }
+        × Legal known.old.roster known.old.state ms [] known.new.state
+        × (size_of_all ms ≤ selection_cost known.old.roster (knowledge_of known.old.state) id)) }
+    ensures knows { OnOk result (KnowsLess (with_selected (knowledge_of known.old.state) id) (knowledge_of known.new.state)) }
     ensures selected { OnOk result (selected_table known.new.state.heard ≡ table_at known.old.roster id) }
     ensures defined { OnOk result ((d : Definition) → table_at known.old.roster id ≡ Some d → is_definition d ≡ true) }
     ensures roster { known.new.roster ≡ known.old.roster }
@@ -128,7 +131,9 @@ pub fn tell(
 ) -> Result<(), Memory>
     requires { IsTaught known.old.roster update.now }
     ensures told { OnOk result ((ms : List Message) × (bytes.new.items ≡ bytes.old.items ++ stream_of ms)
-        × Legal known.old.roster known.old.state ms (update.now ∷ []) known.new.state) }
+        × Legal known.old.roster known.old.state ms (update.now ∷ []) known.new.state
+        × ((rest : List Update) → AllByRecursion (IsOfRoster known.old.roster) rest →
+        size_of_all ms + full known.old.roster known.new.state rest ≤ full known.old.roster known.old.state (update.now ∷ rest))) }
     ensures roster { known.new.roster ≡ known.old.roster }
 {
     select(alloc, known, update.table, bytes)?;

@@ -1,5 +1,5 @@
 use Rattle.known_state.proofs.LastsLemmas.{put_here}
-use Rattle.std.proofs.Common.{rules, arith, subst}
+use Rattle.std.proofs.Common.{arith}
 use Rattle.known_state.proofs.lasts.put_last.Goals as goal
 
 pub returns-then-last-id-clause-put : goal.returns-then-last-id-clause-put

@@ -1,12 +1,14 @@
-use Rattle.std.proofs.Common.{◌≡◌, Some, None, [], ◌∷◌, ◌++◌, rules, sym, ap, ◌∙◌, subst, List}
+use Rattle.std.proofs.Common.{◌≡◌, ℕ, ◌≤◌, Some, None, [], ◌∷◌, ◌++◌, rules, sym, ap, ◌∙◌, subst, List}
 use Rattle.table_types.specs.declared.update.Update.{Update}
-use Rattle.table_types.specs.Rosters.{table_at}
+use Rattle.table_types.specs.Rosters.{table_at, roster_fault}
 use Rattle.peers_msg.specs.declared.message.Message.{Message}
-use Rattle.peers_msg.specs.Heard.{selected_table}
-use Rattle.peers_msg.specs.Spelling.{spelled, stream_of}
+use Rattle.peers_msg.specs.Spelling.{spelled, size_of_all}
 use Rattle.peers_msg.specs.Steps.{Step, IsOwn, Legal}
 use Rattle.teach_writer.specs.Telling.{selection}
 use Rattle.teach_writer.proofs.TellingLaws.{selection_taken, selection_selects, selection_none, listed_by_id, legal-one, stream-one}
+use Rattle.known_state.specs.Cost.{KnowsLess, with_selected, knowledge_of, selection_cost}
+use Rattle.known_state.proofs.KnownLemmas.{table_at-id}
+use Rattle.teach_writer.proofs.ShortLaws.{selection_size, selection_knows, knows_kept}
 use Rattle.teach_writer.proofs.telling.select.Goals as goal
 
 pub say_owned-requires : goal.say_owned-requires
@@ -26,11 +28,36 @@ returns-in_ok-say_owned-clause-legal c =
     let is : m ∷ [] ≡ selection k.state.heard d = search rules in
     let said : c.say_owned.new.bytes.items ≡ c.args.bytes.now.items ++ spelled m = search rules in
     let step : (us : List Update) × Step k.state m us c.say_owned.new.known.state × IsOwn k.roster m = search rules in
-    let none = selection_selects k d m step.0 c.say_owned.new.known.state c.roster.ensures.own (listed_by_id k.roster c.args.id d listed) is step.1 in (
+    let by_id = listed_by_id k.roster c.args.id d listed in
+    let none = selection_selects k d m step.0 c.say_owned.new.known.state c.roster.ensures.own by_id is step.1 in
+    let size : size_of_all (m ∷ []) ≤ selection_cost k.roster (knowledge_of k.state) d.id =
+    subst (λ (ms : List Message). size_of_all ms ≤ selection_cost k.roster (knowledge_of k.state) d.id) (sym is) (selection_size k.roster k.state d by_id) in (
       m ∷ [],
       said ∙ ap (λ x. c.args.bytes.now.items ++ x) (sym (stream-one m)),
       subst (λ (us : List Update). Legal k.roster k.state (m ∷ []) us c.say_owned.new.known.state) none.0 (legal-one k.roster m k.state c.say_owned.new.known.state step.0 step.2 step.1),
+      subst (λ (n : ℕ). size_of_all (m ∷ []) ≤ selection_cost k.roster (knowledge_of k.state) n) (table_at-id k.roster c.args.id d listed) size,
     )
+
+pub returns-in_ok-say_owned-clause-knows : goal.returns-in_ok-say_owned-clause-knows
+returns-in_ok-say_owned-clause-knows c =
+    let k = c.args.known.now in
+    let d = c.in-Some.table.now in
+    let m = c.in-Some-chosen.message in
+    let listed : table_at k.roster c.args.id ≡ Some d = search rules in
+    let is : m ∷ [] ≡ selection k.state.heard d = search rules in
+    let sound : roster_fault k.roster ≡ None = search rules in
+    let step : (us : List Update) × Step k.state m us c.say_owned.new.known.state × IsOwn k.roster m = search rules in
+    subst (λ (n : ℕ). KnowsLess (with_selected (knowledge_of k.state) n) (knowledge_of c.say_owned.new.known.state)) (table_at-id k.roster c.args.id d listed)
+    (selection_knows k d m step.0 c.say_owned.new.known.state sound c.roster.ensures.own (listed_by_id k.roster c.args.id d listed) is step.1)
+
+pub returns-in_default-clause-knows : goal.returns-in_default-clause-knows
+returns-in_default-clause-knows c =
+    let k = c.args.known.now in
+    let d = c.in-Some.table.now in
+    let listed : table_at k.roster c.args.id ≡ Some d = search rules in
+    let is : [] ≡ selection k.state.heard d = search rules in
+    subst (λ (n : ℕ). KnowsLess (with_selected (knowledge_of k.state) n) (knowledge_of k.state)) (table_at-id k.roster c.args.id d listed)
+    (knows_kept k.state d (selection_none k d c.roster.ensures.own (listed_by_id k.roster c.args.id d listed) is))
 
 pub returns-in_ok-say_owned-clause-selected : goal.returns-in_ok-say_owned-clause-selected
 returns-in_ok-say_owned-clause-selected c =

@@ -1,4 +1,5 @@
-use Rattle.std.proofs.Common.{◌≡◌, ℕ, Some, None, true, false, not, Bool, [], ◌∷◌, ◌++◌, rules, sym, ap, ◌∙◌, subst, List, append_assoc}
+use Rattle.std.specs.List.{AllByRecursion}
+use Rattle.std.proofs.Common.{◌≡◌, ℕ, ◌+◌, ◌≤◌, Some, true, false, [], ◌∷◌, ◌++◌, rules, sym, ap, ◌∙◌, subst, List, append_assoc}
 use Rattle.table_types.specs.declared.update.Update.{Update}
 use Rattle.table_types.specs.Tables.{Definition, is_definition}
 use Rattle.table_types.specs.Updates.{is_optional_word, stores_name}
@@ -7,13 +8,16 @@ use Rattle.peers_msg.specs.declared.message.Message.{Message}
 use Rattle.peers_msg.specs.declared.message.Message.TheVariants as messages
 use Rattle.peers_msg.specs.Messages.{UpdateFields}
 use Rattle.peers_msg.specs.Heard.{selected_table}
-use Rattle.peers_msg.specs.Spelling.{spelled, stream_of}
-use Rattle.peers_msg.specs.Steps.{State, Step, IsOwn, Legal, last_of}
+use Rattle.peers_msg.specs.Spelling.{spelled, stream_of, size_of, size_of_all}
+use Rattle.peers_msg.specs.Steps.{Step, IsOwn, Legal, last_of}
 use Rattle.peers_msg.proofs.DataLaws.{row_small}
-use Rattle.teach_writer.specs.Telling.{number_told, update_told, IsTaken}
-use Rattle.teach_writer.proofs.TellingLaws.{told_taken, told_carries, told_legal, row_of_fits, name_of_fits, unnamed, nameless_own, listed_by_id, stream-one, stream-append}
+use Rattle.known_state.specs.Cost.{number_told}
+use Rattle.teach_writer.specs.Telling.{update_told, IsTaken}
+use Rattle.teach_writer.proofs.TellingLaws.{told_taken, told_carries, told_legal, row_of_fits, name_of_fits, unnamed, nameless_own, stream-one, stream-append}
 use Rattle.known_state.specs.Known.{stores_no_name}
 use Rattle.known_state.proofs.KnownLemmas.{table_at-id}
+use Rattle.known_state.specs.Cost.{KnowsLess, with_selected, knowledge_of, knowledge_after, selection_cost, written_cost, full, full_from, IsOfRoster}
+use Rattle.teach_writer.proofs.ShortLaws.{told_cheap, tell_cheap}
 use Rattle.teach_writer.proofs.telling.tell.Goals as goal
 
 pub update_told-requires : goal.update_told-requires
@@ -53,7 +57,10 @@ returns-clause-told c =
     let no_name : stores_name d ≡ false = nameless_own c.args.known.now.roster u.table d nameless listed in
     let e = c.say_owned.new.known.state in
     let m : Message = messages.Update c.in_ok-told.told in
-    let chosen : (ms : List Message) × (c.select.new.bytes.items ≡ c.args.bytes.now.items ++ stream_of ms) × Legal c.args.known.now.roster c.args.known.now.state ms [] k.state = search rules in
+    let roster = c.args.known.now.roster in
+    let s = c.args.known.now.state in
+    let chosen : (ms : List Message) × (c.select.new.bytes.items ≡ c.args.bytes.now.items ++ stream_of ms) × Legal roster s ms [] k.state × (size_of_all ms ≤ selection_cost roster (knowledge_of s) u.table) = search rules in
+    let knows : KnowsLess (with_selected (knowledge_of s) u.table) (knowledge_of k.state) = search rules in
     let said : c.say_owned.new.bytes.items ≡ c.select.new.bytes.items ++ spelled m = search rules in
     let step : (us : List Update) × Step k.state m us e × IsOwn k.roster m = search rules in
     let as_told : Step k.state (messages.Update (update_told c.last.result u)) step.0 e = subst (λ (t : UpdateFields). Step k.state (messages.Update t) step.0 e) told_is step.1 in
@@ -61,4 +68,8 @@ returns-clause-told c =
     let bytes : c.say_owned.new.bytes.items ≡ c.args.bytes.now.items ++ stream_of (chosen.0 ++ m ∷ []) =
     said ∙ ap (λ x. x ++ spelled m) chosen.1 ∙ append_assoc c.args.bytes.now.items (stream_of chosen.0) (spelled m)
     ∙ ap (λ x. c.args.bytes.now.items ++ x) (ap (λ x. stream_of chosen.0 ++ x) (sym (stream-one m)) ∙ sym (stream-append chosen.0 (m ∷ []))) in
-    (chosen.0 ++ m ∷ [], bytes, told_legal c.args.known.now.roster c.args.known.now.state k.state e chosen.0 m u step.0 chosen.2 tt carried step.1)
+    let cheap : (rest : List Update) → AllByRecursion (IsOfRoster roster) rest → size_of_all (chosen.0 ++ m ∷ []) + full roster e rest ≤ full roster s (u ∷ rest) =
+    λ rest all. tell_cheap roster s e u m chosen.0 rest chosen.3
+    (subst (λ (t : UpdateFields). size_of (messages.Update t) + full roster e rest ≤ written_cost roster (knowledge_of s) u + full_from roster (knowledge_after (knowledge_of s) u) rest) (sym told_is)
+    (told_cheap roster s k.state e d u c.last.result step.0 rest knows (selected ∙ listed) (table_at-id roster u.table d listed) listed no_name here as_told carried all)) in
+    (chosen.0 ++ m ∷ [], bytes, told_legal roster s k.state e chosen.0 m u step.0 chosen.2 tt carried step.1, cheap)

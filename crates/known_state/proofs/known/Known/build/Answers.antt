@@ -1,4 +1,4 @@
-use Rattle.std.proofs.Common.{◌≡◌, rules, subst, sym}
+use Rattle.std.proofs.Common.{◌≡◌, subst, sym}
 use Rattle.peers_msg.specs.Heard.{Heard, resumed}
 use Rattle.known_state.specs.Known.{AreOwn}
 use Rattle.known_state.proofs.KnownLemmas.{AreOwn-resumed}

@@ -1,4 +1,4 @@
-use Rattle.std.proofs.Common.{◌≡◌, rules}
+use Rattle.std.proofs.Common.{rules}
 use Rattle.known_state.proofs.StepLemmas.{heard_of_own, own_after}
 use Rattle.known_state.proofs.known.Known.define.Goals as goal
 

@@ -1,4 +1,6 @@
-use Rattle.std.proofs.Common.{◌≡◌, [], rules, arith}
+use Rattle.std.proofs.Common.{◌≡◌, Some, [], sym, ◌∙◌, arith, rules}
+use Rattle.known_state.specs.declared.known.StepError.TheVariants as step_errors
+use Rattle.known_state.proofs.Unrefused.{switch_unrefused}
 use Rattle.known_state.proofs.StepLemmas.{switch_step, foreign_switch, undefined_switch}
 use Rattle.known_state.proofs.known.Known.select.Goals as goal
 
@@ -11,3 +13,16 @@ returns-in_default-table-clause-refused c = undefined_switch c.args.self.now c.a
 pub returns-clause-step : goal.returns-clause-step
 returns-clause-step c =
     rw (c.select.ensures, ← c.self.view_is) ([], switch_step _ c.args.id (omega arith) (search rules))
+
+pub returns-in_default-clause-exactly : goal.returns-in_default-clause-exactly
+returns-in_default-clause-exactly c = λ e refuses.
+    let same : Some step_errors.Foreign ≡ Some e = sym (foreign_switch c.args.self.now c.args.id (search rules)) ∙ refuses in
+    cc
+
+pub returns-in_default-table-clause-exactly : goal.returns-in_default-table-clause-exactly
+returns-in_default-table-clause-exactly c = λ e refuses.
+    let same : Some step_errors.NotDefined ≡ Some e = sym (undefined_switch c.args.self.now c.args.id (search rules) (search rules)) ∙ refuses in
+    cc
+
+pub returns-clause-exactly : goal.returns-clause-exactly
+returns-clause-exactly c = λ e refuses. absurd (switch_unrefused c.args.self.now c.args.id e (search rules) (search rules) refuses)

@@ -1,4 +1,6 @@
-use Rattle.std.proofs.Common.{◌≡◌, rules}
+use Rattle.std.proofs.Common.{◌≡◌, Some, sym, ◌∙◌, rules}
+use Rattle.known_state.specs.declared.known.StepError.TheVariants as step_errors
+use Rattle.known_state.proofs.Unrefused.{update_unrefused}
 use Rattle.known_state.proofs.StepLemmas.{misfit, numberless, taken}
 use Rattle.known_state.proofs.known.Known.take.Goals as goal
 
@@ -14,3 +16,23 @@ pub returns-clause-step : goal.returns-clause-step
 returns-clause-step c =
     taken c.args.self.now c.self.inside.roster c.self.inside.heard c.self.inside.lasts c.put.new.self c.args.update.now c.in-Some.table.now c.id-id.result c.in-Some-resolved_number.number
     c.self.view_is c.self.invariant (search rules) (search rules) c.id-id.ensures.defined c.id-id.ensures.value (search rules) (search rules)
+
+pub returns-then-not-fits-clause-exactly : goal.returns-then-not-fits-clause-exactly
+returns-then-not-fits-clause-exactly c = λ e refuses.
+    let same : Some step_errors.Foreign ≡ Some e = sym (misfit c.args.self.now c.args.update.now c.in-Some.table.now (search rules) (search rules)) ∙ refuses in
+    cc
+
+pub returns-in_default-resolved_number-clause-exactly : goal.returns-in_default-resolved_number-clause-exactly
+returns-in_default-resolved_number-clause-exactly c = λ e refuses.
+    let same : Some step_errors.NoNumber ≡ Some e = sym (numberless c.args.self.now c.args.update.now c.in-Some.table.now (search rules) (search rules) c.id-id.ensures.defined (search rules)) ∙ refuses in
+    cc
+
+pub returns-in_err-put-clause-exactly : goal.returns-in_err-put-clause-exactly
+returns-in_err-put-clause-exactly c = λ e refuses.
+    absurd (update_unrefused c.args.self.now c.self.inside.roster c.self.inside.heard c.self.inside.lasts c.args.update.now c.in-Some.table.now c.id-id.result c.in-Some-resolved_number.number e
+    c.self.view_is c.self.invariant (search rules) (search rules) c.id-id.ensures.defined c.id-id.ensures.value (search rules) refuses)
+
+pub returns-clause-exactly : goal.returns-clause-exactly
+returns-clause-exactly c = λ e refuses.
+    absurd (update_unrefused c.args.self.now c.self.inside.roster c.self.inside.heard c.self.inside.lasts c.args.update.now c.in-Some.table.now c.id-id.result c.in-Some-resolved_number.number e
+    c.self.view_is c.self.invariant (search rules) (search rules) c.id-id.ensures.defined c.id-id.ensures.value (search rules) refuses)

@@ -1,0 +1,5 @@
+mod Choices
+mod Messages
+mod Numerals
+mod Spelled
+mod Written

@@ -1,0 +1,10 @@
+use Rattle.peers_node.proofs.Spelled.{lesson_of_scene}
+use Rattle.peers_node.proofs.lesson.lesson_of.Goals as goal
+
+pub returns-clause-lesson : goal.returns-clause-lesson
+returns-clause-lesson c =
+    let taught = c.in_ok-teach.ensures.lesson in
+    let roster = c.in_ok-roster.roster in
+    let known = c.in_ok-known.known in
+    let batch = c.in_ok-batch.batch in
+    (taught.0, taught.1, lesson_of_scene c.args.scene roster known batch taught.0 c.in_ok-roster.ensures.made.0 c.in_ok-known.ensures.built.0 c.in_ok-batch.ensures.made.0 taught.3)

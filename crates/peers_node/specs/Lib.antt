@@ -1,0 +1,5 @@
+pub mod CommandLine
+pub mod Devices
+pub mod Lessons
+pub mod Printed
+pub mod Words

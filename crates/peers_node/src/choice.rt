@@ -1,0 +1,8 @@
+//! What a command line asks for.
+
+/// The subcommand that was chosen, with its options.
+#[derive(Clone, Copy, Debug, PartialEq, Eq)]
+pub enum Options {
+    /// Read a scene and write its lesson.
+    Lesson,
+}

@@ -1,0 +1,171 @@
+//! The kinds of lines of a scene.
+ghost use Rattle.std.specs.Prelude.{◌≡◌, ◌∷◌, ◌++◌, ◌≤◌, [], None, Some, Contains, IfOk, OnOk, vec_len};
+
+use super::Scene;
+use super::error::LineError;
+use super::tables::table_of;
+use super::updates::update_of;
+use super::words::{hexadecimal, number, number32, words};
+use std::alloc::Global;
+use table_types::{Moment, TableDef};
+
+/// The most tables of a scene.
+const MOST_TABLES: usize = 64;
+
+/// The most updates of a scene.
+const MOST_UPDATES: usize = 512;
+
+impl Scene {
+    /// Takes in what a line says, which comes without its LF. After a refusal the scene isn't to be
+    /// used.
+    pub fn read_line(&mut self, alloc: Global, line: &[u8]) -> Result<(), LineError> {
+        if line.is_empty() || line.starts_with(b"#") {
+            return Ok(());
+        }
+        let words = words(alloc, line)?.ok_or(LineError::Refused)?;
+        let [kind, words @ ..] = words.as_slice() else {
+            return Err(LineError::Refused);
+        };
+        if *kind == b"table".as_slice() {
+            return self.read_table(alloc, words);
+        }
+        self.tables_ended = true;
+        match *kind {
+            b"define" => self.read_define(words),
+            b"select" => self.read_select(words),
+            b"last" => self.read_last(words),
+            b"update" => self.read_update(alloc, words),
+            b"moment" => self.read_moment(words),
+            b"stream" => self.read_stream(alloc, words),
+            b"prices" => self.read_prices(alloc, words),
+            _ => Err(LineError::Refused),
+        }
+    }
+
+    fn read_table(&mut self, alloc: Global, words: &[&[u8]]) -> Result<(), LineError> {
+        if self.tables_ended {
+            return Err(LineError::Refused);
+        }
+        let table = table_of(alloc, words)?;
+        for other in &self.tables {
+            if other.id() == table.id() || other.name() == table.name() {
+                return Err(LineError::Refused);
+            }
+        }
+        push_within(&mut self.tables, MOST_TABLES, table)
+    }
+
+    fn read_define(&mut self, words: &[&[u8]]) -> Result<(), LineError> {
+        let [id] = words else {
+            return Err(LineError::Refused);
+        };
+        let id = self.table(id)?.id();
+        if self.defined.contains(&id) {
+            return Err(LineError::Refused);
+        }
+        self.defined.push(id)?;
+        Ok(())
+    }
+
+    fn read_select(&mut self, words: &[&[u8]]) -> Result<(), LineError> {
+        let [id] = words else {
+            return Err(LineError::Refused);
+        };
+        let id = self.defined_id(id)?;
+        set_once(&mut self.selected, id)
+    }
+
+    fn read_last(&mut self, words: &[&[u8]]) -> Result<(), LineError> {
+        let [id, last] = words else {
+            return Err(LineError::Refused);
+        };
+        let id = self.defined_id(id)?;
+        let last = number32(last).ok_or(LineError::Refused)?;
+        for (other, _) in &self.last {
+            if *other == id {
+                return Err(LineError::Refused);
+            }
+        }
+        self.last.push((id, last))?;
+        Ok(())
+    }
+
+    fn read_update(&mut self, alloc: Global, words: &[&[u8]]) -> Result<(), LineError> {
+        let [id, words @ ..] = words else {
+            return Err(LineError::Refused);
+        };
+        let update = update_of(alloc, self.table(id)?, words)?;
+        push_within(&mut self.updates, MOST_UPDATES, update)
+    }
+
+    fn read_moment(&mut self, words: &[&[u8]]) -> Result<(), LineError> {
+        let [moment] = words else {
+            return Err(LineError::Refused);
+        };
+        let milliseconds = number(moment, u64::MAX).ok_or(LineError::Refused)?;
+        let moment = Moment::new(milliseconds).ok_or(LineError::Refused)?;
+        set_once(&mut self.moment, moment)
+    }
+
+    fn read_stream(&mut self, alloc: Global, words: &[&[u8]]) -> Result<(), LineError> {
+        let [piece] = words else {
+            return Err(LineError::Refused);
+        };
+        let piece = hexadecimal(alloc, piece)?.ok_or(LineError::Refused)?;
+        self.stream.extend_from_slice(piece.as_slice())?;
+        Ok(())
+    }
+
+    fn read_prices(&mut self, alloc: Global, words: &[&[u8]]) -> Result<(), LineError> {
+        let mut prices = Vec::new(alloc);
+        for word in words {
+            prices.push(number(word, u64::MAX).ok_or(LineError::Refused)?)?;
+        }
+        set_once(&mut self.prices, prices)
+    }
+
+    /// The table whose id a word writes.
+    fn table(&self, word: &[u8]) -> Result<&TableDef, LineError> {
+        let id = number(word, u64::MAX).ok_or(LineError::Refused)?;
+        for table in &self.tables {
+            if table.id() == id {
+                return Ok(table);
+            }
+        }
+        Err(LineError::Refused)
+    }
+
+    /// The id of a defined table that a word writes.
+    fn defined_id(&self, word: &[u8]) -> Result<u64, LineError>
+        ensures { IfOk result (λ id. Contains self.now.defined.items id) }
+    {
+        let id = number(word, u64::MAX).ok_or(LineError::Refused)?;
+        if self.defined.contains(&id) {
+            Ok(id)
+        } else {
+            Err(LineError::Refused)
+        }
+    }
+}
+
+/// Gives a value to what has none yet.
+fn set_once<T: Drop>(place: &mut Option<T>, value: T) -> Result<(), LineError>
+    ensures { OnOk result ((place.old ≡ None) × (place.new ≡ Some value)) }
+{
+    if place.is_some() {
+        return Err(LineError::Refused);
+    }
+    *place = Some(value);
+    Ok(())
+}
+
+/// Adds an item to a list of at most so many.
+fn push_within<T: Drop>(items: &mut Vec<T>, most: usize, item: T) -> Result<(), LineError>
+    ensures { OnOk result ((items.new.items ≡ items.old.items ++ item ∷ []) × (vec_len items.new ≤ most)) }
+{
+    if items.len() >= most {
+        return Err(LineError::Refused);
+    }
+    items.push(item)?;
+    Ok(())
+}

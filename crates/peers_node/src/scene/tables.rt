@@ -1,0 +1,62 @@
+//! Tables of a scene.
+ghost use Rattle.std.specs.Prelude.{◌≡◌, false, IfOk};
+ghost use Rattle.table_types.specs.Updates.{stores_name};
+
+use super::error::LineError;
+use super::keys::kind_of;
+use super::words::{cut, is_text, number, number32};
+use std::alloc::Global;
+use table_types::{DataType, TableDef};
+
+/// The table of a line `table ID NAME KIND L EXPIRE TYPES..`, from the words after the first.
+///
+/// A table that stores the server's name is refused.
+pub fn table_of(alloc: Global, words: &[&[u8]]) -> Result<TableDef, LineError>
+    ensures { IfOk result (λ table. stores_name table ≡ false) }
+{
+    let [id, name, kind, key_length, expire, types @ ..] = words else {
+        return Err(LineError::Refused);
+    };
+    let id = number(id, u64::MAX).ok_or(LineError::Refused)?;
+    let kind = kind_of(kind).ok_or(LineError::Refused)?;
+    let key_length = number(key_length, u64::MAX).ok_or(LineError::Refused)?;
+    let expire = number32(expire).ok_or(LineError::Refused)?;
+    if !is_text(name) || *name == b"-".as_slice() {
+        return Err(LineError::Refused);
+    }
+    let name = Vec::from_slice(alloc, name)?;
+    let types = types_of(alloc, types)?;
+    let table = TableDef::new(alloc, id, name, kind, key_length, expire, types)?;
+    if table.stores_name() {
+        return Err(LineError::Refused);
+    }
+    Ok(table)
+}
+
+fn types_of(alloc: Global, words: &[&[u8]]) -> Result<Vec<(DataType, Option<u32>)>, LineError> {
+    let mut types = Vec::new(alloc);
+    if words.len() > DataType::ALL.len() {
+        return Err(LineError::Refused);
+    }
+    for word in words {
+        types.push(type_of(word).ok_or(LineError::Refused)?)?;
+    }
+    Ok(types)
+}
+
+/// The data type of a word `name` or `name:period`.
+fn type_of(word: &[u8]) -> Option<(DataType, Option<u32>)> {
+    match cut(word, b':') {
+        Some((name, period)) => Some((type_named(name)?, Some(number32(period)?))),
+        None => Some((type_named(word)?, None)),
+    }
+}
+
+fn type_named(name: &[u8]) -> Option<DataType> {
+    for data_type in DataType::ALL {
+        if data_type.name().as_bytes() == name {
+            return Some(data_type);
+        }
+    }
+    None
+}

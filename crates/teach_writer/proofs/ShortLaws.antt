@@ -1,0 +1,314 @@
+-- A lesson costs no more than it has to: its selections and its forms are the cheapest, and nothing that is known is lost.
+use Rattle.std.proofs.Common.{◌≡◌, ℕ, suc, ◌==◌, ◌+◌, ◌<◌, ◌≤◌, drop, get_or, length-drop, Bool, true, false, not, ◌&&◌, ◌||◌, cond, eqb, List, [], ◌∷◌, ◌++◌, Option, Some, None, refl, sym, ap, ◌∙◌, subst, inl, inr, ◌⊎◌, arith}
+use Rattle.std.specs.Prelude.{is_some, option_map, filter, nat_lt, nat_le, length}
+use Rattle.std.specs.List.{AllByRecursion}
+use Rattle.std.specs.Cmp.Lexicographic.{same_text}
+use Rattle.std.proofs.lemmas.Bool.{cases_eq, eq-eqb, ne_eqb}
+use Rattle.std.proofs.lemmas.List.{get_or-drop, drop_all}
+use Rattle.std.proofs.lemmas.List.Sums.{sum_by-cons, sum_by-append}
+use Rattle.table_types.specs.declared.update.Update.{Update}
+use Rattle.table_types.specs.declared.roster.RosterError.TheVariants as errors
+use Rattle.table_types.specs.Tables.{Definition}
+use Rattle.table_types.specs.Updates.{stores_name}
+use Rattle.table_types.specs.Rosters.{table_at, has_id, has_name, is_same_name, repeats_id, repeats_name, roster_fault}
+use Rattle.peers_msg.specs.declared.name_field.NameField.TheVariants as names
+use Rattle.peers_msg.specs.declared.message.Message.{Message}
+use Rattle.peers_msg.specs.declared.message.Message.TheVariants as messages
+use Rattle.peers_msg.specs.Heard.{Heard, heard_after, defined, put_table, outlives, selected_table}
+use Rattle.peers_msg.specs.Spelling.{size_of, size_of_all}
+use Rattle.peers_msg.specs.Steps.{State, Step, Legal, keeps_last, last_of, put_last, resolved}
+use Rattle.table_types.specs.Batches.{IsBatchFor}
+use Rattle.known_state.specs.Known.{KnownState, AreOwn, stores_no_name}
+use Rattle.known_state.specs.Shortest.{Shortest}
+use Rattle.known_state.specs.Cost.{KnowsLess, with_selected, knowledge_of, knowledge_after, is_selected, selection_cost, written_cost, full, full_from, IsOfRoster, told_as}
+use Rattle.known_state.proofs.KnownLemmas.{table_at-id, table_at-passes, define_selects}
+use Rattle.known_state.proofs.StepLemmas.{selected-found, has_id-table_at}
+use Rattle.known_state.proofs.CostLaws.{falls, told_shorter, last-kept, last-put}
+use Rattle.known_state.proofs.StepPays.{moved_last, is_there, none_shorter}
+use Rattle.teach_writer.specs.Telling.{is_table, selection, update_told, IsTaught}
+use Rattle.teach_writer.proofs.TellingLaws.{found_is_own, batch_taught}
+
+-- a name is the same as itself
+name_itself : (a : List ℕ) → is_same_name a a ≡ true
+name_itself [] = refl
+name_itself (x ∷ xs) = rw (eq-eqb x x refl) (name_itself xs)
+
+or-false-left : (a b : Bool) → (a || b) ≡ false → a ≡ false
+or-false-left true b h = h
+or-false-left false b h = refl
+
+or-false-right : (a b : Bool) → (a || b) ≡ false → b ≡ false
+or-false-right true b h = cc
+or-false-right false b h = h
+
+-- a table among tables of which none has a name has another one
+listed_other_name : (name : List ℕ) (ds : List Definition) (id : ℕ) (b : Definition) → has_name name ds ≡ false → table_at ds id ≡ Some b → is_same_name b.name name ≡ false
+listed_other_name name [] id b none listed = cc
+listed_other_name name (x ∷ xs) id b none listed = elim (cases_eq x.id id) [
+  | inl same ↦ let here : Some x ≡ Some b = sym (rw (eq-eqb x.id id same) refl) ∙ listed in let is : x ≡ b = cc in subst (λ (t : Definition). is_same_name t.name name ≡ false) is (or-false-left (is_same_name x.name name) (has_name name xs) none)
+  | inr other ↦ listed_other_name name xs id b (or-false-right (is_same_name x.name name) (has_name name xs) none) (sym (rw (ne_eqb x.id id other) refl) ∙ listed)
+]
+
+-- two tables of a roster have two names
+pub two_names : (roster : List Definition) (a b : Definition) → repeats_name roster ≡ false → table_at roster a.id ≡ Some a → table_at roster b.id ≡ Some b → (a.id ≡ b.id → ⊥) → is_same_name a.name b.name ≡ false
+two_names [] a b distinct la lb apart = cc
+two_names (x ∷ xs) a b distinct la lb apart =
+    let rest : repeats_name xs ≡ false = or-false-right (has_name x.name xs) (repeats_name xs) distinct in
+    let none : has_name x.name xs ≡ false = or-false-left (has_name x.name xs) (repeats_name xs) distinct in
+    elim (cases_eq x.id a.id) [
+      | inl first ↦
+          let here : Some x ≡ Some a = sym (rw (eq-eqb x.id a.id first) refl) ∙ la in
+          let is_a : x ≡ a = cc in
+          let later : table_at xs b.id ≡ Some b = sym (rw (ne_eqb x.id b.id (λ e. apart (sym first ∙ e))) refl) ∙ lb in
+          let unlike : is_same_name b.name a.name ≡ false = subst (λ (t : Definition). is_same_name b.name t.name ≡ false) is_a (listed_other_name x.name xs b.id b none later) in
+          turned a.name b.name unlike
+      | inr other_a ↦
+          let later_a : table_at xs a.id ≡ Some a = sym (rw (ne_eqb x.id a.id other_a) refl) ∙ la in
+          elim (cases_eq x.id b.id) [
+            | inl second ↦
+                let here : Some x ≡ Some b = sym (rw (eq-eqb x.id b.id second) refl) ∙ lb in
+                let is_b : x ≡ b = cc in
+                subst (λ (t : Definition). is_same_name a.name t.name ≡ false) is_b (listed_other_name x.name xs a.id a none later_a)
+            | inr other_b ↦ two_names xs a b rest later_a (sym (rw (ne_eqb x.id b.id other_b) refl) ∙ lb) apart
+          ]
+    ]
+  where
+    turned : (m n : List ℕ) → is_same_name n m ≡ false → is_same_name m n ≡ false
+    turned m n unlike = at (is_same_name m n) refl
+      where
+        at : (b : Bool) → is_same_name m n ≡ b → is_same_name m n ≡ false
+        at false e = e
+        at true e = let same : m ≡ n = same_text m n (sym e) in let bad : true ≡ false = sym (name_itself n) ∙ subst (λ (t : List ℕ). is_same_name n t ≡ false) same unlike in cc
+
+-- a roster's names are distinct
+pub roster_names : (roster : List Definition) → roster_fault roster ≡ None → repeats_name roster ≡ false
+roster_names roster sound = third (nat_le 1 (length roster) && nat_le (length roster) 64) (repeats_id roster) (repeats_name roster) sound
+  where
+    third : (a b c : Bool) → cond (not a) (Some errors.Count) (cond b (Some errors.RepeatedId) (cond c (Some errors.RepeatedName) None)) ≡ None → c ≡ false
+    third true false false h = refl
+    third true false true h = cc
+    third true true c h = cc
+    third false b c h = cc
+
+-- what selects a table is the cheapest that can
+pub selection_size : (roster : List Definition) (s : State) (d : Definition) → table_at roster d.id ≡ Some d → size_of_all (selection s.heard d) ≤ selection_cost roster (knowledge_of s) d.id
+selection_size roster s d listed = at (selected_table s.heard) refl (is_some (table_at s.heard.tables d.id)) refl
+  where
+    one : (m : Message) → size_of_all (m ∷ []) ≤ size_of m
+    one m = omega (arith, sum_by-cons size_of m [])
+
+    chosen : (a b : Bool) → size_of_all (cond a [] (cond b (messages.Switch d.id ∷ []) (messages.Define d ∷ []))) ≤ cond a 0 (cond b (size_of (messages.Switch d.id)) (size_of (messages.Define d)))
+    chosen true b = omega arith
+    chosen false true = one (messages.Switch d.id)
+    chosen false false = one (messages.Define d)
+
+    alike : (o : Option Definition) → is_table o d.id ≡ is_selected (option_map (λ t. t.id) o) d.id
+    alike None = refl
+    alike (Some t) = refl
+
+    at : (o : Option Definition) → selected_table s.heard ≡ o → (b : Bool) → is_some (table_at s.heard.tables d.id) ≡ b → size_of_all (selection s.heard d) ≤ selection_cost roster (knowledge_of s) d.id
+    at o e b f =
+        let same : is_table (selected_table s.heard) d.id ≡ is_selected (option_map (λ (t : Definition). t.id) (selected_table s.heard)) d.id = alike (selected_table s.heard) in
+        let least = chosen (is_selected (option_map (λ (t : Definition). t.id) (selected_table s.heard)) d.id) (is_some (table_at s.heard.tables d.id)) in
+        rw (same, listed) least
+
+or-cases : (a b c : Bool) → (a ≡ true → c ≡ true) → (b ≡ true → c ≡ true) → (a || b) ≡ true → c ≡ true
+or-cases true b c first second h = first refl
+or-cases false b c first second h = second h
+
+-- where a table is selected it is heard
+selected_heard : (h : Heard) (d : Definition) → selected_table h ≡ Some d → table_at h.tables d.id ≡ Some d
+selected_heard h d sel =
+    let found = selected-found h d sel in
+    subst (λ (n : ℕ). table_at h.tables n ≡ Some d) (sym (table_at-id h.tables found.0 d found.1)) found.1
+
+heard_by_id : (ds : List Definition) (d : Definition) (id : ℕ) → table_at ds d.id ≡ Some d → eqb id d.id ≡ true → is_some (table_at ds id) ≡ true
+heard_by_id ds d id found same = elim (cases_eq id d.id) [
+  | inl is ↦ subst (λ (n : ℕ). is_some (table_at ds n) ≡ true) (sym is) (rw found refl)
+  | inr other ↦ let bad : false ≡ true = sym (ne_eqb id d.id other) ∙ same in cc
+]
+
+-- nothing is lost where the table is selected already
+pub knows_kept : (s : State) (d : Definition) → selected_table s.heard ≡ Some d → KnowsLess (with_selected (knowledge_of s) d.id) (knowledge_of s)
+knows_kept s d sel = record {
+  defined = λ id h. or-cases (eqb id d.id) (is_some (table_at s.heard.tables id)) (is_some (table_at s.heard.tables id)) (heard_by_id s.heard.tables d id (selected_heard s.heard d sel)) (λ is. is) h;
+  selected = sym (ap (option_map (λ (t : Definition). t.id)) sel);
+  last = λ id. inl refl;
+}
+
+-- nor by a switch
+pub knows_switched : (s : State) (d : Definition) → table_at s.heard.tables d.id ≡ Some d → KnowsLess (with_selected (knowledge_of s) d.id) (knowledge_of (record { heard = heard_after s.heard (messages.Switch d.id); lasts = s.lasts; slots = s.slots }))
+knows_switched s d found = record {
+  defined = λ id h. or-cases (eqb id d.id) (is_some (table_at s.heard.tables id)) (is_some (table_at s.heard.tables id)) (heard_by_id s.heard.tables d id found) (λ is. is) h;
+  selected = sym (ap (option_map (λ (t : Definition). t.id)) found);
+  last = λ id. inl refl;
+}
+
+-- a table of the roster other than the one defined outlives its definition
+outlives_own : (roster : List Definition) (d x : Definition) → repeats_name roster ≡ false → table_at roster d.id ≡ Some d → table_at roster x.id ≡ Some x → (x.id ≡ d.id → ⊥) → outlives d x ≡ true
+outlives_own roster d x distinct listed own apart = rw (ne_eqb x.id d.id apart, two_names roster x d distinct own listed apart) refl
+
+has_kept : (roster : List Definition) (d : Definition) (ts : List Definition) (id : ℕ) → repeats_name roster ≡ false → table_at roster d.id ≡ Some d → AreOwn roster ts → (id ≡ d.id → ⊥) → has_id id ts ≡ true → has_id id (filter (outlives d) ts) ≡ true
+has_kept roster d [] id distinct listed own apart h = h
+has_kept roster d (x ∷ xs) id distinct listed own apart h =
+    elim (cases_eq x.id id) [
+      | inl same ↦
+          let lives : outlives d x ≡ true = outlives_own roster d x distinct listed own.0 (λ e. apart (sym same ∙ e)) in
+          rw (lives, eq-eqb x.id id same) refl
+      | inr other ↦
+          let later : has_id id (filter (outlives d) xs) ≡ true = has_kept roster d xs id distinct listed own.1 apart (sym (rw (ne_eqb x.id id other) refl) ∙ h) in
+          passed (outlives d x) refl other later
+    ]
+  where
+    passed : (b : Bool) → outlives d x ≡ b → (x.id ≡ id → ⊥) → has_id id (filter (outlives d) xs) ≡ true → has_id id (filter (outlives d) (x ∷ xs)) ≡ true
+    passed true e other later = rw (e, ne_eqb x.id id other) later
+    passed false e other later = rw e later
+
+has_put : (d : Definition) (ts : List Definition) (id : ℕ) → has_id id ts ≡ true → has_id id (put_table d ts) ≡ true
+has_put d [] id h = cc
+has_put d (x ∷ xs) id h = at (nat_lt d.id x.id) refl (has_put d xs id)
+  where
+    or-right : (a b : Bool) → b ≡ true → (a || b) ≡ true
+    or-right true b h = refl
+    or-right false b h = h
+
+    or-mono : (a b c : Bool) → (b ≡ true → c ≡ true) → (a || b) ≡ true → (a || c) ≡ true
+    or-mono true b c f h = refl
+    or-mono false b c f h = f h
+
+    at : (b : Bool) → nat_lt d.id x.id ≡ b → (has_id id xs ≡ true → has_id id (put_table d xs) ≡ true) → has_id id (put_table d (x ∷ xs)) ≡ true
+    at true e later = rw e (or-right (eqb d.id id) (has_id id (x ∷ xs)) h)
+    at false e later = rw e (or-mono (eqb x.id id) (has_id id xs) (has_id id (put_table d xs)) later h)
+
+-- so it is heard behind it
+still_heard : (roster : List Definition) (d : Definition) (ts : List Definition) (id : ℕ) → repeats_name roster ≡ false → table_at roster d.id ≡ Some d → AreOwn roster ts → (id ≡ d.id → ⊥) → is_some (table_at ts id) ≡ true → is_some (table_at (defined d ts) id) ≡ true
+still_heard roster d ts id distinct listed own apart h =
+    let before : has_id id ts ≡ true = has_id-table_at ts id ∙ h in
+    sym (has_id-table_at (defined d ts) id) ∙ has_put d (filter (outlives d) ts) id (has_kept roster d ts id distinct listed own apart before)
+
+-- and nothing is lost by the definition of a table that isn't heard
+pub knows_defined : (roster : List Definition) (s : State) (d : Definition) → repeats_name roster ≡ false → table_at roster d.id ≡ Some d → AreOwn roster s.heard.tables → is_some (table_at s.heard.tables d.id) ≡ false
+    → KnowsLess (with_selected (knowledge_of s) d.id) (knowledge_of (record { heard = heard_after s.heard (messages.Define d); lasts = filter (λ l. keeps_last d (table_at s.heard.tables l.0) l.0) s.lasts; slots = s.slots }))
+knows_defined roster s d distinct listed own new = record {
+  defined = λ id h. heard_then id h;
+  selected = sym (ap (option_map (λ (t : Definition). t.id)) (define_selects s.heard d));
+  last = λ id. kept_or_none id (table_at s.heard.tables id) refl;
+}
+  where
+    ts : List Definition
+    ts = s.heard.tables
+
+    keeps : ℕ → Bool
+    keeps id = keeps_last d (table_at s.heard.tables id) id
+
+    apart : (id : ℕ) → is_some (table_at s.heard.tables id) ≡ true → id ≡ d.id → ⊥
+    apart id h e = let bad : true ≡ false = sym h ∙ ap (λ (n : ℕ). is_some (table_at s.heard.tables n)) e ∙ new in cc
+
+    heard_then : (id : ℕ) → (id == d.id || is_some (table_at s.heard.tables id)) ≡ true → is_some (table_at (defined d s.heard.tables) id) ≡ true
+    heard_then id h = or-cases (eqb id d.id) (is_some (table_at s.heard.tables id)) (is_some (table_at (defined d s.heard.tables) id)) (heard_by_id (defined d s.heard.tables) d id (define_selects s.heard d)) (λ is. still_heard roster d s.heard.tables id distinct listed own (apart id is) is) h
+
+    kept_or_none : (id : ℕ) (o : Option Definition) → table_at s.heard.tables id ≡ o → (cond (is_some (table_at s.heard.tables id)) (last_of s.lasts id) None ≡ cond (is_some (table_at (defined d s.heard.tables) id)) (last_of (filter (λ l. keeps_last d (table_at s.heard.tables l.0) l.0) s.lasts) id) None) ⊎ (cond (is_some (table_at s.heard.tables id)) (last_of s.lasts id) None ≡ None)
+    kept_or_none id None e = inr (rw e refl)
+    kept_or_none id (Some t) e =
+        let found : is_some (table_at s.heard.tables id) ≡ true = rw e refl in
+        let still : is_some (table_at (defined d s.heard.tables) id) ≡ true = still_heard roster d s.heard.tables id distinct listed own (apart id found) found in
+        let id_is : t.id ≡ id = table_at-id s.heard.tables id t e in
+        let own_t : table_at roster t.id ≡ Some t = table_at-passes (λ (x : Definition). table_at roster x.id ≡ Some x) s.heard.tables id t own e in
+        let unlike : is_same_name t.name d.name ≡ false = two_names roster t d distinct own_t listed (λ f. apart id found (sym id_is ∙ f)) in
+        let keep : keeps id ≡ true = rw (e, ne_eqb id d.id (apart id found), unlike) refl in
+        inl (rw (found, still) (sym (last-kept keeps s.lasts id keep)))
+
+-- what selects a table loses nothing
+pub selection_knows : (k : KnownState) (d : Definition) (m : Message) (us : List Update) (e : State) → roster_fault k.roster ≡ None → AreOwn k.roster k.state.heard.tables → table_at k.roster d.id ≡ Some d → m ∷ [] ≡ selection k.state.heard d → Step k.state m us e → KnowsLess (with_selected (knowledge_of k.state) d.id) (knowledge_of e)
+selection_knows k d m us e sound own listed is step = at (is_table (selected_table k.state.heard) d.id) refl (table_at k.state.heard.tables d.id) refl
+  where
+    switched : (t : Definition) → table_at k.state.heard.tables d.id ≡ Some t → Step k.state (messages.Switch d.id) us e → KnowsLess (with_selected (knowledge_of k.state) d.id) (knowledge_of e)
+    switched t f (fit, none, after) =
+        let same : t ≡ d = found_is_own k.roster k.state.heard.tables d.id t d own f listed in
+        let found : table_at k.state.heard.tables d.id ≡ Some d = f ∙ ap (λ (x : Definition). Some x) same in
+        subst (λ (s : State). KnowsLess (with_selected (knowledge_of k.state) d.id) (knowledge_of s)) (sym after) (knows_switched k.state d found)
+
+    defined_so : is_some (table_at k.state.heard.tables d.id) ≡ false → Step k.state (messages.Define d) us e → KnowsLess (with_selected (knowledge_of k.state) d.id) (knowledge_of e)
+    defined_so new (fit, none, after) = subst (λ (s : State). KnowsLess (with_selected (knowledge_of k.state) d.id) (knowledge_of s)) (sym after) (knows_defined k.roster k.state d (roster_names k.roster sound) listed own new)
+
+    at : (a : Bool) → is_table (selected_table k.state.heard) d.id ≡ a → (o : Option Definition) → table_at k.state.heard.tables d.id ≡ o → KnowsLess (with_selected (knowledge_of k.state) d.id) (knowledge_of e)
+    at true h o f = let bad : m ∷ [] ≡ [] = is ∙ rw h refl in absurd (cc)
+    at false h (Some t) f = let same : m ∷ [] ≡ messages.Switch d.id ∷ [] = is ∙ rw (h, f) refl in let one : m ≡ messages.Switch d.id = cc in switched t f (subst (λ (x : Message). Step k.state x us e) one step)
+    at false h None f = let same : m ∷ [] ≡ messages.Define d ∷ [] = is ∙ rw (h, f) refl in let one : m ≡ messages.Define d = cc in defined_so (rw f refl) (subst (λ (x : Message). Step k.state x us e) one step)
+
+-- an update told behind the selection of its table costs no more than with its name written, and loses nothing
+pub told_cheap : (roster : List Definition) (s mid e : State) (d : Definition) (u : Update) (last : Option ℕ) (us rest : List Update) → KnowsLess (with_selected (knowledge_of s) u.table) (knowledge_of mid) → selected_table mid.heard ≡ Some d → d.id ≡ u.table → table_at roster u.table ≡ Some d → stores_name d ≡ false → last ≡ last_of mid.lasts u.table → Step mid (messages.Update (update_told last u)) us e → us ≡ u ∷ [] → AllByRecursion (IsOfRoster roster) rest
+    → size_of (messages.Update (update_told last u)) + full roster e rest ≤ written_cost roster (knowledge_of s) u + full_from roster (knowledge_after (knowledge_of s) u) rest
+told_cheap roster s mid e d u last us rest knows sel id listed no_name is_last (fit, table, on, number, numbered, name, named, carried, heard, lasts) us_is all =
+    let k = knowledge_of s in
+    let one : resolved (update_told last u) table number name ∷ [] ≡ u ∷ [] = sym carried ∙ us_is in
+    let same_update : resolved (update_told last u) table number name ≡ u = cc in
+    let table_is : table ≡ u.table = ap (λ (x : Update). x.table) same_update in
+    let number_is : number ≡ u.number = ap (λ (x : Update). x.number) same_update in
+    let put : e.lasts ≡ put_last u.table u.number mid.lasts = lasts ∙ ap (λ (t : ℕ). put_last t number mid.lasts) table_is ∙ ap (λ (n : ℕ). put_last u.table n mid.lasts) number_is in
+    let here : table_at mid.heard.tables u.table ≡ Some d = subst (λ (n : ℕ). table_at mid.heard.tables n ≡ Some d) id (selected_heard mid.heard d sel) in
+    let known : (knowledge_of mid).last u.table ≡ last = rw here (sym is_last) in
+    let cost : written_cost roster k u ≡ size_of (messages.Update (told_as (k.last u.table) names.NotStored u)) = rw (listed, no_name) refl in
+    let form : size_of (messages.Update (update_told last u)) ≤ size_of (messages.Update (told_as (k.last u.table) names.NotStored u)) = by_last (k.last u.table) (knows.last u.table) known in
+    let knows_after : KnowsLess (knowledge_after k u) (knowledge_of e) = record {
+      defined = λ other h. subst (λ (x : Heard). is_some (table_at x.tables other) ≡ true) (sym heard) (knows.defined other h);
+      selected = knows.selected ∙ ap (λ (x : Heard). option_map (λ (t : Definition). t.id) (selected_table x)) (sym heard);
+      last = λ other. joined (eqb other u.table) (k.last other) ((knowledge_of mid).last other) ((knowledge_of e).last other) (knows.last other)
+          (ap (λ (x : Heard). cond (is_some (table_at x.tables other)) (last_of e.lasts other) None) heard
+          ∙ ap (λ (ls : List (ℕ × ℕ)). cond (is_some (table_at mid.heard.tables other)) (last_of ls other) None) put
+          ∙ ap (λ (l : Option ℕ). cond (is_some (table_at mid.heard.tables other)) l None) (last-put u.table u.number mid.lasts other)
+          ∙ moved_last (is_some (table_at mid.heard.tables other)) (eqb other u.table) (last_of mid.lasts other) u.number (is_there mid.heard.tables u.table other d here));
+    } in
+    let less = falls roster (knowledge_after k u) (knowledge_of e) rest knows_after all in
+    omega arith
+  where
+    by_last : (l : Option ℕ) → (l ≡ (knowledge_of mid).last u.table) ⊎ (l ≡ None) → (knowledge_of mid).last u.table ≡ last → size_of (messages.Update (update_told last u)) ≤ size_of (messages.Update (told_as l names.NotStored u))
+    by_last l (inl same) known = let is : l ≡ last = same ∙ known in rw is (omega arith)
+    by_last l (inr none) known = rw none (told_shorter last names.NotStored u)
+
+    joined : (c : Bool) (less more after : Option ℕ) → (less ≡ more) ⊎ (less ≡ None) → after ≡ cond c (Some u.number) more → (cond c (Some u.number) less ≡ after) ⊎ (cond c (Some u.number) less ≡ None)
+    joined true less more after h is = inl (sym is)
+    joined false less more after (inl same) is = inl (same ∙ sym is)
+    joined false less more after (inr none) is = inr none
+
+-- the whole of an update: its selection, its message, and what is left
+pub tell_cheap : (roster : List Definition) (s e : State) (u : Update) (m : Message) (chosen : List Message) (rest : List Update) → size_of_all chosen ≤ selection_cost roster (knowledge_of s) u.table → size_of m + full roster e rest ≤ written_cost roster (knowledge_of s) u + full_from roster (knowledge_after (knowledge_of s) u) rest → size_of_all (chosen ++ m ∷ []) + full roster e rest ≤ full roster s (u ∷ rest)
+tell_cheap roster s e u m chosen rest first second =
+    let sum : size_of_all (chosen ++ m ∷ []) ≡ size_of_all chosen + size_of_all (m ∷ []) = sum_by-append size_of chosen (m ∷ []) in
+    let one : size_of_all (m ∷ []) ≡ size_of m + size_of_all [] = sum_by-cons size_of m [] in
+    omega arith
+
+-- the updates left of a batch are of tables of the roster
+pub batch_rest : (roster : List Definition) (us : List Update) (i : ℕ) → IsBatchFor roster us → AllByRecursion (IsOfRoster roster) (drop i us)
+batch_rest roster us i is = each (drop i us) (λ j u lt at. of_taught u (batch_taught roster us (i + j) u is (further i j us lt) (at ∙ get_or-drop i us j u)))
+  where
+    of_taught : (u : Update) → IsTaught roster u → IsOfRoster roster u
+    of_taught u (d, listed, fit) = (d, listed)
+
+    further : (i j : ℕ) (us : List Update) → j < length (drop i us) → i + j < length us
+    further i j us lt = omega (arith, length-drop i us)
+
+    each : (l : List Update) → ((j : ℕ) (u : Update) → j < length l → u ≡ get_or l j u → IsOfRoster roster u) → AllByRecursion (IsOfRoster roster) l
+    each [] h = tt
+    each (x ∷ xs) h = (h 0 x (omega arith) refl, each xs (λ j u lt at. h (suc j) u (omega arith) at))
+
+-- the costs of what was told so far, and of one update more
+pub joined_costs : (roster : List Definition) (s mid e : State) (before told : List Message) (left rest us : List Update) → size_of_all before + full roster mid left ≤ full roster s us → size_of_all told + full roster e rest ≤ full roster mid left → size_of_all (before ++ told) + full roster e rest ≤ full roster s us
+joined_costs roster s mid e before told left rest us so_far one = omega (arith, sum_by-append size_of before told)
+
+-- a lesson that costs no more than the whole is the shortest
+pub shortest_at_end : (k : KnownState) (us : List Update) (ms : List Message) (e : State) → AreOwn k.roster k.state.heard.tables → stores_no_name k.roster ≡ true → IsBatchFor k.roster us → Legal k.roster k.state ms us e → size_of_all ms ≤ full k.roster k.state us → Shortest k us ms
+shortest_at_end k us ms e own no_name batch legal cheap =
+    (e, legal, λ others end fits. none_below others end fits)
+  where
+    none_below : (others : List Message) (end : State) → Legal k.roster k.state others us end → size_of_all ms ≤ size_of_all others
+    none_below others end fits =
+        let whole = none_shorter k.roster k.state end others us own no_name (batch_rest k.roster us 0 batch) fits in
+        omega arith
+
+-- behind the last update nothing is left to pay
+pub whole_cost : (roster : List Definition) (s e : State) (ms : List Message) (i : ℕ) (us batch : List Update) → length us ≤ i → us ≡ batch → size_of_all ms + full roster e (drop i us) ≤ full roster s us → size_of_all ms ≤ full roster s batch
+whole_cost roster s e ms i us batch ended same cost =
+    let left : full roster e (drop i us) ≡ 0 = rw (drop_all i us ended) refl in
+    let paid : size_of_all ms ≤ full roster s us = omega arith in
+    subst (λ (l : List Update). size_of_all ms ≤ full roster s l) same paid

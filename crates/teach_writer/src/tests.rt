@@ -1,0 +1,232 @@
+//! The worked examples.
+
+ghost use Rattle.std.specs.Prelude.{◌≡◌, true, IfOk};
+ghost use Rattle.known_state.specs.Known.{stores_no_name};
+ghost use Rattle.table_types.specs.Batches.{IsBatchFor};
+
+use crate::lesson::{Lesson, teach};
+use known_state::{Known, stores_no_name};
+use std::alloc::Global;
+use std::test::Fail;
+use table_types::{Batch, DataType, Items, Key, KeyKind, Roster, TableDef, Update, Value};
+
+const T1_DEFINED: [u8; 13] = [
+    0x0A, 0x82, 0x0A, 1, 2, 0x74, 0x31, 2, 4, 4, 0xF0, 0xC4, 0x0D,
+];
+
+const T2_DEFINED: [u8; 13] = [
+    0x0A, 0x82, 0x0A, 2, 2, 0x74, 0x32, 2, 4, 4, 0xF0, 0xC4, 0x0D,
+];
+
+const FIRST_ROW: [u8; 16] = [
+    0x0A, 0x85, 0x0D, 0, 0, 0, 1, 0, 0, 0x75, 0x30, 0, 0, 0, 7, 5,
+];
+
+/// Number, key and value of a row, behind its table's id.
+type Row = (u64, u32, u32, u64);
+
+/// A table of integers that stores gpc0 and keeps rows for 30 s.
+fn counting(alloc: Global, id: u64, name: &[u8]) -> Result<TableDef, Fail> {
+    let name = Vec::from_slice(alloc, name)?;
+    let types = vec![in alloc; (DataType::Gpc0, None)]?;
+    Ok(TableDef::new(alloc, id, name, KeyKind::Integer, 4, 30_000, types)?)
+}
+
+/// The tables `t1` and `t2`.
+fn both_tables(alloc: Global) -> Result<Vec<TableDef>, Fail> {
+    Ok(vec![in alloc; counting(alloc, 1, b"t1")?, counting(alloc, 2, b"t2")?]?)
+}
+
+/// Table 5, of addresses, that stores the rate of gpc0 and keeps rows for ever.
+fn rating(alloc: Global) -> Result<Vec<TableDef>, Fail> {
+    let name = Vec::from_slice(alloc, b"r")?;
+    let types = vec![in alloc; (DataType::Gpc0Rate, Some(10_000))]?;
+    let table = TableDef::new(alloc, 5, name, KeyKind::Ip4, 4, 0, types)?;
+    Ok(vec![in alloc; table]?)
+}
+
+fn nameless(tables: Vec<TableDef>) -> Result<Roster, Fail>
+    ensures nameless { IfOk result (λ roster. stores_no_name roster ≡ true) }
+{
+    let roster = Roster::new(tables)?;
+    if !stores_no_name(&roster) {
+        return Err(Fail::from("a table stores a name"));
+    }
+    Ok(roster)
+}
+
+/// The state of a learner of these tables that heard nothing.
+fn fresh(alloc: Global, tables: Vec<TableDef>) -> Result<Known, Fail> {
+    Ok(Known::fresh(alloc, nameless(tables)?))
+}
+
+/// The state of a learner of `t1` alone to which it was defined, with that last number.
+fn counted_to(alloc: Global, last: u32) -> Result<Known, Fail> {
+    let roster = nameless(vec![in alloc; counting(alloc, 1, b"t1")?]?)?;
+    let (defined, last) = (vec![in alloc; 1]?, vec![in alloc; (1, last)]?);
+    Ok(Known::build(alloc, roster, Some(1), defined, last)?)
+}
+
+fn update(alloc: Global, row: Row) -> Result<Update, Fail> {
+    Ok(Update {
+        table: row.0,
+        number: row.1,
+        life: Some(30_000),
+        key: Key::Int(row.2),
+        values: Items::new(vec![in alloc; Value::Count(row.3)]?),
+        name: None,
+    })
+}
+
+fn batch(alloc: Global, known: &Known, rows: &[Row]) -> Result<Batch, Fail>
+    ensures fits { IfOk result (λ batch. IsBatchFor known.now.roster batch) }
+{
+    let mut updates = Vec::with_capacity(alloc, rows.len())?;
+    for row in rows {
+        updates.push(update(alloc, *row)?)?;
+    }
+    Ok(Batch::new(known.roster(), updates)?)
+}
+
+/// The lesson of these rows, each with a life of 30 s.
+fn lesson(alloc: Global, known: &Known, rows: &[Row]) -> Result<Lesson, Fail> {
+    Ok(teach(alloc, known, &batch(alloc, known, rows)?)?)
+}
+
+/// Whether the bytes of the lesson are these parts, one after another, and it has no price.
+fn is_spelled(lesson: &Lesson, parts: &[&[u8]]) -> bool {
+    let mut rest = lesson.bytes.as_slice();
+    for part in parts {
+        match rest.strip_prefix(*part) {
+            Some(behind) => rest = behind,
+            None => return false,
+        }
+    }
+    rest.is_empty() && lesson.prices.is_empty()
+}
+
+#[test]
+fn empty_batch(rt: HostRuntime) -> Result<(), Fail> {
+    let alloc = rt.alloc();
+    let known = counted_to(alloc, 5)?;
+    let lesson = lesson(alloc, &known, &[])?;
+    assert!(rt; is_spelled(&lesson, &[]));
+    assert_eq!(rt; lesson.known.heard().selected(), Some(1));
+    assert_eq!(rt; lesson.known.heard().tables().len(), 1);
+    assert_eq!(rt; lesson.known.lasts().last(1), Some(5));
+    Ok(())
+}
+
+const TWO_UPDATES: [Row; 2] = [(1, 1, 7, 5), (1, 2, 8, 240)];
+
+const SECOND_ROW: [u8; 13] = [0x0A, 0x86, 0x0A, 0, 0, 0x75, 0x30, 0, 0, 0, 8, 0xF0, 0];
+
+#[test]
+fn two_updates(rt: HostRuntime) -> Result<(), Fail> {
+    let alloc = rt.alloc();
+    let known = fresh(alloc, vec![in alloc; counting(alloc, 1, b"t1")?]?)?;
+    let lesson = lesson(alloc, &known, &TWO_UPDATES)?;
+    assert_eq!(rt; lesson.bytes.len(), 42);
+    assert!(rt; is_spelled(&lesson, &[&T1_DEFINED, &FIRST_ROW, &SECOND_ROW]));
+    assert_eq!(rt; lesson.known.heard().selected(), Some(1));
+    assert_eq!(rt; lesson.known.lasts().last(1), Some(2));
+    assert_eq!(rt; known.heard().selected(), None);
+    Ok(())
+}
+
+#[test]
+fn two_updates_copied(rt: HostRuntime) -> Result<(), Fail> {
+    let alloc = rt.alloc();
+    let known = fresh(alloc, vec![in alloc; counting(alloc, 1, b"t1")?]?)?;
+    let copied = batch(alloc, &known, &TWO_UPDATES)?.copy(alloc)?;
+    let lesson = teach(alloc, &known.copy(alloc)?, &copied)?;
+    assert!(rt; is_spelled(&lesson, &[&T1_DEFINED, &FIRST_ROW, &SECOND_ROW]));
+    Ok(())
+}
+
+#[test]
+fn two_tables(rt: HostRuntime) -> Result<(), Fail> {
+    let alloc = rt.alloc();
+    let known = fresh(alloc, both_tables(alloc)?)?;
+    let lesson = lesson(alloc, &known, &[(1, 1, 7, 5), (2, 1, 7, 5), (1, 2, 8, 5)])?;
+    let switch = [0x0A, 0x83, 1, 1];
+    let last = [0x0A, 0x86, 9, 0, 0, 0x75, 0x30, 0, 0, 0, 8, 5];
+    let parts: [&[u8]; 6] = [
+        &T1_DEFINED,
+        &FIRST_ROW,
+        &T2_DEFINED,
+        &FIRST_ROW,
+        &switch,
+        &last,
+    ];
+    assert_eq!(rt; lesson.bytes.len(), 74);
+    assert!(rt; is_spelled(&lesson, &parts));
+    Ok(())
+}
+
+#[test]
+fn gap(rt: HostRuntime) -> Result<(), Fail> {
+    let alloc = rt.alloc();
+    let known = fresh(alloc, vec![in alloc; counting(alloc, 1, b"t1")?]?)?;
+    let lesson = lesson(alloc, &known, &[(1, 1, 7, 5), (1, 3, 7, 6)])?;
+    let third = [
+        0x0A, 0x85, 0x0D, 0, 0, 0, 3, 0, 0, 0x75, 0x30, 0, 0, 0, 7, 6,
+    ];
+    assert!(rt; is_spelled(&lesson, &[&T1_DEFINED, &FIRST_ROW, &third]));
+    Ok(())
+}
+
+#[test]
+fn repeat(rt: HostRuntime) -> Result<(), Fail> {
+    let alloc = rt.alloc();
+    let known = fresh(alloc, vec![in alloc; counting(alloc, 1, b"t1")?]?)?;
+    let lesson = lesson(alloc, &known, &[(1, 1, 7, 5), (1, 1, 7, 6)])?;
+    let again = [
+        0x0A, 0x85, 0x0D, 0, 0, 0, 1, 0, 0, 0x75, 0x30, 0, 0, 0, 7, 6,
+    ];
+    assert!(rt; is_spelled(&lesson, &[&T1_DEFINED, &FIRST_ROW, &again]));
+    Ok(())
+}
+
+#[test]
+fn wrap(rt: HostRuntime) -> Result<(), Fail> {
+    let alloc = rt.alloc();
+    let known = counted_to(alloc, 4_294_967_295)?;
+    let lesson = lesson(alloc, &known, &[(1, 0, 7, 5)])?;
+    let row = [0x0A, 0x86, 9, 0, 0, 0x75, 0x30, 0, 0, 0, 7, 5];
+    assert!(rt; is_spelled(&lesson, &[&row]));
+    assert_eq!(rt; lesson.known.lasts().last(1), Some(0));
+    Ok(())
+}
+
+/// A row of the rates, number 9, that lives for ever.
+fn rate_update(alloc: Global) -> Result<Update, Fail> {
+    let rate = Value::Rate {
+        elapsed: 300,
+        current: 2,
+        previous: 0,
+    };
+    Ok(Update {
+        table: 5,
+        number: 9,
+        life: Some(0),
+        key: Key::Ip4([127, 0, 0, 1]),
+        values: Items::new(vec![in alloc; rate]?),
+        name: None,
+    })
+}
+
+#[test]
+fn rate_table(rt: HostRuntime) -> Result<(), Fail> {
+    let alloc = rt.alloc();
+    let known = fresh(alloc, rating(alloc)?)?;
+    let batch = Batch::new(known.roster(), vec![in alloc; rate_update(alloc)?]?)?;
+    let lesson = teach(alloc, &known, &batch)?;
+    let definition = [0x0A, 0x82, 0x0B, 5, 1, 0x72, 4, 4, 8, 0, 3, 0xF0, 0xE2, 3];
+    let row = [
+        0x0A, 0x85, 0x10, 0, 0, 0, 9, 0, 0, 0, 0, 0x7F, 0, 0, 1, 0xFC, 3, 2, 0,
+    ];
+    assert!(rt; is_spelled(&lesson, &[&definition, &row]));
+    assert_eq!(rt; lesson.bytes.len(), 33);
+    Ok(())
+}
