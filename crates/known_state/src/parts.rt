@@ -6,18 +6,7 @@ ghost use Rattle.table_types.specs.Updates.{stores_name};
 ghost use Rattle.table_types.specs.Rosters.{has_id};
 ghost use Rattle.known_state.specs.Known.{holds, repeats, has_last, repeats_last, are_known, are_defined, stores_no_name};
 
-use table_types::{Roster, TableDef};
-
-fn has_id(tables: &[TableDef], id: u64) -> bool
-    ensures { result ≡ has_id id tables.now }
-{
-    for table in tables {
-        if table.id() == id {
-            return true;
-        }
-    }
-    false
-}
+use table_types::{Roster, TableDef, has_id};
 
 fn all_own(roster: &Roster, ids: &[u64]) -> bool
     ensures { result ≡ list_all (λ id. has_id id roster.now) ids.now }

@@ -8,7 +8,7 @@ ghost use Rattle.peers_msg.specs.Heard.{silence, heard_after, put_table, outlive
 
 use std::alloc::Global;
 use std::marker::Model;
-use table_types::{Memory, Roster, TableDef};
+use table_types::{Memory, Roster, TableDef, is_same_name, table_at};
 
 /// Which definition each id heard stands for, and which id is selected: all that a decoder needs to know of the
 /// messages before (HAProxy, doc/peers-v2.0.txt, "Table Definition Message", "Table Switch Message").
@@ -25,12 +25,6 @@ impl Model for Heard {
     ghost Value = { Heard };
 
     ghost view = { λ h. record { tables = h.tables.items; selected = h.selected } };
-}
-
-fn is_same_name(one: &[u8], other: &[u8]) -> bool
-    ensures { result ≡ is_same_name one.now other.now }
-{
-    one == other
 }
 
 fn outlives(new: &TableDef, table: &TableDef) -> bool
@@ -66,17 +60,6 @@ fn place_of(tables: &[TableDef], id: u64) -> usize
         }
     }
     tables.len()
-}
-
-fn table_at(tables: &[TableDef], id: u64) -> Option<&TableDef>
-    ensures { option_copied result ≡ table_at tables.now id }
-{
-    for table in tables {
-        if table.id() == id {
-            return Some(table);
-        }
-    }
-    None
 }
 
 impl Heard {

@@ -14,7 +14,7 @@ use crate::output::write_whole;
 use crate::printed::printed_lesson;
 use crate::scene::{Scene, read_scene};
 use crate::status::Status;
-use known_state::Known;
+use known_state::{Known, stores_no_name};
 use peers_engine::Faults;
 use std::alloc::Global;
 use std::io::{Read, Write};
@@ -77,18 +77,6 @@ fn lesson_of(alloc: Global, scene: Scene) -> Result<Lesson, Failure>
     let batch = Batch::new(&roster, updates)?;
     let known = Known::build(alloc, roster, selected, defined, last)?;
     Ok(teach(alloc, &known, &batch)?)
-}
-
-/// Whether no table stores the server's name.
-fn stores_no_name(roster: &Roster) -> bool
-    ensures { result ≡ stores_no_name roster.now }
-{
-    for table in roster.tables() {
-        if table.stores_name() {
-            return false;
-        }
-    }
-    true
 }
 
 #[cfg(test)]

@@ -74,12 +74,15 @@ fn fault_of(roster: &Roster, updates: &[Update]) -> Option<BatchError>
 }
 
 impl Batch {
+    /// The most updates of a batch.
+    pub const MOST: usize = 512;
+
     /// The batch of these updates, in this order, for that roster.
     pub fn new(roster: &Roster, updates: Vec<Update>) -> Result<Batch, BatchError>
         ensures made { IfOk result (λ batch. (batch ≡ updates.items) × IsBatchFor roster.now updates.items) }
         ensures refused { IfErr result (λ e. batch_fault roster.now updates.items ≡ Some e) }
     {
-        if updates.len() > 512 {
+        if updates.len() > Batch::MOST {
             return Err(BatchError::TooMany);
         }
         if let Some(fault) = fault_of(roster, updates.as_slice()) {

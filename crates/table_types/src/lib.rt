@@ -21,6 +21,6 @@ pub use key::{Key, KeyKind};
 pub use memory::Memory;
 pub use moment::Moment;
 pub use name::Name;
-pub use roster::{Roster, RosterError};
+pub use roster::{Roster, RosterError, has_id, is_same_name, table_at};
 pub use table_def::{DefError, TableDef};
 pub use update::{Update, Value};

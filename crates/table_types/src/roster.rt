@@ -45,13 +45,15 @@ impl Model for Roster {
     ghost invariant = { λ a. roster_fault a.tables ≡ None };
 }
 
-fn is_same_name(one: &[u8], other: &[u8]) -> bool
+/// Whether two names are the same, byte for byte.
+pub fn is_same_name(one: &[u8], other: &[u8]) -> bool
     ensures { result ≡ is_same_name one.now other.now }
 {
     one == other
 }
 
-fn has_id(tables: &[TableDef], id: u64) -> bool
+/// Whether one of the tables has that id.
+pub fn has_id(tables: &[TableDef], id: u64) -> bool
     ensures { result ≡ has_id id tables.now }
 {
     for table in tables {
@@ -95,7 +97,8 @@ fn repeats_name(tables: &[TableDef]) -> bool
     false
 }
 
-fn table_at(tables: &[TableDef], id: u64) -> Option<&TableDef>
+/// The first of the tables that has that id.
+pub fn table_at(tables: &[TableDef], id: u64) -> Option<&TableDef>
     ensures { option_copied result ≡ table_at tables.now id }
 {
     for table in tables {
@@ -107,12 +110,15 @@ fn table_at(tables: &[TableDef], id: u64) -> Option<&TableDef>
 }
 
 impl Roster {
+    /// The most tables of a roster.
+    pub const MOST: usize = 64;
+
     /// The roster of these tables, in this order.
     pub fn new(tables: Vec<TableDef>) -> Result<Roster, RosterError>
         ensures made { IfOk result (λ roster. (roster ≡ tables.items) × (roster_fault tables.items ≡ None)) }
         ensures refused { IfErr result (λ e. roster_fault tables.items ≡ Some e) }
     {
-        if tables.is_empty() || tables.len() > 64 {
+        if tables.is_empty() || tables.len() > Roster::MOST {
             return Err(RosterError::Count);
         }
         if repeats_id(tables.as_slice()) {

@@ -7,14 +7,7 @@ use table_types::{Items, Key, KeyKind};
 
 /// The kind of keys that a word names.
 pub fn kind_of(word: &[u8]) -> Option<KeyKind> {
-    match word {
-        b"integer" => Some(KeyKind::Integer),
-        b"ipv4" => Some(KeyKind::Ip4),
-        b"ipv6" => Some(KeyKind::Ip6),
-        b"string" => Some(KeyKind::String),
-        b"binary" => Some(KeyKind::Binary),
-        _ => None,
-    }
+    KeyKind::from_name(str::from_utf8(word).ok()?)
 }
 
 /// The key of this kind that a word writes: an integer in decimal, a text after `=`, and any other

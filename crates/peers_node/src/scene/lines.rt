@@ -7,13 +7,7 @@ use super::tables::table_of;
 use super::updates::update_of;
 use super::words::{hexadecimal, number, number32, words};
 use std::alloc::Global;
-use table_types::{Moment, TableDef};
-
-/// The most tables of a scene.
-const MOST_TABLES: usize = 64;
-
-/// The most updates of a scene.
-const MOST_UPDATES: usize = 512;
+use table_types::{Batch, Moment, Roster, TableDef};
 
 impl Scene {
     /// Takes in what a line says, which comes without its LF. After a refusal the scene isn't to be
@@ -52,7 +46,7 @@ impl Scene {
                 return Err(LineError::Refused);
             }
         }
-        push_within(&mut self.tables, MOST_TABLES, table)
+        push_within(&mut self.tables, Roster::MOST, table)
     }
 
     fn read_define(&mut self, words: &[&[u8]]) -> Result<(), LineError> {
@@ -95,7 +89,7 @@ impl Scene {
             return Err(LineError::Refused);
         };
         let update = update_of(alloc, self.table(id)?, words)?;
-        push_within(&mut self.updates, MOST_UPDATES, update)
+        push_within(&mut self.updates, Batch::MOST, update)
     }
 
     fn read_moment(&mut self, words: &[&[u8]]) -> Result<(), LineError> {

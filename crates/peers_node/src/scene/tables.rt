@@ -53,10 +53,5 @@ fn type_of(word: &[u8]) -> Option<(DataType, Option<u32>)> {
 }
 
 fn type_named(name: &[u8]) -> Option<DataType> {
-    for data_type in DataType::ALL {
-        if data_type.name().as_bytes() == name {
-            return Some(data_type);
-        }
-    }
-    None
+    DataType::from_name(str::from_utf8(name).ok()?)
 }

@@ -1,6 +1,0 @@
-use Rattle.std.proofs.Common.{◌≡◌, drop}
-use Rattle.table_types.specs.Rosters.{table_at}
-use Rattle.peers_msg.proofs.heard.table_at.Given as goal
-
-abbrev pub invariant-loop-table : goal.invariant-loop-table
-invariant-loop-table l = table_at (drop l.table-index l.tables) l.id ≡ table_at l.tables l.id
