@@ -17,7 +17,8 @@ use Rattle.peers_msg.specs.declared.name_field.NameField.TheVariants as names
 use Rattle.peers_msg.specs.declared.message.Message.TheVariants as messages
 use Rattle.table_types.specs.declared.key.Key.{Key}
 use Rattle.table_types.specs.declared.update.Value.{Value}
-use Rattle.peers_msg.specs.Fitting.{is_slot, name_fits}
+use Rattle.table_types.specs.Slots.{is_slot}
+use Rattle.peers_msg.specs.Fitting.{name_fits}
 use Rattle.peers_msg.specs.Steps.{Named, resolved_number, last_of, put_last}
 use Rattle.peers_msg.specs.Messages.{UpdateFields}
 use Rattle.peers_msg.specs.Spelling.{spelled, size_of, framed, counted, definition_text, update_text, update_kind, optional_word, word, key_text, value_text, name_text}

@@ -17,7 +17,8 @@ use Rattle.peers_msg.specs.Messages.{UpdateFields}
 use Rattle.peers_msg.specs.Heard.{Heard, heard_after, selected_table}
 use Rattle.peers_msg.specs.Spelling.{data_of, update_text, definition_text}
 use Rattle.peers_msg.specs.Fitting.{fits, update_fits, name_fits}
-use Rattle.peers_msg.specs.Steps.{State, Step, Named, IsOwn, no_names, lasts_after, keeps_last, last_of, put_last, resolved_number, resolved}
+use Rattle.table_types.specs.Slots.{no_names}
+use Rattle.peers_msg.specs.Steps.{State, Step, Named, IsOwn, lasts_after, keeps_last, last_of, put_last, resolved_number, resolved}
 use Rattle.peers_msg.proofs.DataLaws.{update_small, definition_small}
 use Rattle.known_state.specs.declared.known.StepError.TheVariants as step_errors
 use Rattle.known_state.specs.Known.{KnownState, AreOwn, stores_no_name, switch_refusal, update_refusal}

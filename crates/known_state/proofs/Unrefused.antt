@@ -7,7 +7,8 @@ use Rattle.peers_msg.specs.declared.message.Message.TheVariants as messages
 use Rattle.peers_msg.specs.Messages.{UpdateFields}
 use Rattle.peers_msg.specs.Heard.{Heard, selected_table}
 use Rattle.peers_msg.specs.Fitting.{update_fits}
-use Rattle.peers_msg.specs.Steps.{no_names, last_of, put_last, resolved_number}
+use Rattle.table_types.specs.Slots.{no_names}
+use Rattle.peers_msg.specs.Steps.{last_of, put_last, resolved_number}
 use Rattle.known_state.specs.declared.known.StepError.{StepError}
 use Rattle.known_state.specs.Known.{KnownState, AreOwn, stores_no_name, switch_refusal, update_refusal}
 use Rattle.known_state.proofs.StepLemmas.{has_id-table_at, taken}

@@ -11,7 +11,8 @@ use Rattle.peers_msg.specs.declared.message.Message.TheVariants as messages
 use Rattle.peers_msg.specs.Messages.{UpdateFields}
 use Rattle.peers_msg.specs.Heard.{silence, resumed, selected_table}
 use Rattle.peers_msg.specs.Fitting.{fits}
-use Rattle.peers_msg.specs.Steps.{State, no_names, last_of, put_last, resolved_number, slot_at}
+use Rattle.table_types.specs.Slots.{no_names, slot_at}
+use Rattle.peers_msg.specs.Steps.{State, last_of, put_last, resolved_number}
 use Rattle.known_state.specs.declared.known.KnownError.{KnownError}
 use Rattle.known_state.specs.declared.known.KnownError.TheVariants as build_errors
 use Rattle.known_state.specs.declared.known.StepError.{StepError}

@@ -88,7 +88,7 @@ pub struct Known {
 
 impl Model for Known {
     ghost use Rattle.std.specs.Prelude.{◌≡◌, true};
-    ghost use Rattle.peers_msg.specs.Steps.{no_names};
+    ghost use Rattle.table_types.specs.Slots.{no_names};
     ghost use Rattle.known_state.specs.Known.{KnownState, AreOwn, stores_no_name};
 
     ghost Value = { KnownState };

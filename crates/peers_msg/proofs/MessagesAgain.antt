@@ -30,7 +30,8 @@ use Rattle.peers_msg.specs.declared.fault.Breach.TheVariants.{BadInteger, BadDef
 use Rattle.peers_msg.specs.Messages.{UpdateFields, OtherFields, is_known_pair, is_other}
 use Rattle.peers_msg.specs.Heard.{Heard, selected_table}
 use Rattle.peers_msg.specs.Spelling.{word, optional_word, counted, framed, key_text, value_text, name_text, update_text, update_kind, bits_of, period_text, definition_text, control_kind, error_kind, data_of, spelled}
-use Rattle.peers_msg.specs.Fitting.{is_slot, name_fits, update_fits, fits_table, has_shape, fits}
+use Rattle.table_types.specs.Slots.{is_slot}
+use Rattle.peers_msg.specs.Fitting.{name_fits, update_fits, fits_table, has_shape, fits}
 use Rattle.peers_msg.specs.Reading.{integer_at, word_at, name_at, update_at, kind_of, named_at, keyed_at, stored_at, definition_at, switch_at, ack_at, update_of, control_meant, error_meant, table_meant, meant, message_of, body_at, Frame, data_at, frame_at, message_at}
 use Rattle.peers_msg.proofs.FieldsAgain.{then, integer_again, word_again, bytes_again, is_there, optional_again, key_again, values_again, not_stored_again, no_name_again, held_field_again, written_field_again, name_below}
 use Rattle.peers_msg.proofs.TypesAgain.{all_are, bits_within, types_again}

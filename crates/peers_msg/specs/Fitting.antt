@@ -5,6 +5,7 @@ use Rattle.table_types.specs.Names.{is_name}
 use Rattle.table_types.specs.Tables.{Definition, is_definition}
 use Rattle.table_types.specs.Updates.{is_word, is_optional_word, row_fits, stores_name}
 use Rattle.table_types.specs.Rosters.{table_at}
+use Rattle.table_types.specs.Slots.{is_slot}
 use Rattle.peers_msg.specs.declared.name_field.NameField.{NameField}
 use Rattle.peers_msg.specs.declared.name_field.NameField.TheVariants as names
 use Rattle.peers_msg.specs.declared.message.Message.{Message}
@@ -12,10 +13,6 @@ use Rattle.peers_msg.specs.declared.message.Message.TheVariants as messages
 use Rattle.peers_msg.specs.Messages.{UpdateFields, is_other}
 use Rattle.peers_msg.specs.Heard.{Heard, selected_table}
 use Rattle.peers_msg.specs.Spelling.{data_of}
-
--- the slots of the dictionary are 1 to 128
-abbrev pub is_slot : ℕ → Bool
-is_slot slot = nat_le 1 slot && nat_le slot 128
 
 -- a name field stands exactly in the updates of a table that stores the server's name
 abbrev pub name_fits : Definition → NameField → Bool

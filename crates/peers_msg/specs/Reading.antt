@@ -32,7 +32,7 @@ use Rattle.peers_msg.specs.declared.fault.Breach.{Breach}
 use Rattle.peers_msg.specs.declared.fault.Breach.TheVariants.{BadInteger, SizeLimit, BadDefinition, UnknownDataType, NoTable, BadKey, BadValue, Trailing}
 use Rattle.peers_msg.specs.Messages.{UpdateFields}
 use Rattle.peers_msg.specs.Heard.{Heard, selected_table}
-use Rattle.peers_msg.specs.Fitting.{is_slot}
+use Rattle.table_types.specs.Slots.{is_slot}
 
 infixl 10 ◌>>=◌
 abbrev pub ◌>>=◌ : {A B : Type 0} → Result A Breach → (A → Result B Breach) → Result B Breach

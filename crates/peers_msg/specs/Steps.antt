@@ -1,11 +1,12 @@
 -- The state of one direction of a session, and the step that each message makes (HAProxy, doc/peers-v2.0.txt,
 -- "Stick Table Messages"; an incremental update only behind a numbered one, what becomes of last numbers at
 -- definitions, and reading a slot only where a name was written, are own).
-use Rattle.std.specs.Prelude.{◌≡◌, ℕ, ◌+◌, ◌-◌, ◌%◌, ◌^◌, Bool, true, false, not, ◌==◌, nat_lt, List, [], ◌∷◌, ◌++◌, filter, replicate, slice_set, slice_index_or, Option, Some, None, if◌then◌else◌}
+use Rattle.std.specs.Prelude.{◌≡◌, ℕ, ◌+◌, ◌-◌, ◌%◌, ◌^◌, Bool, true, false, not, ◌==◌, nat_lt, List, [], ◌∷◌, ◌++◌, filter, slice_set, Option, Some, None, if◌then◌else◌}
 use Rattle.std.specs.List.{AllByRecursion}
 use Rattle.table_types.specs.declared.update.Update.{Update}
 use Rattle.table_types.specs.Tables.{Definition}
 use Rattle.table_types.specs.Rosters.{is_same_name, table_at}
+use Rattle.table_types.specs.Slots.{no_names, slot_at}
 use Rattle.peers_msg.specs.declared.name_field.NameField.{NameField}
 use Rattle.peers_msg.specs.declared.name_field.NameField.TheVariants as names
 use Rattle.peers_msg.specs.declared.message.Message.{Message}
@@ -19,10 +20,6 @@ pub record State : Type 0 where
   pub heard : Heard
   pub lasts : List (ℕ × ℕ)
   pub slots : List (Option (List ℕ))
-
--- no slot holds a name
-abbrev pub no_names : List (Option (List ℕ))
-no_names = replicate 128 None
 
 -- nothing was heard
 abbrev pub fresh : State
@@ -56,10 +53,6 @@ abbrev pub resolved_number : Option ℕ → Option ℕ → Option ℕ
 resolved_number (Some n) last = Some n
 resolved_number None (Some last) = Some ((last + 1) % 2 ^ 32)
 resolved_number None None = None
-
--- what a slot, 1 to 128, holds
-abbrev pub slot_at : List (Option (List ℕ)) → ℕ → Option (List ℕ)
-slot_at slots slot = slice_index_or slots (slot - 1) None
 
 -- the name of an update, and the slots afterwards: none; written, and the slot then holds it; or held, and it is
 -- what a slot that isn't empty holds

@@ -2,7 +2,8 @@
 
 ghost use Rattle.std.specs.Prelude.{◌≡◌, ◌^◌, ◌&&◌, nat_lt, IsTrue};
 ghost use Rattle.table_types.specs.Updates.{is_optional_word, is_word};
-ghost use Rattle.peers_msg.specs.Fitting.{is_slot, name_fits, update_fits, IsPlain, has_shape, fits};
+ghost use Rattle.table_types.specs.Slots.{is_slot};
+ghost use Rattle.peers_msg.specs.Fitting.{name_fits, update_fits, IsPlain, has_shape, fits};
 
 use crate::heard::Heard;
 use crate::message::{Message, UpdateMsg};

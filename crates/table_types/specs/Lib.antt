@@ -5,3 +5,4 @@ pub mod Tables
 pub mod Updates
 pub mod Rosters
 pub mod Batches
+pub mod Slots

@@ -1,0 +1,166 @@
+//! The slots of the dictionary of server names.
+
+ghost use Rattle.std.specs.Prelude.{◌≡◌, ◌≤◌, ◌-◌, ℕ, Some, IfOk, IfSome, IsNone, true, IsTrue, ◌↔◌, option_copied, length, slice_set};
+ghost use Rattle.table_types.specs.Slots.{no_names, slot_at, is_slot};
+ghost use Rattle.dict_slots.specs.Slots.{Holds};
+
+use std::alloc::Global;
+use std::marker::Model;
+use table_types::{Memory, Name};
+
+/// The dictionary of server names of one direction of a session: slots 1 to 128, each empty or with a name.
+/// The slots lie in the value itself, so only the names take memory.
+#[derive(Debug, Drop)]
+pub struct Slots {
+    places: [Option<Name>; 128],
+}
+
+impl Model for Slots {
+    ghost use Rattle.std.specs.Prelude.{◌≡◌, List, Option, ℕ, length};
+
+    ghost Value = { List (Option (List ℕ)) };
+
+    ghost view = { λ a. a.places };
+
+    ghost invariant = { λ a. length a.places ≡ 128 };
+}
+
+fn holds(place: &Option<Name>, name: &Name) -> bool
+    ensures { IsTrue result ↔ (place.now ≡ Some name.now) }
+{
+    match place {
+        Some(held) => held.is_same(name),
+        None => false,
+    }
+}
+
+fn copy_of(place: &Option<Name>, alloc: Global) -> Result<Option<Name>, Memory>
+    ensures { IfOk result (λ copy. copy ≡ place.now) }
+{
+    match place {
+        Some(name) => Ok(Some(name.copy(alloc)?)),
+        None => Ok(None),
+    }
+}
+
+fn no_names() -> [Option<Name>; 128]
+    ensures { result ≡ no_names }
+{
+    Default::default()
+}
+
+impl Slots {
+    /// How many slots there are, and the number of the last.
+    pub const COUNT: u8 = 128;
+
+    /// The slots, all empty. It takes no memory.
+    pub fn new(_alloc: Global) -> Slots
+        ensures { result ≡ no_names }
+    {
+        Slots { places: no_names() }
+    }
+
+    /// The lowest slot that holds this name, and `None` where no slot does.
+    pub fn find(&self, name: &Name) -> Option<u8>
+        ensures found { IfSome result (λ slot. Holds self.now slot name.now) }
+        ensures lowest { IfSome result (λ slot. (other : ℕ) → Holds self.now other name.now → slot ≤ other) }
+        ensures absent { IsNone result → (slot : ℕ) → Holds self.now slot name.now → ⊥ }
+    {
+        for (place, held) in self.places.iter().enumerate() {
+            if holds(held, name) {
+                return Some(place as u8 + 1);
+            }
+        }
+        None
+    }
+
+    /// The name that slot `id`, 1 to 128, holds, and `None` where it is empty.
+    pub fn name(&self, id: u8) -> Option<&Name>
+        requires slot { is_slot id ≡ true }
+        ensures held { option_copied result ≡ slot_at self.now id }
+        ensures count { length self.now ≡ 128 }
+    {
+        self.places[usize::from(id) - 1].as_ref()
+    }
+
+    /// Writes a name into slot `id`, 1 to 128, and hands out the one that it held. It takes no memory.
+    pub fn write(&mut self, id: u8, name: Name) -> Option<Name>
+        requires slot { is_slot id ≡ true }
+        ensures old { result ≡ slot_at self.old id }
+        ensures written { self.new ≡ slice_set self.old (id - 1) (Some name) }
+        ensures count { length self.new ≡ 128 }
+    {
+        self.places[usize::from(id) - 1].replace(name)
+    }
+
+    /// Equal slots.
+    pub fn copy(&self, alloc: Global) -> Result<Slots, Memory>
+        ensures { IfOk result (λ copy. copy ≡ self.now) }
+    {
+        let mut copy = Slots::new(alloc);
+        for (place, held) in self.places.iter().enumerate() {
+            copy.places[place] = copy_of(held, alloc)?;
+        }
+        Ok(copy)
+    }
+}
+
+#[cfg(test)]
+mod tests {
+    use super::Slots;
+    use std::alloc::Global;
+    use table_types::{Memory, Name};
+
+    fn named(alloc: Global, bytes: &[u8]) -> Result<Name, Memory> {
+        Name::new(Vec::from_slice(alloc, bytes)?).ok_or(Memory)
+    }
+
+    #[test]
+    fn empty_slots(rt: HostRuntime) -> Result<(), Memory> {
+        let alloc = rt.alloc();
+        let slots = Slots::new(alloc);
+        for id in 1..=Slots::COUNT {
+            assert!(rt; slots.name(id).is_none());
+        }
+        Ok(())
+    }
+
+    #[test]
+    fn lower_of_two_slots(rt: HostRuntime) -> Result<(), Memory> {
+        let alloc = rt.alloc();
+        let mut slots = Slots::new(alloc);
+        for id in [128, 7, 9] {
+            assert!(rt; slots.write(id, named(alloc, b"s1")?).is_none());
+        }
+        assert_eq!(rt; slots.find(&named(alloc, b"s1")?), Some(7));
+        assert_eq!(rt; slots.find(&named(alloc, b"s2")?), None);
+        Ok(())
+    }
+
+    #[test]
+    fn old_name_of_slot_128(rt: HostRuntime) -> Result<(), Memory> {
+        let alloc = rt.alloc();
+        let mut slots = Slots::new(alloc);
+        assert_eq!(rt; slots.write(128, named(alloc, b"s1")?), None);
+        assert_eq!(rt;
+            slots.write(128, named(alloc, b"s2")?),
+            Some(named(alloc, b"s1")?)
+        );
+        assert_eq!(rt; slots.name(128), Some(&named(alloc, b"s2")?));
+        assert_eq!(rt; slots.find(&named(alloc, b"s2")?), Some(128));
+        Ok(())
+    }
+
+    #[test]
+    fn equal_slots(rt: HostRuntime) -> Result<(), Memory> {
+        let alloc = rt.alloc();
+        let mut slots = Slots::new(alloc);
+        let _old = slots.write(1, named(alloc, b"s1")?);
+        let copy = slots.copy(alloc)?;
+        assert_eq!(rt; copy.name(1), Some(&named(alloc, b"s1")?));
+        for id in 1..=Slots::COUNT {
+            assert_eq!(rt; copy.name(id), slots.name(id));
+        }
+        Ok(())
+    }
+}
