@@ -9,3 +9,7 @@ pub mod FieldsTake
 pub mod TypesTake
 pub mod MessagesTake
 pub mod ReadingStays
+pub mod ReadingLoops
+pub mod DefinitionParts
+pub mod ReadingUses
+pub mod Pieces

@@ -5,3 +5,4 @@ pub mod Fitting
 pub mod Steps
 pub mod Reading
 pub mod Stream
+pub mod Decoding

@@ -1,5 +1,5 @@
 -- The messages of the peers protocol, as their fields (HAProxy, doc/peers-v2.0.txt, "Messages").
-use Rattle.std.specs.Prelude.{ℕ, Bool, true, false, not, ◌&&◌, ◌||◌, ◌==◌, nat_lt, nat_le, List, length, Option, if◌then◌else◌}
+use Rattle.std.specs.Prelude.{ℕ, Bool, not, ◌&&◌, ◌||◌, ◌==◌, nat_lt, nat_le, List, length, Option, if◌then◌else◌}
 use Rattle.table_types.specs.declared.key.Key.{Key}
 use Rattle.table_types.specs.declared.key.Key.TheVariants as keys
 use Rattle.table_types.specs.declared.update.Value.{Value}

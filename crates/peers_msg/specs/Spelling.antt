@@ -1,6 +1,6 @@
 -- The one spelling of each message (HAProxy, doc/peers-v2.0.txt, "Messages"; the timed updates, the heartbeat,
 -- the expire and the periods in a definition, and the dictionary of names are those of version 2.1).
-use Rattle.std.specs.Prelude.{◌≡◌, ℕ, ◌+◌, ◌^◌, List, [], ◌∷◌, ◌++◌, length, sum_by, flat_map, Option, Some, None, nat_lt, if◌then◌else◌}
+use Rattle.std.specs.Prelude.{◌≡◌, ℕ, ◌^◌, List, [], ◌∷◌, ◌++◌, length, sum_by, flat_map, Option, Some, None, nat_lt, if◌then◌else◌}
 use Rattle.std.specs.Int.{w32, to_be_bytes}
 use Rattle.peers_encint.specs.Integers.{spelling}
 use Rattle.table_types.specs.declared.data_type.DataType.{DataType}
@@ -19,7 +19,7 @@ use Rattle.peers_msg.specs.declared.control.ErrorKind.{ErrorKind}
 use Rattle.peers_msg.specs.declared.control.ErrorKind.TheVariants as errors
 use Rattle.peers_msg.specs.declared.message.Message.{Message}
 use Rattle.peers_msg.specs.declared.message.Message.TheVariants as messages
-use Rattle.peers_msg.specs.Messages.{UpdateFields, OtherFields}
+use Rattle.peers_msg.specs.Messages.{UpdateFields}
 
 -- four bytes, the big end first
 abbrev pub word : ℕ → List ℕ

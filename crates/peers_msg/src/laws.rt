@@ -3,6 +3,7 @@
 ghost use Rattle.std.specs.Prelude.{List, length, true, ℕ, ◌≡◌, ◌≤◌, [], ◌++◌, Ok, Some, ◌≢◌, None};
 ghost use Rattle.peers_encint.specs.Integers.{IsBytes};
 ghost use Rattle.peers_msg.specs.Reading.{message_at, with_more};
+ghost use Rattle.peers_msg.specs.Decoding.{AreRead, AreReadInPieces, IsEnd, together};
 ghost use Rattle.peers_msg.specs.Stream.{AllFit};
 ghost use Rattle.peers_msg.specs.Heard.{Heard};
 ghost use Rattle.peers_msg.specs.Fitting.{update_fits, fits};
@@ -58,6 +59,14 @@ pub fn spelled_is_read()
 /// More bytes behind change only the answer that a message isn't whole.
 pub fn reading_stays()
     ensures { (h : Heard) (bytes more : List ℕ) → IsBytes bytes → message_at h bytes ≢ Ok None → message_at h (bytes ++ more) ≡ with_more more (message_at h bytes) }
+{}
+
+/// However a stream is cut into pieces, and however many messages are read after each of them, the messages are those
+/// of the whole. Where two ways to cut one stream both end, the same messages were read, the same was heard, and the
+/// same bytes are left.
+pub fn any_cutting()
+    ensures whole { (h : Heard) (unread : List ℕ) (pieces : List (List ℕ)) (ms : List Message) (g : Heard) (rest : List ℕ) → IsBytes (unread ++ together pieces) → AreReadInPieces h unread pieces ms g rest → AreRead h (unread ++ together pieces) ms g rest }
+    ensures same { (h : Heard) (one other : List (List ℕ)) (ms ns : List Message) (g k : Heard) (x y : List ℕ) → IsBytes (together one) → together one ≡ together other → AreReadInPieces h [] one ms g x → AreReadInPieces h [] other ns k y → IsEnd g x → IsEnd k y → (ms ≡ ns) × (g ≡ k) × (x ≡ y) }
 {}
 
 /// The data of an update that fits a table, and of a definition, have at most 16,384 bytes; and key and values that

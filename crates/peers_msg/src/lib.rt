@@ -2,6 +2,7 @@
 #![tactic(auto)]
 
 mod control;
+mod decoder;
 mod encoding;
 mod fault;
 mod fitting;
@@ -10,14 +11,17 @@ mod laws;
 mod meaning;
 mod message;
 mod name_field;
+mod reading;
 mod sizes;
 
 pub use control::{Control, ErrorKind};
+pub use decoder::Decoder;
 pub use encoding::encode;
+pub use fault::Fault;
 pub use heard::Heard;
 pub use laws::{
-    data_is_small, no_prefix, one_lesson, one_list, one_message, one_step, read_is_spelled,
-    reading_stays, spelled_is_read,
+    any_cutting, data_is_small, no_prefix, one_lesson, one_list, one_message, one_step,
+    read_is_spelled, reading_stays, spelled_is_read,
 };
 pub use message::{Message, Other, UpdateMsg};
 pub use name_field::NameField;

@@ -1,0 +1,109 @@
+-- Reading values and types one after another, as a loop does.
+use Rattle.std.proofs.Common.{◌≡◌, ◌≢◌, ℕ, ◌+◌, ◌/◌, ◌%◌, ◌<◌, ◌≤◌, true, false, List, [], ◌∷◌, ◌++◌, length, drop, get_or, Option, Result, Ok, Err, refl, sym, ap, ◌∙◌, append_assoc, arith}
+use Rattle.std.proofs.lemmas.List.{append-nil, at_drop_more, drop_all}
+use Rattle.table_types.specs.declared.data_type.DataType.{DataType}
+use Rattle.table_types.specs.declared.data_type.DataType.TheVariants.{ServerKey}
+use Rattle.table_types.specs.declared.data_type.Shape.{Shape}
+use Rattle.table_types.specs.declared.update.Value.{Value}
+use Rattle.table_types.specs.DataTypes.{shape_of}
+use Rattle.table_types.specs.Updates.{is_name_shape}
+use Rattle.peers_msg.specs.declared.fault.Breach.{Breach}
+use Rattle.peers_msg.specs.declared.fault.ReadError.{ReadError}
+use Rattle.peers_msg.specs.declared.fault.ReadError.TheVariants as errors
+use Rattle.peers_msg.specs.Decoding.{Fails}
+use Rattle.peers_msg.specs.Reading.{◌>>=◌, value_at, values_at, period_at, types_at}
+
+-- what was read before, and what is still read
+abbrev pub with_front : {A : Type 0} → List A → Result (List A × List ℕ) Breach → Result (List A × List ℕ) Breach
+with_front front read = read >>= λ x. Ok (front ++ x.0, x.1)
+
+abbrev pub with_first : {A : Type 0} → A → Result (List A × List ℕ) Breach → Result (List A × List ℕ) Breach
+with_first a read = read >>= λ x. Ok (a ∷ x.0, x.1)
+
+regroup : {A : Type 0} (front : List A) (a : A) (read : Result (List A × List ℕ) Breach) → with_front front (with_first a read) ≡ with_front (front ++ a ∷ []) read
+regroup {A} front a (Ok x) = ap (λ (xs : List A). Ok (xs, x.1)) (simp append_assoc)
+regroup front a (Err f) = refl
+
+pub begins : {A : Type 0} (read : Result (List A × List ℕ) Breach) → with_front [] read ≡ read
+begins (Ok x) = refl
+begins (Err f) = refl
+
+-- ---- values
+
+at_value : (front : List Value) (ts : List (DataType × Option ℕ)) (i : ℕ) (d : DataType × Option ℕ) (bytes : List ℕ) (total : Result (List Value × List ℕ) Breach) → i < length ts → with_front front (values_at (drop i ts) bytes) ≡ total → with_front front (values_at (get_or ts i d ∷ drop (i + 1) ts) bytes) ≡ total
+at_value front ts i d bytes total lt so_far = sym (at_drop_more (λ us. with_front front (values_at us bytes)) ts i d lt) ∙ so_far
+
+pub value_passed : (front : List Value) (ts : List (DataType × Option ℕ)) (i : ℕ) (d : DataType × Option ℕ) (bytes : List ℕ) (shape : Shape) (total : Result (List Value × List ℕ) Breach) → i < length ts → shape ≡ shape_of (get_or ts i d).0 → is_name_shape shape ≡ true
+    → with_front front (values_at (drop i ts) bytes) ≡ total → with_front front (values_at (drop (i + 1) ts) bytes) ≡ total
+unfolding values_at
+value_passed front ts i d bytes shape total lt shaped is so_far =
+    let t = get_or ts i d in
+    let name : is_name_shape (shape_of t.0) ≡ true = ap is_name_shape (sym shaped) ∙ is in
+    let one : with_front front (values_at (t ∷ drop (i + 1) ts) bytes) ≡ with_front front (values_at (drop (i + 1) ts) bytes) = rw name refl in
+    sym one ∙ at_value front ts i d bytes total lt so_far
+
+pub value_read : (front : List Value) (ts : List (DataType × Option ℕ)) (i : ℕ) (d : DataType × Option ℕ) (bytes : List ℕ) (shape : Shape) (value : Value) (after : List ℕ) (total : Result (List Value × List ℕ) Breach) → i < length ts → shape ≡ shape_of (get_or ts i d).0 → is_name_shape shape ≡ false
+    → value_at shape bytes ≡ Ok (value, after) → with_front front (values_at (drop i ts) bytes) ≡ total → with_front (front ++ value ∷ []) (values_at (drop (i + 1) ts) after) ≡ total
+unfolding values_at
+value_read front ts i d bytes shape value after total lt shaped isnt read so_far =
+    let t = get_or ts i d in
+    let none : is_name_shape (shape_of t.0) ≡ false = ap is_name_shape (sym shaped) ∙ isnt in
+    let found : value_at (shape_of t.0) bytes ≡ Ok (value, after) = ap (λ (s : Shape). value_at s bytes) (sym shaped) ∙ read in
+    let one : with_front front (values_at (t ∷ drop (i + 1) ts) bytes) ≡ with_front (front ++ value ∷ []) (values_at (drop (i + 1) ts) after) = rw (none, found) (regroup front value (values_at (drop (i + 1) ts) after)) in
+    sym one ∙ at_value front ts i d bytes total lt so_far
+
+pub value_fails : (e : ReadError) (front : List Value) (ts : List (DataType × Option ℕ)) (i : ℕ) (d : DataType × Option ℕ) (bytes : List ℕ) (shape : Shape) (total : Result (List Value × List ℕ) Breach) → i < length ts → shape ≡ shape_of (get_or ts i d).0 → is_name_shape shape ≡ false
+    → Fails e (value_at shape bytes) → with_front front (values_at (drop i ts) bytes) ≡ total → Fails e total
+unfolding values_at
+value_fails errors.Memory front ts i d bytes shape total lt shaped isnt read so_far = tt
+value_fails (errors.Breach f) front ts i d bytes shape total lt shaped isnt read so_far =
+    let t = get_or ts i d in
+    let none : is_name_shape (shape_of t.0) ≡ false = ap is_name_shape (sym shaped) ∙ isnt in
+    let found : value_at (shape_of t.0) bytes ≡ Err f = ap (λ (s : Shape). value_at s bytes) (sym shaped) ∙ read in
+    let one : with_front front (values_at (t ∷ drop (i + 1) ts) bytes) ≡ Err f = rw (none, found) refl in
+    sym (at_value front ts i d bytes total lt so_far) ∙ one
+
+pub values_done : (front : List Value) (ts : List (DataType × Option ℕ)) (i : ℕ) (bytes : List ℕ) (total : Result (List Value × List ℕ) Breach) → length ts ≤ i → with_front front (values_at (drop i ts) bytes) ≡ total → total ≡ Ok (front, bytes)
+unfolding values_at
+values_done front ts i bytes total le so_far =
+    let none : with_front front (values_at [] bytes) ≡ total = ap (λ us. with_front front (values_at us bytes)) (sym (drop_all i ts le)) ∙ so_far in
+    sym none ∙ ap (λ (vs : List Value). Ok (vs, bytes)) (append-nil front)
+
+-- ---- types
+
+at_type : (front : List (DataType × Option ℕ)) (ts : List DataType) (i : ℕ) (d : DataType) (bits : ℕ) (bytes : List ℕ) (total : Result (List (DataType × Option ℕ) × List ℕ) Breach) → i < length ts → with_front front (types_at (drop i ts) bits bytes) ≡ total → with_front front (types_at (get_or ts i d ∷ drop (i + 1) ts) bits bytes) ≡ total
+at_type front ts i d bits bytes total lt so_far = sym (at_drop_more (λ us. with_front front (types_at us bits bytes)) ts i d lt) ∙ so_far
+
+pub type_passed : (front : List (DataType × Option ℕ)) (ts : List DataType) (i : ℕ) (bits : ℕ) (bytes : List ℕ) (total : Result (List (DataType × Option ℕ) × List ℕ) Breach) → i < length ts → bits % 2 ≡ 0
+    → with_front front (types_at (drop i ts) bits bytes) ≡ total → with_front front (types_at (drop (i + 1) ts) (bits / 2) bytes) ≡ total
+unfolding types_at
+type_passed front ts i bits bytes total lt even so_far =
+    let t = get_or ts i ServerKey in
+    let one : with_front front (types_at (t ∷ drop (i + 1) ts) bits bytes) ≡ with_front front (types_at (drop (i + 1) ts) (bits / 2) bytes) = rw even refl in
+    sym one ∙ at_type front ts i ServerKey bits bytes total lt so_far
+
+pub type_read : (front : List (DataType × Option ℕ)) (ts : List DataType) (i : ℕ) (d : DataType) (bits : ℕ) (bytes : List ℕ) (period : Option ℕ) (after : List ℕ) (total : Result (List (DataType × Option ℕ) × List ℕ) Breach) → i < length ts → bits % 2 ≢ 0
+    → period_at (get_or ts i d) bytes ≡ Ok (period, after) → with_front front (types_at (drop i ts) bits bytes) ≡ total → with_front (front ++ (get_or ts i d, period) ∷ []) (types_at (drop (i + 1) ts) (bits / 2) after) ≡ total
+unfolding types_at
+type_read front ts i d bits bytes period after total lt odd read so_far =
+    let t = get_or ts i d in
+    let entry : DataType × Option ℕ = (t, period) in
+    let one_bit : bits % 2 ≡ 1 = omega (arith, odd) in
+    let one : with_front front (types_at (t ∷ drop (i + 1) ts) bits bytes) ≡ with_front (front ++ entry ∷ []) (types_at (drop (i + 1) ts) (bits / 2) after) = rw (one_bit, read) (regroup front entry (types_at (drop (i + 1) ts) (bits / 2) after)) in
+    sym one ∙ at_type front ts i d bits bytes total lt so_far
+
+pub type_fails : (e : ReadError) (front : List (DataType × Option ℕ)) (ts : List DataType) (i : ℕ) (d : DataType) (bits : ℕ) (bytes : List ℕ) (total : Result (List (DataType × Option ℕ) × List ℕ) Breach) → i < length ts → bits % 2 ≢ 0
+    → Fails e (period_at (get_or ts i d) bytes) → with_front front (types_at (drop i ts) bits bytes) ≡ total → Fails e total
+unfolding types_at
+type_fails errors.Memory front ts i d bits bytes total lt odd read so_far = tt
+type_fails (errors.Breach f) front ts i d bits bytes total lt odd read so_far =
+    let t = get_or ts i d in
+    let one_bit : bits % 2 ≡ 1 = omega (arith, odd) in
+    let one : with_front front (types_at (t ∷ drop (i + 1) ts) bits bytes) ≡ Err f = rw (one_bit, read) refl in
+    sym (at_type front ts i d bits bytes total lt so_far) ∙ one
+
+pub types_done : (front : List (DataType × Option ℕ)) (ts : List DataType) (i : ℕ) (bits : ℕ) (bytes : List ℕ) (total : Result (List (DataType × Option ℕ) × List ℕ) Breach) → length ts ≤ i → with_front front (types_at (drop i ts) bits bytes) ≡ total → total ≡ Ok (front, bytes)
+unfolding types_at
+types_done front ts i bits bytes total le so_far =
+    let none : with_front front (types_at [] bits bytes) ≡ total = ap (λ us. with_front front (types_at us bits bytes)) (sym (drop_all i ts le)) ∙ so_far in
+    sym none ∙ ap (λ (ts : List (DataType × Option ℕ)). Ok (ts, bytes)) (append-nil front)

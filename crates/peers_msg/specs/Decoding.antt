@@ -1,0 +1,95 @@
+-- What a decoder holds, and what it answers.
+use Rattle.std.specs.Prelude.{◌≡◌, ◌≢◌, ℕ, Bool, true, false, List, [], ◌∷◌, ◌++◌, Option, Some, None, Result, Ok, Err}
+use Rattle.peers_msg.specs.declared.fault.Breach.{Breach}
+use Rattle.peers_msg.specs.declared.fault.Breach.TheVariants as breaches
+use Rattle.peers_msg.specs.declared.fault.ReadError.{ReadError}
+use Rattle.peers_msg.specs.declared.fault.ReadError.TheVariants as errors
+use Rattle.peers_msg.specs.declared.fault.Fault.{Fault}
+use Rattle.peers_msg.specs.declared.fault.Fault.TheVariants as faults
+use Rattle.peers_msg.specs.declared.message.Message.{Message}
+use Rattle.peers_msg.specs.Heard.{Heard, heard_after}
+use Rattle.peers_msg.specs.Reading.{message_at}
+
+abbrev pub Fails : {Y : Type 0} → ReadError → Result Y Breach → Type 0
+Fails errors.Memory read = Unit {0}
+Fails (errors.Breach breach) read = read ≡ Err breach
+
+-- what was returned, seen so, is what reading gives, unless memory ran out
+abbrev pub Gives : {X Y : Type 0} → (X → Y) → Result X ReadError → Result Y Breach → Type 0
+Gives view (Ok x) read = read ≡ Ok (view x)
+Gives view (Err e) read = Fails e read
+
+-- what was heard, the bytes that weren't read yet, and whether there was a fault
+pub record Decoding : Type 0 where
+  pub heard : Heard
+  pub unread : List ℕ
+  pub closed : Bool
+
+-- nothing was fed yet
+abbrev pub begun : Heard → Decoding
+begun heard = record { heard = heard; unread = []; closed = false }
+
+abbrev pub fault_of : Breach → Fault
+fault_of breaches.BadInteger = faults.BadInteger
+fault_of breaches.SizeLimit = faults.SizeLimit
+fault_of breaches.BadDefinition = faults.BadDefinition
+fault_of breaches.UnknownDataType = faults.UnknownDataType
+fault_of breaches.NoTable = faults.NoTable
+fault_of breaches.BadKey = faults.BadKey
+fault_of breaches.BadValue = faults.BadValue
+fault_of breaches.Trailing = faults.Trailing
+
+-- What feeding bytes does. After a fault nothing is fed.
+abbrev pub Fed : Decoding → List ℕ → Result (Unit {0}) Fault → Decoding → Type 0
+Fed d piece (Ok _) e = (d.closed ≡ false) × (e ≡ record { heard = d.heard; unread = d.unread ++ piece; closed = false })
+Fed d piece (Err faults.Memory) e = (d.closed ≡ false) × (e ≡ d)
+Fed d piece (Err faults.Closed) e = (d.closed ≡ true) × (e ≡ d)
+Fed d piece (Err fault) e = ⊥
+
+-- What asking for a message does. A message is taken off the bytes and heard, a breach closes, and nothing else changes
+-- anything.
+abbrev pub Next : Decoding → Result (Option Message) Fault → Decoding → Type 0
+Next d (Ok None) e = (d.closed ≡ false) × (message_at d.heard d.unread ≡ Ok None) × (e ≡ d)
+Next d (Ok (Some m)) e =
+    (d.closed ≡ false)
+    × (rest : List ℕ)
+    × (message_at d.heard d.unread ≡ Ok (Some (m, rest)))
+    × (e ≡ record { heard = heard_after d.heard m; unread = rest; closed = false })
+Next d (Err faults.Memory) e = (d.closed ≡ false) × (e ≡ d)
+Next d (Err faults.Closed) e = (d.closed ≡ true) × (e ≡ d)
+Next d (Err fault) e =
+    (d.closed ≡ false)
+    × (breach : Breach)
+    × (message_at d.heard d.unread ≡ Err breach)
+    × (fault ≡ fault_of breach)
+    × (e ≡ record { heard = d.heard; unread = d.unread; closed = true })
+
+-- ---- streams in pieces
+
+-- these messages are read one after another, which leads from what was heard before to what was heard then, and these
+-- bytes are left
+abbrev pub AreRead : Heard → List ℕ → List Message → Heard → List ℕ → Type 0
+AreRead before bytes [] heard rest = (heard ≡ before) × (rest ≡ bytes)
+AreRead before bytes (m ∷ ms) heard rest =
+    (after : List ℕ) × (message_at before bytes ≡ Ok (Some (m, after))) × AreRead (heard_after before m) after ms heard rest
+
+-- the same where the bytes come in pieces, and after each of them some messages are read, or none
+abbrev pub AreReadInPieces : Heard → List ℕ → List (List ℕ) → List Message → Heard → List ℕ → Type 0
+AreReadInPieces before unread [] ms heard rest = AreRead before unread ms heard rest
+AreReadInPieces before unread (piece ∷ pieces) ms heard rest =
+    (first : List Message)
+    × (others : List Message)
+    × (between : Heard)
+    × (left : List ℕ)
+    × (ms ≡ first ++ others)
+    × AreRead before (unread ++ piece) first between left
+    × AreReadInPieces between left pieces others heard rest
+
+-- the pieces as one stream
+abbrev pub together : List (List ℕ) → List ℕ
+together [] = []
+together (piece ∷ pieces) = piece ++ together pieces
+
+-- no message is whole at the front: it isn't yet, or there is a breach
+abbrev pub IsEnd : Heard → List ℕ → Type 0
+IsEnd heard rest = (m : Message) (after : List ℕ) → message_at heard rest ≢ Ok (Some (m, after))

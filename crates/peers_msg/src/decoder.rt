@@ -1,0 +1,149 @@
+//! The decoder of a stream of messages.
+
+ghost use Rattle.std.specs.Prelude.{◌≡◌, ◌≤◌, IfOk, IfSome, OnOk, OnErr, length, drop, option_map};
+ghost use Rattle.peers_msg.specs.Decoding.{Gives, begun, Fed, Next};
+ghost use Rattle.peers_msg.specs.Heard.{silence, heard_after, resumed};
+ghost use Rattle.peers_msg.specs.Reading.{message_at};
+
+use crate::fault::{Fault, ReadError};
+use crate::heard::Heard;
+use crate::message::Message;
+use crate::reading::message_at;
+use bytes::BytesMut;
+use std::alloc::Global;
+use std::marker::Model;
+use table_types::{Memory, Roster};
+
+/// Reads the messages of a stream that comes in pieces, cut anywhere.
+///
+/// It holds the bytes that were fed and not read yet, and what the messages read told of the tables. While a message
+/// isn't whole only its first bytes are looked at, 12 at most, so the work goes with the bytes fed and the calls.
+#[derive(Drop)]
+pub struct Decoder {
+    alloc: Global,
+    heard: Heard,
+    unread: BytesMut<Global>,
+    closed: bool,
+}
+
+impl Model for Decoder {
+    ghost use Rattle.peers_msg.specs.Decoding.{Decoding};
+
+    ghost Value = { Decoding };
+
+    ghost view = { λ d. record { heard = d.heard; unread = d.unread.items; closed = d.closed } };
+}
+
+/// The message at the front, and how many bytes it has.
+fn front(alloc: Global, heard: &Heard, unread: &[u8]) -> Result<Option<(Message, usize)>, ReadError>
+    ensures read { Gives (option_map (λ x. (x.0, drop x.1 unread.now))) result (message_at heard.now unread.now) }
+    ensures within { IfOk result (λ found. IfSome found (λ x. x.1 ≤ length unread.now)) }
+{
+    let Some((message, rest)) = message_at(alloc, heard, unread)? else {
+        return Ok(None);
+    };
+    let used = unread.len() - rest.len();
+    Ok(Some((message, used)))
+}
+
+/// Hears a message. After `Memory` nothing has changed.
+fn hear(alloc: Global, heard: &mut Heard, message: &Message) -> Result<(), Memory>
+    ensures heard { OnOk result (heard.new ≡ heard_after heard.old message.now) }
+    ensures stays { OnErr result (heard.new ≡ heard.old) }
+{
+    match message {
+        Message::Define(table) => heard.define(table.copy(alloc)?),
+        Message::Switch(id) => {
+            heard.select(*id);
+            Ok(())
+        }
+        _ => Ok(()),
+    }
+}
+
+impl Decoder {
+    /// A decoder that has heard nothing. Takes no memory.
+    pub fn new(alloc: Global) -> Decoder
+        ensures { result ≡ begun silence }
+    {
+        Decoder {
+            alloc,
+            heard: Heard::new(alloc),
+            unread: BytesMut::new(alloc),
+            closed: false,
+        }
+    }
+
+    /// A decoder of what is said to one who heard the roster's definitions of these ids, in this order, and that id
+    /// selected last. An id that the roster lacks is passed over.
+    pub fn resume(
+        alloc: Global,
+        roster: &Roster,
+        defined: &[u64],
+        selected: Option<u64>,
+    ) -> Result<Decoder, Memory>
+        ensures { IfOk result (λ decoder. decoder ≡ begun (resumed roster.now defined.now selected)) }
+    {
+        Ok(Decoder {
+            alloc,
+            heard: Heard::resume(alloc, roster, defined, selected)?,
+            unread: BytesMut::new(alloc),
+            closed: false,
+        })
+    }
+
+    /// What was heard of the tables.
+    pub fn heard(&self) -> &Heard
+        ensures { result.now ≡ self.now.heard }
+    {
+        &self.heard
+    }
+
+    /// How many bytes were fed and not read. Where `next` answers `None` they are those of an unfinished message.
+    pub fn waiting(&self) -> usize
+        ensures { result ≡ length self.now.unread }
+    {
+        self.unread.len()
+    }
+
+    /// Takes the next piece of the stream. After a fault it answers `Closed`; after `Memory` nothing has changed.
+    pub fn feed(&mut self, piece: &[u8]) -> Result<(), Fault>
+        ensures { Fed self.old piece.now result self.new }
+    {
+        if self.closed {
+            return Err(Fault::Closed);
+        }
+        match self.unread.extend_from_slice(piece) {
+            Ok(()) => Ok(()),
+            Err(_) => Err(Fault::Memory),
+        }
+    }
+
+    /// The next message, and `None` while it isn't whole. Bytes that begin no message are a fault, and after it the
+    /// decoder answers `Closed`; after `Memory` nothing has changed.
+    pub fn next(&mut self) -> Result<Option<Message>, Fault>
+        ensures { Next self.old result self.new }
+    {
+        if self.closed {
+            return Err(Fault::Closed);
+        }
+        match front(self.alloc, &self.heard, self.unread.as_slice()) {
+            Ok(Some((message, used))) => match hear(self.alloc, &mut self.heard, &message) {
+                Ok(()) => {
+                    self.unread.advance(used);
+                    Ok(Some(message))
+                }
+                Err(Memory) => Err(Fault::Memory),
+            },
+            Ok(None) => Ok(None),
+            Err(ReadError::Memory) => Err(Fault::Memory),
+            Err(ReadError::Breach(breach)) => {
+                self.closed = true;
+                Err(breach.fault())
+            }
+        }
+    }
+}
+
+#[cfg(test)]
+mod tests;

@@ -1,0 +1,61 @@
+//! The fields that data are made of.
+
+ghost use Rattle.std.specs.Prelude.{◌≡◌, ◌==◌, true, length};
+ghost use Rattle.table_types.specs.Names.{is_name};
+ghost use Rattle.peers_msg.specs.Decoding.{Gives};
+ghost use Rattle.peers_msg.specs.Reading.{wanted, integer_at, word_at, bytes_at};
+
+use crate::fault::{Breach, ReadError};
+use peers_encint::{Read, get};
+
+/// A test in its place among the fields.
+pub(crate) fn wanted(holds: bool, breach: Breach) -> Result<(), ReadError>
+    ensures { Gives (λ _. true) result (wanted holds breach) }
+{
+    if holds {
+        Ok(())
+    } else {
+        Err(ReadError::Breach(breach))
+    }
+}
+
+/// An encoded integer, with what it is when the bytes end before it does.
+#[tactic(auto, unfolding(crate::specs::Reading::integer_at))]
+pub(crate) fn integer_at(short: Breach, bytes: &[u8]) -> Result<(u64, &[u8]), ReadError>
+    ensures { Gives (λ x. (x.0, x.1.now)) result (integer_at short bytes.now) }
+{
+    match get(bytes) {
+        Read::Value(number, used) => Ok((number, &bytes[used..])),
+        Read::Short => Err(ReadError::Breach(short)),
+        Read::Over => Err(ReadError::Breach(Breach::BadInteger)),
+    }
+}
+
+/// Four bytes, the big end first.
+#[tactic(auto, unfolding(crate::specs::Reading::word_at))]
+pub(crate) fn word_at(short: Breach, bytes: &[u8]) -> Result<(u32, &[u8]), ReadError>
+    ensures { Gives (λ x. (x.0, x.1.now)) result (word_at short bytes.now) }
+{
+    match bytes.split_first_chunk::<4>() {
+        Some((word, rest)) => Ok((u32::from_be_bytes(*word), rest)),
+        None => Err(ReadError::Breach(short)),
+    }
+}
+
+/// So many bytes.
+#[tactic(auto, unfolding(crate::specs::Reading::bytes_at))]
+pub(crate) fn bytes_at(short: Breach, count: u64, bytes: &[u8]) -> Result<(&[u8], &[u8]), ReadError>
+    ensures { Gives (λ x. (x.0.now, x.1.now)) result (bytes_at short count bytes.now) }
+{
+    if (bytes.len() as u64) < count {
+        return Err(ReadError::Breach(short));
+    }
+    Ok(bytes.split_at(count as usize))
+}
+
+/// Whether bytes are a name: 1 to 255 of them, none NUL.
+pub(crate) fn is_name(bytes: &[u8]) -> bool
+    ensures { result ≡ is_name bytes.now }
+{
+    !bytes.is_empty() && bytes.len() <= 255 && !bytes.contains(&0)
+}

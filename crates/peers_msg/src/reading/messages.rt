@@ -1,0 +1,206 @@
+//! Messages, of which some bytes may still be to come.
+
+ghost use Rattle.std.specs.Prelude.{◌≡◌, true, option_map};
+ghost use Rattle.peers_msg.specs.declared.meaning.Meaning.TheVariants as meanings;
+ghost use Rattle.peers_msg.specs.Messages.{is_other};
+ghost use Rattle.peers_msg.specs.Decoding.{Gives};
+ghost use Rattle.peers_msg.specs.Reading.{switch_at, ack_at, update_of, control_meant, error_meant, table_meant, meant, message_of, data_at, frame_at, message_at};
+ghost use Rattle.peers_msg.specs.Heard.{selected_table};
+
+use super::definitions::definition_at;
+use super::fields::{integer_at, wanted, word_at};
+use super::updates::update_at;
+use crate::control::{Control, ErrorKind};
+use crate::fault::{Breach, ReadError};
+use crate::heard::Heard;
+use crate::meaning::Meaning;
+use crate::message::{Message, Other};
+use peers_encint::{Read, get};
+use std::alloc::Global;
+
+#[tactic(auto, unfolding(crate::specs::Reading::switch_at))]
+fn switch_at(heard: &Heard, bytes: &[u8]) -> Result<Message, ReadError>
+    ensures { Gives (λ message. message) result (switch_at heard.now bytes.now) }
+{
+    let (id, rest) = integer_at(Breach::BadInteger, bytes)?;
+    wanted(heard.table(id).is_some(), Breach::NoTable)?;
+    wanted(rest.is_empty(), Breach::Trailing)?;
+    Ok(Message::Switch(id))
+}
+
+#[tactic(auto, unfolding(crate::specs::Reading::ack_at))]
+fn ack_at(bytes: &[u8]) -> Result<Message, ReadError>
+    ensures { Gives (λ message. message) result (ack_at bytes.now) }
+{
+    let (table, rest) = integer_at(Breach::BadInteger, bytes)?;
+    let (number, rest) = word_at(Breach::BadInteger, rest)?;
+    wanted(rest.is_empty(), Breach::Trailing)?;
+    Ok(Message::Ack { table, number })
+}
+
+fn update_of(
+    alloc: Global,
+    heard: &Heard,
+    numbered: bool,
+    timed: bool,
+    bytes: &[u8],
+) -> Result<Message, ReadError>
+    ensures { Gives (λ message. message) result (update_of (selected_table heard.now) numbered timed bytes.now) }
+{
+    match heard.selected_table() {
+        Some(table) => {
+            let update = update_at(alloc, table, numbered, timed, bytes)?;
+            Ok(Message::Update(update))
+        }
+        None => Err(ReadError::Breach(Breach::NoTable)),
+    }
+}
+
+fn control_meant(kind: u8) -> Meaning
+    ensures { result ≡ control_meant kind }
+{
+    match kind {
+        0 => Meaning::Control(Control::ResyncRequest),
+        1 => Meaning::Control(Control::ResyncFinished),
+        2 => Meaning::Control(Control::ResyncPartial),
+        3 => Meaning::Control(Control::ResyncConfirmed),
+        4 => Meaning::Control(Control::Heartbeat),
+        _ => Meaning::Other,
+    }
+}
+
+fn error_meant(kind: u8) -> Meaning
+    ensures { result ≡ error_meant kind }
+{
+    match kind {
+        0 => Meaning::Error(ErrorKind::Protocol),
+        1 => Meaning::Error(ErrorKind::SizeLimit),
+        _ => Meaning::Other,
+    }
+}
+
+fn update_meant(numbered: bool, timed: bool) -> Meaning
+    ensures { result ≡ meanings.Update numbered timed }
+{
+    Meaning::Update { numbered, timed }
+}
+
+fn table_meant(kind: u8) -> Meaning
+    ensures { result ≡ table_meant kind }
+{
+    match kind {
+        128 => update_meant(true, false),
+        129 => update_meant(false, false),
+        130 => Meaning::Define,
+        131 => Meaning::Switch,
+        132 => Meaning::Ack,
+        133 => update_meant(true, true),
+        134 => update_meant(false, true),
+        _ => Meaning::Other,
+    }
+}
+
+#[tactic(auto, unfolding(crate::specs::Reading::meant))]
+fn meant(class: u8, kind: u8) -> Meaning
+    ensures { result ≡ meant class kind }
+{
+    match class {
+        0 => control_meant(kind),
+        1 => error_meant(kind),
+        10 => table_meant(kind),
+        _ => Meaning::Other,
+    }
+}
+
+/// Class, type and data.
+#[derive(Clone, Copy)]
+struct Frame<'a> {
+    class: u8,
+    kind: u8,
+    body: &'a [u8],
+}
+
+fn message_of(
+    alloc: Global,
+    heard: &Heard,
+    meaning: Meaning,
+    class: u8,
+    kind: u8,
+    body: &[u8],
+) -> Result<Message, ReadError>
+    requires { meaning ≡ meanings.Other → is_other (record { class = class; kind = kind; body = body.now }) ≡ true }
+    ensures { Gives (λ message. message) result (message_of heard.now meaning class kind body.now) }
+{
+    match meaning {
+        Meaning::Control(control) => Ok(Message::Control(control)),
+        Meaning::Error(error) => Ok(Message::Error(error)),
+        Meaning::Define => Ok(Message::Define(definition_at(alloc, body)?)),
+        Meaning::Switch => switch_at(heard, body),
+        Meaning::Ack => ack_at(body),
+        Meaning::Update { numbered, timed } => update_of(alloc, heard, numbered, timed, body),
+        Meaning::Other => match Other::new(class, kind, Vec::from_slice(alloc, body)?) {
+            Some(other) => Ok(Message::Other(other)),
+            None => unreachable!(),
+        },
+    }
+}
+
+/// The data behind a type, once they all stand.
+#[tactic(auto, unfolding(crate::specs::Reading::data_at))]
+fn data_at(kind: u8, bytes: &[u8]) -> Result<Option<(&[u8], &[u8])>, ReadError>
+    ensures { Gives (option_map (λ x. (x.0.now, x.1.now))) result (data_at kind bytes.now) }
+{
+    if kind < 128 {
+        return Ok(Some(bytes.split_at(0)));
+    }
+    let (count, rest) = match get(bytes) {
+        Read::Value(count, used) => (count, &bytes[used..]),
+        Read::Short => return Ok(None),
+        Read::Over => return Err(ReadError::Breach(Breach::BadInteger)),
+    };
+    if count > 16_384 {
+        return Err(ReadError::Breach(Breach::SizeLimit));
+    }
+    if (rest.len() as u64) < count {
+        return Ok(None);
+    }
+    Ok(Some(rest.split_at(count as usize)))
+}
+
+/// Class, type and data at the front, once they all stand. While they don't, no byte of the data is looked at.
+#[tactic(auto, unfolding(crate::specs::Reading::frame_at))]
+fn frame_at(bytes: &[u8]) -> Result<Option<(Frame<'_>, &[u8])>, ReadError>
+    ensures { Gives (option_map (λ x. (record { class = x.0.class; kind = x.0.kind; body = x.0.body.now }, x.1.now))) result (frame_at bytes.now) }
+{
+    let [class, kind, behind @ ..] = bytes else {
+        return Ok(None);
+    };
+    Ok(match data_at(*kind, behind)? {
+        Some((body, rest)) => {
+            let frame = Frame {
+                class: *class,
+                kind: *kind,
+                body,
+            };
+            Some((frame, rest))
+        }
+        None => None,
+    })
+}
+
+/// The message at the front, and the bytes after it; `None` while it isn't whole.
+#[tactic(auto, unfolding(crate::specs::Reading::message_at, crate::specs::Reading::body_at))]
+pub(crate) fn message_at<'a>(
+    alloc: Global,
+    heard: &Heard,
+    bytes: &'a [u8],
+) -> Result<Option<(Message, &'a [u8])>, ReadError>
+    ensures { Gives (option_map (λ x. (x.0, x.1.now))) result (message_at heard.now bytes.now) }
+{
+    let Some((frame, rest)) = frame_at(bytes)? else {
+        return Ok(None);
+    };
+    let meaning = meant(frame.class, frame.kind);
+    let message = message_of(alloc, heard, meaning, frame.class, frame.kind, frame.body)?;
+    Ok(Some((message, rest)))
+}
