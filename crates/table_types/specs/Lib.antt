@@ -6,3 +6,4 @@ pub mod Updates
 pub mod Rosters
 pub mod Batches
 pub mod Slots
+pub mod Rows

@@ -9,6 +9,7 @@ mod memory;
 mod moment;
 mod name;
 mod roster;
+mod row;
 mod table_def;
 #[cfg(test)]
 mod tests;
@@ -22,5 +23,6 @@ pub use memory::Memory;
 pub use moment::Moment;
 pub use name::Name;
 pub use roster::{Roster, RosterError, has_id, is_same_name, table_at};
+pub use row::{Cell, Row};
 pub use table_def::{DefError, TableDef};
 pub use update::{Update, Value};

@@ -1,6 +1,7 @@
 //! Points in time.
 
 ghost use Rattle.std.specs.Prelude.{◌≡◌, ◌≤◌, ◌<◌, ◌^◌, ◌↔◌, IsSome, IfSome};
+ghost use Rattle.table_types.specs.Rows.{later_by};
 
 use std::marker::Model;
 
@@ -43,5 +44,20 @@ impl Moment {
         ensures most { self < 2 ^ 63 }
     {
         self.milliseconds
+    }
+    /// So many milliseconds later; past the greatest moment it is that one.
+    pub fn later_by(self, milliseconds: u32) -> Moment
+        ensures { result ≡ later_by milliseconds self }
+    {
+        let later = self.milliseconds + u64::from(milliseconds);
+        if later < 1 << 63 {
+            Moment {
+                milliseconds: later,
+            }
+        } else {
+            Moment {
+                milliseconds: (1 << 63) - 1,
+            }
+        }
     }
 }

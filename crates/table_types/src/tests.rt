@@ -7,6 +7,7 @@ use crate::key::{Key, KeyKind};
 use crate::moment::Moment;
 use crate::name::Name;
 use crate::roster::{Roster, RosterError};
+use crate::row::{Cell, Row};
 use crate::table_def::{DefError, TableDef};
 use crate::update::{Update, Value};
 use std::alloc::Global;
@@ -282,4 +283,76 @@ fn words(rt: HostRuntime) {
     assert_eq!(rt; DataType::from_name("gpc"), None);
     assert_eq!(rt; KeyKind::from_name("ipv4"), Some(KeyKind::Ip4));
     assert_eq!(rt; KeyKind::from_name("ip"), None);
+}
+
+/// The end of the row that an update with this life teaches at this moment, where rows expire so.
+fn end_of(alloc: Global, moment: u64, expire: u32, life: Option<u32>) -> Result<Option<u64>, Fail> {
+    let moment = Moment::new(moment).ok_or("no moment")?;
+    let (_, row) = Row::learned(alloc, update(alloc, 1, 1, life)?, expire, moment)?;
+    Ok(row.ends().map(Moment::milliseconds))
+}
+
+#[test]
+fn ends_of_rows(rt: HostRuntime) -> Result<(), Fail> {
+    let alloc = rt.alloc();
+    let least = 1 << 32;
+    assert_eq!(rt;
+        end_of(alloc, least, 30_000, Some(20_000))?,
+        Some(least + 20_000)
+    );
+    assert_eq!(rt;
+        end_of(alloc, least, 30_000, Some(30_001))?,
+        Some(least + 30_000)
+    );
+    assert_eq!(rt; end_of(alloc, least, 30_000, Some(0))?, Some(least));
+    assert_eq!(rt; end_of(alloc, least, 30_000, None)?, Some(least + 30_000));
+    assert_eq!(rt; end_of(alloc, least, 0, Some(20_000))?, None);
+    assert_eq!(rt; end_of(alloc, least, 0, None)?, None);
+    let greatest = (1 << 63) - 1;
+    assert_eq!(rt; end_of(alloc, greatest, 30_000, None)?, Some(greatest));
+    assert_eq!(rt;
+        end_of(alloc, greatest - 5, 30_000, Some(5))?,
+        Some(greatest)
+    );
+    Ok(())
+}
+
+#[test]
+fn learned_rows(rt: HostRuntime) -> Result<(), Fail> {
+    let alloc = rt.alloc();
+    let moment = Moment::new(1 << 32).ok_or("no moment")?;
+    let rate = Value::Rate {
+        elapsed: u32::MAX,
+        current: 2,
+        previous: 3,
+    };
+    let taught = Update {
+        values: Items::new(vec![in alloc; Value::Count(5), rate]?),
+        name: Name::new(Vec::from_slice(alloc, b"s1")?),
+        ..update(alloc, 1, 9, None)?
+    };
+    let (key, row) = Row::learned(alloc, taught, 0, moment)?;
+    assert_eq!(rt; key, Key::Int(7));
+    assert_eq!(rt; row.number(), 9);
+    assert!(rt; row.is_learned());
+    let cells = [
+        Cell::Count(5),
+        Cell::Rate {
+            start: 1,
+            current: 2,
+            previous: 3,
+        },
+    ];
+    assert_eq!(rt; row.cells(), cells.as_slice());
+    let copy = row.copy(alloc)?;
+    assert_eq!(rt;
+        copy.name(),
+        Name::new(Vec::from_slice(alloc, b"s1")?).as_ref()
+    );
+    assert_eq!(rt; copy.cells(), cells.as_slice());
+    assert_eq!(rt;
+        (copy.number(), copy.ends(), copy.is_learned()),
+        (9, None, true)
+    );
+    Ok(())
 }

@@ -1,0 +1,173 @@
+//! Rows of stick tables.
+
+ghost use Rattle.std.specs.Prelude.{◌≡◌, ◌↔◌, IfOk, IsTrue, map, option_copied};
+ghost use Rattle.table_types.specs.Rows.{cell_of, end_of, row_of};
+
+use crate::items::Items;
+use crate::key::Key;
+use crate::memory::Memory;
+use crate::moment::Moment;
+use crate::name::Name;
+use crate::update::{Update, Value};
+use std::alloc::Global;
+use std::marker::Model;
+
+/// What a row holds of a data type (HAProxy Configuration Manual, stick-table `store`).
+#[derive(Clone, Copy, Debug, PartialEq, Eq)]
+pub enum Cell {
+    /// A count.
+    Count(u64),
+    /// A rate.
+    Rate {
+        /// The milliseconds of the moment at which its current period began; it may lie below the least `Moment`.
+        start: u64,
+        /// The count of the current period.
+        current: u32,
+        /// The count of the period before.
+        previous: u32,
+    },
+}
+
+/// What a table holds at a key.
+#[derive(Debug, Drop)]
+pub struct Row {
+    number: u32,
+    ends: Option<Moment>,
+    cells: Items<Cell>,
+    name: Option<Name>,
+    learned: bool,
+}
+
+impl Model for Row {
+    ghost use Rattle.table_types.specs.Rows.{StoredRow};
+
+    ghost Value = { StoredRow };
+
+    ghost view = { λ r. record { number = r.number; ends = r.ends; cells = r.cells; name = r.name; learned = r.learned } };
+}
+
+fn cell_of(value: Value, moment: Moment) -> Cell
+    ensures { result ≡ cell_of moment value }
+{
+    match value {
+        Value::Count(count) => Cell::Count(count),
+        Value::Rate {
+            elapsed,
+            current,
+            previous,
+        } => Cell::Rate {
+            start: moment.milliseconds() - u64::from(elapsed),
+            current,
+            previous,
+        },
+    }
+}
+
+fn cells_of(alloc: Global, values: &[Value], moment: Moment) -> Result<Items<Cell>, Memory>
+    ensures { IfOk result (λ cells. cells ≡ map (cell_of moment) values.now) }
+{
+    let mut cells = Vec::with_capacity(alloc, values.len())?;
+    for value in values {
+        cells.push(cell_of(*value, moment))?;
+    }
+    Ok(Items::new(cells))
+}
+
+/// When a row ends whose remaining life was told so, in a table whose rows expire so.
+fn end_of(moment: Moment, expire: u32, life: Option<u32>) -> Option<Moment>
+    ensures { result ≡ end_of moment expire life }
+{
+    if expire == 0 {
+        return None;
+    }
+    match life {
+        Some(life) if life < expire => Some(moment.later_by(life)),
+        _ => Some(moment.later_by(expire)),
+    }
+}
+
+impl Row {
+    /// The row that an update teaches at a moment, with its key, in a table whose rows expire after `expire`
+    /// milliseconds, or never where that is 0.
+    ///
+    /// The row is a learned one. It ends after the smaller of the life told and the table's expire, and after the
+    /// expire where no life is told; an end past the greatest moment is that moment. A rate's current period began
+    /// so long ago as the update says.
+    pub fn learned(
+        alloc: Global,
+        update: Update,
+        expire: u32,
+        moment: Moment,
+    ) -> Result<(Key, Row), Memory>
+        ensures { IfOk result (λ pair. (pair.0 ≡ update.key) × (pair.1 ≡ row_of moment expire update)) }
+    {
+        let cells = cells_of(alloc, update.values.as_slice(), moment)?;
+        let Update {
+            number,
+            life,
+            key,
+            name,
+            ..
+        } = update;
+        let row = Row {
+            number,
+            ends: end_of(moment, expire, life),
+            cells,
+            name,
+            learned: true,
+        };
+        Ok((key, row))
+    }
+
+    /// The number of the row's last update.
+    pub fn number(&self) -> u32
+        ensures { result ≡ self.now.number }
+    {
+        self.number
+    }
+
+    /// The moment at which the row ends; `None` where it lives for ever.
+    pub fn ends(&self) -> Option<Moment>
+        ensures { result ≡ self.now.ends }
+    {
+        self.ends
+    }
+
+    /// What the row holds of each data type of its table but the server's name, in rising id.
+    pub fn cells(&self) -> &[Cell]
+        ensures { result.now ≡ self.now.cells }
+    {
+        self.cells.as_slice()
+    }
+
+    /// The server's name, where the table stores one and the row has one.
+    pub fn name(&self) -> Option<&Name>
+        ensures { option_copied result ≡ self.now.name }
+    {
+        self.name.as_ref()
+    }
+
+    /// Whether the row was learned from a peer, and isn't this node's own.
+    pub fn is_learned(&self) -> bool
+        ensures { result ≡ self.now.learned }
+    {
+        self.learned
+    }
+
+    /// An equal row.
+    pub fn copy(&self, alloc: Global) -> Result<Row, Memory>
+        ensures { IfOk result (λ copy. copy ≡ self.now) }
+    {
+        let name = match &self.name {
+            Some(name) => Some(name.copy(alloc)?),
+            None => None,
+        };
+        Ok(Row {
+            number: self.number,
+            ends: self.ends,
+            cells: self.cells.copy(alloc)?,
+            name,
+            learned: self.learned,
+        })
+    }
+}
