@@ -60,6 +60,14 @@ impl Slots {
         Slots { places: no_names() }
     }
 
+    /// How many slots there are: 128.
+    pub fn len(&self) -> usize
+        ensures count { result ≡ length self.now }
+        ensures all { result ≡ 128 }
+    {
+        self.places.as_slice().len()
+    }
+
     /// The lowest slot that holds this name, and `None` where no slot does.
     pub fn find(&self, name: &Name) -> Option<u8>
         ensures found { IfSome result (λ slot. Holds self.now slot name.now) }

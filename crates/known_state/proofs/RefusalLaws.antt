@@ -14,7 +14,8 @@ use Rattle.peers_msg.specs.Heard.{Heard, selected_table}
 use Rattle.peers_msg.specs.Fitting.{fits}
 use Rattle.peers_msg.specs.Steps.{State, Step, Named, IsOwn, last_of, resolved_number}
 use Rattle.known_state.specs.declared.known.StepError.{StepError}
-use Rattle.known_state.specs.Known.{KnownState, AreOwn, Refuses, switch_refusal, update_refusal, reads_empty}
+use Rattle.known_state.specs.Known.{KnownState, AreOwn, Refuses, switch_refusal, update_refusal}
+use Rattle.known_state.specs.Resolving.{reads_empty}
 use Rattle.known_state.proofs.KnownLemmas.{table_at-id, table_at-passes}
 use Rattle.known_state.proofs.StepLemmas.{has_id-table_at, selected-id}
 

@@ -4,15 +4,14 @@ use Rattle.std.specs.List.{AllByRecursion, list_any, list_all}
 use Rattle.table_types.specs.Tables.{Definition}
 use Rattle.table_types.specs.Updates.{stores_name}
 use Rattle.table_types.specs.Rosters.{table_at, has_id}
-use Rattle.peers_msg.specs.declared.name_field.NameField.{NameField}
-use Rattle.peers_msg.specs.declared.name_field.NameField.TheVariants as names
 use Rattle.peers_msg.specs.declared.message.Message.{Message}
 use Rattle.peers_msg.specs.declared.message.Message.TheVariants as messages
 use Rattle.peers_msg.specs.Messages.{UpdateFields}
 use Rattle.peers_msg.specs.Heard.{silence, resumed, selected_table}
 use Rattle.peers_msg.specs.Fitting.{fits}
-use Rattle.table_types.specs.Slots.{no_names, slot_at}
+use Rattle.table_types.specs.Slots.{no_names}
 use Rattle.peers_msg.specs.Steps.{State, last_of, put_last, resolved_number}
+use Rattle.known_state.specs.Resolving.{reads_empty}
 use Rattle.known_state.specs.declared.known.KnownError.{KnownError}
 use Rattle.known_state.specs.declared.known.KnownError.TheVariants as build_errors
 use Rattle.known_state.specs.declared.known.StepError.{StepError}
@@ -84,11 +83,6 @@ abbrev pub switch_refusal : KnownState → ℕ → Option StepError
 switch_refusal k id =
     if not (has_id id k.roster) then Some step_errors.Foreign
     else (if is_none (table_at k.state.heard.tables id) then Some step_errors.NotDefined else None)
-
--- a field that reads a slot which holds no name
-abbrev pub reads_empty : List (Option (List ℕ)) → NameField → Bool
-reads_empty slots (names.Held slot) = is_none (slot_at slots slot)
-reads_empty slots field = false
 
 -- why an update is refused, by the table that is selected
 abbrev pub update_refusal : KnownState → UpdateFields → Option Definition → Option StepError

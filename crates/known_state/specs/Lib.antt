@@ -1,3 +1,4 @@
+pub mod Resolving
 pub mod Known
 pub mod Shortest
 pub mod Cost

@@ -1,15 +1,27 @@
 //! What holds of known states, whatever the program does.
 
-ghost use Rattle.std.specs.Prelude.{◌≡◌, ◌≤◌, ◌+◌, ◌++◌, ℕ, true, List};
+ghost use Rattle.std.specs.Prelude.{◌≡◌, ◌≤◌, ◌+◌, ◌++◌, ℕ, true, false, List, Option};
 ghost use Rattle.std.specs.List.{AllByRecursion};
 ghost use Rattle.table_types.specs.declared.update.Update.{Update};
 ghost use Rattle.table_types.specs.Tables.{Definition};
 ghost use Rattle.peers_msg.specs.declared.message.Message.{Message};
 ghost use Rattle.peers_msg.specs.Spelling.{size_of_all};
-ghost use Rattle.peers_msg.specs.Steps.{State, Step, IsOwn, Legal};
+ghost use Rattle.peers_msg.specs.declared.name_field.NameField.{NameField};
+ghost use Rattle.peers_msg.specs.Steps.{State, Step, Named, IsOwn, Legal};
 ghost use Rattle.known_state.specs.declared.known.StepError.{StepError};
 ghost use Rattle.known_state.specs.Known.{KnownState, AreOwn, stores_no_name, Refuses};
+ghost use Rattle.known_state.specs.Resolving.{reads_empty, name_of, slots_after};
 ghost use Rattle.known_state.specs.Cost.{IsOfRoster, Pays, Saves, full};
+
+/// A name field names an update exactly where it reads no empty slot, and then by one name and with one list of
+/// slots behind it.
+pub fn one_name()
+    ensures names { (slots : List (Option (List ℕ))) (field : NameField) → reads_empty slots field ≡ false →
+        Named slots field (name_of slots field) (slots_after slots field) }
+    ensures only { (slots : List (Option (List ℕ))) (field : NameField) (name : Option (List ℕ))
+        (after : List (Option (List ℕ))) → Named slots field name after →
+        (reads_empty slots field ≡ false) × (name ≡ name_of slots field) × (after ≡ slots_after slots field) }
+{}
 
 /// What is refused is no step: a message that a known state refuses for whatever cause but memory is not legal there.
 pub fn refused_is_no_step()

@@ -5,10 +5,12 @@ mod known;
 mod lasts;
 mod laws;
 mod parts;
+mod resolver;
 #[cfg(test)]
 mod tests;
 
 pub use known::{Known, KnownError, StepError};
 pub use lasts::Lasts;
-pub use laws::{a_list_pays, a_step_pays, none_is_shorter, refused_is_no_step};
+pub use laws::{a_list_pays, a_step_pays, none_is_shorter, one_name, refused_is_no_step};
 pub use parts::stores_no_name;
+pub use resolver::Resolver;

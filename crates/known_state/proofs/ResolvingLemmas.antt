@@ -1,0 +1,25 @@
+-- The name that a field tells, and the slots behind it, are those of a step.
+use Rattle.std.proofs.Common.{◌≡◌, ℕ, ◌∙◌, Bool, true, false, List, Option, Some, None, refl, sym}
+use Rattle.table_types.specs.Slots.{slot_at}
+use Rattle.peers_msg.specs.declared.name_field.NameField.{NameField}
+use Rattle.peers_msg.specs.declared.name_field.NameField.TheVariants as names
+use Rattle.peers_msg.specs.Steps.{Named}
+use Rattle.known_state.specs.Resolving.{reads_empty, name_of, slots_after}
+
+-- a field that reads no empty slot names an update
+pub named_by : (slots : List (Option (List ℕ))) (field : NameField) → reads_empty slots field ≡ false → Named slots field (name_of slots field) (slots_after slots field)
+named_by slots names.NotStored reads = (refl, refl)
+named_by slots names.NoName reads = (refl, refl)
+named_by slots (names.Written slot name) reads = (refl, refl)
+named_by slots (names.Held slot) reads = at (slot_at slots slot) refl
+  where
+    at : (o : Option (List ℕ)) → slot_at slots slot ≡ o → Named slots (names.Held slot) (slot_at slots slot) slots
+    at None e = let bad : true ≡ false = sym (rw e refl) ∙ reads in cc
+    at (Some name) e = (name, e, e, refl)
+
+-- it names it in no other way
+pub named_so : (slots : List (Option (List ℕ))) (field : NameField) (name : Option (List ℕ)) (after : List (Option (List ℕ))) → Named slots field name after → (reads_empty slots field ≡ false) × (name ≡ name_of slots field) × (after ≡ slots_after slots field)
+named_so slots names.NotStored name after (is_name, is_after) = (refl, is_name, is_after)
+named_so slots names.NoName name after (is_name, is_after) = (refl, is_name, is_after)
+named_so slots (names.Written slot bytes) name after (is_name, is_after) = (refl, is_name, is_after)
+named_so slots (names.Held slot) name after (bytes, held, is_name, is_after) = (rw held refl, is_name ∙ sym held, is_after)
