@@ -6,3 +6,5 @@ pub mod RefusalLaws
 pub mod Unrefused
 pub mod CostLaws
 pub mod StepPays
+pub mod BatchLemmas
+pub mod RequestLemmas

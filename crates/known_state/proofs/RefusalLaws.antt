@@ -7,16 +7,14 @@ use Rattle.table_types.specs.Tables.{Definition}
 use Rattle.table_types.specs.Rosters.{table_at}
 use Rattle.peers_msg.specs.declared.message.Message.{Message}
 use Rattle.peers_msg.specs.declared.message.Message.TheVariants as messages
-use Rattle.peers_msg.specs.declared.name_field.NameField.{NameField}
-use Rattle.peers_msg.specs.declared.name_field.NameField.TheVariants as names
 use Rattle.peers_msg.specs.Messages.{UpdateFields}
 use Rattle.peers_msg.specs.Heard.{Heard, selected_table}
 use Rattle.peers_msg.specs.Fitting.{fits}
-use Rattle.peers_msg.specs.Steps.{State, Step, Named, IsOwn, last_of, resolved_number}
+use Rattle.peers_msg.specs.Steps.{State, Step, IsOwn, last_of, resolved_number}
 use Rattle.known_state.specs.declared.known.StepError.{StepError}
 use Rattle.known_state.specs.Known.{KnownState, AreOwn, Refuses, switch_refusal, update_refusal}
-use Rattle.known_state.specs.Resolving.{reads_empty}
 use Rattle.known_state.proofs.KnownLemmas.{table_at-id, table_at-passes}
+use Rattle.known_state.proofs.ResolvingLemmas.{named_so}
 use Rattle.known_state.proofs.StepLemmas.{has_id-table_at, selected-id}
 
 pub switch_found : (h : Heard) (id : ℕ) → fits h (messages.Switch id) ≡ true → (d : Definition) × (table_at h.tables id ≡ Some d)
@@ -40,12 +38,6 @@ selection h u fit = at (selected_table h) refl
     at (Some d) e = (d, e)
     at None e = let bad : false ≡ true = sym (rw e refl) ∙ fit in cc
 
-names_read : (slots : List (Option (List ℕ))) (field : NameField) (name : Option (List ℕ)) (after : List (Option (List ℕ))) → Named slots field name after → reads_empty slots field ≡ false
-names_read slots names.NotStored name after n = refl
-names_read slots names.NoName name after n = refl
-names_read slots (names.Written slot bytes) name after n = refl
-names_read slots (names.Held slot) name after (bytes, held, is, same) = rw held refl
-
 pub no_step : (k : KnownState) (m : Message) (e : StepError) (us : List Update) (after : State) → AreOwn k.roster k.state.heard.tables → Refuses k m e → IsOwn k.roster m → Step k.state m us after → ⊥
 no_step k (messages.Define d) e us after own refuses is_own step = refuses.0 is_own
 no_step k (messages.Switch id) e us after own refuses is_own step =
@@ -60,7 +52,7 @@ no_step k (messages.Update u) e us after own refuses is_own (fit, table, is_tabl
     let same : Some sel.0.id ≡ Some table = sym (selected-id k.state.heard sel.0 sel.1) ∙ is_table in
     let id_is : sel.0.id ≡ table = cc in
     let numbered : resolved_number u.number (last_of k.state.lasts sel.0.id) ≡ Some number = subst (λ (n : ℕ). resolved_number u.number (last_of k.state.lasts n) ≡ Some number) (sym id_is) is_number in
-    let none : update_refusal k u (selected_table k.state.heard) ≡ None = rw (sel.1, fit, numbered, names_read k.state.slots u.name name after.slots named) refl in
+    let none : update_refusal k u (selected_table k.state.heard) ≡ None = rw (sel.1, fit, numbered, (named_so k.state.slots u.name name after.slots named).0) refl in
     let bad : None ≡ Some e = sym none ∙ refuses in
     cc
 no_step k (messages.Control c) e us after own refuses is_own step = refuses

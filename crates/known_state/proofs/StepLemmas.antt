@@ -1,7 +1,7 @@
 -- The steps that a known state makes, and why it refuses.
 use Rattle.std.proofs.Common.{◌≡◌, ℕ, ◌^◌, ◌<◌, ◌≤◌, Bool, true, false, not, ◌&&◌, List, [], ◌∷◌, length, Option, Some, None, refl, sym, ap, ◌∙◌, subst, inl, inr, arith}
 use Rattle.std.specs.Option.{option_and_then}
-use Rattle.std.specs.Prelude.{is_some, filter}
+use Rattle.std.specs.Prelude.{is_some}
 use Rattle.std.specs.List.{list_any}
 use Rattle.std.proofs.lemmas.Bool.{cases_eq, eq-eqb, ne_eqb, le-leb, lt-ltb}
 use Rattle.peers_encint.specs.Integers.{spelling}
@@ -17,16 +17,13 @@ use Rattle.peers_msg.specs.Messages.{UpdateFields}
 use Rattle.peers_msg.specs.Heard.{Heard, heard_after, selected_table}
 use Rattle.peers_msg.specs.Spelling.{data_of, update_text, definition_text}
 use Rattle.peers_msg.specs.Fitting.{fits, update_fits, name_fits}
-use Rattle.table_types.specs.Slots.{no_names}
-use Rattle.peers_msg.specs.Steps.{State, Step, Named, IsOwn, lasts_after, keeps_last, last_of, put_last, resolved_number, resolved}
+use Rattle.peers_msg.specs.Steps.{State, Step, IsOwn, lasts_after, last_of, put_last, resolved_number, resolved}
 use Rattle.peers_msg.proofs.DataLaws.{update_small, definition_small}
 use Rattle.known_state.specs.declared.known.StepError.TheVariants as step_errors
 use Rattle.known_state.specs.Known.{KnownState, AreOwn, stores_no_name, switch_refusal, update_refusal}
+use Rattle.known_state.specs.Resolving.{Resolving, reads_empty, name_of, slots_after, lasts_kept}
 use Rattle.known_state.proofs.KnownLemmas.{table_at-id, table_at-passes, table_at-nameless, AreOwn-defined}
-
-and-right : (a b : Bool) → (a && b) ≡ true → b ≡ true
-and-right true b h = h
-and-right false b h = cc
+use Rattle.known_state.proofs.ResolvingLemmas.{named_by}
 
 -- an id is one of the tables' where its table is found
 pub has_id-table_at : (ds : List Definition) (id : ℕ) → has_id id ds ≡ is_some (table_at ds id)
@@ -80,12 +77,10 @@ nameless d names.NoName no_name fit = cc
 nameless d (names.Held slot) no_name fit = let e : false ≡ true = sym (rw no_name refl) ∙ fit in cc
 nameless d (names.Written slot name) no_name fit = let e : false ≡ true = sym (rw no_name refl) ∙ fit in cc
 
--- a numbered update of the selected table carries itself, and its number becomes the table's last
-pub update_step : (s : State) (u : UpdateFields) (d : Definition) (number : ℕ) → selected_table s.heard ≡ Some d → update_fits d u ≡ true → is_definition d ≡ true → stores_name d ≡ false → resolved_number u.number (last_of s.lasts d.id) ≡ Some number → Step s (messages.Update u) (resolved u d.id number None ∷ []) (record { heard = s.heard; lasts = put_last d.id number s.lasts; slots = s.slots })
-update_step s u d number sel fit defined no_name is =
-    let field : u.name ≡ names.NotStored = nameless d u.name no_name (and-right _ (name_fits d u.name) fit) in
-    let named : Named s.slots u.name None s.slots = subst (λ (f : NameField). Named s.slots f None s.slots) (sym field) (refl, refl) in
-    (update_fits_heard s.heard u d sel fit defined, d.id, selected-id s.heard d sel, number, is, None, named, refl, refl, refl)
+-- an update of the selected table that reads no empty slot carries itself, and its number becomes the table's last
+pub update_step : (s : State) (u : UpdateFields) (d : Definition) (number : ℕ) → selected_table s.heard ≡ Some d → update_fits d u ≡ true → is_definition d ≡ true → resolved_number u.number (last_of s.lasts d.id) ≡ Some number → reads_empty s.slots u.name ≡ false → Step s (messages.Update u) (resolved u d.id number (name_of s.slots u.name) ∷ []) (record { heard = s.heard; lasts = put_last d.id number s.lasts; slots = slots_after s.slots u.name })
+update_step s u d number sel fit defined is reads =
+    (update_fits_heard s.heard u d sel fit defined, d.id, selected-id s.heard d sel, number, is, name_of s.slots u.name, named_by s.slots u.name reads, refl, refl, refl)
 
 -- why switches are refused
 pub foreign_switch : (k : KnownState) (id : ℕ) → table_at k.roster id ≡ None → switch_refusal k id ≡ Some step_errors.Foreign
@@ -105,6 +100,9 @@ misfit k u d sel not_fit = rw (sel, unfitting k.state.heard u d sel not_fit) ref
 pub numberless : (k : KnownState) (u : UpdateFields) (d : Definition) → selected_table k.state.heard ≡ Some d → update_fits d u ≡ true → is_definition d ≡ true → resolved_number u.number (last_of k.state.lasts d.id) ≡ None → update_refusal k u (selected_table k.state.heard) ≡ Some step_errors.NoNumber
 numberless k u d sel fit defined none = rw (sel, update_fits_heard k.state.heard u d sel fit defined, none) refl
 
+pub emptied : (k : KnownState) (u : UpdateFields) (d : Definition) (number : ℕ) → selected_table k.state.heard ≡ Some d → update_fits d u ≡ true → is_definition d ≡ true → resolved_number u.number (last_of k.state.lasts d.id) ≡ Some number → reads_empty k.state.slots u.name ≡ true → update_refusal k u (selected_table k.state.heard) ≡ Some step_errors.EmptySlot
+emptied k u d number sel fit defined is reads = rw (sel, update_fits_heard k.state.heard u d sel fit defined, is, reads) refl
+
 -- the table selected in a known state is one of the roster's
 pub selected-own : (k : KnownState) (d : Definition) → AreOwn k.roster k.state.heard.tables → selected_table k.state.heard ≡ Some d → table_at k.roster d.id ≡ Some d
 selected-own k d own sel =
@@ -119,35 +117,41 @@ selected-nameless k d own no_name sel = table_at-nameless k.roster d.id d (not-t
     not-true true h = cc
     not-true false h = refl
 
--- what a known state with these parts becomes by a numbered update
-pub taken : (k : KnownState) (roster : List Definition) (heard : Heard) (lasts after : List (ℕ × ℕ)) (u : UpdateFields) (d : Definition) (id number : ℕ)
-    → record { roster = roster; state = record { heard = heard; lasts = lasts; slots = no_names } } ≡ k
-    → AreOwn roster heard.tables × (stores_no_name roster ≡ true)
+-- a known state with these parts
+abbrev pub known_of : List Definition → Heard → Resolving → KnownState
+known_of roster heard by = record { roster = roster; state = record { heard = heard; lasts = by.lasts; slots = by.slots } }
+
+-- what a known state with these parts becomes by an update
+pub taken : (k : KnownState) (roster : List Definition) (heard : Heard) (before after : Resolving) (u : UpdateFields) (d : Definition) (id number : ℕ)
+    → known_of roster heard before ≡ k
     → selected_table heard ≡ Some d → update_fits d u ≡ true → is_definition d ≡ true → id ≡ d.id
-    → resolved_number u.number (last_of lasts id) ≡ Some number → after ≡ put_last id number lasts
-    → (us : List Update) × Step k.state (messages.Update u) us (record { heard = heard; lasts = after; slots = no_names })
-taken k roster heard lasts after u d id number view own sel fit defined is_id is put =
-    let before : KnownState = record { roster = roster; state = record { heard = heard; lasts = lasts; slots = no_names } } in
-    let no_name : stores_name d ≡ false = selected-nameless before d own.0 own.1 sel in
-    let here : resolved_number u.number (last_of lasts d.id) ≡ Some number = subst (λ (n : ℕ). resolved_number u.number (last_of lasts n) ≡ Some number) is_id is in
-    let there : put_last d.id number lasts ≡ after = sym (put ∙ ap (λ (n : ℕ). put_last n number lasts) is_id) in
-    let step : Step before.state (messages.Update u) (resolved u d.id number None ∷ []) (record { heard = heard; lasts = put_last d.id number lasts; slots = no_names }) = update_step before.state u d number sel fit defined no_name here in
-    let whole : Step before.state (messages.Update u) (resolved u d.id number None ∷ []) (record { heard = heard; lasts = after; slots = no_names }) = subst (λ (ls : List (ℕ × ℕ)). Step before.state (messages.Update u) (resolved u d.id number None ∷ []) (record { heard = heard; lasts = ls; slots = no_names })) there step in
-    subst (λ (s : KnownState). (us : List Update) × Step s.state (messages.Update u) us (record { heard = heard; lasts = after; slots = no_names })) view (resolved u d.id number None ∷ [], whole)
+    → resolved_number u.number (last_of before.lasts id) ≡ Some number → reads_empty before.slots u.name ≡ false
+    → after.lasts ≡ put_last id number before.lasts → after.slots ≡ slots_after before.slots u.name
+    → (us : List Update) × Step k.state (messages.Update u) us (known_of roster heard after).state
+taken k roster heard before after u d id number view sel fit defined is_id is reads put wrote =
+    let s : State = (known_of roster heard before).state in
+    let us : List Update = resolved u d.id number (name_of before.slots u.name) ∷ [] in
+    let here : resolved_number u.number (last_of before.lasts d.id) ≡ Some number = subst (λ (n : ℕ). resolved_number u.number (last_of before.lasts n) ≡ Some number) is_id is in
+    let there : put_last d.id number before.lasts ≡ after.lasts = sym (put ∙ ap (λ (n : ℕ). put_last n number before.lasts) is_id) in
+    let step : Step s (messages.Update u) us (record { heard = heard; lasts = put_last d.id number before.lasts; slots = slots_after before.slots u.name }) = update_step s u d number sel fit defined here reads in
+    let one : Step s (messages.Update u) us (record { heard = heard; lasts = after.lasts; slots = slots_after before.slots u.name }) = subst (λ (ls : List (ℕ × ℕ)). Step s (messages.Update u) us (record { heard = heard; lasts = ls; slots = slots_after before.slots u.name })) there step in
+    let whole : Step s (messages.Update u) us (record { heard = heard; lasts = after.lasts; slots = after.slots }) = subst (λ (ns : List (Option (List ℕ))). Step s (messages.Update u) us (record { heard = heard; lasts = after.lasts; slots = ns })) (sym wrote) one in
+    subst (λ (x : KnownState). (vs : List Update) × Step x.state (messages.Update u) vs (known_of roster heard after).state) view (us, whole)
 
 -- what a known state with these parts becomes by the roster's own definition
-pub heard_of_own : (k : KnownState) (roster : List Definition) (heard after : Heard) (lasts kept : List (ℕ × ℕ)) (d : Definition)
-    → record { roster = roster; state = record { heard = heard; lasts = lasts; slots = no_names } } ≡ k
+pub heard_of_own : (k : KnownState) (roster : List Definition) (heard after : Heard) (before kept : Resolving) (d : Definition)
+    → known_of roster heard before ≡ k
     → is_definition d ≡ true → table_at roster d.id ≡ Some d
     → after ≡ heard_after heard (messages.Define d)
-    → kept ≡ filter (λ last. keeps_last d (table_at heard.tables last.0) last.0) lasts
-    → (us : List Update) × Step k.state (messages.Define d) us (record { heard = after; lasts = kept; slots = no_names }) × IsOwn k.roster (messages.Define d)
-heard_of_own k roster heard after lasts kept d view defined own is_after is_kept =
-    let before : KnownState = record { roster = roster; state = record { heard = heard; lasts = lasts; slots = no_names } } in
-    let step : Step before.state (messages.Define d) [] (record { heard = heard_after heard (messages.Define d); lasts = filter (λ last. keeps_last d (table_at heard.tables last.0) last.0) lasts; slots = no_names }) = define_step before.state d defined in
-    let one : Step before.state (messages.Define d) [] (record { heard = after; lasts = filter (λ last. keeps_last d (table_at heard.tables last.0) last.0) lasts; slots = no_names }) = subst (λ (h : Heard). Step before.state (messages.Define d) [] (record { heard = h; lasts = filter (λ last. keeps_last d (table_at heard.tables last.0) last.0) lasts; slots = no_names })) (sym is_after) step in
-    let whole : Step before.state (messages.Define d) [] (record { heard = after; lasts = kept; slots = no_names }) = subst (λ (ls : List (ℕ × ℕ)). Step before.state (messages.Define d) [] (record { heard = after; lasts = ls; slots = no_names })) (sym is_kept) one in
-    subst (λ (s : KnownState). (us : List Update) × Step s.state (messages.Define d) us (record { heard = after; lasts = kept; slots = no_names }) × IsOwn s.roster (messages.Define d)) view ([], whole, own)
+    → kept.lasts ≡ lasts_kept heard.tables d before.lasts → kept.slots ≡ before.slots
+    → (us : List Update) × Step k.state (messages.Define d) us (known_of roster after kept).state × IsOwn k.roster (messages.Define d)
+heard_of_own k roster heard after before kept d view defined own is_after is_kept same =
+    let s : State = (known_of roster heard before).state in
+    let step : Step s (messages.Define d) [] (record { heard = heard_after heard (messages.Define d); lasts = lasts_kept heard.tables d before.lasts; slots = before.slots }) = define_step s d defined in
+    let one : Step s (messages.Define d) [] (record { heard = after; lasts = lasts_kept heard.tables d before.lasts; slots = before.slots }) = subst (λ (h : Heard). Step s (messages.Define d) [] (record { heard = h; lasts = lasts_kept heard.tables d before.lasts; slots = before.slots })) (sym is_after) step in
+    let two : Step s (messages.Define d) [] (record { heard = after; lasts = kept.lasts; slots = before.slots }) = subst (λ (ls : List (ℕ × ℕ)). Step s (messages.Define d) [] (record { heard = after; lasts = ls; slots = before.slots })) (sym is_kept) one in
+    let whole : Step s (messages.Define d) [] (record { heard = after; lasts = kept.lasts; slots = kept.slots }) = subst (λ (ns : List (Option (List ℕ))). Step s (messages.Define d) [] (record { heard = after; lasts = kept.lasts; slots = ns })) (sym same) two in
+    subst (λ (x : KnownState). (vs : List Update) × Step x.state (messages.Define d) vs (known_of roster after kept).state × IsOwn x.roster (messages.Define d)) view ([], whole, own)
 
 -- and what it heard is still the roster's own
 pub own_after : (roster : List Definition) (heard after : Heard) (d : Definition) → table_at roster d.id ≡ Some d → after ≡ heard_after heard (messages.Define d) → AreOwn roster heard.tables → AreOwn roster after.tables

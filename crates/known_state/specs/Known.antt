@@ -75,8 +75,8 @@ abbrev pub lasts_put : List (ℕ × ℕ) → List (ℕ × ℕ)
 lasts_put lasts = fold (λ placed l. put_last l.0 l.1 placed) [] lasts
 
 -- the known state of those parts
-abbrev pub built : List Definition → Option ℕ → List ℕ → List (ℕ × ℕ) → KnownState
-built roster selected defined lasts = record { roster = roster; state = record { heard = resumed roster defined selected; lasts = lasts_put lasts; slots = no_names } }
+abbrev pub built : List Definition → Option ℕ → List ℕ → List (ℕ × ℕ) → List (Option (List ℕ)) → KnownState
+built roster selected defined lasts slots = record { roster = roster; state = record { heard = resumed roster defined selected; lasts = lasts_put lasts; slots = slots } }
 
 -- why a switch is refused
 abbrev pub switch_refusal : KnownState → ℕ → Option StepError

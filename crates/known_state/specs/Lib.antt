@@ -2,3 +2,4 @@ pub mod Resolving
 pub mod Known
 pub mod Shortest
 pub mod Cost
+pub mod Requests

@@ -1,17 +1,19 @@
 //! Known states.
 
-ghost use Rattle.std.specs.Prelude.{◌≡◌, ◌≢◌, true, Some, None, Err, IfOk, IfErr, OnOk, OnErr, List};
+ghost use Rattle.std.specs.Prelude.{◌≡◌, ◌≢◌, Some, None, Err, IfOk, IfErr, OnOk, OnErr, List};
 ghost use Rattle.table_types.specs.declared.update.Update.{Update};
 ghost use Rattle.peers_msg.specs.declared.message.Message.TheVariants as messages;
-ghost use Rattle.peers_msg.specs.Steps.{Step, IsOwn, resolved_number};
+ghost use Rattle.peers_msg.specs.Steps.{Step, IsOwn};
 ghost use Rattle.known_state.specs.declared.known.KnownError.{KnownError};
 ghost use Rattle.known_state.specs.declared.known.KnownError.TheVariants as build_errors;
 ghost use Rattle.known_state.specs.declared.known.StepError.{StepError};
 ghost use Rattle.known_state.specs.declared.known.StepError.TheVariants as step_errors;
-ghost use Rattle.known_state.specs.Known.{KnownState, AreOwn, stores_no_name, fresh_of, build_fault, built, Refuses};
+ghost use Rattle.known_state.specs.Known.{KnownState, AreOwn, fresh_of, build_fault, built, Refuses};
 
 use crate::lasts::Lasts;
 use crate::parts::{are_defined, are_known, repeats, repeats_last};
+use crate::resolver::Resolver;
+use dict_slots::Slots;
 use peers_msg::{Heard, Message, UpdateMsg};
 use std::alloc::Global;
 use std::marker::Model;
@@ -75,55 +77,40 @@ impl From<Memory> for StepError {
 }
 
 /// What a teacher knows of its learner (own): the roster of the tables that are shared, those that were defined to it
-/// and the one selected, and the last number of each.
-///
-/// No table of the roster stores the server's name.
+/// and the one selected, the last number of each, and the slots of the dictionary of server names.
 #[derive(Debug, Drop)]
 pub struct Known {
     alloc: Global,
     roster: Roster,
     heard: Heard,
-    lasts: Lasts,
+    resolver: Resolver,
 }
 
 impl Model for Known {
-    ghost use Rattle.std.specs.Prelude.{◌≡◌, true};
-    ghost use Rattle.table_types.specs.Slots.{no_names};
-    ghost use Rattle.known_state.specs.Known.{KnownState, AreOwn, stores_no_name};
+    ghost use Rattle.known_state.specs.Known.{KnownState, AreOwn};
 
     ghost Value = { KnownState };
 
-    ghost view = { λ k. record { roster = k.roster; state = record { heard = k.heard; lasts = k.lasts; slots = no_names } } };
+    ghost view = { λ k. record { roster = k.roster; state = record { heard = k.heard; lasts = k.resolver.lasts; slots = k.resolver.slots } } };
 
-    ghost invariant = { λ k. AreOwn k.roster k.heard.tables × (stores_no_name k.roster ≡ true) };
-}
-
-/// The number of an update: its own, or one more than the last, modulo 2^32.
-fn resolved_number(number: Option<u32>, last: Option<u32>) -> Option<u32>
-    ensures { result ≡ resolved_number number last }
-{
-    match (number, last) {
-        (Some(number), _) => Some(number),
-        (None, Some(last)) => Some(last.wrapping_add(1)),
-        (None, None) => None,
-    }
+    ghost invariant = { λ k. AreOwn k.roster k.heard.tables };
 }
 
 impl Known {
     /// The state of a learner that heard nothing. Takes no memory.
     pub fn fresh(alloc: Global, roster: Roster) -> Known
-        requires { stores_no_name roster ≡ true }
         ensures { result ≡ fresh_of roster }
     {
         Known {
             alloc,
             roster,
             heard: Heard::new(alloc),
-            lasts: Lasts::new(alloc),
+            resolver: Resolver::new(alloc),
         }
     }
 
-    /// The state of a learner to which these tables were defined, one of them selected, with these last numbers.
+    /// The state of a learner to which these tables were defined, one of them selected, with these last numbers and
+    /// slots.
     ///
     /// Refuses in this order: `NoTable` where an id isn't in the roster, `NotDefined` where a table that isn't defined
     /// is selected or has a last number, `Repeated` where an id is defined twice or has two last numbers, `Memory`.
@@ -133,9 +120,9 @@ impl Known {
         selected: Option<u64>,
         defined: Vec<u64>,
         last: Vec<(u64, u32)>,
+        slots: Slots,
     ) -> Result<Known, KnownError>
-        requires { stores_no_name roster ≡ true }
-        ensures built { IfOk result (λ known. (known ≡ built roster selected defined.items last.items)
+        ensures built { IfOk result (λ known. (known ≡ built roster selected defined.items last.items slots)
             × (build_fault roster selected defined.items last.items ≡ None)) }
         ensures refused { IfErr result (λ e. e ≢ build_errors.Memory →
             build_fault roster selected defined.items last.items ≡ Some e) }
@@ -158,14 +145,13 @@ impl Known {
             alloc,
             roster,
             heard,
-            lasts,
+            resolver: Resolver::of(alloc, lasts, slots),
         })
     }
 
     /// The roster of the state.
     pub fn roster(&self) -> &Roster
         ensures roster { result.now ≡ self.now.roster }
-        ensures nameless { stores_no_name self.now.roster ≡ true }
         ensures own { AreOwn self.now.roster self.now.state.heard.tables }
     {
         &self.roster
@@ -182,7 +168,14 @@ impl Known {
     pub fn lasts(&self) -> &Lasts
         ensures { result.now ≡ self.now.state.lasts }
     {
-        &self.lasts
+        self.resolver.lasts()
+    }
+
+    /// The slots of the dictionary of server names.
+    pub fn slots(&self) -> &Slots
+        ensures { result.now ≡ self.now.state.slots }
+    {
+        self.resolver.slots()
     }
 
     /// Moves the state by one message that is legal from it: the message makes the step that the definition
@@ -223,10 +216,7 @@ impl Known {
             _ => return Err(StepError::Foreign),
         }
         let own = table.copy(self.alloc)?;
-        let mut lasts = self.lasts.copy(self.alloc)?;
-        lasts.keep_at(table, &self.heard);
-        self.heard.define(own)?;
-        self.lasts = lasts;
+        self.resolver.define(&mut self.heard, own)?;
         Ok(())
     }
 
@@ -263,24 +253,26 @@ impl Known {
             return Err(StepError::Foreign);
         }
         let id = table.id();
-        let Some(number) = resolved_number(update.number(), self.lasts.last(id)) else {
+        let Some(number) = self.resolver.number(id, update.number()) else {
             return Err(StepError::NoNumber);
         };
-        self.lasts.put(id, number)?;
+        if self.resolver.reads_empty(update.name()) {
+            return Err(StepError::EmptySlot);
+        }
+        self.resolver.take(id, number, update.name())?;
         Ok(())
     }
 
     /// An equal state.
     pub fn copy(&self, alloc: Global) -> Result<Known, Memory>
         ensures copy { IfOk result (λ copy. copy ≡ self.now) }
-        ensures nameless { stores_no_name self.now.roster ≡ true }
         ensures own { AreOwn self.now.roster self.now.state.heard.tables }
     {
         Ok(Known {
             alloc,
             roster: self.roster.copy(alloc)?,
             heard: self.heard.copy(alloc)?,
-            lasts: self.lasts.copy(alloc)?,
+            resolver: self.resolver.copy(alloc)?,
         })
     }
 }

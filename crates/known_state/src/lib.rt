@@ -1,16 +1,21 @@
-//! What a teacher knows of its learner: the roster, the tables defined, the one selected, and the last numbers.
+//! What a teacher knows of its learner: the roster, the tables defined, the one selected, the last numbers and the
+//! slots; and what a batch costs from there.
 #![tactic(auto)]
 
+mod costs;
 mod known;
 mod lasts;
 mod laws;
 mod parts;
+mod request;
 mod resolver;
 #[cfg(test)]
 mod tests;
 
+pub use costs::number_told;
 pub use known::{Known, KnownError, StepError};
 pub use lasts::Lasts;
 pub use laws::{a_list_pays, a_step_pays, none_is_shorter, one_name, refused_is_no_step};
 pub use parts::stores_no_name;
+pub use request::Request;
 pub use resolver::Resolver;

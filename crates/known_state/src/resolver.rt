@@ -167,3 +167,55 @@ impl Resolver {
         Ok(Resolver::of(alloc, lasts, self.slots.copy(alloc)?))
     }
 }
+
+#[cfg(test)]
+mod tests {
+    use super::Resolver;
+    use peers_msg::{Heard, NameField};
+    use std::alloc::Global;
+    use std::test::Fail;
+    use table_types::{KeyKind, Memory, Name, TableDef};
+
+    fn named(alloc: Global, bytes: &[u8]) -> Result<Name, Memory> {
+        Name::new(Vec::from_slice(alloc, bytes)?).ok_or(Memory)
+    }
+
+    fn table(alloc: Global, name: &[u8]) -> Result<TableDef, Fail> {
+        let (name, types) = (Vec::from_slice(alloc, name)?, Vec::new(alloc));
+        Ok(TableDef::new(alloc, 1, name, KeyKind::Integer, 4, 0, types)?)
+    }
+
+    #[test]
+    fn written_then_read(rt: HostRuntime) -> Result<(), Fail> {
+        let alloc = rt.alloc();
+        let s1 = named(alloc, b"s1")?;
+        let mut resolver = Resolver::new(alloc);
+        assert!(rt; resolver.reads_empty(&NameField::Held(128)));
+        assert_eq!(rt; resolver.number(1, None), None);
+        let written = NameField::Written(128, named(alloc, b"s1")?);
+        assert_eq!(rt; resolver.name(&written), Some(&s1));
+        resolver.take(1, u32::MAX, &written)?;
+        assert!(rt; !resolver.reads_empty(&NameField::Held(128)));
+        assert!(rt; resolver.reads_empty(&NameField::Held(127)));
+        assert_eq!(rt; resolver.name(&NameField::Held(128)), Some(&s1));
+        assert_eq!(rt; resolver.number(1, None), Some(0));
+        assert_eq!(rt; resolver.number(1, Some(7)), Some(7));
+        Ok(())
+    }
+
+    #[test]
+    fn a_table_replaced(rt: HostRuntime) -> Result<(), Fail> {
+        let alloc = rt.alloc();
+        let mut heard = Heard::new(alloc);
+        let mut resolver = Resolver::new(alloc);
+        resolver.define(&mut heard, table(alloc, b"t1")?)?;
+        resolver.take(1, 5, &NameField::NotStored)?;
+        resolver.define(&mut heard, table(alloc, b"t1")?)?;
+        assert_eq!(rt; resolver.copy(alloc)?.lasts().last(1), Some(5));
+        resolver.define(&mut heard, table(alloc, b"t2")?)?;
+        assert_eq!(rt; resolver.lasts().last(1), None);
+        assert_eq!(rt; heard.selected(), Some(1));
+        assert!(rt; resolver.slots().name(1).is_none());
+        Ok(())
+    }
+}

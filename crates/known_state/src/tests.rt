@@ -1,14 +1,12 @@
 //! The refusals, and each call that takes memory, once.
 
-ghost use Rattle.std.specs.Prelude.{◌≡◌, true, IfOk};
-ghost use Rattle.known_state.specs.Known.{stores_no_name};
-
 use crate::known::{Known, KnownError, StepError};
-use crate::parts::stores_no_name;
+use crate::request::Request;
+use dict_slots::Slots;
 use peers_msg::{Control, Message, NameField, UpdateMsg};
 use std::alloc::Global;
 use std::test::Fail;
-use table_types::{DataType, Items, Key, KeyKind, Roster, TableDef, Value};
+use table_types::{Batch, DataType, Items, Key, KeyKind, Name, Roster, TableDef, Update, Value};
 
 /// A table of integers that stores gpc0.
 fn counting(alloc: Global, id: u64, name: &[u8], expire: u32) -> Result<TableDef, Fail> {
@@ -18,14 +16,8 @@ fn counting(alloc: Global, id: u64, name: &[u8], expire: u32) -> Result<TableDef
 }
 
 /// The roster of `t1` alone.
-fn t1_alone(alloc: Global) -> Result<Roster, Fail>
-    ensures nameless { IfOk result (λ roster. stores_no_name roster ≡ true) }
-{
-    let roster = Roster::new(vec![in alloc; counting(alloc, 1, b"t1", 30_000)?]?)?;
-    if !stores_no_name(&roster) {
-        return Err(Fail::from("t1 stores a name"));
-    }
-    Ok(roster)
+fn t1_alone(alloc: Global) -> Result<Roster, Fail> {
+    Ok(Roster::new(vec![in alloc; counting(alloc, 1, b"t1", 30_000)?]?)?)
 }
 
 /// The state of a learner of `t1` that heard nothing.
@@ -42,7 +34,8 @@ fn build(
 ) -> Result<Result<Known, KnownError>, Fail> {
     let defined = Vec::from_slice(alloc, defined)?;
     let last = Vec::from_slice(alloc, last)?;
-    Ok(Known::build(alloc, t1_alone(alloc)?, selected, defined, last))
+    let slots = Slots::new(alloc);
+    Ok(Known::build(alloc, t1_alone(alloc)?, selected, defined, last, slots))
 }
 
 /// What these parts are refused for.
@@ -207,5 +200,94 @@ fn no_part_of_a_lesson(rt: HostRuntime) -> Result<(), Fail> {
     assert_eq!(rt; known.heard().selected(), Some(1));
     assert_eq!(rt; known.heard().tables().len(), 1);
     assert_eq!(rt; known.lasts().last(1), Some(5));
+    Ok(())
+}
+
+/// Table 4, of texts, whose rows have the server's name alone.
+fn naming(alloc: Global) -> Result<TableDef, Fail> {
+    let types = vec![in alloc; (DataType::ServerKey, None)]?;
+    let name = Vec::from_slice(alloc, b"lt")?;
+    Ok(TableDef::new(alloc, 4, name, KeyKind::String, 256, 30_000, types)?)
+}
+
+fn s1(alloc: Global) -> Result<Name, Fail> {
+    Name::new(Vec::from_slice(alloc, b"s1")?).ok_or(Fail::from("s1 is no name"))
+}
+
+/// An update of a key of so many bytes, named `s1`.
+fn named_update(alloc: Global, number: u32, length: usize) -> Result<Update, Fail> {
+    Ok(Update {
+        table: 4,
+        number,
+        life: Some(30_000),
+        key: Key::Str(Items::new(vec![in alloc; b'a'; length]?)),
+        values: Items::new(Vec::new(alloc)),
+        name: Some(s1(alloc)?),
+    })
+}
+
+#[test]
+fn costs_of_names(rt: HostRuntime) -> Result<(), Fail> {
+    let alloc = rt.alloc();
+    let known = Known::fresh(alloc, Roster::new(vec![in alloc; naming(alloc)?]?)?);
+    let updates = vec![in alloc;
+        named_update(alloc, 1, 1)?,
+        named_update(alloc, 3, 228)?,
+        named_update(alloc, 4, 1)?,
+    ]?;
+    let requests = known.costs(alloc, &Batch::new(known.roster(), updates)?)?;
+    let costs = [(15, 18), (242, 246), (11, 14)];
+    assert_eq!(rt; requests.len(), costs.len());
+    for (request, cost) in requests.iter().zip(costs.iter()) {
+        assert_eq!(rt; (request.read_cost(), request.write_cost()), *cost);
+        assert_eq!(rt; request.copy(alloc)?.name(), &s1(alloc)?);
+    }
+    assert!(rt; Request::new(s1(alloc)?, 18, 18).is_none());
+    Ok(())
+}
+
+/// The state of a learner of the table of names to which it was defined.
+fn naming_defined(alloc: Global) -> Result<Known, Fail> {
+    let roster = Roster::new(vec![in alloc; naming(alloc)?]?)?;
+    let (defined, slots) = (vec![in alloc; 4]?, Slots::new(alloc));
+    Ok(Known::build(alloc, roster, Some(4), defined, Vec::new(alloc), slots)?)
+}
+
+fn named_message(alloc: Global, number: Option<u32>, name: NameField) -> Result<Message, Fail> {
+    let (key, values) = (
+        Key::Str(Items::new(Vec::new(alloc))),
+        Items::new(Vec::new(alloc)),
+    );
+    Ok(Message::Update(UpdateMsg::new(number, Some(30_000), key, values, name)))
+}
+
+#[test]
+fn names_taken(rt: HostRuntime) -> Result<(), Fail> {
+    let alloc = rt.alloc();
+    let mut known = naming_defined(alloc)?;
+    assert_eq!(rt;
+        refusal(&mut known, named_message(alloc, None, NameField::Held(2))?),
+        Some(StepError::NoNumber)
+    );
+    assert_eq!(rt;
+        refusal(
+            &mut known,
+            named_message(alloc, Some(1), NameField::Held(2))?
+        ),
+        Some(StepError::EmptySlot)
+    );
+    assert_eq!(rt;
+        refusal(
+            &mut known,
+            named_message(alloc, Some(1), NameField::Written(2, s1(alloc)?))?
+        ),
+        None
+    );
+    assert_eq!(rt;
+        refusal(&mut known, named_message(alloc, None, NameField::Held(2))?),
+        None
+    );
+    assert_eq!(rt; known.copy(alloc)?.slots().name(2), Some(&s1(alloc)?));
+    assert_eq!(rt; known.lasts().last(4), Some(2));
     Ok(())
 }

@@ -1,5 +1,5 @@
 -- How long the data of messages are.
-use Rattle.std.proofs.Common.{◌≡◌, ℕ, suc, ◌+◌, ◌*◌, ◌^◌, ◌<◌, ◌≤◌, true, List, [], ◌∷◌, length, Option, arith, ap, ◌∙◌, get_or, drop, drop-cons}
+use Rattle.std.proofs.Common.{◌≡◌, ℕ, suc, ◌+◌, ◌*◌, ◌^◌, ◌<◌, ◌≤◌, true, List, [], ◌∷◌, ◌++◌, length, Option, arith, length-append, ap, ◌∙◌, get_or, drop, drop-cons}
 use Rattle.table_types.specs.declared.data_type.DataType.{DataType}
 use Rattle.table_types.specs.declared.data_type.DataType.TheVariants.{ServerId, Gpt0, Gpc0, Gpc0Rate, ConnCnt, ConnRate, ConnCur, SessCnt, SessRate, HttpReqCnt, HttpReqRate, HttpErrCnt, HttpErrRate, BytesInCnt, BytesInRate, BytesOutCnt, BytesOutRate, Gpc1, Gpc1Rate, ServerKey}
 use Rattle.table_types.specs.DataTypes.{id_of}
@@ -8,7 +8,9 @@ use Rattle.std.proofs.lemmas.Grind.{pow_more}
 use Rattle.std.proofs.lemmas.List.Sums.{sum_by-cons}
 use Rattle.std.proofs.lemmas.Bool.Decides.{nat_tests}
 use Rattle.table_types.specs.Tables.{Definition, is_definition, rise_from}
-use Rattle.peers_msg.specs.Spelling.{bits_of}
+use Rattle.peers_encint.specs.Integers.{spelling}
+use Rattle.peers_encint.proofs.SpellingLaws.{longer, within}
+use Rattle.peers_msg.specs.Spelling.{bits_of, counted}
 
 pub id_most : (t : DataType) → id_of t ≤ 19
 id_most ServerId = omega arith
@@ -73,3 +75,17 @@ bit_fits ts i before d rise lt h =
     let first : bits_of (drop i ts) ≡ 2 ^ id_of (get_or ts i d).0 + bits_of (drop (suc i) ts) =
     ap (λ (us : List (DataType × Option ℕ)). bits_of us) (drop-cons ts i d lt) ∙ sum_by-cons (λ t. 2 ^ id_of t.0) (get_or ts i d) (drop (suc i) ts) in
     omega arith
+
+-- more bytes are more with their length before them
+pub counted_grows : (a b : ℕ) → a < b → length (spelling a) + a < length (spelling b) + b
+counted_grows a b lt = omega (arith, longer a b (omega arith))
+
+-- so is a message with more data
+pub framed_grows : (a b m n : ℕ) → m ≡ 2 + (length (spelling a) + a) → n ≡ 2 + (length (spelling b) + b) → a < b → m < n
+framed_grows a b m n is_m is_n lt = omega (arith, is_m, is_n, counted_grows a b lt)
+
+-- a slot is shorter than a slot and the name that is written to it
+pub name_grows : (slot held written : ℕ) (name : List ℕ) → held ≡ length (spelling slot) → written ≡ length (spelling slot ++ counted name) → length (spelling held) + held < length (spelling written) + written
+name_grows slot held written name is_held is_written =
+    let more : held < written = omega (arith, is_held, is_written, length-append (spelling slot) (counted name), length-append (spelling (length name)) name, (within (length name)).0) in
+    counted_grows held written more

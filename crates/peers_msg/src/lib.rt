@@ -25,4 +25,4 @@ pub use laws::{
 };
 pub use message::{Message, Other, UpdateMsg};
 pub use name_field::NameField;
-pub use sizes::size;
+pub use sizes::{named_sizes, size};

@@ -3,7 +3,9 @@
 ghost use Rattle.std.specs.Prelude.{◌≡◌, ◌≤◌, ◌<◌, ◌+◌, ◌++◌, ◌^◌, true, length, flat_map};
 ghost use Rattle.peers_encint.specs.Integers.{spelling};
 ghost use Rattle.table_types.specs.Tables.{rise_from, is_definition};
-ghost use Rattle.peers_msg.specs.Messages.{key_bytes};
+ghost use Rattle.peers_msg.specs.declared.name_field.NameField.TheVariants as names;
+ghost use Rattle.peers_msg.specs.declared.message.Message.TheVariants as messages;
+ghost use Rattle.peers_msg.specs.Messages.{key_bytes, is_small};
 ghost use Rattle.peers_msg.specs.Spelling.{counted, key_text, value_text, name_text, update_text, optional_word, period_text, bits_of, definition_text, size_of};
 
 use crate::message::{Message, UpdateMsg};
@@ -151,9 +153,42 @@ pub fn definition_size(table: &TableDef) -> usize
 /// How many bytes a message with that many bytes of data has.
 fn framed_size(count: usize) -> usize
     requires { count < 2 ^ 63 }
-    ensures { result ≡ 2 + (length (spelling count) + count) }
+    ensures exact { result ≡ 2 + (length (spelling count) + count) }
+    ensures within { result ≤ 12 + count }
 {
     2 + counted_size(count)
+}
+
+/// How many bytes a name field has with the name read from a slot, and with the slot written.
+fn name_sizes(name: &Name) -> (usize, usize)
+    ensures read { result.0 ≡ length (name_text (names.Held 1)) }
+    ensures written { result.1 ≡ length (name_text (names.Written 1 name.now)) }
+    ensures less { result.0 < result.1 }
+    ensures within { result.1 ≤ 285 }
+{
+    (counted_size(len(1)), counted_size(written_size(1, name)))
+}
+
+/// How many bytes an update message of these parts has with its name read from a slot, and how many with the slot
+/// written, whichever of the 128 it is. This takes no memory.
+#[tactic(auto, unfolding(crate::specs::Spelling::size_of, crate::specs::Spelling::spelled))]
+pub fn named_sizes(
+    number: Option<u32>,
+    life: Option<u32>,
+    key: &Key,
+    values: &[Value],
+    name: &Name,
+) -> (usize, usize)
+    requires { is_small key.now values.now ≡ true }
+    ensures read { result.0 ≡ size_of (messages.Update (record { number = number; life = life; key = key.now; values = values.now; name = names.Held 1 })) }
+    ensures written { result.1 ≡ size_of (messages.Update (record { number = number; life = life; key = key.now; values = values.now; name = names.Written 1 name.now })) }
+    ensures less { result.0 < result.1 }
+    ensures within { result.1 ≤ 32768 }
+{
+    let words = optional_size(number) + optional_size(life);
+    let row = words + key_size(key) + values_size(values);
+    let (read, written) = name_sizes(name);
+    (framed_size(row + read), framed_size(row + written))
 }
 
 /// How many bytes a message has. This takes no memory.

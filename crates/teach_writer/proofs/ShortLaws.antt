@@ -25,8 +25,10 @@ use Rattle.known_state.proofs.KnownLemmas.{table_at-id, table_at-passes, define_
 use Rattle.known_state.proofs.StepLemmas.{selected-found, has_id-table_at}
 use Rattle.known_state.proofs.CostLaws.{falls, told_shorter, last-kept, last-put}
 use Rattle.known_state.proofs.StepPays.{moved_last, is_there, none_shorter}
-use Rattle.teach_writer.specs.Telling.{is_table, selection, update_told, IsTaught}
-use Rattle.teach_writer.proofs.TellingLaws.{found_is_own, batch_taught}
+use Rattle.known_state.specs.Requests.{IsTaught}
+use Rattle.known_state.proofs.BatchLemmas.{batch_taught}
+use Rattle.teach_writer.specs.Telling.{is_table, selection, update_told}
+use Rattle.teach_writer.proofs.TellingLaws.{found_is_own}
 
 -- a name is the same as itself
 name_itself : (a : List ℕ) → is_same_name a a ≡ true

@@ -9,9 +9,6 @@ use Rattle.table_types.specs.declared.update.Update.{Update}
 use Rattle.table_types.specs.Tables.{Definition, is_definition}
 use Rattle.table_types.specs.Updates.{fits, is_optional_word, stores_name, row_fits, may_be_named, life_fits}
 use Rattle.table_types.specs.Rosters.{table_at}
-use Rattle.table_types.specs.declared.batch.BatchError.{BatchError}
-use Rattle.table_types.specs.declared.batch.BatchError.TheVariants as errors
-use Rattle.table_types.specs.Batches.{faults_from, fault_in, or_else, IsBatchFor}
 use Rattle.peers_msg.specs.declared.message.Message.{Message}
 use Rattle.peers_msg.specs.declared.message.Message.TheVariants as messages
 use Rattle.peers_msg.specs.Heard.{Heard, selected_table, heard_after}
@@ -22,7 +19,8 @@ use Rattle.known_state.specs.Known.{KnownState, AreOwn, switch_refusal, update_r
 use Rattle.known_state.proofs.KnownLemmas.{table_at-id, table_at-passes, table_at-nameless, define_selects}
 use Rattle.known_state.proofs.StepLemmas.{has_id-table_at, selected-id, selected-found, update_fits_heard}
 use Rattle.known_state.specs.Cost.{number_told}
-use Rattle.teach_writer.specs.Telling.{is_table, selection, update_told, IsTaught, IsTaken}
+use Rattle.known_state.proofs.BatchLemmas.{row_of_fits, life_of_fits}
+use Rattle.teach_writer.specs.Telling.{is_table, selection, update_told, IsTaken}
 
 -- a table that is heard is the roster's of its id
 pub found_is_own : (roster ds : List Definition) (id : ℕ) (t d : Definition) → AreOwn roster ds → table_at ds id ≡ Some t → table_at roster id ≡ Some d → t ≡ d
@@ -83,14 +81,6 @@ told_resolved (Some last) number = elim (cases_eq ((last + 1) % 2 ^ 32) number) 
   | inr other ↦ rw (ne_eqb ((last + 1) % 2 ^ 32) number other) refl
 ]
 
-and-left : (a b : Bool) → (a && b) ≡ true → a ≡ true
-and-left true b h = refl
-and-left false b h = h
-
-and-right : (a b : Bool) → (a && b) ≡ true → b ≡ true
-and-right true b h = h
-and-right false b h = cc
-
 -- a life that fits a table is below 2^32
 life_word : (d : Definition) (life : Option ℕ) → d.expire < 2 ^ 32 → life_fits d life ≡ true → is_optional_word life ≡ true
 life_word d None small fit = refl
@@ -103,16 +93,6 @@ expire_small d is = grind (arith, nat_tests)
 pub unnamed : (d : Definition) (name : Option (List ℕ)) → stores_name d ≡ false → may_be_named d name ≡ true → name ≡ None
 unnamed d None no_name fit = refl
 unnamed d (Some name) no_name fit = let bad : false ≡ true = sym (rw no_name refl) ∙ fit in cc
-
--- the parts of what fits
-pub row_of_fits : (d : Definition) (u : Update) → fits d u ≡ true → row_fits d u.key u.values ≡ true
-row_of_fits d u fit = and-left (row_fits d u.key u.values) (may_be_named d u.name) (and-left (row_fits d u.key u.values && may_be_named d u.name) (life_fits d u.life) fit)
-
-pub name_of_fits : (d : Definition) (u : Update) → fits d u ≡ true → may_be_named d u.name ≡ true
-name_of_fits d u fit = and-right (row_fits d u.key u.values) (may_be_named d u.name) (and-left (row_fits d u.key u.values && may_be_named d u.name) (life_fits d u.life) fit)
-
-life_of_fits : (d : Definition) (u : Update) → fits d u ≡ true → life_fits d u.life ≡ true
-life_of_fits d u fit = and-right (row_fits d u.key u.values && may_be_named d u.name) (life_fits d u.life) fit
 
 -- an update of a table without names fits as it is told
 told_fits : (last : Option ℕ) (d : Definition) (u : Update) → is_definition d ≡ true → stores_name d ≡ false → fits d u ≡ true → is_optional_word (number_told last u.number) ≡ true → update_fits d (update_told last u) ≡ true
@@ -164,43 +144,6 @@ legal-one roster m s e us own step = ((own, tt), (us, [], e, sym (append-none us
 -- no message
 pub legal-none : (roster : List Definition) (s : State) → Legal roster s [] [] s
 legal-none roster s = (tt, (refl, refl))
-
-first-none : (a b : Option BatchError) → or_else a b ≡ None → a ≡ None
-first-none None b h = refl
-first-none (Some e) b h = cc
-
-second-none : (a b : Option BatchError) → or_else a b ≡ None → b ≡ None
-second-none None b h = h
-second-none (Some e) b h = cc
-
--- an update without a fault is one of a table of the roster
-faultless : (place : ℕ) (roster : List Definition) (u : Update) → fault_in place (table_at roster u.table) u ≡ None → IsTaught roster u
-faultless place roster u h = at (table_at roster u.table) refl
-  where
-    fitting : (d : Definition) (b : Bool) → fits d u ≡ b → fault_in place (Some d) u ≡ None → fits d u ≡ true
-    fitting d true e none = e
-    fitting d false e none = let bad : Some (errors.Misfit place) ≡ None = sym (rw e refl) ∙ none in cc
-
-    at : (o : Option Definition) → table_at roster u.table ≡ o → IsTaught roster u
-    at None e = let bad : Some (errors.NoTable place) ≡ None = sym (rw e refl) ∙ h in cc
-    at (Some d) e =
-        let none : fault_in place (Some d) u ≡ None = ap (λ (o : Option Definition). fault_in place o u) (sym e) ∙ h in
-        (d, e, fitting d (fits d u) refl none)
-
-taught_from : (place : ℕ) (roster : List Definition) (us : List Update) (i : ℕ) (u : Update) → faults_from place roster us ≡ None → i < length us → u ≡ get_or us i u → IsTaught roster u
-taught_from place roster [] i u none lt at = absurd (omega arith)
-taught_from place roster (x ∷ xs) zero u none lt at =
-    subst (λ (y : Update). IsTaught roster y) (sym at) (faultless place roster x (first-none (fault_in place (table_at roster x.table) x) (faults_from (place + 1) roster xs) none))
-taught_from place roster (x ∷ xs) (suc i) u none lt at =
-    taught_from (place + 1) roster xs i u (second-none (fault_in place (table_at roster x.table) x) (faults_from (place + 1) roster xs) none) (omega arith) at
-
--- each update of a batch is one of a table of the roster
-pub batch_taught : (roster : List Definition) (us : List Update) (i : ℕ) (u : Update) → IsBatchFor roster us → i < length us → u ≡ get_or us i u → IsTaught roster u
-batch_taught roster us i u is lt at = taught_from 0 roster us i u (within (nat_lt 512 (length us)) refl) lt at
-  where
-    within : (b : Bool) → nat_lt 512 (length us) ≡ b → faults_from 0 roster us ≡ None
-    within true e = let bad : Some errors.TooMany ≡ None = sym (rw e refl) ∙ is in cc
-    within false e = sym (rw e refl) ∙ is
 
 -- what selects a table of the roster is taken
 pub selection_taken : (k : KnownState) (d : Definition) (m : Message) → AreOwn k.roster k.state.heard.tables → table_at k.roster d.id ≡ Some d → m ∷ [] ≡ selection k.state.heard d → IsTaken k m

@@ -28,10 +28,6 @@ selection h d =
 abbrev pub update_told : Option ℕ → Update → UpdateFields
 update_told last u = told_as last names.NotStored u
 
--- the update is one of a table of the roster
-abbrev pub IsTaught : List Definition → Update → Type 0
-IsTaught roster u = (d : Definition) × (table_at roster u.table ≡ Some d) × (fits d u ≡ true)
-
 -- no cause but want of memory refuses the message
 abbrev pub IsTaken : KnownState → Message → Type 0
 IsTaken k m = (e : StepError) → Refuses k m e → ⊥

@@ -1,10 +1,11 @@
 //! Lessons.
 
-ghost use Rattle.std.specs.Prelude.{◌≡◌, [], IfOk, List};
+ghost use Rattle.std.specs.Prelude.{◌≡◌, [], true, IfOk, List};
 ghost use Rattle.table_types.specs.Batches.{IsBatchFor};
 ghost use Rattle.peers_msg.specs.declared.message.Message.{Message};
 ghost use Rattle.peers_msg.specs.Spelling.{stream_of};
 ghost use Rattle.peers_msg.specs.Steps.{Legal};
+ghost use Rattle.known_state.specs.Known.{stores_no_name};
 ghost use Rattle.known_state.specs.Shortest.{Shortest};
 
 use crate::telling::tell;
@@ -42,10 +43,11 @@ pub struct Lesson {
 /// update's table isn't selected, its definition comes first if it isn't defined yet, and else a switch. An update
 /// comes without its number exactly where that is one more than its table's last, modulo 2^32, and with its life.
 ///
-/// The batch was made for the roster of the known state. No legal stream that carries the same updates in that order has
-/// fewer bytes.
+/// The batch was made for the roster of the known state, and no table of that roster stores names. No legal stream that
+/// carries the same updates in that order has fewer bytes.
 pub fn teach(alloc: Global, known: &Known, batch: &Batch) -> Result<Lesson, TeachError>
-    requires { IsBatchFor known.now.roster batch.now }
+    requires batch { IsBatchFor known.now.roster batch.now }
+    requires nameless { stores_no_name known.now.roster ≡ true }
     ensures lesson { IfOk result (λ lesson. (ms : List Message) × (lesson.bytes ≡ stream_of ms)
         × Legal known.now.roster known.now.state ms batch.now lesson.known.state
         × Shortest known.now batch.now ms) }

@@ -13,9 +13,10 @@ ghost use Rattle.known_state.specs.Known.{stores_no_name};
 ghost use Rattle.peers_msg.specs.Spelling.{spelled, stream_of, size_of_all};
 ghost use Rattle.peers_msg.specs.Steps.{Step, Teaches, IsOwn, Legal};
 ghost use Rattle.known_state.specs.Cost.{number_told, knowledge_of, with_selected, selection_cost, KnowsLess, IsOfRoster, full};
-ghost use Rattle.teach_writer.specs.Telling.{selection, update_told, IsTaught, IsTaken};
+ghost use Rattle.known_state.specs.Requests.{IsTaught};
+ghost use Rattle.teach_writer.specs.Telling.{selection, update_told, IsTaken};
 
-use known_state::{Known, StepError};
+use known_state::{Known, StepError, number_told};
 use peers_msg::{Heard, Message, NameField, UpdateMsg, encode};
 use std::alloc::Global;
 use table_types::{Memory, TableDef, Update};
@@ -32,17 +33,6 @@ fn selection(alloc: Global, heard: &Heard, table: &TableDef) -> Result<Option<Me
             Some(_) => Ok(Some(Message::Switch(id))),
             None => Ok(Some(Message::Define(table.copy(alloc)?))),
         },
-    }
-}
-
-/// The number that is told: none where it is one more than the last, modulo 2^32.
-fn number_told(last: Option<u32>, number: u32) -> Option<u32>
-    ensures told { result ≡ number_told last number }
-    ensures word { is_optional_word result ≡ true }
-{
-    match last {
-        Some(last) if last.wrapping_add(1) == number => None,
-        _ => Some(number),
     }
 }
 
@@ -110,7 +100,6 @@ fn select(alloc: Global, known: &mut Known, id: u64, bytes: &mut Vec<u8>) -> Res
     ensures selected { OnOk result (selected_table known.new.state.heard ≡ table_at known.old.roster id) }
     ensures defined { OnOk result ((d : Definition) → table_at known.old.roster id ≡ Some d → is_definition d ≡ true) }
     ensures roster { known.new.roster ≡ known.old.roster }
-    ensures nameless { stores_no_name known.old.roster ≡ true }
 {
     let chosen = match known.roster().table(id) {
         Some(table) => selection(alloc, known.heard(), table)?,
@@ -129,7 +118,8 @@ pub fn tell(
     update: &Update,
     bytes: &mut Vec<u8>,
 ) -> Result<(), Memory>
-    requires { IsTaught known.old.roster update.now }
+    requires taught { IsTaught known.old.roster update.now }
+    requires nameless { stores_no_name known.old.roster ≡ true }
     ensures told { OnOk result ((ms : List Message) × (bytes.new.items ≡ bytes.old.items ++ stream_of ms)
         × Legal known.old.roster known.old.state ms (update.now ∷ []) known.new.state
         × ((rest : List Update) → AllByRecursion (IsOfRoster known.old.roster) rest →

@@ -1,10 +1,10 @@
 //! The worked examples.
 
-ghost use Rattle.std.specs.Prelude.{◌≡◌, true, IfOk};
-ghost use Rattle.known_state.specs.Known.{stores_no_name};
+ghost use Rattle.std.specs.Prelude.{IfOk};
 ghost use Rattle.table_types.specs.Batches.{IsBatchFor};
 
 use crate::lesson::{Lesson, teach};
+use dict_slots::Slots;
 use known_state::{Known, stores_no_name};
 use std::alloc::Global;
 use std::test::Fail;
@@ -45,26 +45,17 @@ fn rating(alloc: Global) -> Result<Vec<TableDef>, Fail> {
     Ok(vec![in alloc; table]?)
 }
 
-fn nameless(tables: Vec<TableDef>) -> Result<Roster, Fail>
-    ensures nameless { IfOk result (λ roster. stores_no_name roster ≡ true) }
-{
-    let roster = Roster::new(tables)?;
-    if !stores_no_name(&roster) {
-        return Err(Fail::from("a table stores a name"));
-    }
-    Ok(roster)
-}
-
 /// The state of a learner of these tables that heard nothing.
 fn fresh(alloc: Global, tables: Vec<TableDef>) -> Result<Known, Fail> {
-    Ok(Known::fresh(alloc, nameless(tables)?))
+    Ok(Known::fresh(alloc, Roster::new(tables)?))
 }
 
 /// The state of a learner of `t1` alone to which it was defined, with that last number.
 fn counted_to(alloc: Global, last: u32) -> Result<Known, Fail> {
-    let roster = nameless(vec![in alloc; counting(alloc, 1, b"t1")?]?)?;
+    let roster = Roster::new(vec![in alloc; counting(alloc, 1, b"t1")?]?)?;
     let (defined, last) = (vec![in alloc; 1]?, vec![in alloc; (1, last)]?);
-    Ok(Known::build(alloc, roster, Some(1), defined, last)?)
+    let slots = Slots::new(alloc);
+    Ok(Known::build(alloc, roster, Some(1), defined, last, slots)?)
 }
 
 fn update(alloc: Global, row: Row) -> Result<Update, Fail> {
@@ -88,9 +79,19 @@ fn batch(alloc: Global, known: &Known, rows: &[Row]) -> Result<Batch, Fail>
     Ok(Batch::new(known.roster(), updates)?)
 }
 
+/// The lesson of a batch of tables that store no names.
+fn taught(alloc: Global, known: &Known, batch: &Batch) -> Result<Lesson, Fail>
+    requires { IsBatchFor known.now.roster batch.now }
+{
+    if !stores_no_name(known.roster()) {
+        return Err(Fail::from("a table stores a name"));
+    }
+    Ok(teach(alloc, known, batch)?)
+}
+
 /// The lesson of these rows, each with a life of 30 s.
 fn lesson(alloc: Global, known: &Known, rows: &[Row]) -> Result<Lesson, Fail> {
-    Ok(teach(alloc, known, &batch(alloc, known, rows)?)?)
+    taught(alloc, known, &batch(alloc, known, rows)?)
 }
 
 /// Whether the bytes of the lesson are these parts, one after another, and it has no price.
@@ -139,7 +140,7 @@ fn two_updates_copied(rt: HostRuntime) -> Result<(), Fail> {
     let alloc = rt.alloc();
     let known = fresh(alloc, vec![in alloc; counting(alloc, 1, b"t1")?]?)?;
     let copied = batch(alloc, &known, &TWO_UPDATES)?.copy(alloc)?;
-    let lesson = teach(alloc, &known.copy(alloc)?, &copied)?;
+    let lesson = taught(alloc, &known.copy(alloc)?, &copied)?;
     assert!(rt; is_spelled(&lesson, &[&T1_DEFINED, &FIRST_ROW, &SECOND_ROW]));
     Ok(())
 }
@@ -221,7 +222,7 @@ fn rate_table(rt: HostRuntime) -> Result<(), Fail> {
     let alloc = rt.alloc();
     let known = fresh(alloc, rating(alloc)?)?;
     let batch = Batch::new(known.roster(), vec![in alloc; rate_update(alloc)?]?)?;
-    let lesson = teach(alloc, &known, &batch)?;
+    let lesson = taught(alloc, &known, &batch)?;
     let definition = [0x0A, 0x82, 0x0B, 5, 1, 0x72, 4, 4, 8, 0, 3, 0xF0, 0xE2, 3];
     let row = [
         0x0A, 0x85, 0x10, 0, 0, 0, 9, 0, 0, 0, 0, 0x7F, 0, 0, 1, 0xFC, 3, 2, 0,

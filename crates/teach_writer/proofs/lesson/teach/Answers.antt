@@ -9,16 +9,17 @@ use Rattle.peers_msg.specs.Spelling.{stream_of, size_of_all}
 use Rattle.known_state.specs.Known.{AreOwn, stores_no_name}
 use Rattle.known_state.specs.Cost.{full, IsOfRoster}
 use Rattle.peers_msg.specs.Steps.{Legal}
-use Rattle.teach_writer.specs.Telling.{IsTaught}
-use Rattle.teach_writer.proofs.TellingLaws.{batch_taught, legal-append, stream-append}
+use Rattle.known_state.specs.Requests.{IsTaught}
+use Rattle.known_state.proofs.BatchLemmas.{batch_taught}
+use Rattle.teach_writer.proofs.TellingLaws.{legal-append, stream-append}
 use Rattle.teach_writer.proofs.ShortLaws.{batch_rest, joined_costs, whole_cost, shortest_at_end}
 use Rattle.teach_writer.proofs.lesson.teach.Goals as goal
 
-pub tell-requires : goal.tell-requires
-tell-requires c =
+pub tell-requires-clause-taught : goal.tell-requires-clause-taught
+tell-requires-clause-taught c =
     let u = c.update-item.result in
     let us = c.updates-update-items.result.now in
-    let batch : IsBatchFor c.args.known.now.roster us = subst (λ (l : List Update). IsBatchFor c.args.known.now.roster l) (sym c.updates-update-items.ensures.updates) c.requires in
+    let batch : IsBatchFor c.args.known.now.roster us = subst (λ (l : List Update). IsBatchFor c.args.known.now.roster l) (sym c.updates-update-items.ensures.updates) c.requires.batch in
     let taught : IsTaught c.args.known.now.roster u = batch_taught c.args.known.now.roster us c.loop-update.update-index u batch c.loop-update-test.true c.update-item.is in
     subst (λ (r : List Definition). IsTaught r u) (sym c.loop-update.invariant.roster) taught
 
@@ -39,7 +40,7 @@ loop-update-preserved c =
     let whole : Legal roster s (before ++ told.0) (take i us ++ u ∷ []) e = legal-append roster before told.0 s mid e (take i us) (u ∷ []) c.loop-update.invariant.told.2 legal in
     let bytes : c.tell.new.bytes.items ≡ stream_of (before ++ told.0) =
     told.1 ∙ ap (λ (x : List ℕ). x ++ stream_of told.0) c.loop-update.invariant.told.1 ∙ sym (stream-append before told.0) in
-    let batch : IsBatchFor roster us = subst (λ (l : List Update). IsBatchFor roster l) (sym c.updates-update-items.ensures.updates) c.requires in
+    let batch : IsBatchFor roster us = subst (λ (l : List Update). IsBatchFor roster l) (sym c.updates-update-items.ensures.updates) c.requires.batch in
     let cheap : (rest : List Update) → AllByRecursion (IsOfRoster roster) rest → size_of_all told.0 + full roster e rest ≤ full roster mid (u ∷ rest) =
     subst (λ (r : List Definition). (rest : List Update) → AllByRecursion (IsOfRoster r) rest → size_of_all told.0 + full r e rest ≤ full r mid (u ∷ rest)) c.loop-update.invariant.roster told.3 in
     let here : u ∷ drop (i + 1) us ≡ drop i us = sym (drop_more us i u c.loop-update-test.true ∙ ap (λ (x : Update). x ∷ drop (i + 1) us) (sym c.update-item.is)) in
@@ -62,6 +63,6 @@ returns-clause-lesson c =
     let legal : Legal k.roster k.state ms c.args.batch.now e = subst (λ (l : List Update). Legal k.roster k.state ms l e) (take_all i us ended ∙ same) c.loop-update.invariant.told.2 in
     let cheap : size_of_all ms ≤ full k.roster k.state c.args.batch.now = whole_cost k.roster k.state e ms i us c.args.batch.now ended same c.loop-update.invariant.told.3 in
     let own : AreOwn k.roster k.state.heard.tables = search rules in
-    let no_name : stores_no_name k.roster ≡ true = search rules in
+    let no_name : stores_no_name k.roster ≡ true = c.requires.nameless in
     let bytes : c.new.result ≡ stream_of ms = search rules in
-    (ms, bytes, legal, shortest_at_end k c.args.batch.now ms e own no_name c.requires legal cheap)
+    (ms, bytes, legal, shortest_at_end k c.args.batch.now ms e own no_name c.requires.batch legal cheap)

@@ -13,43 +13,44 @@ use Rattle.peers_msg.specs.Steps.{Step, IsOwn, Legal, last_of}
 use Rattle.peers_msg.proofs.DataLaws.{row_small}
 use Rattle.known_state.specs.Cost.{number_told}
 use Rattle.teach_writer.specs.Telling.{update_told, IsTaken}
-use Rattle.teach_writer.proofs.TellingLaws.{told_taken, told_carries, told_legal, row_of_fits, name_of_fits, unnamed, nameless_own, stream-one, stream-append}
+use Rattle.teach_writer.proofs.TellingLaws.{told_taken, told_carries, told_legal, unnamed, nameless_own, stream-one, stream-append}
 use Rattle.known_state.specs.Known.{stores_no_name}
 use Rattle.known_state.proofs.KnownLemmas.{table_at-id}
 use Rattle.known_state.specs.Cost.{KnowsLess, with_selected, knowledge_of, knowledge_after, selection_cost, written_cost, full, full_from, IsOfRoster}
 use Rattle.teach_writer.proofs.ShortLaws.{told_cheap, tell_cheap}
+use Rattle.known_state.proofs.BatchLemmas.{row_of_fits, name_of_fits}
 use Rattle.teach_writer.proofs.telling.tell.Goals as goal
 
 pub update_told-requires : goal.update_told-requires
 update_told-requires c =
-    let d = c.requires.0 in
+    let d = c.requires.taught.0 in
     let defined : (d : Definition) → table_at c.args.known.now.roster c.args.update.now.table ≡ Some d → is_definition d ≡ true = search rules in
-    row_small d c.args.update.now.key c.args.update.now.values (defined d c.requires.1) (row_of_fits d c.args.update.now c.requires.2)
+    row_small d c.args.update.now.key c.args.update.now.values (defined d c.requires.taught.1) (row_of_fits d c.args.update.now c.requires.taught.2)
 
 pub say_owned-requires : goal.say_owned-requires
 say_owned-requires c =
     let k = c.select.new.known in
     let u = c.args.update.now in
-    let d = c.requires.0 in
-    let listed : table_at c.args.known.now.roster u.table ≡ Some d = c.requires.1 in
+    let d = c.requires.taught.0 in
+    let listed : table_at c.args.known.now.roster u.table ≡ Some d = c.requires.taught.1 in
     let each : (d : Definition) → table_at c.args.known.now.roster u.table ≡ Some d → is_definition d ≡ true = search rules in
-    let nameless : stores_no_name c.args.known.now.roster ≡ true = search rules in
+    let nameless : stores_no_name c.args.known.now.roster ≡ true = c.requires.nameless in
     let selected : selected_table k.state.heard ≡ table_at c.args.known.now.roster u.table = search rules in
     let told_is : c.in_ok-told.told ≡ update_told c.last.result u = search rules in
     let here : c.last.result ≡ last_of k.state.lasts u.table = search rules in
     let last_is : c.last.result ≡ last_of k.state.lasts d.id = subst (λ (n : ℕ). c.last.result ≡ last_of k.state.lasts n) (sym (table_at-id c.args.known.now.roster u.table d listed)) here in
     let no_name : stores_name d ≡ false = nameless_own c.args.known.now.roster u.table d nameless listed in
     let word : is_optional_word (number_told c.last.result u.number) ≡ true = c.update_told.ensures.word in
-    subst (λ (t : UpdateFields). IsTaken k (messages.Update t)) (sym told_is) (told_taken k d u c.last.result last_is (selected ∙ listed) (each d listed) no_name c.requires.2 word)
+    subst (λ (t : UpdateFields). IsTaken k (messages.Update t)) (sym told_is) (told_taken k d u c.last.result last_is (selected ∙ listed) (each d listed) no_name c.requires.taught.2 word)
 
 pub returns-clause-told : goal.returns-clause-told
 returns-clause-told c =
     let k = c.select.new.known in
     let u = c.args.update.now in
-    let d = c.requires.0 in
-    let listed : table_at c.args.known.now.roster u.table ≡ Some d = c.requires.1 in
+    let d = c.requires.taught.0 in
+    let listed : table_at c.args.known.now.roster u.table ≡ Some d = c.requires.taught.1 in
     let each : (d : Definition) → table_at c.args.known.now.roster u.table ≡ Some d → is_definition d ≡ true = search rules in
-    let nameless : stores_no_name c.args.known.now.roster ≡ true = search rules in
+    let nameless : stores_no_name c.args.known.now.roster ≡ true = c.requires.nameless in
     let selected : selected_table k.state.heard ≡ table_at c.args.known.now.roster u.table = search rules in
     let told_is : c.in_ok-told.told ≡ update_told c.last.result u = search rules in
     let here : c.last.result ≡ last_of k.state.lasts u.table = search rules in
@@ -64,7 +65,7 @@ returns-clause-told c =
     let said : c.say_owned.new.bytes.items ≡ c.select.new.bytes.items ++ spelled m = search rules in
     let step : (us : List Update) × Step k.state m us e × IsOwn k.roster m = search rules in
     let as_told : Step k.state (messages.Update (update_told c.last.result u)) step.0 e = subst (λ (t : UpdateFields). Step k.state (messages.Update t) step.0 e) told_is step.1 in
-    let carried : step.0 ≡ u ∷ [] = told_carries k.state d u c.last.result step.0 e last_is (selected ∙ listed) (sym (table_at-id c.args.known.now.roster u.table d listed)) (unnamed d u.name no_name (name_of_fits d u c.requires.2)) as_told in
+    let carried : step.0 ≡ u ∷ [] = told_carries k.state d u c.last.result step.0 e last_is (selected ∙ listed) (sym (table_at-id c.args.known.now.roster u.table d listed)) (unnamed d u.name no_name (name_of_fits d u c.requires.taught.2)) as_told in
     let bytes : c.say_owned.new.bytes.items ≡ c.args.bytes.now.items ++ stream_of (chosen.0 ++ m ∷ []) =
     said ∙ ap (λ x. x ++ spelled m) chosen.1 ∙ append_assoc c.args.bytes.now.items (stream_of chosen.0) (spelled m)
     ∙ ap (λ x. c.args.bytes.now.items ++ x) (ap (λ x. stream_of chosen.0 ++ x) (sym (stream-one m)) ∙ sym (stream-append chosen.0 (m ∷ []))) in

@@ -7,4 +7,4 @@ use Rattle.known_state.proofs.known.Known.build.Goals as goal
 pub invariant_of-result : goal.invariant_of-result
 invariant_of-result c =
     let is : c.in_ok-heard.heard ≡ resumed c.args.roster c.args.defined.items c.args.selected = cc (c.in_ok-heard.ensures) in
-    (subst (λ (h : Heard). AreOwn c.args.roster h.tables) (sym is) (AreOwn-resumed c.args.roster c.args.defined.items c.args.selected), c.requires)
+    subst (λ (h : Heard). AreOwn c.args.roster h.tables) (sym is) (AreOwn-resumed c.args.roster c.args.defined.items c.args.selected)

@@ -4,9 +4,9 @@ use Rattle.known_state.proofs.known.Known.define.Goals as goal
 
 pub invariant_of-self-2 : goal.invariant_of-self-2
 invariant_of-self-2 c =
-    (own_after c.self.inside.roster c.self.inside.heard c.define.new.self c.args.table.now (search rules) (search rules) c.self.invariant.0, c.self.invariant.1)
+    own_after c.self.inside.roster c.self.inside.heard c.define.new.heard c.args.table.now (search rules) (search rules) c.self.invariant
 
 pub returns-clause-step : goal.returns-clause-step
 returns-clause-step c =
-    heard_of_own c.args.self.now c.self.inside.roster c.self.inside.heard c.define.new.self c.self.inside.lasts c.keep_at.new.self c.args.table.now
-    c.self.view_is c.id.ensures.defined (search rules) (search rules) (cc (c.in_ok-lasts.ensures))
+    heard_of_own c.args.self.now c.self.inside.roster c.self.inside.heard c.define.new.heard c.self.inside.resolver c.define.new.self c.args.table.now
+    c.self.view_is c.id.ensures.defined (search rules) (search rules) (search rules) (search rules)
