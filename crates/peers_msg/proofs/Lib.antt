@@ -13,3 +13,4 @@ pub mod ReadingLoops
 pub mod DefinitionParts
 pub mod ReadingUses
 pub mod Pieces
+pub mod ShapeLaws

@@ -11,20 +11,20 @@ use Rattle.peers_msg.proofs.MessagesTake.{rest_is_end}
 use Rattle.peers_msg.proofs.FieldsTake.{IsBytes-drop, IsBytes-take}
 use Rattle.peers_msg.proofs.ReadingStays.{message_stays}
 
-abbrev found : Message → List ℕ → Result (Option (Message × List ℕ)) Breach
+abbrev pub found : Message → List ℕ → Result (Option (Message × List ℕ)) Breach
 found m rest = Ok (Some (m, rest))
 
-found_is : (m n : Message) (x y : List ℕ) → found m x ≡ found n y → (m ≡ n) × (x ≡ y)
+pub found_is : (m n : Message) (x y : List ℕ) → found m x ≡ found n y → (m ≡ n) × (x ≡ y)
 found_is m n x y e =
     let both : ◌≡◌ {A = Message × List ℕ} (m, x) (n, y) = cc in
     (ap (λ (p : Message × List ℕ). p.0) both, ap (λ (p : Message × List ℕ). p.1) both)
 
 -- a message that is read is read with more bytes behind
-read_on : (h : Heard) (m : Message) (bytes after more : List ℕ) → IsBytes bytes → message_at h bytes ≡ found m after → message_at h (bytes ++ more) ≡ found m (after ++ more)
+pub read_on : (h : Heard) (m : Message) (bytes after more : List ℕ) → IsBytes bytes → message_at h bytes ≡ found m after → message_at h (bytes ++ more) ≡ found m (after ++ more)
 read_on h m bytes after more good read =
     message_stays h bytes more good (λ none. let no_message : found m after ≡ Ok None = sym read ∙ none in absurd cc) ∙ ap (with_more more) read
 
-rest_good : (h : Heard) (m : Message) (bytes after : List ℕ) → IsBytes bytes → message_at h bytes ≡ found m after → IsBytes after
+pub rest_good : (h : Heard) (m : Message) (bytes after : List ℕ) → IsBytes bytes → message_at h bytes ≡ found m after → IsBytes after
 rest_good h m bytes after good read =
     subst IsBytes (rest_is_end h m bytes after good read).0 (IsBytes-drop (length bytes - length after) bytes good)
 
@@ -44,7 +44,7 @@ left_good : (h : Heard) (bytes : List ℕ) (ms : List Message) (g : Heard) (left
 left_good h bytes [] g left good read = subst IsBytes (sym read.1) good
 left_good h bytes (m ∷ ms) g left good read = left_good (heard_after h m) read.0 ms g left (rest_good h m bytes read.0 good read.1) read.2
 
-front_good : (a b : List ℕ) → IsBytes (a ++ b) → IsBytes a
+pub front_good : (a b : List ℕ) → IsBytes (a ++ b) → IsBytes a
 front_good a b good = subst IsBytes (take_at a b (length a) refl) (IsBytes-take (length a) (a ++ b) good)
 
 -- what is read of pieces is read of them together

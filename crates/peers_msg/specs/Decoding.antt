@@ -1,5 +1,5 @@
 -- What a decoder holds, and what it answers.
-use Rattle.std.specs.Prelude.{◌≡◌, ◌≢◌, ℕ, Bool, true, false, List, [], ◌∷◌, ◌++◌, Option, Some, None, Result, Ok, Err}
+use Rattle.std.specs.Prelude.{◌≡◌, ◌≢◌, ℕ, Bool, true, false, List, [], ◌∷◌, ◌++◌, drop, Option, Some, None, Result, Ok, Err}
 use Rattle.peers_msg.specs.declared.fault.Breach.{Breach}
 use Rattle.peers_msg.specs.declared.fault.Breach.TheVariants as breaches
 use Rattle.peers_msg.specs.declared.fault.ReadError.{ReadError}
@@ -7,6 +7,7 @@ use Rattle.peers_msg.specs.declared.fault.ReadError.TheVariants as errors
 use Rattle.peers_msg.specs.declared.fault.Fault.{Fault}
 use Rattle.peers_msg.specs.declared.fault.Fault.TheVariants as faults
 use Rattle.peers_msg.specs.declared.message.Message.{Message}
+use Rattle.peers_msg.specs.declared.message.Message.TheVariants as messages
 use Rattle.peers_msg.specs.Heard.{Heard, heard_after}
 use Rattle.peers_msg.specs.Reading.{message_at}
 
@@ -63,6 +64,26 @@ Next d (Err fault) e =
     × (message_at d.heard d.unread ≡ Err breach)
     × (fault ≡ fault_of breach)
     × (e ≡ record { heard = d.heard; unread = d.unread; closed = true })
+
+-- What looking at the front tells: the message there and how many bytes it has, none, or what is wrong with it.
+abbrev pub Front : Decoding → Result (Option (Message × ℕ)) Fault → Type 0
+Front d (Ok None) = (d.closed ≡ false) × (message_at d.heard d.unread ≡ Ok None)
+Front d (Ok (Some found)) = (d.closed ≡ false) × (message_at d.heard d.unread ≡ Ok (Some (found.0, drop found.1 d.unread)))
+Front d (Err faults.Memory) = d.closed ≡ false
+Front d (Err faults.Closed) = d.closed ≡ true
+Front d (Err fault) =
+    (d.closed ≡ false)
+    × (breach : Breach)
+    × (message_at d.heard d.unread ≡ Err breach)
+    × (fault ≡ fault_of breach)
+
+-- a message of so many bytes is heard, and its bytes are dropped
+abbrev pub passed : Decoding → Message → ℕ → Decoding
+passed d m used = record { heard = heard_after d.heard m; unread = drop used d.unread; closed = d.closed }
+
+abbrev pub IsDefinition : Message → Type 0
+IsDefinition (messages.Define d) = Unit {0}
+IsDefinition m = ⊥
 
 -- ---- streams in pieces
 

@@ -1,5 +1,6 @@
 pub mod Messages
 pub mod Heard
+pub mod OwnTables
 pub mod Spelling
 pub mod Fitting
 pub mod Steps

@@ -1,7 +1,8 @@
 //! The decoder of a stream of messages.
 
-ghost use Rattle.std.specs.Prelude.{◌≡◌, ◌≤◌, IfOk, IfSome, OnOk, OnErr, length, drop, option_map};
-ghost use Rattle.peers_msg.specs.Decoding.{Gives, begun, Fed, Next};
+ghost use Rattle.std.specs.Prelude.{◌≡◌, ◌≤◌, IfOk, IfSome, OnOk, OnErr, true, length, drop, option_map};
+ghost use Rattle.peers_msg.specs.Decoding.{Gives, begun, Fed, Next, Front, passed, IsDefinition};
+ghost use Rattle.peers_msg.specs.Fitting.{fits};
 ghost use Rattle.peers_msg.specs.Heard.{silence, heard_after, resumed};
 ghost use Rattle.peers_msg.specs.Reading.{message_at};
 
@@ -37,7 +38,8 @@ impl Model for Decoder {
 /// The message at the front, and how many bytes it has.
 fn front(alloc: Global, heard: &Heard, unread: &[u8]) -> Result<Option<(Message, usize)>, ReadError>
     ensures read { Gives (option_map (λ x. (x.0, drop x.1 unread.now))) result (message_at heard.now unread.now) }
-    ensures within { IfOk result (λ found. IfSome found (λ x. x.1 ≤ length unread.now)) }
+    ensures within { IfOk result (λ found. IfSome found (λ x. (1 ≤ x.1) × (x.1 ≤ length unread.now))) }
+    ensures fits { IfOk result (λ found. IfSome found (λ x. fits heard.now x.0 ≡ true)) }
 {
     let Some((message, rest)) = message_at(alloc, heard, unread)? else {
         return Ok(None);
@@ -50,6 +52,7 @@ fn front(alloc: Global, heard: &Heard, unread: &[u8]) -> Result<Option<(Message,
 fn hear(alloc: Global, heard: &mut Heard, message: &Message) -> Result<(), Memory>
     ensures heard { OnOk result (heard.new ≡ heard_after heard.old message.now) }
     ensures stays { OnErr result (heard.new ≡ heard.old) }
+    ensures defines { OnErr result (IsDefinition message.now) }
 {
     match message {
         Message::Define(table) => heard.define(table.copy(alloc)?),
@@ -119,6 +122,51 @@ impl Decoder {
         }
     }
 
+    /// The message at the front and how many bytes it has, and `None` while it isn't whole. It stays where it is: nothing
+    /// is heard, and bytes that begin no message don't close.
+    pub fn front(&self) -> Result<Option<(Message, usize)>, Fault>
+        ensures front { Front self.now result }
+        ensures fits { IfOk result (λ found. IfSome found (λ x. fits self.now.heard x.0 ≡ true)) }
+        ensures within { IfOk result (λ found. IfSome found (λ x. (1 ≤ x.1) × (x.1 ≤ length self.now.unread))) }
+    {
+        if self.closed {
+            return Err(Fault::Closed);
+        }
+        match front(self.alloc, &self.heard, self.unread.as_slice()) {
+            Ok(found) => Ok(found),
+            Err(ReadError::Memory) => Err(Fault::Memory),
+            Err(ReadError::Breach(breach)) => Err(breach.fault()),
+        }
+    }
+
+    /// Hears a message and drops its bytes, as many as `front` told. Only a definition takes memory; after `Memory`
+    /// nothing has changed.
+    pub fn pass(&mut self, message: &Message, used: usize) -> Result<(), Memory>
+        requires { used ≤ length self.old.unread }
+        ensures passed { OnOk result (self.new ≡ passed self.old message.now used) }
+        ensures stays { OnErr result (self.new ≡ self.old) }
+        ensures defines { OnErr result (IsDefinition message.now) }
+    {
+        hear(self.alloc, &mut self.heard, message)?;
+        self.unread.advance(used);
+        Ok(())
+    }
+
+    /// Drops the bytes of a message that tells nothing of the tables, as many as `front` told.
+    pub fn skip(&mut self, used: usize)
+        requires { used ≤ length self.old.unread }
+        ensures { self.new ≡ record self.old { unread = drop used self.old.unread } }
+    {
+        self.unread.advance(used);
+    }
+
+    /// Reads no more: every later call answers `Closed`.
+    pub fn close(&mut self)
+        ensures { self.new ≡ record self.old { closed = true } }
+    {
+        self.closed = true;
+    }
+
     /// The next message, and `None` while it isn't whole. Bytes that begin no message are a fault, and after it the
     /// decoder answers `Closed`; after `Memory` nothing has changed.
     pub fn next(&mut self) -> Result<Option<Message>, Fault>
@@ -138,7 +186,7 @@ impl Decoder {
             Ok(None) => Ok(None),
             Err(ReadError::Memory) => Err(Fault::Memory),
             Err(ReadError::Breach(breach)) => {
-                self.closed = true;
+                self.close();
                 Err(breach.fault())
             }
         }

@@ -5,7 +5,9 @@ ghost use Rattle.table_types.specs.Tables.{Definition};
 ghost use Rattle.table_types.specs.Rosters.{is_same_name, table_at};
 ghost use Rattle.peers_msg.specs.declared.message.Message.TheVariants as messages;
 ghost use Rattle.peers_msg.specs.Heard.{silence, heard_after, put_table, outlives, selected_table, resumed};
+ghost use Rattle.peers_msg.specs.OwnTables.{own_part};
 
+use crate::own_tables::is_own;
 use std::alloc::Global;
 use std::marker::Model;
 use table_types::{Memory, Roster, TableDef, is_same_name, table_at};
@@ -144,6 +146,32 @@ impl Heard {
         ensures { self.new ≡ heard_after self.old (messages.Switch id) }
     {
         self.selected = Some(id);
+    }
+
+    /// What was heard of a roster's own tables: those whose id stands there for that very definition, and the id
+    /// selected where it is one of theirs.
+    pub fn own_part(&self, alloc: Global, roster: &Roster) -> Result<Heard, Memory>
+        ensures { IfOk result (λ part. part ≡ own_part roster.now self.now) }
+    {
+        let mut tables = Vec::new(alloc);
+        for table in self.tables.as_slice() {
+            if is_own(roster, table) {
+                tables.push(table.copy(alloc)?)?;
+            }
+        }
+        Ok(Heard {
+            tables,
+            selected: self.own_selected(roster),
+        })
+    }
+
+    fn own_selected(&self, roster: &Roster) -> Option<u64>
+        ensures { result ≡ (own_part roster.now self.now).selected }
+    {
+        match self.selected_table() {
+            Some(table) if is_own(roster, table) => self.selected,
+            _ => None,
+        }
     }
 
     /// An equal memory of what was heard.

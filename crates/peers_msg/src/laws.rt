@@ -1,11 +1,12 @@
 //! What holds of the definitions, whatever the program does.
 
-ghost use Rattle.std.specs.Prelude.{List, length, true, ℕ, ◌≡◌, ◌≤◌, [], ◌++◌, Ok, Some, ◌≢◌, None};
+ghost use Rattle.std.specs.Prelude.{List, length, true, ℕ, ◌≡◌, ◌≤◌, [], ◌++◌, Ok, Some, ◌≢◌, None, ◌↔◌};
 ghost use Rattle.peers_encint.specs.Integers.{IsBytes};
 ghost use Rattle.peers_msg.specs.Reading.{message_at, with_more};
 ghost use Rattle.peers_msg.specs.Decoding.{AreRead, AreReadInPieces, IsEnd, together};
 ghost use Rattle.peers_msg.specs.Stream.{AllFit};
 ghost use Rattle.peers_msg.specs.Heard.{Heard};
+ghost use Rattle.peers_msg.specs.OwnTables.{is_shape_of};
 ghost use Rattle.peers_msg.specs.Fitting.{update_fits, fits};
 ghost use Rattle.peers_msg.specs.Messages.{UpdateFields, is_small};
 ghost use Rattle.peers_msg.specs.Spelling.{update_text, definition_text, spelled, stream_of};
@@ -75,4 +76,9 @@ pub fn data_is_small()
     ensures updates { (d : Definition) (u : UpdateFields) → is_definition d ≡ true → update_fits d u ≡ true → length (update_text u) ≤ 16384 }
     ensures definitions { (d : Definition) → is_definition d ≡ true → length (definition_text d) ≤ 16384 }
     ensures rows { (d : Definition) (key : Key) (values : List Value) → is_definition d ≡ true → row_fits d key values ≡ true → is_small key values ≡ true }
+{}
+
+/// A table heard has the shape of an own one exactly where both are the same definition but for id and expire.
+pub fn same_shape()
+    ensures { (own heard : Definition) → (is_shape_of own heard ≡ true) ↔ (own ≡ record heard { id = own.id; expire = own.expire }) }
 {}

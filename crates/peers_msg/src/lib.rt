@@ -11,6 +11,7 @@ mod laws;
 mod meaning;
 mod message;
 mod name_field;
+mod own_tables;
 mod reading;
 mod sizes;
 
@@ -21,8 +22,9 @@ pub use fault::Fault;
 pub use heard::Heard;
 pub use laws::{
     any_cutting, data_is_small, no_prefix, one_lesson, one_list, one_message, one_step,
-    read_is_spelled, reading_stays, spelled_is_read,
+    read_is_spelled, reading_stays, same_shape, spelled_is_read,
 };
 pub use message::{Message, Other, UpdateMsg};
 pub use name_field::NameField;
+pub use own_tables::{is_own, is_shape_of};
 pub use sizes::{named_sizes, size};

@@ -2,7 +2,7 @@ use Rattle.std.proofs.Common.{◌≡◌, List, ℕ, Option, Some, Result, Ok, re
 use Rattle.peers_msg.specs.declared.message.Message.{Message}
 use Rattle.peers_msg.specs.declared.fault.Breach.{Breach}
 use Rattle.peers_msg.specs.Reading.{message_at}
-use Rattle.peers_msg.proofs.MessagesTake.{rest_is_end}
+use Rattle.peers_msg.proofs.MessagesTake.{rest_is_end, message_takes}
 use Rattle.peers_msg.proofs.decoder.front.Goals as goal
 
 pub overflow_sub-used : goal.overflow_sub-used
@@ -18,3 +18,15 @@ returns-clause-read c =
   where
     found : Message → List ℕ → Result (Option (Message × List ℕ)) Breach
     found m rest = Ok (Some (m, rest))
+
+pub returns-clause-within : goal.returns-clause-within
+returns-clause-within c =
+    let read : message_at c.args.heard.now c.args.unread.now ≡ Ok (Some (c.in-Some.message, c.in-Some.rest.now)) = c.in_ok-message.ensures ∙ rw c.in-Some.is refl in
+    let end = rest_is_end c.args.heard.now c.in-Some.message c.args.unread.now c.in-Some.rest.now (λ i. omega (arith, c.type_inv.unread i)) read in
+    let fewer = end.1 in
+    (omega arith, omega arith)
+
+pub returns-clause-fits : goal.returns-clause-fits
+returns-clause-fits c =
+    let read : message_at c.args.heard.now c.args.unread.now ≡ Ok (Some (c.in-Some.message, c.in-Some.rest.now)) = c.in_ok-message.ensures ∙ rw c.in-Some.is refl in
+    (message_takes c.args.heard.now c.in-Some.message c.args.unread.now c.in-Some.rest.now (λ i. omega (arith, c.type_inv.unread i)) read).1
