@@ -1,5 +1,5 @@
 -- What the dictionary of one direction of a session holds (HAProxy, doc/peers-v2.0.txt, "Stick Table Messages").
-use Rattle.std.specs.Prelude.{◌≡◌, ℕ, Bool, true, List, Option, Some}
+use Rattle.std.specs.Prelude.{◌≡◌, ℕ, true, List, Option, Some}
 use Rattle.table_types.specs.Slots.{slot_at, is_slot}
 
 -- that slot holds the name

@@ -211,7 +211,10 @@ fn naming(alloc: Global) -> Result<TableDef, Fail> {
 }
 
 fn s1(alloc: Global) -> Result<Name, Fail> {
-    Name::new(Vec::from_slice(alloc, b"s1")?).ok_or(Fail::from("s1 is no name"))
+    match Name::new(Vec::from_slice(alloc, b"s1")?) {
+        Some(name) => Ok(name),
+        None => Err(Fail::from("s1 is no name")),
+    }
 }
 
 /// An update of a key of so many bytes, named `s1`.
