@@ -8,3 +8,4 @@ pub mod CostLaws
 pub mod StepPays
 pub mod BatchLemmas
 pub mod RequestLemmas
+pub mod ToldLemmas

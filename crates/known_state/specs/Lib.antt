@@ -3,3 +3,4 @@ pub mod Known
 pub mod Shortest
 pub mod Cost
 pub mod Requests
+pub mod Told

@@ -4,6 +4,7 @@ ghost use Rattle.std.specs.Prelude.{◌≡◌, ◌≢◌, Some, None, Err, IfOk,
 ghost use Rattle.table_types.specs.declared.update.Update.{Update};
 ghost use Rattle.peers_msg.specs.declared.message.Message.TheVariants as messages;
 ghost use Rattle.peers_msg.specs.Steps.{Step, IsOwn};
+ghost use Rattle.known_state.specs.Told.{known_of};
 ghost use Rattle.known_state.specs.declared.known.KnownError.{KnownError};
 ghost use Rattle.known_state.specs.declared.known.KnownError.TheVariants as build_errors;
 ghost use Rattle.known_state.specs.declared.known.StepError.{StepError};
@@ -146,6 +147,30 @@ impl Known {
             roster,
             heard,
             resolver: Resolver::of(alloc, lasts, slots),
+        })
+    }
+
+    /// What a teacher of that roster knows of a learner that heard this and resolves updates by that: of the roster's
+    /// tables those are defined whose id stands for that very definition, with their last numbers; the slots are the
+    /// learner's, and the table selected is named where it is one of them.
+    pub fn of_learner(
+        alloc: Global,
+        roster: Roster,
+        heard: &Heard,
+        resolver: &Resolver,
+    ) -> Result<Known, Memory>
+        ensures { IfOk result (λ known. known
+            ≡ known_of roster (record { heard = heard.now; lasts = resolver.now.lasts; slots = resolver.now.slots })) }
+    {
+        let lasts = resolver.lasts().own_part(alloc, heard, &roster)?;
+        let slots = resolver.slots().copy(alloc)?;
+        let heard = heard.own_part(alloc, &roster)?;
+        let own = Resolver::of(alloc, lasts, slots);
+        Ok(Known {
+            alloc,
+            roster,
+            heard,
+            resolver: own,
         })
     }
 

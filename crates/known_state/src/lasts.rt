@@ -3,12 +3,14 @@
 ghost use Rattle.std.specs.Prelude.{◌≡◌, IfOk, OnOk, OnErr, [], filter, option_copied};
 ghost use Rattle.table_types.specs.Rosters.{table_at};
 ghost use Rattle.peers_msg.specs.Steps.{last_of, put_last, keeps_last};
+ghost use Rattle.peers_msg.specs.OwnTables.{is_own_one};
 ghost use Rattle.known_state.specs.Known.{lasts_put};
+ghost use Rattle.known_state.specs.Told.{own_lasts};
 
-use peers_msg::Heard;
+use peers_msg::{Heard, is_own};
 use std::alloc::Global;
 use std::marker::Model;
-use table_types::{Memory, TableDef};
+use table_types::{Memory, Roster, TableDef};
 
 /// The number of the last update of each table id that had one, in rising id.
 #[derive(Debug, Drop)]
@@ -82,6 +84,16 @@ fn keep_at(numbers: &mut Vec<(u64, u32)>, new: &TableDef, heard: &Heard)
     }
 }
 
+/// Whether an id stands for a definition that is the roster's own.
+fn is_own_id(heard: &Heard, roster: &Roster, id: u64) -> bool
+    ensures { result ≡ is_own_one roster.now (table_at heard.now.tables id) }
+{
+    match heard.table(id) {
+        Some(table) => is_own(roster, table),
+        None => false,
+    }
+}
+
 impl Lasts {
     /// No table has a last number. Takes no memory.
     pub fn new(alloc: Global) -> Lasts
@@ -124,6 +136,20 @@ impl Lasts {
             ≡ filter (λ last. keeps_last new.now (table_at heard.now.tables last.0) last.0) self.old }
     {
         keep_at(&mut self.numbers, new, heard);
+    }
+
+    /// The last numbers of a roster's own tables, by what was heard of them: of the ids that stand for that very
+    /// definition.
+    pub fn own_part(&self, alloc: Global, heard: &Heard, roster: &Roster) -> Result<Lasts, Memory>
+        ensures { IfOk result (λ part. part ≡ own_lasts roster.now heard.now self.now) }
+    {
+        let mut numbers = Vec::new(alloc);
+        for last in self.numbers.as_slice() {
+            if is_own_id(heard, roster, last.0) {
+                numbers.push(*last)?;
+            }
+        }
+        Ok(Lasts { numbers })
     }
 
     /// Equal last numbers.

@@ -159,6 +159,13 @@ impl Resolver {
         Ok(())
     }
 
+    /// Puts these last numbers in place of those held.
+    pub fn keep(&mut self, lasts: Lasts)
+        ensures { self.new ≡ record self.old { lasts = lasts } }
+    {
+        self.lasts = lasts;
+    }
+
     /// Equal last numbers and slots.
     pub fn copy(&self, alloc: Global) -> Result<Resolver, Memory>
         ensures { IfOk result (λ copy. copy ≡ self.now) }
