@@ -1,9 +1,8 @@
 -- How one update is told (own): its table is selected where it isn't, by its definition where it isn't defined yet and
 -- else by a switch; then it comes without its number exactly where that is one more than the table's last, modulo 2^32.
-use Rattle.std.specs.Prelude.{◌≡◌, ℕ, Bool, true, false, ◌==◌, List, [], ◌∷◌, is_some, Option, Some, None, if◌then◌else◌}
+use Rattle.std.specs.Prelude.{ℕ, Bool, false, ◌==◌, List, [], ◌∷◌, is_some, Option, Some, None, if◌then◌else◌}
 use Rattle.table_types.specs.declared.update.Update.{Update}
 use Rattle.table_types.specs.Tables.{Definition}
-use Rattle.table_types.specs.Updates.{fits}
 use Rattle.table_types.specs.Rosters.{table_at}
 use Rattle.peers_msg.specs.declared.name_field.NameField.TheVariants as names
 use Rattle.peers_msg.specs.declared.message.Message.{Message}
