@@ -1,0 +1,5 @@
+pub mod IntakeLemmas
+pub mod RowLemmas
+pub mod LearningLemmas
+pub mod PieceLaws
+pub mod PutLaws

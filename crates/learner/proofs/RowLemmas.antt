@@ -1,0 +1,206 @@
+-- The order of keys, and rows by the place of their table.
+use Rattle.std.proofs.Common.{◌≡◌, ℕ, suc, ◌+◌, ◌<◌, ◌≤◌, List, [], ◌∷◌, ◌++◌, length, get_or, set, drop, Option, Some, None, refl, sym, ap, ◌∙◌, subst, arith, inl, inr}
+use Rattle.std.specs.Prelude.{option_map, map}
+use Rattle.std.proofs.lemmas.List.{append-nil}
+use Rattle.std.proofs.Math.ListN.{drop_of_length-le}
+use Rattle.std.specs.declared.cmp.Ordering.{Ordering}
+use Rattle.std.specs.declared.cmp.Ordering.TheVariants.{Less, Equal, Greater}
+use Rattle.std.specs.Ordering.{is_eq, match_ordering}
+use Rattle.std.specs.Map.{lookup}
+use Rattle.std.specs.BTreeMap.{insert_entry}
+use Rattle.std.proofs.lemmas.Bool.{cases_eq, eq-eqb, ne_eqb}
+use Rattle.table_types.specs.declared.key.Key.{Key}
+use Rattle.table_types.specs.declared.key.Key.TheVariants as keys
+use Rattle.table_types.specs.contracts.key.KeyOrd.TheImpl as key_ord
+use Rattle.table_types.specs.declared.update.Update.{Update}
+use Rattle.table_types.specs.Tables.{Definition}
+use Rattle.table_types.specs.Rosters.{table_at}
+use Rattle.table_types.specs.Rows.{StoredRow, row_of}
+use Rattle.learner.specs.Rows.{key_cmp, put_row, put, rows_at, place_of}
+
+abbrev pub derived_cmp : Key → Key → Ordering
+derived_cmp = (key_ord.ghosts).cmp
+
+-- the order of keys that the code derives
+pub derived_is : (a b : Key) → derived_cmp a b ≡ key_cmp a b
+derived_is (keys.Int a) (keys.Int b) = refl
+derived_is (keys.Ip4 a) (keys.Ip4 b) = refl
+derived_is (keys.Ip6 a) (keys.Ip6 b) = refl
+derived_is (keys.Str a) (keys.Str b) = refl
+derived_is (keys.Bin a) (keys.Bin b) = refl
+derived_is (keys.Int a) (keys.Ip4 b) = refl
+derived_is (keys.Int a) (keys.Ip6 b) = refl
+derived_is (keys.Int a) (keys.Str b) = refl
+derived_is (keys.Int a) (keys.Bin b) = refl
+derived_is (keys.Ip4 a) (keys.Int b) = refl
+derived_is (keys.Ip4 a) (keys.Ip6 b) = refl
+derived_is (keys.Ip4 a) (keys.Str b) = refl
+derived_is (keys.Ip4 a) (keys.Bin b) = refl
+derived_is (keys.Ip6 a) (keys.Int b) = refl
+derived_is (keys.Ip6 a) (keys.Ip4 b) = refl
+derived_is (keys.Ip6 a) (keys.Str b) = refl
+derived_is (keys.Ip6 a) (keys.Bin b) = refl
+derived_is (keys.Str a) (keys.Int b) = refl
+derived_is (keys.Str a) (keys.Ip4 b) = refl
+derived_is (keys.Str a) (keys.Ip6 b) = refl
+derived_is (keys.Str a) (keys.Bin b) = refl
+derived_is (keys.Bin a) (keys.Int b) = refl
+derived_is (keys.Bin a) (keys.Ip4 b) = refl
+derived_is (keys.Bin a) (keys.Ip6 b) = refl
+derived_is (keys.Bin a) (keys.Str b) = refl
+
+-- what is found among entries by either order
+pub lookup_is : (key : Key) (es : List (Key × StoredRow)) → lookup (λ other. is_eq (derived_cmp key other)) es ≡ lookup (λ other. is_eq (key_cmp key other)) es
+lookup_is key [] = refl
+lookup_is key (e ∷ es) = rw (derived_is key e.0, lookup_is key es) refl
+
+-- what is put among entries by either order
+pub insert_is : (es : List (Key × StoredRow)) (key : Key) (row : StoredRow) → insert_entry derived_cmp es key row ≡ insert_entry key_cmp es key row
+insert_is [] key row = refl
+insert_is (e ∷ es) key row = rw (derived_is key e.0, insert_is es key row) refl
+
+-- ---- the place of a table
+
+place_first : (d : Definition) (ds : List Definition) (id p : ℕ) → d.id ≡ id → place_of (d ∷ ds) id ≡ Some p → p ≡ 0
+place_first d ds id p same at =
+    let first : Some 0 ≡ Some p = sym (rw (eq-eqb d.id id same) refl) ∙ at in
+    cc
+
+place_later : (d : Definition) (ds : List Definition) (id p : ℕ) → (d.id ≡ id → ⊥) → place_of (d ∷ ds) id ≡ Some p → (q : ℕ) × (p ≡ suc q) × (place_of ds id ≡ Some q)
+place_later d ds id p other at = found (place_of ds id) refl
+  where
+    found : (o : Option ℕ) → place_of ds id ≡ o → (q : ℕ) × (p ≡ suc q) × (place_of ds id ≡ Some q)
+    found None e = let none : None ≡ Some p = sym (rw (ne_eqb d.id id other, e) refl) ∙ at in absurd cc
+    found (Some q) e =
+        let some : Some (q + 1) ≡ Some p = sym (rw (ne_eqb d.id id other, e) refl) ∙ at in
+        let is : q + 1 ≡ p = cc in
+        (q, omega arith, e)
+
+never : (p : ℕ) → ◌≡◌ {A = Option ℕ} (Some p) None → ⊥
+never p e = cc
+
+place_none : (d : Definition) (ds : List Definition) (id : ℕ) → place_of (d ∷ ds) id ≡ None → (d.id ≡ id → ⊥) × (place_of ds id ≡ None)
+place_none d ds id none = elim (cases_eq d.id id) [
+  | inl same ↦ absurd (never 0 (sym (rw (eq-eqb d.id id same) refl) ∙ none))
+  | inr other ↦ (other, rest other (place_of ds id) refl)
+]
+  where
+    rest : (d.id ≡ id → ⊥) → (o : Option ℕ) → place_of ds id ≡ o → place_of ds id ≡ None
+    rest other None e = e
+    rest other (Some q) e = absurd (never (q + 1) (sym (rw (ne_eqb d.id id other, e) refl) ∙ none))
+
+-- a table that is found has a place among the tables
+pub place_within : (ds : List Definition) (id p : ℕ) → place_of ds id ≡ Some p → p < length ds
+place_within [] id p at = absurd cc
+place_within (d ∷ ds) id p at = elim (cases_eq d.id id) [
+  | inl same ↦ let first = place_first d ds id p same at in omega arith
+  | inr other ↦
+      let later = place_later d ds id p other at in
+      let within = place_within ds id later.0 later.2 in
+      omega arith
+]
+
+-- the rows of a table are those at its place
+pub rows_placed : (ds : List Definition) (id p : ℕ) (tables : List (List (Key × StoredRow))) (rows : List (Key × StoredRow)) → length tables ≡ length ds → place_of ds id ≡ Some p → rows ≡ get_or tables p rows → rows_at ds id tables ≡ rows
+rows_placed [] id p tables rows size at is = absurd cc
+rows_placed (d ∷ ds) id p [] rows size at is = absurd cc
+rows_placed (d ∷ ds) id p (first ∷ others) rows size at is = elim (cases_eq d.id id) [
+  | inl same ↦
+      let zero : p ≡ 0 = place_first d ds id p same at in
+      rw (eq-eqb d.id id same) (sym (is ∙ ap (λ n. get_or (first ∷ others) n rows) zero))
+  | inr other ↦
+      let later = place_later d ds id p other at in
+      let there : rows ≡ get_or others later.0 rows = is ∙ ap (λ n. get_or (first ∷ others) n rows) later.1 in
+      let rest : length others ≡ length ds = omega arith in
+      rw (ne_eqb d.id id other) (rows_placed ds id later.0 others rows rest later.2 there)
+]
+
+-- and a table that isn't found has none
+pub rows_unplaced : (ds : List Definition) (id : ℕ) (tables : List (List (Key × StoredRow))) → place_of ds id ≡ None → rows_at ds id tables ≡ []
+rows_unplaced [] id tables none = refl
+rows_unplaced (d ∷ ds) id [] none = refl
+rows_unplaced (d ∷ ds) id (first ∷ others) none =
+    let rest = place_none d ds id none in
+    rw (ne_eqb d.id id rest.0) (rows_unplaced ds id others rest.1)
+
+-- an update is put at the place of its table
+pub put_placed : (now : ℕ) (ds : List Definition) (p : ℕ) (tables : List (List (Key × StoredRow))) (u : Update) (d : Definition) (rows : List (Key × StoredRow)) → length tables ≡ length ds → place_of ds u.table ≡ Some p → table_at ds u.table ≡ Some d → rows ≡ get_or tables p rows → set tables p (put_row now d u rows) ≡ put now ds tables u
+put_placed now [] p tables u d rows size at is_table is_rows = absurd cc
+put_placed now (x ∷ xs) p [] u d rows size at is_table is_rows = absurd cc
+put_placed now (x ∷ xs) p (first ∷ others) u d rows size at is_table is_rows = elim (cases_eq x.id u.table) [
+  | inl same ↦
+      let zero : p ≡ 0 = place_first x xs u.table p same at in
+      let found : Some x ≡ Some d = sym (rw (eq-eqb x.id u.table same) refl) ∙ is_table in
+      let table : d ≡ x = cc in
+      let there : rows ≡ first = is_rows ∙ ap (λ n. get_or (first ∷ others) n rows) zero in
+      rw (eq-eqb x.id u.table same, zero, table, there) refl
+  | inr other ↦
+      let later = place_later x xs u.table p other at in
+      let table : table_at xs u.table ≡ Some d = sym (rw (ne_eqb x.id u.table other) refl) ∙ is_table in
+      let there : rows ≡ get_or others later.0 rows = is_rows ∙ ap (λ n. get_or (first ∷ others) n rows) later.1 in
+      let rest : length others ≡ length xs = omega arith in
+      rw (ne_eqb x.id u.table other, later.1) (ap (λ (tail : List (List (Key × StoredRow))). first ∷ tail) (put_placed now xs later.0 others u d rows rest later.2 table there))
+]
+
+-- and nowhere without one
+pub put_unplaced : (now : ℕ) (ds : List Definition) (tables : List (List (Key × StoredRow))) (u : Update) → place_of ds u.table ≡ None → put now ds tables u ≡ tables
+put_unplaced now [] tables u none = refl
+put_unplaced now (d ∷ ds) [] u none = refl
+put_unplaced now (d ∷ ds) (first ∷ others) u none =
+    let rest = place_none d ds u.table none in
+    rw (ne_eqb d.id u.table rest.0) (ap (λ (tail : List (List (Key × StoredRow))). first ∷ tail) (put_unplaced now ds others u rest.1))
+
+-- nor where its table isn't found
+pub put_unfound : (now : ℕ) (ds : List Definition) (tables : List (List (Key × StoredRow))) (u : Update) → table_at ds u.table ≡ None → put now ds tables u ≡ tables
+put_unfound now [] tables u none = refl
+put_unfound now (d ∷ ds) [] u none = refl
+put_unfound now (d ∷ ds) (first ∷ others) u none = elim (cases_eq d.id u.table) [
+  | inl same ↦ absurd (not_none d (sym (rw (eq-eqb d.id u.table same) refl) ∙ none))
+  | inr other ↦
+      let rest : table_at ds u.table ≡ None = sym (rw (ne_eqb d.id u.table other) refl) ∙ none in
+      rw (ne_eqb d.id u.table other) (ap (λ (tail : List (List (Key × StoredRow))). first ∷ tail) (put_unfound now ds others u rest))
+]
+  where
+    not_none : (t : Definition) → ◌≡◌ {A = Option Definition} (Some t) None → ⊥
+    not_none t e = cc
+
+-- as many tables have rows behind an update as before it
+pub length-put : (now : ℕ) (ds : List Definition) (tables : List (List (Key × StoredRow))) (u : Update) → length (put now ds tables u) ≡ length tables
+length-put now [] tables u = refl
+length-put now (d ∷ ds) [] u = refl
+length-put now (d ∷ ds) (first ∷ others) u = elim (cases_eq d.id u.table) [
+  | inl same ↦ rw (eq-eqb d.id u.table same) refl
+  | inr other ↦ rw (ne_eqb d.id u.table other) (ap suc (length-put now ds others u))
+]
+
+-- ---- what a learner holds
+
+-- no rows for each table
+abbrev pub no_rows : List Definition → List (List (Key × StoredRow))
+no_rows ds = map (λ _. []) ds
+
+pub all_shelved : (ds : List Definition) (n : ℕ) (shelves : List (List (Key × StoredRow))) → length ds ≤ n → shelves ++ no_rows (drop n ds) ≡ no_rows ds → shelves ≡ no_rows ds
+all_shelved ds n shelves le e =
+    sym (append-nil shelves) ∙ ap (λ (xs : List Definition). shelves ++ no_rows xs) (sym (drop_of_length-le ds le)) ∙ e
+
+pub length_shelved : (ds : List Definition) → length (no_rows ds) ≡ length ds
+length_shelved [] = refl
+length_shelved (d ∷ ds) = ap suc (length_shelved ds)
+
+pub shelf_within : (roster inside : List Definition) (id p : ℕ) (tables : List (List (Key × StoredRow))) → place_of roster id ≡ Some p → inside ≡ roster → length tables ≡ length inside → p < length tables
+shelf_within roster inside id p tables at same size =
+    let within = place_within roster id p at in
+    let sizes : length inside ≡ length roster = ap (λ (ds : List Definition). length ds) same in
+    omega arith
+
+-- an update is put at its table's place
+pub put_shelf : (now : ℕ) (ds : List Definition) (p expire : ℕ) (tables : List (List (Key × StoredRow))) (u : Update) (d : Definition) (shelf after : List (Key × StoredRow)) (key : Key) (row : StoredRow)
+    → length tables ≡ length ds → place_of ds u.table ≡ Some p → table_at ds u.table ≡ Some d → shelf ≡ get_or tables p shelf
+    → expire ≡ d.expire → key ≡ u.key → row ≡ row_of now expire u → after ≡ insert_entry key_cmp shelf key row
+    → set tables p after ≡ put now ds tables u
+put_shelf now ds p expire tables u d shelf after key row size at is_table is_shelf is_expire is_key is_row is_after =
+    let stored : after ≡ put_row now d u shelf =
+    is_after
+    ∙ ap (λ (k : Key). insert_entry key_cmp shelf k row) is_key
+    ∙ ap (λ (r : StoredRow). insert_entry key_cmp shelf u.key r) (is_row ∙ ap (λ (n : ℕ). row_of now n u) is_expire) in
+    ap (λ (rows : List (Key × StoredRow)). set tables p rows) stored ∙ put_placed now ds p tables u d shelf size at is_table is_shelf

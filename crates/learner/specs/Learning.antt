@@ -1,0 +1,116 @@
+-- What a learner holds, and what it learns of the bytes that it is fed (own).
+use Rattle.std.specs.Prelude.{◌≡◌, ◌⊎◌, ℕ, ◌+◌, true, false, List, [], ◌∷◌, ◌++◌, length, map, Option, Some, None, Result, Ok, Err}
+use Rattle.table_types.specs.declared.key.Key.{Key}
+use Rattle.table_types.specs.declared.update.Update.{Update}
+use Rattle.table_types.specs.Tables.{Definition}
+use Rattle.table_types.specs.Rows.{StoredRow}
+use Rattle.peers_msg.specs.declared.message.Message.{Message}
+use Rattle.peers_msg.specs.Reading.{message_at}
+use Rattle.peers_msg.specs.Steps.{State}
+use Rattle.learner.specs.declared.fault.Fault.{Fault}
+use Rattle.learner.specs.declared.fault.Fault.TheVariants as faults
+use Rattle.learner.specs.Intake.{Taking, Takes, Stops, begun, fed, shut}
+use Rattle.learner.specs.Rows.{put_all}
+
+-- what was taken of the stream, and the rows of each own table, in the order of the roster
+pub record Learning : Type 0 where
+  pub intake : Taking
+  pub rows : List (List (Key × StoredRow))
+
+-- nothing was fed yet
+abbrev pub unlearned : List Definition → Learning
+unlearned roster = record { intake = begun roster; rows = map (λ _. []) roster }
+
+-- bytes are fed
+abbrev pub with_piece : Learning → List ℕ → Learning
+with_piece l piece = record { intake = fed l.intake piece; rows = l.rows }
+
+-- The message m is taken at the moment now, and the updates us that are kept of it are put among the rows.
+abbrev pub Learns : ℕ → Learning → Message → List Update → Learning → Type 0
+Learns now l m us e = Takes l.intake m us e.intake × (e.rows ≡ put_all now l.intake.roster us l.rows)
+
+-- the messages ms are learned one after another, and these updates are put
+abbrev pub AreLearned : ℕ → Learning → List Message → List Update → Learning → Type 0
+AreLearned now l [] us e = (us ≡ []) × (e ≡ l)
+AreLearned now l (m ∷ ms) us e =
+    (one : List Update)
+    × (rest : List Update)
+    × (mid : Learning)
+    × (us ≡ one ++ rest)
+    × Learns now l m one mid
+    × AreLearned now mid ms rest e
+
+-- no message is whole at the front, and there is no fault
+abbrev pub IsWaiting : Taking → Type 0
+IsWaiting t = (t.closed ≡ false) × (message_at t.state.heard t.unread ≡ Ok None)
+
+-- the state in which these messages leave it, or one more
+abbrev pub IsStateBehind : Taking → State → Type 0
+IsStateBehind t s = (s ≡ t.state) ⊎ ((m : Message) × (us : List Update) × (next : Taking) × Takes t m us next × (s ≡ next.state))
+
+-- What is left where memory is wanted: the rows are those of whole messages, none in part.
+abbrev pub IsCutShort : Learning → Learning → Type 0
+IsCutShort l e = (e.rows ≡ l.rows) × (e.intake.roster ≡ l.intake.roster) × IsStateBehind l.intake e.intake.state
+
+-- what learning one message does, where the answer is how many rows were put
+abbrev pub LearnsOne : ℕ → Learning → Result (Option ℕ) Fault → Learning → Type 0
+LearnsOne now l (Ok None) e = IsWaiting l.intake × (e ≡ l)
+LearnsOne now l (Ok (Some count)) e = (m : Message) × (us : List Update) × Learns now l m us e × (count ≡ length us)
+LearnsOne now l (Err faults.Memory) e = IsCutShort l e
+LearnsOne now l (Err fault) e = Stops l.intake fault e.intake × (e.rows ≡ l.rows)
+
+-- The messages that are whole are learned one after another, up to the first fault. The answer is how many rows were
+-- put.
+abbrev pub LearnsAll : ℕ → Learning → Result ℕ Fault → Learning → Type 0
+LearnsAll now l (Ok count) e =
+    (ms : List Message)
+    × (us : List Update)
+    × AreLearned now l ms us e
+    × IsWaiting e.intake
+    × (count ≡ length us)
+LearnsAll now l (Err faults.Memory) e =
+    (ms : List Message)
+    × (us : List Update)
+    × (mid : Learning)
+    × AreLearned now l ms us mid
+    × IsCutShort mid e
+LearnsAll now l (Err fault) e =
+    (ms : List Message)
+    × (us : List Update)
+    × (mid : Learning)
+    × AreLearned now l ms us mid
+    × Stops mid.intake fault e.intake
+    × (e.rows ≡ mid.rows)
+
+-- nothing more is learned
+abbrev pub shut_off : Learning → Learning
+shut_off l = record { intake = shut l.intake; rows = l.rows }
+
+-- What feeding bytes at the moment now does: what is whole then is learned. After a fault it is closed, and so it is
+-- where memory was wanted; what is closed takes no bytes.
+abbrev pub Fed : ℕ → Learning → List ℕ → Result ℕ Fault → Learning → Type 0
+Fed now l piece (Err faults.Closed) e = (l.intake.closed ≡ true) × (e ≡ l)
+Fed now l piece (Err faults.Memory) e =
+    (l.intake.closed ≡ false)
+    × (left : Learning)
+    × LearnsAll now (with_piece l piece) (Err faults.Memory) left
+    × (e ≡ shut_off left)
+Fed now l piece result e = (l.intake.closed ≡ false) × LearnsAll now (with_piece l piece) result e
+
+-- the same before it is closed for want of memory
+abbrev pub FedAndOpen : ℕ → Learning → List ℕ → Result ℕ Fault → Learning → Type 0
+FedAndOpen now l piece (Err faults.Closed) e = (l.intake.closed ≡ true) × (e ≡ l)
+FedAndOpen now l piece result e = (l.intake.closed ≡ false) × LearnsAll now (with_piece l piece) result e
+
+-- ---- streams in pieces
+
+-- the pieces are fed one after another, all at one moment and without a fault, and so many rows are put
+abbrev pub AreFed : ℕ → Learning → List (List ℕ) → ℕ → Learning → Type 0
+AreFed now l [] count e = (count ≡ 0) × (e ≡ l)
+AreFed now l (piece ∷ pieces) count e =
+    (one : ℕ)
+    × (rest : ℕ)
+    × (mid : Learning)
+    × (count ≡ one + rest)
+    × Fed now l piece (Ok one) mid
+    × AreFed now mid pieces rest e

@@ -1,0 +1,5 @@
+pub mod Faults
+pub mod OwnTables
+pub mod Intake
+pub mod Rows
+pub mod Learning

@@ -1,0 +1,56 @@
+-- The rows of the own tables by their keys, and how an update is put among them (own).
+use Rattle.std.specs.Prelude.{ℕ, ◌+◌, ◌==◌, List, [], ◌∷◌, fold, Option, Some, None, option_map, if◌then◌else◌}
+use Rattle.std.specs.declared.cmp.Ordering.{Ordering}
+use Rattle.std.specs.Ordering.{nat_cmp, is_eq}
+use Rattle.std.specs.Cmp.Lexicographic.{slice_cmp}
+use Rattle.std.specs.Map.{lookup}
+use Rattle.std.specs.BTreeMap.{insert_entry}
+use Rattle.table_types.specs.declared.key.Key.{Key}
+use Rattle.table_types.specs.declared.key.Key.TheVariants as keys
+use Rattle.table_types.specs.declared.update.Update.{Update}
+use Rattle.table_types.specs.Tables.{Definition}
+use Rattle.table_types.specs.Rows.{StoredRow, row_of}
+
+-- the kinds of keys in their order
+abbrev pub kind_place : Key → ℕ
+kind_place (keys.Int n) = 0
+kind_place (keys.Ip4 bytes) = 1
+kind_place (keys.Ip6 bytes) = 2
+kind_place (keys.Str bytes) = 3
+kind_place (keys.Bin bytes) = 4
+
+-- the order of keys: numbers by number, others byte by byte, and keys of two kinds by their kinds
+abbrev pub key_cmp : Key → Key → Ordering
+key_cmp (keys.Int a) (keys.Int b) = nat_cmp a b
+key_cmp (keys.Ip4 a) (keys.Ip4 b) = slice_cmp nat_cmp a b
+key_cmp (keys.Ip6 a) (keys.Ip6 b) = slice_cmp nat_cmp a b
+key_cmp (keys.Str a) (keys.Str b) = slice_cmp nat_cmp a b
+key_cmp (keys.Bin a) (keys.Bin b) = slice_cmp nat_cmp a b
+key_cmp a b = nat_cmp (kind_place a) (kind_place b)
+
+-- what a table's rows have at a key
+abbrev pub row_at : Key → List (Key × StoredRow) → Option StoredRow
+row_at key rows = lookup (λ other. is_eq (key_cmp key other)) rows
+
+-- the rows of the table of that id, and none where there is no such table; the rows stand in the order of the tables
+abbrev pub rows_at : List Definition → ℕ → List (List (Key × StoredRow)) → List (Key × StoredRow)
+rows_at (d ∷ ds) id (rows ∷ others) = if d.id == id then rows else rows_at ds id others
+rows_at ds id tables = []
+
+-- an update of that table replaces the row of its key, or stands there as a new one
+abbrev pub put_row : ℕ → Definition → Update → List (Key × StoredRow) → List (Key × StoredRow)
+put_row now d u rows = insert_entry key_cmp rows u.key (row_of now d.expire u)
+
+-- an update is put among the rows of its table
+abbrev pub put : ℕ → List Definition → List (List (Key × StoredRow)) → Update → List (List (Key × StoredRow))
+put now (d ∷ ds) (rows ∷ others) u = if d.id == u.table then put_row now d u rows ∷ others else rows ∷ put now ds others u
+put now ds tables u = tables
+
+-- updates are put one after another
+abbrev pub put_all : ℕ → List Definition → List Update → List (List (Key × StoredRow)) → List (List (Key × StoredRow))
+put_all now roster us tables = fold (put now roster) tables us
+
+-- the place of the table of that id, from 0
+abbrev pub place_of : List Definition → ℕ → Option ℕ
+place_of [] id = None
+place_of (d ∷ ds) id = if d.id == id then Some 0 else option_map (λ place. place + 1) (place_of ds id)

@@ -1,0 +1,16 @@
+//! A learner: takes the bytes of a stream in any pieces, and keeps the rows of its own tables.
+#![tactic(auto)]
+
+mod due;
+mod fault;
+mod intake;
+mod laws;
+mod learner;
+mod own_tables;
+mod shelf;
+#[cfg(test)]
+mod tests;
+
+pub use fault::Fault;
+pub use laws::{any_pieces, others_stay};
+pub use learner::Learner;

@@ -1,0 +1,67 @@
+//! The rows of one table.
+
+ghost use Rattle.std.specs.Prelude.{◌≡◌, [], IfOk, OnOk, OnErr, option_copied};
+ghost use Rattle.std.specs.Map.{keys_of};
+ghost use Rattle.std.specs.List.Sorted.{IsStrictlySortedBy};
+ghost use Rattle.std.specs.BTreeMap.{insert_entry};
+ghost use Rattle.learner.specs.Rows.{key_cmp, row_at};
+
+use std::alloc::Global;
+use std::collections::BTreeMap;
+use std::marker::Model;
+use table_types::{Key, Memory, Row};
+
+/// The rows of one table by their keys.
+#[derive(Drop)]
+pub struct Shelf {
+    rows: BTreeMap<Key, Row>,
+}
+
+impl Model for Shelf {
+    ghost use Rattle.std.specs.Prelude.{List};
+    ghost use Rattle.table_types.specs.declared.key.Key.{Key};
+    ghost use Rattle.table_types.specs.Rows.{StoredRow};
+
+    ghost Value = { List (Key × StoredRow) };
+
+    ghost view = { λ s. s.rows.entries };
+}
+
+impl Shelf {
+    /// No rows. Takes no memory.
+    pub fn new(alloc: Global) -> Shelf
+        ensures { result ≡ [] }
+    {
+        Shelf {
+            rows: BTreeMap::new(alloc),
+        }
+    }
+
+    /// The row of a key.
+    pub fn row(&self, key: &Key) -> Option<&Row>
+        ensures { option_copied result ≡ row_at key.now self.now }
+    {
+        self.rows.get(key)
+    }
+
+    /// Puts a row in place of the key's. After `Memory` nothing has changed.
+    pub fn put(&mut self, key: Key, row: Row) -> Result<(), Memory>
+        ensures put { OnOk result (self.new ≡ insert_entry key_cmp self.old key row) }
+        ensures stays { OnErr result (self.new ≡ self.old) }
+    {
+        self.rows.insert(key, row)?;
+        Ok(())
+    }
+
+    /// Copies of the rows with their keys, in rising key.
+    pub fn rows(&self, alloc: Global) -> Result<Vec<(Key, Row)>, Memory>
+        ensures rows { IfOk result (λ rows. rows.items ≡ self.now) }
+        ensures rising { IsStrictlySortedBy key_cmp (keys_of self.now) }
+    {
+        let mut rows = Vec::with_capacity(alloc, self.rows.len())?;
+        for (key, row) in self.rows.iter() {
+            rows.push((key.copy(alloc)?, row.copy(alloc)?))?;
+        }
+        Ok(rows)
+    }
+}
