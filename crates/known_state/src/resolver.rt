@@ -160,10 +160,10 @@ impl Resolver {
     }
 
     /// Puts these last numbers in place of those held.
-    pub fn keep(&mut self, lasts: Lasts)
-        ensures { self.new ≡ record self.old { lasts = lasts } }
+    pub fn keep(&mut self, kept: Lasts)
+        ensures { self.new ≡ record self.old { lasts = kept } }
     {
-        self.lasts = lasts;
+        self.lasts = kept;
     }
 
     /// Equal last numbers and slots.

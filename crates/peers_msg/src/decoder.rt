@@ -148,7 +148,7 @@ impl Decoder {
         ensures defines { OnErr result (IsDefinition message.now) }
     {
         hear(self.alloc, &mut self.heard, message)?;
-        self.unread.advance(used);
+        self.skip(used);
         Ok(())
     }
 
@@ -176,11 +176,8 @@ impl Decoder {
             return Err(Fault::Closed);
         }
         match front(self.alloc, &self.heard, self.unread.as_slice()) {
-            Ok(Some((message, used))) => match hear(self.alloc, &mut self.heard, &message) {
-                Ok(()) => {
-                    self.unread.advance(used);
-                    Ok(Some(message))
-                }
+            Ok(Some((message, used))) => match self.pass(&message, used) {
+                Ok(()) => Ok(Some(message)),
                 Err(Memory) => Err(Fault::Memory),
             },
             Ok(None) => Ok(None),
