@@ -53,7 +53,7 @@ fn is_named(entry: &(Key, Row), text: &[u8], number: u32) -> bool {
         _ => false,
     };
     let has_name = match entry.1.name() {
-        Some(name) => name.as_slice() == b"s1",
+        Some(name) => name.as_slice() == b"s1".as_slice(),
         None => false,
     };
     let ends = match entry.1.ends() {
