@@ -294,3 +294,23 @@ fn names_taken(rt: HostRuntime) -> Result<(), Fail> {
     assert_eq!(rt; known.lasts().last(4), Some(2));
     Ok(())
 }
+
+#[test]
+fn name_in_two_slots(rt: HostRuntime) -> Result<(), Fail> {
+    let alloc = rt.alloc();
+    let roster = Roster::new(vec![in alloc; naming(alloc)?]?)?;
+    let (defined, lasts) = (vec![in alloc; 4]?, vec![in alloc; (4, 5)]?);
+    let mut slots = Slots::new(alloc);
+    for slot in [1, 2] {
+        let _old = slots.write(slot, s1(alloc)?);
+    }
+    let mut known = Known::build(alloc, roster, Some(4), defined, lasts, slots)?;
+    let read = named_message(alloc, None, NameField::Held(1))?;
+    assert_eq!(rt; refusal(&mut known, read), None);
+    assert_eq!(rt; known.lasts().last(4), Some(6));
+    for slot in 1..=Slots::COUNT {
+        let name = if slot <= 2 { Some(s1(alloc)?) } else { None };
+        assert_eq!(rt; known.slots().name(slot), name.as_ref());
+    }
+    Ok(())
+}

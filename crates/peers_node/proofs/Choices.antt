@@ -8,7 +8,7 @@ use Rattle.clap.specs.Words.{takes}
 use Rattle.clap.proofs.OnLiterals.{clap_on_literals}
 use Rattle.peers_node.specs.CommandLine.{Chooses, program, texts}
 use Rattle.peers_node.specs.declared.choice.Options.{Options}
-use Rattle.peers_node.specs.declared.choice.Options.TheVariants.{Lesson}
+use Rattle.peers_node.specs.declared.choice.Options.TheVariants.{Lesson, Learn}
 
 pub same_text : {xs ys : List ℕ} → bytes_eq xs ys ≡ true → xs ≡ ys
 same_text {xs} {ys} same = (bytes_eq-Decides xs ys).0 same
@@ -26,8 +26,13 @@ lesson_taken : (name : List ℕ) → takes program (name ∷ codes "lesson" ∷ 
 unfolding clap_on_literals
 lesson_taken name = refl
 
+learn_taken : (name : List ℕ) → takes program (name ∷ codes "learn" ∷ []) ≡ true
+unfolding clap_on_literals
+learn_taken name = refl
+
 pub choice_taken : (words : List (List ℕ)) (chosen : Options) → Chooses words chosen → takes program words ≡ true
 choice_taken words Lesson (name, is) = ap (takes program) is ∙ lesson_taken name
+choice_taken words Learn (name, is) = ap (takes program) is ∙ learn_taken name
 
 pub none_there : {A E : Type 0} (found : Option A) (e : E) → ok_or found e ≡ Err e → found ≡ None
 none_there None e same = refl

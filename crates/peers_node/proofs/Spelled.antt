@@ -15,7 +15,6 @@ use Rattle.peers_msg.specs.Spelling.{control_kind, definition_text, error_kind, 
 use Rattle.peers_encint.specs.Integers.{spelling}
 use Rattle.known_state.specs.Known.{KnownState, built}
 use Rattle.table_types.specs.Tables.{Definition}
-use Rattle.table_types.specs.Slots.{no_names}
 use Rattle.table_types.specs.declared.update.Update.{Update}
 use Rattle.peers_node.specs.Lessons.{start_of, IsLesson}
 use Rattle.peers_node.specs.declared.scene.Scene.{Scene}
@@ -68,10 +67,10 @@ stream_joined ms = sym (flat_map-map (λ message. message) spelled ms)
 
 -- what is taught for the roster, the state and the batch of a scene is the scene's lesson
 pub lesson_of_scene : (scene : Scene) (roster : List Definition) (known : KnownState) (batch : List Update) (ms : List Message)
-    → roster ≡ scene.tables.items → known ≡ built roster scene.selected scene.defined.items scene.last.items no_names → batch ≡ scene.updates.items
+    → roster ≡ scene.tables.items → known ≡ built roster scene.selected scene.defined.items scene.last.items scene.slots → batch ≡ scene.updates.items
     → Shortest known batch ms → IsLesson scene ms
 unfolding IsLesson
 lesson_of_scene scene roster known batch ms roster_is known_is batch_is shortest =
-    let start : known ≡ start_of scene = known_is ∙ ap (λ r. built r scene.selected scene.defined.items scene.last.items no_names) roster_is in
+    let start : known ≡ start_of scene = known_is ∙ ap (λ r. built r scene.selected scene.defined.items scene.last.items scene.slots) roster_is in
     let of_batch : Shortest known scene.updates.items ms = subst (λ us. Shortest known us ms) batch_is shortest in
     subst (λ (k : KnownState). Shortest k scene.updates.items ms) start of_batch

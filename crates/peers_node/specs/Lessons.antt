@@ -1,6 +1,5 @@
 -- What the lesson of a scene is.
 use Rattle.std.specs.Prelude.{List}
-use Rattle.table_types.specs.Slots.{no_names}
 use Rattle.peers_msg.specs.declared.message.Message.{Message}
 use Rattle.known_state.specs.Known.{KnownState, built}
 use Rattle.known_state.specs.Shortest.{Shortest}
@@ -8,7 +7,7 @@ use Rattle.peers_node.specs.declared.scene.Scene.{Scene}
 
 -- what the learner of a scene knows at the start
 abbrev pub start_of : Scene → KnownState
-start_of scene = built scene.tables.items scene.selected scene.defined.items scene.last.items no_names
+start_of scene = built scene.tables.items scene.selected scene.defined.items scene.last.items scene.slots
 
 -- the messages are legal from there, carry the scene's updates, and no others that do have fewer bytes
 unfoldable pub IsLesson : Scene → List Message → Type 0

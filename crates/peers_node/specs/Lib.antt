@@ -3,3 +3,4 @@ pub mod Devices
 pub mod Lessons
 pub mod Printed
 pub mod Words
+pub mod Learned

@@ -5,4 +5,6 @@
 pub enum Options {
     /// Read a scene and write its lesson.
     Lesson,
+    /// Read a scene and write what a learner makes of its stream.
+    Learn,
 }

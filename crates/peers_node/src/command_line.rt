@@ -30,7 +30,9 @@ pub fn options<'a>(alloc: Global, words: &'a [&'a str]) -> Result<Options, Optio
 fn command<'a>(alloc: Global) -> Result<Command<'a>, AllocError>
     ensures { IfOk result (λ command. app_of command ≡ program) }
 {
-    Command::new(alloc, "peers_node").subcommand(Command::new(alloc, "lesson"))
+    Command::new(alloc, "peers_node")
+        .subcommand(Command::new(alloc, "lesson"))?
+        .subcommand(Command::new(alloc, "learn"))
 }
 
 /// The choice whose words these are.
@@ -40,6 +42,7 @@ fn chosen(words: &[&str]) -> Option<Options>
 {
     match words {
         [_, word] if *word == "lesson" => Some(Options::Lesson),
+        [_, word] if *word == "learn" => Some(Options::Learn),
         _ => None,
     }
 }
@@ -63,10 +66,12 @@ mod tests {
         let refused = Err(OptionsError::Words);
         let rows = [
             (["peers_node", "lesson"].as_slice(), Ok(Options::Lesson)),
+            (["peers_node", "learn"].as_slice(), Ok(Options::Learn)),
             (["peers_node"].as_slice(), refused),
             (["peers_node", "help"].as_slice(), refused),
             (["peers_node", "--help"].as_slice(), refused),
-            (["peers_node", "learn"].as_slice(), refused),
+            (["peers_node", "teach"].as_slice(), refused),
+            (["peers_node", "learn", "more"].as_slice(), refused),
             (["peers_node", "lesson", "more"].as_slice(), refused),
         ];
         for (words, answer) in rows {

@@ -8,7 +8,7 @@ use known_state::KnownError;
 use peers_engine::Faults;
 use std::alloc::{AllocError, Global};
 use std::io::Write;
-use table_types::{BatchError, RosterError};
+use table_types::{BatchError, Memory, RosterError};
 use teach_writer::TeachError;
 use thiserror::Error;
 
@@ -18,7 +18,7 @@ pub enum Failure {
     /// A line of the scene, counted from 1, is the first that breaks a rule.
     #[error("line {0}: refused")]
     Line(usize),
-    /// No line is refused, but the scene lacks what the subcommand needs.
+    /// No line is refused, but the scene lacks what the subcommand needs, or has what it can't do.
     #[error("scene: refused")]
     Scene,
     /// Memory ran out.
@@ -54,6 +54,12 @@ impl Failure {
 
 impl From<AllocError> for Failure {
     fn from(_refused: AllocError) -> Failure {
+        Failure::Memory
+    }
+}
+
+impl From<Memory> for Failure {
+    fn from(_refused: Memory) -> Failure {
         Failure::Memory
     }
 }

@@ -14,7 +14,6 @@ use crate::output::write_whole;
 use crate::printed::printed_lesson;
 use crate::scene::{Scene, read_scene};
 use crate::status::Status;
-use dict_slots::Slots;
 use known_state::{Known, stores_no_name};
 use peers_engine::Faults;
 use std::alloc::Global;
@@ -68,6 +67,7 @@ fn lesson_of(alloc: Global, scene: Scene) -> Result<Lesson, Failure>
         defined,
         selected,
         last,
+        slots,
         updates,
         ..
     } = scene;
@@ -76,7 +76,6 @@ fn lesson_of(alloc: Global, scene: Scene) -> Result<Lesson, Failure>
         return Err(Failure::Scene);
     }
     let batch = Batch::new(&roster, updates)?;
-    let slots = Slots::new(alloc);
     let known = Known::build(alloc, roster, selected, defined, last, slots)?;
     Ok(teach(alloc, &known, &batch)?)
 }

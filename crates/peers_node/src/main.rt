@@ -7,6 +7,8 @@ mod command_line;
 mod device;
 mod failure;
 mod input;
+mod learn;
+mod learned;
 mod lesson;
 mod options_error;
 mod output;

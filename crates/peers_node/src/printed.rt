@@ -1,7 +1,7 @@
 //! The printed form of a lesson.
 ghost use Rattle.std.specs.Prelude.{◌≡◌, ◌<◌, ◌≤◌, ◌++◌, ℕ, List, IfOk, OnOk, flat_map, length};
 ghost use Rattle.std.specs.List.{AllByRecursion};
-ghost use Rattle.peers_node.specs.Printed.{IsCounted, IsMessage, digit_for, joined, line_of, price_text, printed, sums_of};
+ghost use Rattle.peers_node.specs.Printed.{IsCounted, IsMessage, digit_for, digits_of, joined, line_of, price_text, printed, sums_of};
 
 use peers_encint::{Read, get};
 use std::alloc::{AllocError, Global};
@@ -64,11 +64,19 @@ fn counted_length(bytes: &[u8]) -> usize
 fn push_line(text: &mut Vec<u8>, message: &[u8]) -> Result<(), AllocError>
     ensures { OnOk result (text.new.items ≡ text.old.items ++ line_of message.now) }
 {
-    for byte in message {
+    push_hexadecimal(text, message)?;
+    text.push(b'\n')?;
+    Ok(())
+}
+
+/// Adds bytes in hexadecimal, two digits for each.
+pub fn push_hexadecimal(text: &mut Vec<u8>, bytes: &[u8]) -> Result<(), AllocError>
+    ensures { OnOk result (text.new.items ≡ text.old.items ++ flat_map digits_of bytes.now) }
+{
+    for byte in bytes {
         text.push(digit(byte / 16))?;
         text.push(digit(byte % 16))?;
     }
-    text.push(b'\n')?;
     Ok(())
 }
 

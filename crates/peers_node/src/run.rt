@@ -1,6 +1,7 @@
 //! From the words of the command line to the exit status.
 
 use crate::choice::Options;
+use crate::learn::learn;
 use crate::lesson::lesson;
 use crate::options_error::OptionsError;
 use crate::status::Status;
@@ -54,6 +55,11 @@ fn dispatch<'a, E: Write + Faults>(
             let mut input = Counting::new(rt.stdin());
             let mut output = Counting::new(rt.stdout());
             lesson(rt.alloc(), &mut input, &mut output, errors)
+        }
+        Ok(Options::Learn) => {
+            let mut input = Counting::new(rt.stdin());
+            let mut output = Counting::new(rt.stdout());
+            learn(rt.alloc(), &mut input, &mut output, errors)
         }
         Err(OptionsError::Words) => refuse_words(rt.alloc(), words, errors),
         Err(OptionsError::Memory) => Status::Memory.said(errors, "memory\n"),

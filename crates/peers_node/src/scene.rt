@@ -7,6 +7,7 @@ mod tables;
 mod updates;
 mod words;
 
+use dict_slots::Slots;
 pub use error::SceneError;
 use std::alloc::Global;
 use table_types::{Moment, TableDef, Update};
@@ -15,8 +16,7 @@ use words::cut;
 /// What a scene says.
 #[derive(Debug, Drop)]
 pub struct Scene {
-    /// The tables in the order of their lines: 1 to 64, with distinct ids and names, none of which
-    /// stores the server's name.
+    /// The tables in the order of their lines: 1 to 64, with distinct ids and names.
     pub tables: Vec<TableDef>,
     /// The ids of the tables that are defined at the start, each once.
     pub defined: Vec<u64>,
@@ -24,6 +24,8 @@ pub struct Scene {
     pub selected: Option<u64>,
     /// The last numbers of defined tables at the start, at most one a table.
     pub last: Vec<(u64, u32)>,
+    /// The names that stand in slots at the start.
+    pub slots: Slots,
     /// The updates in the order of their lines: at most 512, each of which fits its table.
     pub updates: Vec<Update>,
     /// The learner's moment.
@@ -68,6 +70,7 @@ impl Scene {
             defined: Vec::new(alloc),
             selected: None,
             last: Vec::new(alloc),
+            slots: Slots::new(alloc),
             updates: Vec::new(alloc),
             moment: None,
             stream: Vec::new(alloc),
@@ -80,7 +83,12 @@ impl Scene {
 #[cfg(test)]
 mod tests {
     use super::*;
-    use table_types::{Key, Value};
+    use table_types::{Key, Name, Value};
+
+    /// The name that scenes here have.
+    fn name(alloc: Global) -> Option<Name> {
+        Name::new(Vec::from_slice(alloc, b"s1").ok()?)
+    }
 
     /// The first line of scenes here.
     const TABLE: &str = "table 1 t1 integer 4 30000 gpc0\n";
@@ -93,12 +101,16 @@ table 9 r ipv4 4 0 bytes_in_cnt gpc0_rate:10000
 table 2 s string 33 5
 table 3 b binary 2 5
 table 4 v ipv6 16 5
+table 5 st string 33 5 server_key gpc0
 define 1
 select 1
 define 9
 last 1 4294967295
 update 9 0 0 7f00Ff01 300/2/0 18446744073709551615
+slot 128 s1
 update 2 1 5 =
+update 5 1 5 =a 7 s1
+update 5 2 5 =a=b 7 -
 update 2 2 1 =a=b
 update 3 3 5 00aA
 update 4 4 5 000102030405060708090a0b0c0d0e0f
@@ -111,12 +123,14 @@ stream Ff
     #[test]
     fn each_kind_of_line(rt: HostRuntime) {
         let scene = read_scene(rt.alloc(), WHOLE.as_bytes()).expect(&rt, "a scene");
-        assert_eq!(rt; scene.tables.len(), 5);
+        assert_eq!(rt; scene.tables.len(), 6);
         assert_eq!(rt; scene.defined.as_slice(), [1, 9].as_slice());
         assert_eq!(rt; scene.selected, Some(1));
         assert_eq!(rt; scene.last.as_slice(), [(1, 4294967295)].as_slice());
         assert_eq!(rt; scene.moment, Moment::new(4294967296));
         assert_eq!(rt; scene.stream.as_slice(), [0x0A, 0x82, 0xFF].as_slice());
+        assert_eq!(rt; scene.slots.name(128), name(rt.alloc()).as_ref());
+        assert!(rt; scene.slots.name(1).is_none());
         let prices = scene.prices.expect(&rt, "prices");
         assert_eq!(rt; prices.as_slice(), [0, u64::MAX].as_slice());
     }
@@ -124,7 +138,7 @@ stream Ff
     #[test]
     fn each_kind_of_key(rt: HostRuntime) {
         let scene = read_scene(rt.alloc(), WHOLE.as_bytes()).expect(&rt, "a scene");
-        let texts = [b"".as_slice(), b"a=b".as_slice()];
+        let texts = [b"".as_slice(), b"a".as_slice(), b"a=b".as_slice()];
         for update in &scene.updates {
             match &update.key {
                 Key::Int(_) => {}
@@ -149,7 +163,16 @@ stream Ff
                 }
             }
         }
-        assert_eq!(rt; scene.updates.len(), 5);
+        assert_eq!(rt; scene.updates.len(), 7);
+    }
+
+    #[test]
+    fn names_of_updates(rt: HostRuntime) {
+        let scene = read_scene(rt.alloc(), WHOLE.as_bytes()).expect(&rt, "a scene");
+        let named = [None, None, name(rt.alloc()), None, None, None, None];
+        for (update, name) in scene.updates.iter().zip(&named) {
+            assert_eq!(rt; update.name, *name);
+        }
     }
 
     #[test]
@@ -171,8 +194,18 @@ stream Ff
             ("table 2 t2 integer 4 0 gpc0_rate\n", 2),
             ("table 2 t2 integer 4 0 gpc0_rate:0\n", 2),
             ("table 2 t2 integer 4 0 gpc9\n", 2),
-            ("table 2 st string 33 0 server_key\n", 2),
-            ("slot 1 s1\n", 2),
+            ("slot 0 s1\n", 2),
+            ("slot 129 s1\n", 2),
+            ("slot 01 s1\n", 2),
+            ("slot 1 -\n", 2),
+            ("slot 1\n", 2),
+            ("slot 1 s1 s2\n", 2),
+            ("slot 1 s1\nslot 1 s1\n", 3),
+            ("table 2 st string 33 5 server_key\nupdate 2 1 5 =a\n", 3),
+            (
+                "table 2 st string 33 5 server_key\nupdate 2 1 5 =a s1 s2\n",
+                3,
+            ),
             ("define 2\n", 2),
             ("define\n", 2),
             ("define 1\ndefine 1\n", 3),

@@ -3,9 +3,10 @@
 use std::alloc::{AllocError, Global};
 
 /// How the program is called.
-const USAGE: &str = "usage: peers_node lesson < SCENE
-commands:
-  lesson  write the shortest stream that teaches the updates of the scene on standard input
+const USAGE: &str = "usage: peers_node COMMAND < SCENE
+commands, each of which reads a scene on standard input:
+  lesson  write the shortest stream that teaches the updates of the scene
+  learn   write the rows that a learner has behind the stream of the scene, and its acknowledgements
 ";
 
 /// The text for a refused command line: what is wrong with it, and how the program is called. A
@@ -15,7 +16,9 @@ pub fn explanation(alloc: Global, words: &[&str]) -> Result<String, AllocError> 
         None => format!(in alloc; "peers_node: no command given\n{USAGE}"),
         Some(word) => match *word {
             "help" | "--help" | "-h" => String::from_str(alloc, USAGE),
-            "lesson" => format!(in alloc; "peers_node: lesson takes no arguments\n{USAGE}"),
+            "lesson" | "learn" => {
+                format!(in alloc; "peers_node: {word} takes no arguments\n{USAGE}")
+            }
             _ => format!(in alloc; "peers_node: no command {word:?}\n{USAGE}"),
         },
     }

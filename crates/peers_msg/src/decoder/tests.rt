@@ -109,12 +109,19 @@ fn waiting_after(alloc: Global, before: &[u8], bytes: &[u8]) -> Result<Option<us
 }
 
 #[test]
+fn two_updates_without_the_last_byte(rt: HostRuntime) -> Result<(), Fault> {
+    let mut decoder = Decoder::new(rt.alloc());
+    decoder.feed(&TWO_UPDATES[..41])?;
+    assert!(rt; matches!(decoder.next()?, Some(Message::Define(_))));
+    assert!(rt; matches!(decoder.next()?, Some(Message::Update(_))));
+    assert!(rt; decoder.next()?.is_none());
+    assert_eq!(rt; decoder.waiting(), 12);
+    Ok(())
+}
+
+#[test]
 fn cut_off(rt: HostRuntime) -> Result<(), Fault> {
     let alloc = rt.alloc();
-    assert_eq!(rt;
-        waiting_after(alloc, &TWO_UPDATES[..29], &TWO_UPDATES[29..41])?,
-        Some(12)
-    );
     assert_eq!(rt;
         waiting_after(alloc, &T1, &[0x0A, 0x85, 0xF0, 0xF1, 6])?,
         Some(5)

@@ -1,11 +1,13 @@
 //! The kinds of lines of a scene.
-ghost use Rattle.std.specs.Prelude.{◌≡◌, ◌∷◌, ◌++◌, ◌≤◌, [], None, Some, Contains, IfOk, OnOk, vec_len};
+ghost use Rattle.std.specs.Prelude.{◌≡◌, ◌∷◌, ◌++◌, ◌≤◌, [], None, Some, true, Contains, IfOk, IfSome, OnOk, vec_len};
+ghost use Rattle.table_types.specs.Slots.{is_slot};
 
 use super::Scene;
 use super::error::LineError;
 use super::tables::table_of;
 use super::updates::update_of;
-use super::words::{hexadecimal, number, number32, words};
+use super::words::{self, hexadecimal, number, number32, words};
+use dict_slots::Slots;
 use std::alloc::Global;
 use table_types::{Batch, Moment, Roster, TableDef};
 
@@ -28,6 +30,7 @@ impl Scene {
             b"define" => self.read_define(words),
             b"select" => self.read_select(words),
             b"last" => self.read_last(words),
+            b"slot" => self.read_slot(alloc, words),
             b"update" => self.read_update(alloc, words),
             b"moment" => self.read_moment(words),
             b"stream" => self.read_stream(alloc, words),
@@ -82,6 +85,17 @@ impl Scene {
         }
         self.last.push((id, last))?;
         Ok(())
+    }
+
+    fn read_slot(&mut self, alloc: Global, words: &[&[u8]]) -> Result<(), LineError> {
+        let [id, name] = words else {
+            return Err(LineError::Refused);
+        };
+        let id = slot(id).ok_or(LineError::Refused)?;
+        match self.slots.write(id, words::name(alloc, name)?) {
+            None => Ok(()),
+            Some(_) => Err(LineError::Refused),
+        }
     }
 
     fn read_update(&mut self, alloc: Global, words: &[&[u8]]) -> Result<(), LineError> {
@@ -140,6 +154,14 @@ impl Scene {
             Err(LineError::Refused)
         }
     }
+}
+
+/// The slot that a word writes: 1 to 128.
+fn slot(word: &[u8]) -> Option<u8>
+    ensures { IfSome result (λ id. is_slot id ≡ true) }
+{
+    let id = number(word, u64::from(Slots::COUNT))?;
+    if id == 0 { None } else { Some(id as u8) }
 }
 
 /// Gives a value to what has none yet.

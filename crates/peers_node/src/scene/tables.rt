@@ -1,19 +1,12 @@
 //! Tables of a scene.
-ghost use Rattle.std.specs.Prelude.{◌≡◌, false, IfOk};
-ghost use Rattle.table_types.specs.Updates.{stores_name};
-
 use super::error::LineError;
 use super::keys::kind_of;
-use super::words::{cut, is_text, number, number32};
+use super::words::{cut, may_name, number, number32};
 use std::alloc::Global;
 use table_types::{DataType, TableDef};
 
 /// The table of a line `table ID NAME KIND L EXPIRE TYPES..`, from the words after the first.
-///
-/// A table that stores the server's name is refused.
-pub fn table_of(alloc: Global, words: &[&[u8]]) -> Result<TableDef, LineError>
-    ensures { IfOk result (λ table. stores_name table ≡ false) }
-{
+pub fn table_of(alloc: Global, words: &[&[u8]]) -> Result<TableDef, LineError> {
     let [id, name, kind, key_length, expire, types @ ..] = words else {
         return Err(LineError::Refused);
     };
@@ -21,16 +14,12 @@ pub fn table_of(alloc: Global, words: &[&[u8]]) -> Result<TableDef, LineError>
     let kind = kind_of(kind).ok_or(LineError::Refused)?;
     let key_length = number(key_length, u64::MAX).ok_or(LineError::Refused)?;
     let expire = number32(expire).ok_or(LineError::Refused)?;
-    if !is_text(name) || *name == b"-".as_slice() {
+    if !may_name(name) {
         return Err(LineError::Refused);
     }
     let name = Vec::from_slice(alloc, name)?;
     let types = types_of(alloc, types)?;
-    let table = TableDef::new(alloc, id, name, kind, key_length, expire, types)?;
-    if table.stores_name() {
-        return Err(LineError::Refused);
-    }
-    Ok(table)
+    Ok(TableDef::new(alloc, id, name, kind, key_length, expire, types)?)
 }
 
 fn types_of(alloc: Global, words: &[&[u8]]) -> Result<Vec<(DataType, Option<u32>)>, LineError> {

@@ -4,26 +4,34 @@ ghost use Rattle.table_types.specs.Updates.{fits};
 
 use super::error::LineError;
 use super::keys::key_of;
-use super::words::{cut, number, number32};
+use super::words::{cut, name, number, number32};
 use std::alloc::Global;
-use table_types::{DataType, Items, Shape, TableDef, Update, Value};
+use table_types::{DataType, Items, Name, Shape, TableDef, Update, Value};
 
-/// The update of a line `update ID NUMBER LIFE KEY VALUES..`, from the words after the table's id.
+/// The update of a line `update ID NUMBER LIFE KEY VALUES.. NAME`, from the words after the table's id. The last word
+/// is a name, or `-` for none, where the table stores the server's name, and else there is none.
 ///
 /// It fits the table, and has a life.
 pub fn update_of(alloc: Global, table: &TableDef, words: &[&[u8]]) -> Result<Update, LineError>
     ensures { IfOk result (λ update. (update.table ≡ table.now.id) × (fits table.now update ≡ true) × IsSome update.life) }
 {
-    let [number, life, key, values @ ..] = words else {
+    let [number, life, key, rest @ ..] = words else {
         return Err(LineError::Refused);
+    };
+    let (types, values, name) = if table.stores_name() {
+        let (_, types) = table.types().split_last().ok_or(LineError::Refused)?;
+        let (name, values) = rest.split_last().ok_or(LineError::Refused)?;
+        (types, values, name_of(alloc, name)?)
+    } else {
+        (table.types(), rest, None)
     };
     let update = Update {
         table: table.id(),
         number: number32(number).ok_or(LineError::Refused)?,
         life: Some(number32(life).ok_or(LineError::Refused)?),
         key: key_of(alloc, table.kind(), key)?,
-        values: Items::new(values_of(alloc, table.types(), values)?),
-        name: None,
+        values: Items::new(values_of(alloc, types, values)?),
+        name,
     };
     if table.fits(&update) {
         Ok(update)
@@ -32,6 +40,15 @@ pub fn update_of(alloc: Global, table: &TableDef, words: &[&[u8]]) -> Result<Upd
     }
 }
 
+/// The name that a word writes, or none where the word is `-`.
+fn name_of(alloc: Global, word: &[u8]) -> Result<Option<Name>, LineError> {
+    if word == b"-".as_slice() {
+        return Ok(None);
+    }
+    Ok(Some(name(alloc, word)?))
+}
+
+/// The values of a row, one for each of these types.
 fn values_of(
     alloc: Global,
     types: &[(DataType, Option<u32>)],

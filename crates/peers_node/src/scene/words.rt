@@ -2,7 +2,9 @@
 ghost use Rattle.std.specs.Prelude.{◌≡◌, ◌<◌, ◌≤◌, ◌^◌, ◌-◌, ◌∷◌, ◌++◌, Contains, IfOk, IfSome, MatchOption, option_map};
 ghost use Rattle.peers_node.specs.Words.{bytes_of, digit_of, is_text, number_of};
 
+use super::error::LineError;
 use std::alloc::{AllocError, Global};
+use table_types::Name;
 
 /// The bytes before the first `byte` of a text, and those after it; `None` where the text lacks it.
 pub fn cut(text: &[u8], byte: u8) -> Option<(&[u8], &[u8])>
@@ -56,6 +58,19 @@ pub fn number32(word: &[u8]) -> Option<u32>
         Some(value) => Some(value as u32),
         None => None,
     }
+}
+
+/// Whether a word may be a name: a text that isn't `-`.
+pub fn may_name(word: &[u8]) -> bool {
+    is_text(word) && word != b"-".as_slice()
+}
+
+/// The name that a word writes: a text of 1 to 255 bytes that isn't `-`.
+pub fn name(alloc: Global, word: &[u8]) -> Result<Name, LineError> {
+    if !may_name(word) {
+        return Err(LineError::Refused);
+    }
+    Name::new(Vec::from_slice(alloc, word)?).ok_or(LineError::Refused)
 }
 
 /// The bytes that a word writes in hexadecimal, in any case; `None` where it doesn't.
