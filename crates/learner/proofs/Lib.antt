@@ -3,3 +3,4 @@ pub mod RowLemmas
 pub mod LearningLemmas
 pub mod PieceLaws
 pub mod PutLaws
+pub mod LessonLaws

@@ -60,7 +60,7 @@ one_taking t a b m own kin (is_open, rest, at, us, step, keeps, is) (is_open', r
 one_message : (t a b : Taking) (m n : Message) (own kin : List Update) → Takes t m own a → Takes t n kin b → m ≡ n
 one_message t a b m n own kin one other = (found_is m n one.1 other.1 (sym one.2 ∙ other.2)).0
 
-one_learned : (now : ℕ) (l a b : Learning) (m n : Message) (us vs : List Update) → Learns now l m us a → Learns now l n vs b → (us ≡ vs) × (a ≡ b)
+pub one_learned : (now : ℕ) (l a b : Learning) (m n : Message) (us vs : List Update) → Learns now l m us a → Learns now l n vs b → (us ≡ vs) × (a ≡ b)
 one_learned now l a b m n us vs one other =
     let same : m ≡ n = one_message l.intake a.intake b.intake m n us vs one.0 other.0 in
     let again : Takes l.intake m vs b.intake = subst (λ (k : Message). Takes l.intake k vs b.intake) (sym same) other.0 in
@@ -71,7 +71,7 @@ one_learned now l a b m n us vs one other =
     one_learning : (a b : Learning) → a.intake ≡ b.intake → a.rows ≡ b.rows → a ≡ b
     one_learning a b intakes rows = ap (λ (t : Taking). record { intake = t; rows = a.rows }) intakes ∙ ap (λ r. record { intake = b.intake; rows = r }) rows
 
-waits_for_more : (now : ℕ) (l e : Learning) (m : Message) (us : List Update) → IsWaiting l.intake → Learns now l m us e → ⊥
+pub waits_for_more : (now : ℕ) (l e : Learning) (m : Message) (us : List Update) → IsWaiting l.intake → Learns now l m us e → ⊥
 waits_for_more now l e m us waits learns =
     let none : Ok None ≡ found m learns.0.1 = sym waits.1 ∙ learns.0.2 in
     absurd cc

@@ -3,10 +3,12 @@ use Rattle.std.specs.Prelude.{◌≡◌, ◌⊎◌, ℕ, ◌+◌, true, false, L
 use Rattle.table_types.specs.declared.key.Key.{Key}
 use Rattle.table_types.specs.declared.update.Update.{Update}
 use Rattle.table_types.specs.Tables.{Definition}
+use Rattle.table_types.specs.Rosters.{roster_fault}
 use Rattle.table_types.specs.Rows.{StoredRow}
 use Rattle.peers_msg.specs.declared.message.Message.{Message}
 use Rattle.peers_msg.specs.Reading.{message_at}
 use Rattle.peers_msg.specs.Steps.{State}
+use Rattle.known_state.specs.Known.{AreOwn}
 use Rattle.learner.specs.declared.fault.Fault.{Fault}
 use Rattle.learner.specs.declared.fault.Fault.TheVariants as faults
 use Rattle.learner.specs.Intake.{Taking, Takes, Stops, begun, fed, shut}
@@ -114,3 +116,22 @@ AreFed now l (piece ∷ pieces) count e =
     × (count ≡ one + rest)
     × Fed now l piece (Ok one) mid
     × AreFed now mid pieces rest e
+
+-- ---- what it comes to
+
+-- each id heard stands for the learner's own definition, there was no fault, and nothing is unread
+abbrev pub IsReady : Learning → Type 0
+IsReady l =
+    (roster_fault l.intake.roster ≡ None)
+    × AreOwn l.intake.roster l.intake.state.heard.tables
+    × (l.intake.closed ≡ false)
+    × (l.intake.unread ≡ [])
+
+-- these updates are put among the rows of l, all of them, that state is reached, and nothing is left unread
+abbrev pub IsTaught : ℕ → Learning → List Update → State → Learning → Type 0
+IsTaught now l us after e =
+    (e.intake.roster ≡ l.intake.roster)
+    × (e.intake.state ≡ after)
+    × (e.intake.unread ≡ [])
+    × (e.intake.closed ≡ false)
+    × (e.rows ≡ put_all now l.intake.roster us l.rows)

@@ -1,15 +1,20 @@
 //! What holds of the definitions, whatever the program does.
 
-ghost use Rattle.std.specs.Prelude.{◌≡◌, ◌≢◌, ◌+◌, ◌∷◌, ◌++◌, ℕ, List, Ok, Some, length};
+ghost use Rattle.std.specs.Prelude.{◌≡◌, ◌≢◌, ◌+◌, ◌∷◌, ◌++◌, ℕ, List, Result, Ok, Err, Some, length};
 ghost use Rattle.peers_encint.specs.Integers.{IsBytes};
 ghost use Rattle.table_types.specs.declared.key.Key.{Key};
 ghost use Rattle.table_types.specs.declared.update.Update.{Update};
 ghost use Rattle.table_types.specs.Tables.{Definition};
 ghost use Rattle.table_types.specs.Rosters.{table_at};
 ghost use Rattle.table_types.specs.Rows.{StoredRow, row_of};
+ghost use Rattle.peers_msg.specs.declared.message.Message.{Message};
 ghost use Rattle.peers_msg.specs.Decoding.{together};
+ghost use Rattle.peers_msg.specs.Spelling.{stream_of};
+ghost use Rattle.peers_msg.specs.Steps.{State, Legal};
+ghost use Rattle.learner.specs.declared.fault.Fault.{Fault};
+ghost use Rattle.learner.specs.declared.fault.Fault.TheVariants as faults;
 ghost use Rattle.learner.specs.Rows.{put, row_at, rows_at};
-ghost use Rattle.learner.specs.Learning.{Learning, Fed, AreFed};
+ghost use Rattle.learner.specs.Learning.{Learning, Fed, AreFed, IsReady, IsTaught};
 
 /// However a stream is cut into pieces, what is learned of them at one moment is what is learned of the whole: the
 /// same rows, the same state, and the same bytes left.
@@ -34,4 +39,19 @@ pub fn others_stay()
         key ≢ u.key → row_at key (rows_at roster id (put now roster tables u)) ≡ row_at key (rows_at roster id tables) }
     ensures tables { (now : ℕ) (roster : List Definition) (tables : List (List (Key × StoredRow))) (u : Update) (id : ℕ) →
         id ≢ u.table → rows_at roster id (put now roster tables u) ≡ rows_at roster id tables }
+{}
+
+/// What a legal stream teaches. Where each id that a learner heard stands for its own definition, and nothing is
+/// unread, it is fed a stream that is legal from its state: then every update that the stream carries is put among its
+/// rows, and nothing else; it reaches the state in which the stream ends; nothing is left unread; and no fault comes,
+/// but want of memory. So it is however the stream is cut, all at one moment.
+pub fn a_legal_stream()
+    ensures whole { (now : ℕ) (l e : Learning) (ms : List Message) (us : List Update) (after : State) (result : Result ℕ Fault) →
+        IsReady l → Legal l.intake.roster l.intake.state ms us after →
+        Fed now l (stream_of ms) result e → result ≢ Err faults.Memory →
+        (result ≡ Ok (length us)) × IsTaught now l us after e }
+    ensures pieces { (now : ℕ) (l e : Learning) (ms : List Message) (us : List Update) (after : State) (a : List ℕ) (pieces : List (List ℕ)) (count : ℕ) →
+        IsReady l → Legal l.intake.roster l.intake.state ms us after →
+        IsBytes (stream_of ms) → together (a ∷ pieces) ≡ stream_of ms → AreFed now l (a ∷ pieces) count e →
+        (count ≡ length us) × IsTaught now l us after e }
 {}

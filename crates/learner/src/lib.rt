@@ -12,5 +12,5 @@ mod shelf;
 mod tests;
 
 pub use fault::Fault;
-pub use laws::{any_pieces, others_stay};
+pub use laws::{a_legal_stream, any_pieces, others_stay};
 pub use learner::Learner;
