@@ -1,8 +1,7 @@
 -- What taking one message comes to.
-use Rattle.std.proofs.Common.{◌≡◌, ◌≢◌, ℕ, Bool, true, false, List, [], ◌∷◌, ◌++◌, drop, Option, Some, None, Result, Ok, Err, refl, sym, ap, subst, ◌∙◌}
+use Rattle.std.proofs.Common.{◌≡◌, ◌≢◌, ℕ, Bool, true, false, List, [], ◌∷◌, drop, Option, Some, None, Err, refl, sym, ap, subst, ◌∙◌}
 use Rattle.std.specs.Prelude.{option_map}
 use Rattle.std.specs.Option.{option_and_then}
-use Rattle.table_types.specs.declared.update.Update.{Update}
 use Rattle.table_types.specs.Tables.{Definition}
 use Rattle.table_types.specs.Rosters.{table_at}
 use Rattle.peers_msg.specs.declared.fault.Fault.{Fault as ReadFault}
@@ -13,17 +12,15 @@ use Rattle.peers_msg.specs.declared.name_field.NameField.{NameField}
 use Rattle.peers_msg.specs.Messages.{UpdateFields}
 use Rattle.peers_msg.specs.Heard.{Heard, heard_after, selected_table}
 use Rattle.peers_msg.specs.Fitting.{fits}
-use Rattle.peers_msg.specs.Reading.{message_at}
-use Rattle.peers_msg.specs.Decoding.{Decoding, Front, Fed as DecoderFed}
+use Rattle.peers_msg.specs.Decoding.{Front}
 use Rattle.peers_msg.specs.Steps.{State, Step, lasts_after, last_of, put_last, resolved_number, resolved}
 use Rattle.known_state.specs.Resolving.{reads_empty, name_of, slots_after}
 use Rattle.known_state.proofs.StepLemmas.{selected-id}
 use Rattle.known_state.proofs.ResolvingLemmas.{named_by}
-use Rattle.learner.specs.declared.fault.Fault.{Fault}
 use Rattle.learner.specs.declared.fault.Fault.TheVariants as faults
 use Rattle.learner.specs.Faults.{fault_like}
 use Rattle.learner.specs.OwnTables.{own_table, own_id, kept}
-use Rattle.learner.specs.Intake.{Taking, IsFront, Takes, Stops, Feeds, Gives, Tells, lacks_number, with_due, due_after, rows_of, answer_of, remembered, fed, shut}
+use Rattle.learner.specs.Intake.{Taking, IsFront, Takes, Stops, Tells, with_due, due_after, rows_of, answer_of, remembered, shut}
 
 -- what is left of t behind a message of so many bytes, with that state and these ids due
 abbrev pub behind : Taking → ℕ → State → List ℕ → Taking

@@ -1,5 +1,5 @@
 -- Messages learned one after another.
-use Rattle.std.proofs.Common.{◌≡◌, ◌≢◌, ℕ, ◌+◌, true, false, List, [], ◌∷◌, ◌++◌, length, Option, Some, None, Result, Ok, Err, refl, sym, ap, ◌∙◌, subst, append_assoc, inl, inr}
+use Rattle.std.proofs.Common.{◌≡◌, ◌≢◌, ℕ, true, false, List, [], ◌∷◌, ◌++◌, Some, Ok, Err, refl, sym, ap, ◌∙◌, subst, append_assoc, inl, inr}
 use Rattle.std.proofs.lemmas.List.{append-nil}
 use Rattle.std.specs.Prelude.{map}
 use Rattle.table_types.specs.declared.key.Key.{Key}
@@ -12,7 +12,7 @@ use Rattle.learner.specs.declared.fault.Fault.TheVariants as faults
 use Rattle.learner.specs.Intake.{Taking, Takes, Stops, Gives, rows_of, begun}
 use Rattle.learner.specs.declared.intake.Taken.{Taken}
 use Rattle.learner.specs.Rows.{put}
-use Rattle.learner.specs.Learning.{Learning, unlearned, Learns, AreLearned, IsStateBehind, IsCutShort, LearnsOne, LearnsAll}
+use Rattle.learner.specs.Learning.{Learning, unlearned, Learns, AreLearned, LearnsOne, LearnsAll}
 
 -- one message more
 pub learned_more : (now : ℕ) (l mid e : Learning) (ms : List Message) (us one : List Update) (m : Message) → AreLearned now l ms us mid → Learns now mid m one e → AreLearned now l (ms ++ (m ∷ [])) (us ++ one) e

@@ -1,10 +1,9 @@
 -- A learner of a roster that is told a legal stream.
-use Rattle.std.proofs.Common.{◌≡◌, ◌≢◌, ℕ, Bool, true, false, not, ◌&&◌, ◌||◌, cond, eqb, List, [], ◌∷◌, ◌++◌, length, Option, Some, None, Result, Ok, Err, refl, sym, ap, subst, ◌∙◌, append_assoc, inl, inr}
+use Rattle.std.proofs.Common.{◌≡◌, ◌≢◌, ℕ, Bool, true, false, not, ◌&&◌, ◌||◌, cond, List, [], ◌∷◌, ◌++◌, length, Option, Some, None, Result, Ok, Err, refl, sym, ap, subst, ◌∙◌, inl, inr}
 use Rattle.std.specs.Prelude.{nat_le}
-use Rattle.std.specs.List.{AllByRecursion, list_any}
+use Rattle.std.specs.List.{AllByRecursion}
 use Rattle.std.specs.Option.{option_and_then}
 use Rattle.std.proofs.lemmas.Bool.{cases_eq, cases_Bool, eq-eqb, ne_eqb}
-use Rattle.std.proofs.lemmas.List.{append-nil}
 use Rattle.peers_encint.specs.Integers.{IsBytes}
 use Rattle.table_types.specs.declared.key.Key.{Key}
 use Rattle.table_types.specs.declared.update.Update.{Update}
@@ -17,18 +16,17 @@ use Rattle.peers_msg.specs.declared.fault.Breach.{Breach}
 use Rattle.peers_msg.specs.declared.message.Message.{Message}
 use Rattle.peers_msg.specs.declared.message.Message.TheVariants as messages
 use Rattle.peers_msg.specs.Messages.{UpdateFields}
-use Rattle.peers_msg.specs.Heard.{Heard, heard_after, selected_table}
+use Rattle.peers_msg.specs.Heard.{Heard, selected_table}
 use Rattle.peers_msg.specs.Fitting.{fits}
 use Rattle.peers_msg.specs.Spelling.{spelled, stream_of}
 use Rattle.peers_msg.specs.Reading.{message_at, frame_at}
 use Rattle.peers_msg.specs.OwnTables.{is_shape_of}
 use Rattle.peers_msg.specs.Decoding.{together}
-use Rattle.peers_msg.specs.Steps.{State, Step, Teaches, IsOwn, Legal, last_of, resolved_number, resolved}
+use Rattle.peers_msg.specs.Steps.{State, Step, Teaches, IsOwn, Legal, resolved}
 use Rattle.peers_msg.proofs.Pieces.{found, found_is}
 use Rattle.peers_msg.proofs.MessagesAgain.{message_again}
 use Rattle.peers_msg.proofs.ShapeLaws.{means_shape, shape_means}
 use Rattle.known_state.specs.Known.{AreOwn}
-use Rattle.known_state.specs.Resolving.{reads_empty}
 use Rattle.known_state.proofs.KnownLemmas.{table_at-id, table_at-passes, AreOwn-defined}
 use Rattle.known_state.proofs.ResolvingLemmas.{named_so}
 use Rattle.learner.specs.declared.fault.Fault.{Fault}

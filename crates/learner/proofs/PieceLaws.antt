@@ -1,19 +1,17 @@
 -- However a stream is cut into pieces, the same is learned.
-use Rattle.std.proofs.Common.{◌≡◌, ℕ, ◌+◌, false, List, [], ◌∷◌, ◌++◌, length, length-append, Option, Some, None, Result, Ok, Err, refl, sym, ap, subst, ◌∙◌, append_assoc, arith}
+use Rattle.std.proofs.Common.{◌≡◌, ℕ, ◌+◌, false, List, [], ◌∷◌, ◌++◌, length, length-append, None, Ok, sym, ap, subst, ◌∙◌, append_assoc, arith}
 use Rattle.std.proofs.lemmas.List.{append-nil}
 use Rattle.peers_encint.specs.Integers.{IsBytes}
 use Rattle.table_types.specs.declared.update.Update.{Update}
 use Rattle.peers_msg.specs.declared.message.Message.{Message}
-use Rattle.peers_msg.specs.Heard.{Heard}
-use Rattle.peers_msg.specs.Reading.{message_at}
 use Rattle.peers_msg.specs.Decoding.{together}
-use Rattle.peers_msg.specs.Steps.{State, Step}
+use Rattle.peers_msg.specs.Steps.{State}
 use Rattle.peers_msg.proofs.Pieces.{found, found_is, read_on, rest_good, front_good}
 use Rattle.peers_msg.proofs.Lessons.{one_step}
 use Rattle.learner.specs.OwnTables.{kept}
 use Rattle.learner.specs.Intake.{Taking, Takes, due_after, fed}
 use Rattle.learner.specs.Rows.{put_all}
-use Rattle.learner.specs.Learning.{Learning, Learns, AreLearned, IsWaiting, LearnsAll, Fed, AreFed, with_piece}
+use Rattle.learner.specs.Learning.{Learning, Learns, AreLearned, IsWaiting, Fed, AreFed, with_piece}
 
 -- a message that is taken is taken with more bytes behind
 takes_on : (t e : Taking) (m : Message) (own : List Update) (more : List ℕ) → IsBytes t.unread → Takes t m own e → Takes (fed t more) m own (fed e more)

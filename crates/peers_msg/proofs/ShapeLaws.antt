@@ -1,7 +1,5 @@
 -- Tables of one shape are one but for id and expire.
 use Rattle.std.proofs.Common.{◌≡◌, ℕ, ◌<◌, length, length-drop, drop, Bool, true, false, ◌&&◌, eqb, List, [], ◌∷◌, get_or, Option, Some, None, refl, sym, ap, ◌∙◌, subst, arith, inl, inr}
-use Rattle.std.specs.Prelude.{nat_eq}
-use Rattle.std.specs.Cmp.Lexicographic.{pointwise}
 use Rattle.std.proofs.lemmas.Bool.{cases_eq, eq-eqb, ne_eqb}
 use Rattle.table_types.specs.declared.key.KeyKind.{KeyKind}
 use Rattle.table_types.specs.declared.key.KeyKind.TheVariants as kinds

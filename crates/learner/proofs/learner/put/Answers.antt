@@ -1,6 +1,5 @@
-use Rattle.std.proofs.Common.{◌≡◌, ◌<◌, Some, None, length, sym, arith, rules}
+use Rattle.std.proofs.Common.{◌≡◌, Some, length, sym, arith, rules}
 use Rattle.std.proofs.lemmas.Result.{on_ok_weaker}
-use Rattle.table_types.specs.Rosters.{table_at}
 use Rattle.learner.specs.Rows.{place_of}
 use Rattle.learner.proofs.RowLemmas.{place_within, put_unfound, put_unplaced, put_shelf}
 use Rattle.learner.proofs.learner.put.Goals as goal
