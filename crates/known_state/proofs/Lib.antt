@@ -9,3 +9,5 @@ pub mod StepPays
 pub mod BatchLemmas
 pub mod RequestLemmas
 pub mod ToldLemmas
+pub mod RisingLemmas
+pub mod InStepLaws

@@ -4,3 +4,4 @@ pub mod Shortest
 pub mod Cost
 pub mod Requests
 pub mod Told
+pub mod Lessons

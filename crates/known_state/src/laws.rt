@@ -7,11 +7,12 @@ ghost use Rattle.table_types.specs.Tables.{Definition};
 ghost use Rattle.peers_msg.specs.declared.message.Message.{Message};
 ghost use Rattle.peers_msg.specs.Spelling.{size_of_all};
 ghost use Rattle.peers_msg.specs.declared.name_field.NameField.{NameField};
-ghost use Rattle.peers_msg.specs.Steps.{State, Step, Named, IsOwn, Legal};
+ghost use Rattle.peers_msg.specs.Steps.{State, Step, Named, IsOwn, Legal, fresh};
 ghost use Rattle.known_state.specs.declared.known.StepError.{StepError};
 ghost use Rattle.known_state.specs.Known.{KnownState, AreOwn, stores_no_name, Refuses};
 ghost use Rattle.known_state.specs.Resolving.{reads_empty, name_of, slots_after};
 ghost use Rattle.known_state.specs.Cost.{IsOfRoster, Pays, Saves, full};
+ghost use Rattle.known_state.specs.Told.{known_of, AreRising};
 
 /// A name field names an update exactly where it reads no empty slot, and then by one name and with one list of
 /// slots behind it.
@@ -50,4 +51,21 @@ pub fn none_is_shorter()
     ensures { (roster : List Definition) (s e : State) (ms : List Message) (us : List Update) →
         AreOwn roster s.heard.tables → stores_no_name roster ≡ true → AllByRecursion (IsOfRoster roster) us →
         Legal roster s ms us e → full roster s us ≤ size_of_all ms }
+{}
+
+/// What a teacher knows of a learner is enough. Where all that the learner heard is the roster's own, and its last
+/// numbers stand in rising id, messages that are legal from the known state are legal from the learner's own state, carry
+/// the same updates, and lead it where the teacher knows what it ends in. So it is although the learner's state may
+/// hold what no teacher knows of: last numbers of ids that it hears no more, and a selected id that stands for no table.
+pub fn what_is_known_is_enough()
+    ensures { (roster : List Definition) (s after : State) (ms : List Message) (us : List Update) →
+        AreOwn roster s.heard.tables → AreRising s.lasts → Legal roster (known_of roster s).state ms us after →
+        (e : State) × Legal roster s ms us e × AreOwn roster e.heard.tables × AreRising e.lasts
+        × (known_of roster e ≡ record { roster = roster; state = after }) }
+{}
+
+/// Last numbers stand in rising id where nothing was heard, and each step keeps them so.
+pub fn numbers_rise()
+    ensures fresh { AreRising fresh.lasts }
+    ensures step { (s e : State) (m : Message) (us : List Update) → AreRising s.lasts → Step s m us e → AreRising e.lasts }
 {}
