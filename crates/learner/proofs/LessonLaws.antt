@@ -27,7 +27,8 @@ use Rattle.peers_msg.proofs.Pieces.{found, found_is}
 use Rattle.peers_msg.proofs.MessagesAgain.{message_again}
 use Rattle.peers_msg.proofs.ShapeLaws.{means_shape, shape_means}
 use Rattle.known_state.specs.Known.{AreOwn}
-use Rattle.known_state.proofs.KnownLemmas.{table_at-id, table_at-passes, AreOwn-defined}
+use Rattle.known_state.proofs.KnownLemmas.{table_at-id, table_at-passes}
+use Rattle.known_state.proofs.InStepLaws.{own_stays}
 use Rattle.known_state.proofs.ResolvingLemmas.{named_so}
 use Rattle.learner.specs.declared.fault.Fault.{Fault}
 use Rattle.learner.specs.declared.fault.Fault.TheVariants as faults
@@ -129,16 +130,6 @@ kept_own roster s e (messages.Define d) us once own step = rw step.1 refl
 kept_own roster s e (messages.Switch id) us once own step = rw step.1 refl
 kept_own roster s e (messages.Ack table number) us once own step = rw step.1 refl
 kept_own roster s e (messages.Other o) us once own step = rw step.1 refl
-
--- what is heard stays the roster's own
-own_stays : (roster : List Definition) (s e : State) (m : Message) (us : List Update) → AreOwn roster s.heard.tables → IsOwn roster m → Step s m us e → AreOwn roster e.heard.tables
-own_stays roster s e (messages.Update u) us own is step = subst (λ (h : Heard). AreOwn roster h.tables) (sym step.8) own
-own_stays roster s e (messages.Define d) us own is step = subst (λ (x : State). AreOwn roster x.heard.tables) (sym step.2) (AreOwn-defined roster d s.heard.tables is own)
-own_stays roster s e (messages.Control c) us own is step = subst (λ (x : State). AreOwn roster x.heard.tables) (sym step.2) own
-own_stays roster s e (messages.Error k) us own is step = subst (λ (x : State). AreOwn roster x.heard.tables) (sym step.2) own
-own_stays roster s e (messages.Switch id) us own is step = subst (λ (x : State). AreOwn roster x.heard.tables) (sym step.2) own
-own_stays roster s e (messages.Ack table number) us own is step = subst (λ (x : State). AreOwn roster x.heard.tables) (sym step.2) own
-own_stays roster s e (messages.Other o) us own is step = subst (λ (x : State). AreOwn roster x.heard.tables) (sym step.2) own
 
 -- a legal message that stands at the front is taken, and all that it carries is kept
 takes_legal : (t : Taking) (m : Message) (us : List Update) (s : State) (rest : List ℕ) → repeats_name t.roster ≡ false → AreOwn t.roster t.state.heard.tables → t.closed ≡ false → t.unread ≡ spelled m ++ rest → Step t.state m us s

@@ -4,3 +4,4 @@ pub mod LearningLemmas
 pub mod PieceLaws
 pub mod PutLaws
 pub mod LessonLaws
+pub mod KnownLessons

@@ -8,7 +8,8 @@ use Rattle.table_types.specs.Rows.{StoredRow}
 use Rattle.peers_msg.specs.declared.message.Message.{Message}
 use Rattle.peers_msg.specs.Reading.{message_at}
 use Rattle.peers_msg.specs.Steps.{State}
-use Rattle.known_state.specs.Known.{AreOwn}
+use Rattle.known_state.specs.Known.{KnownState, AreOwn}
+use Rattle.known_state.specs.Told.{known_of, AreRising}
 use Rattle.learner.specs.declared.fault.Fault.{Fault}
 use Rattle.learner.specs.declared.fault.Fault.TheVariants as faults
 use Rattle.learner.specs.Intake.{Taking, Takes, Stops, begun, fed, shut}
@@ -135,3 +136,12 @@ IsTaught now l us after e =
     × (e.intake.unread ≡ [])
     × (e.intake.closed ≡ false)
     × (e.rows ≡ put_all now l.intake.roster us l.rows)
+
+-- the learner is ready, its last numbers stand in rising id, and what a teacher of its roster knows of it is k
+abbrev pub IsReadyIn : KnownState → Learning → Type 0
+IsReadyIn k l = IsReady l × AreRising l.intake.state.lasts × (known_of l.intake.roster l.intake.state ≡ k)
+
+-- these updates are put among the rows of l, all of them, and the learner is ready for a lesson from the known state
+-- after
+abbrev pub HasLearned : ℕ → Learning → List Update → KnownState → Learning → Type 0
+HasLearned now l us after e = (e.rows ≡ put_all now l.intake.roster us l.rows) × IsReadyIn after e

@@ -11,10 +11,13 @@ ghost use Rattle.peers_msg.specs.declared.message.Message.{Message};
 ghost use Rattle.peers_msg.specs.Decoding.{together};
 ghost use Rattle.peers_msg.specs.Spelling.{stream_of};
 ghost use Rattle.peers_msg.specs.Steps.{State, Legal};
+ghost use Rattle.known_state.specs.Known.{KnownState};
+ghost use Rattle.known_state.specs.Told.{AreRising};
+ghost use Rattle.known_state.specs.Lessons.{IsLessonFor};
 ghost use Rattle.learner.specs.declared.fault.Fault.{Fault};
 ghost use Rattle.learner.specs.declared.fault.Fault.TheVariants as faults;
 ghost use Rattle.learner.specs.Rows.{put, row_at, rows_at};
-ghost use Rattle.learner.specs.Learning.{Learning, Fed, AreFed, IsReady, IsTaught};
+ghost use Rattle.learner.specs.Learning.{Learning, unlearned, Fed, AreFed, IsReady, IsReadyIn, IsTaught, HasLearned};
 
 /// However a stream is cut into pieces, what is learned of them at one moment is what is learned of the whole: the
 /// same rows, the same state, and the same bytes left.
@@ -54,4 +57,24 @@ pub fn a_legal_stream()
         IsReady l → Legal l.intake.roster l.intake.state ms us after →
         IsBytes (stream_of ms) → together (a ∷ pieces) ≡ stream_of ms → AreFed now l (a ∷ pieces) count e →
         (count ≡ length us) × IsTaught now l us after e }
+{}
+
+/// A lesson teaches what it says. A teacher knows of a learner that it is in the known state k, and not what else it
+/// holds. Fed a lesson from k, every such learner puts all the updates that the lesson carries and nothing else; it is
+/// then in the known state in which the lesson ends, and ready for the next one from there; nothing is left unread; and
+/// no fault comes, but want of memory. So it is however the lesson is cut, all at one moment.
+pub fn a_lesson()
+    ensures whole { (now : ℕ) (k after : KnownState) (us : List Update) (bytes : List ℕ) (l e : Learning) (result : Result ℕ Fault) →
+        IsLessonFor k us bytes after → IsReadyIn k l → Fed now l bytes result e → result ≢ Err faults.Memory →
+        (result ≡ Ok (length us)) × HasLearned now l us after e }
+    ensures pieces { (now : ℕ) (k after : KnownState) (us : List Update) (a : List ℕ) (pieces : List (List ℕ)) (l e : Learning) (count : ℕ) →
+        IsLessonFor k us (together (a ∷ pieces)) after → IsBytes (together (a ∷ pieces)) → IsReadyIn k l → AreFed now l (a ∷ pieces) count e →
+        (count ≡ length us) × HasLearned now l us after e }
+{}
+
+/// The last numbers of a learner that was fed nothing stand in rising id, and whatever it is fed they stay so.
+pub fn numbers_stay_rising()
+    ensures begun { (roster : List Definition) → AreRising (unlearned roster).intake.state.lasts }
+    ensures fed { (now : ℕ) (l e : Learning) (piece : List ℕ) (result : Result ℕ Fault) →
+        AreRising l.intake.state.lasts → Fed now l piece result e → AreRising e.intake.state.lasts }
 {}

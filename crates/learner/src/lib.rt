@@ -12,5 +12,5 @@ mod shelf;
 mod tests;
 
 pub use fault::Fault;
-pub use laws::{a_legal_stream, any_pieces, others_stay};
+pub use laws::{a_legal_stream, a_lesson, any_pieces, numbers_stay_rising, others_stay};
 pub use learner::Learner;
