@@ -95,7 +95,7 @@ own_found (x ∷ xs) d once h = elim (cases_eq x.id d.id) [
 
 -- ---- steps of a legal stream
 
-step_fits : (s e : State) (m : Message) (us : List Update) → Step s m us e → fits s.heard m ≡ true
+pub step_fits : (s e : State) (m : Message) (us : List Update) → Step s m us e → fits s.heard m ≡ true
 step_fits s e (messages.Update u) us step = step.0
 step_fits s e (messages.Control c) us step = step.0
 step_fits s e (messages.Error k) us step = step.0
@@ -113,7 +113,7 @@ fits_found h u fit = at (selected_table h) refl
     at (Some d) e = (d, e)
 
 -- what a legal message carries is kept as it is
-kept_own : (roster : List Definition) (s e : State) (m : Message) (us : List Update) → repeats_name roster ≡ false → AreOwn roster s.heard.tables → Step s m us e → kept roster s.heard us ≡ us
+pub kept_own : (roster : List Definition) (s e : State) (m : Message) (us : List Update) → repeats_name roster ≡ false → AreOwn roster s.heard.tables → Step s m us e → kept roster s.heard us ≡ us
 kept_own roster s e (messages.Update u) us once own step =
     let selected = fits_found s.heard u step.0 in
     let table : table_at s.heard.tables step.1 ≡ Some selected.0 = ap (λ (o : Option ℕ). option_and_then (table_at s.heard.tables) o) (sym step.2) ∙ selected.1 in
@@ -132,7 +132,7 @@ kept_own roster s e (messages.Ack table number) us once own step = rw step.1 ref
 kept_own roster s e (messages.Other o) us once own step = rw step.1 refl
 
 -- a legal message that stands at the front is taken, and all that it carries is kept
-takes_legal : (t : Taking) (m : Message) (us : List Update) (s : State) (rest : List ℕ) → repeats_name t.roster ≡ false → AreOwn t.roster t.state.heard.tables → t.closed ≡ false → t.unread ≡ spelled m ++ rest → Step t.state m us s
+pub takes_legal : (t : Taking) (m : Message) (us : List Update) (s : State) (rest : List ℕ) → repeats_name t.roster ≡ false → AreOwn t.roster t.state.heard.tables → t.closed ≡ false → t.unread ≡ spelled m ++ rest → Step t.state m us s
     → Takes t m us (record { roster = t.roster; state = s; due = due_after t.state m t.due; unread = rest; closed = false })
 takes_legal t m us s rest once own going unread step =
     (going, rest, ap (message_at t.state.heard) unread ∙ message_again t.state.heard m rest (step_fits t.state s m us step), us, step, sym (kept_own t.roster t.state s m us once own step), refl)
@@ -140,7 +140,7 @@ takes_legal t m us s rest once own going unread step =
 -- ---- whole streams
 
 -- updates put behind others are all put
-put_all-append : (now : ℕ) (roster : List Definition) (us vs : List Update) (rows : List (List (Key × StoredRow))) → put_all now roster (us ++ vs) rows ≡ put_all now roster vs (put_all now roster us rows)
+pub put_all-append : (now : ℕ) (roster : List Definition) (us vs : List Update) (rows : List (List (Key × StoredRow))) → put_all now roster (us ++ vs) rows ≡ put_all now roster vs (put_all now roster us rows)
 put_all-append now roster [] vs rows = refl
 put_all-append now roster (u ∷ us) vs rows = put_all-append now roster us vs (put now roster rows u)
 
@@ -159,7 +159,7 @@ learned now l (m ∷ ms) us after once own (is, all) (one, rest, mid, joined, st
       (taught.0, taught.1, taught.2, taught.3, taught.4 ∙ sym (put_all-append now l.intake.roster one rest l.rows) ∙ ap (λ (xs : List Update). put_all now l.intake.roster xs l.rows) (sym joined)),
     )
 
-waits_at_end : (h : Heard) → message_at h [] ≡ Ok None
+pub waits_at_end : (h : Heard) → message_at h [] ≡ Ok None
 unfolding message_at frame_at
 waits_at_end h = refl
 
@@ -177,11 +177,11 @@ never_both breach e = cc
 numbered : (s e : State) (u : UpdateFields) (us : List Update) → Step s (messages.Update u) us e → lacks_number s u ≡ false
 numbered s e u us step = rw (step.2, step.4) refl
 
-apart : true ≡ false → ⊥
+pub apart : true ≡ false → ⊥
 apart e = cc
 
 -- a message that is taken doesn't stop the intake
-goes_on : (t e x : Taking) (m : Message) (own : List Update) (fault : Fault) → Takes t m own e → Stops t fault x → fault ≢ faults.Memory → ⊥
+pub goes_on : (t e x : Taking) (m : Message) (own : List Update) (fault : Fault) → Takes t m own e → Stops t fault x → fault ≢ faults.Memory → ⊥
 goes_on t e x m own faults.Memory takes stops wanted = wanted refl
 goes_on t e x m own faults.Closed takes stops wanted = apart (sym stops.0 ∙ takes.0)
 goes_on t e x m own faults.NoNumber (going, rest, at, us, step, keeps, is) (is_open', u, next, lacks, shut) wanted =
@@ -203,7 +203,7 @@ goes_on t e x m own faults.BadValue takes stops wanted = never_err m takes.1 sto
 goes_on t e x m own faults.Trailing takes stops wanted = never_err m takes.1 stops.1 (sym takes.2 ∙ stops.2)
 
 -- nor does it stop while it waits
-waits_on : (t x : Taking) (fault : Fault) → IsWaiting t → Stops t fault x → fault ≢ faults.Memory → ⊥
+pub waits_on : (t x : Taking) (fault : Fault) → IsWaiting t → Stops t fault x → fault ≢ faults.Memory → ⊥
 waits_on t x faults.Memory waits stops wanted = wanted refl
 waits_on t x faults.Closed waits stops wanted = apart (sym stops.0 ∙ waits.0)
 waits_on t x faults.NoNumber waits stops wanted = never_none (messages.Update stops.1) stops.2.0 (sym stops.2.1 ∙ waits.1)
@@ -232,14 +232,14 @@ no_fault now l a mid x (m ∷ ms) (n ∷ ns) us vs fault (first, rest, next, all
 
 -- ---- what it comes to
 
-abbrev is_memory : Fault → Bool
+abbrev pub is_memory : Fault → Bool
 is_memory faults.Memory = true
 is_memory fault = false
 
 not_memory : (fault : Fault) → is_memory fault ≡ false → fault ≢ faults.Memory
 not_memory fault h same = apart (sym (ap is_memory same) ∙ h)
 
-once_named : (roster : List Definition) → roster_fault roster ≡ None → repeats_name roster ≡ false
+pub once_named : (roster : List Definition) → roster_fault roster ≡ None → repeats_name roster ≡ false
 once_named roster sound = at (nat_le 1 (length roster) && nat_le (length roster) 64) (repeats_id roster) (repeats_name roster) sound
   where
     some_is_none : (e : RosterError) → ◌≡◌ {A = Option RosterError} (Some e) None → ⊥

@@ -4,4 +4,5 @@ pub mod LearningLemmas
 pub mod PieceLaws
 pub mod PutLaws
 pub mod LessonLaws
+pub mod MomentLaws
 pub mod KnownLessons

@@ -3,3 +3,4 @@ pub mod OwnTables
 pub mod Intake
 pub mod Rows
 pub mod Learning
+pub mod Moments

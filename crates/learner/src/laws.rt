@@ -17,6 +17,7 @@ ghost use Rattle.known_state.specs.Lessons.{IsLessonFor};
 ghost use Rattle.learner.specs.declared.fault.Fault.{Fault};
 ghost use Rattle.learner.specs.declared.fault.Fault.TheVariants as faults;
 ghost use Rattle.learner.specs.Rows.{put, row_at, rows_at};
+ghost use Rattle.learner.specs.Moments.{Piece, stream_in, AreFedInTime, HasLearnedInTime};
 ghost use Rattle.learner.specs.Learning.{Learning, unlearned, Fed, AreFed, IsReady, IsReadyIn, IsTaught, HasLearned};
 
 /// However a stream is cut into pieces, what is learned of them at one moment is what is learned of the whole: the
@@ -62,7 +63,8 @@ pub fn a_legal_stream()
 /// A lesson teaches what it says. A teacher knows of a learner that it is in the known state k, and not what else it
 /// holds. Fed a lesson from k, every such learner puts all the updates that the lesson carries and nothing else; it is
 /// then in the known state in which the lesson ends, and ready for the next one from there; nothing is left unread; and
-/// no fault comes, but want of memory. So it is however the lesson is cut, all at one moment.
+/// no fault comes, but want of memory. So it is however the lesson is cut. With pieces at several moments a row takes the
+/// moment of the piece that ended its message: the updates fall into parts, one for each piece.
 pub fn a_lesson()
     ensures whole { (now : ℕ) (k after : KnownState) (us : List Update) (bytes : List ℕ) (l e : Learning) (result : Result ℕ Fault) →
         IsLessonFor k us bytes after → IsReadyIn k l → Fed now l bytes result e → result ≢ Err faults.Memory →
@@ -70,6 +72,12 @@ pub fn a_lesson()
     ensures pieces { (now : ℕ) (k after : KnownState) (us : List Update) (a : List ℕ) (pieces : List (List ℕ)) (l e : Learning) (count : ℕ) →
         IsLessonFor k us (together (a ∷ pieces)) after → IsBytes (together (a ∷ pieces)) → IsReadyIn k l → AreFed now l (a ∷ pieces) count e →
         (count ≡ length us) × HasLearned now l us after e }
+    ensures moments { (k after : KnownState) (us : List Update) (pieces : List Piece) (counts : List ℕ) (l e : Learning) →
+        IsLessonFor k us (stream_in pieces) after → IsBytes (stream_in pieces) → IsReadyIn k l → AreFedInTime l pieces counts e →
+        HasLearnedInTime k l pieces us counts after e }
+    ensures faultless { (now : ℕ) (k after : KnownState) (us : List Update) (before : List Piece) (piece more : List ℕ) (counts : List ℕ) (l mid e : Learning) (fault : Fault) →
+        IsLessonFor k us (stream_in before ++ (piece ++ more)) after → IsBytes (stream_in before ++ (piece ++ more)) → IsReadyIn k l →
+        AreFedInTime l before counts mid → Fed now mid piece (Err fault) e → fault ≡ faults.Memory }
 {}
 
 /// The last numbers of a learner that was fed nothing stand in rising id, and whatever it is fed they stay so.

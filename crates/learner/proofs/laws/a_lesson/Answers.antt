@@ -1,4 +1,4 @@
-use Rattle.learner.proofs.KnownLessons.{lesson_learned, lesson_in_pieces}
+use Rattle.learner.proofs.KnownLessons.{lesson_learned, lesson_in_pieces, lesson_in_time, lesson_faultless}
 use Rattle.learner.proofs.laws.a_lesson.Goals as goal
 
 pub returns-clause-whole : goal.returns-clause-whole
@@ -6,3 +6,9 @@ returns-clause-whole c = lesson_learned
 
 pub returns-clause-pieces : goal.returns-clause-pieces
 returns-clause-pieces c = lesson_in_pieces
+
+pub returns-clause-moments : goal.returns-clause-moments
+returns-clause-moments c = lesson_in_time
+
+pub returns-clause-faultless : goal.returns-clause-faultless
+returns-clause-faultless c = lesson_faultless
