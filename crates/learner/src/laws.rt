@@ -1,17 +1,17 @@
 //! What holds of the definitions, whatever the program does.
 
-ghost use Rattle.std.specs.Prelude.{◌≡◌, ◌≢◌, ◌+◌, ◌∷◌, ◌++◌, ℕ, List, Result, Ok, Err, Some, length};
+ghost use Rattle.std.specs.Prelude.{◌≡◌, ◌≢◌, ◌+◌, ◌∷◌, ◌++◌, ℕ, List, Result, Ok, Err, Some, None, length};
 ghost use Rattle.peers_encint.specs.Integers.{IsBytes};
 ghost use Rattle.table_types.specs.declared.key.Key.{Key};
 ghost use Rattle.table_types.specs.declared.update.Update.{Update};
 ghost use Rattle.table_types.specs.Tables.{Definition};
-ghost use Rattle.table_types.specs.Rosters.{table_at};
+ghost use Rattle.table_types.specs.Rosters.{table_at, roster_fault};
 ghost use Rattle.table_types.specs.Rows.{StoredRow, row_of};
 ghost use Rattle.peers_msg.specs.declared.message.Message.{Message};
 ghost use Rattle.peers_msg.specs.Decoding.{together};
 ghost use Rattle.peers_msg.specs.Spelling.{stream_of};
 ghost use Rattle.peers_msg.specs.Steps.{State, Legal};
-ghost use Rattle.known_state.specs.Known.{KnownState};
+ghost use Rattle.known_state.specs.Known.{KnownState, fresh_of};
 ghost use Rattle.known_state.specs.Told.{AreRising};
 ghost use Rattle.known_state.specs.Lessons.{IsLessonFor};
 ghost use Rattle.learner.specs.declared.fault.Fault.{Fault};
@@ -64,8 +64,10 @@ pub fn a_legal_stream()
 /// holds. Fed a lesson from k, every such learner puts all the updates that the lesson carries and nothing else; it is
 /// then in the known state in which the lesson ends, and ready for the next one from there; nothing is left unread; and
 /// no fault comes, but want of memory. So it is however the lesson is cut. With pieces at several moments a row takes the
-/// moment of the piece that ended its message: the updates fall into parts, one for each piece.
+/// moment of the piece that ended its message: the updates fall into parts, one for each piece. A learner that was fed
+/// nothing is ready for a lesson to a learner that heard nothing.
 pub fn a_lesson()
+    ensures fresh { (roster : List Definition) → roster_fault roster ≡ None → IsReadyIn (fresh_of roster) (unlearned roster) }
     ensures whole { (now : ℕ) (k after : KnownState) (us : List Update) (bytes : List ℕ) (l e : Learning) (result : Result ℕ Fault) →
         IsLessonFor k us bytes after → IsReadyIn k l → Fed now l bytes result e → result ≢ Err faults.Memory →
         (result ≡ Ok (length us)) × HasLearned now l us after e }

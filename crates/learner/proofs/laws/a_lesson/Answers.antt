@@ -1,5 +1,9 @@
+use Rattle.std.proofs.Common.{refl}
 use Rattle.learner.proofs.KnownLessons.{lesson_learned, lesson_in_pieces, lesson_in_time, lesson_faultless}
 use Rattle.learner.proofs.laws.a_lesson.Goals as goal
+
+pub returns-clause-fresh : goal.returns-clause-fresh
+returns-clause-fresh c = λ roster sound. ((sound, tt, refl, refl), tt, refl)
 
 pub returns-clause-whole : goal.returns-clause-whole
 returns-clause-whole c = lesson_learned
