@@ -54,9 +54,10 @@ pub fn none_is_shorter()
 {}
 
 /// What a teacher knows of a learner is enough. Where all that the learner heard is the roster's own, and its last
-/// numbers stand in rising id, messages that are legal from the known state are legal from the learner's own state, carry
-/// the same updates, and lead it where the teacher knows what it ends in. So it is although the learner's state may
-/// hold what no teacher knows of: last numbers of ids that it hears no more, and a selected id that stands for no table.
+/// numbers stand in rising id, messages that are legal from the known state are legal from the learner's own state,
+/// carry the same updates, and lead it where the teacher knows what it ends in. So it is although the learner's state
+/// may hold what no teacher knows of: last numbers of ids that it hears no more, and a selected id that stands for no
+/// table.
 pub fn what_is_known_is_enough()
     ensures { (roster : List Definition) (s after : State) (ms : List Message) (us : List Update) →
         AreOwn roster s.heard.tables → AreRising s.lasts → Legal roster (known_of roster s).state ms us after →
