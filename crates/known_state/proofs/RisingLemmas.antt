@@ -1,6 +1,6 @@
 -- Last numbers that stand in rising id stay so.
 use Rattle.std.proofs.Common.{◌≡◌, ℕ, ◌<◌, ◌≤◌, Bool, true, false, cond, eqb, List, [], ◌∷◌, refl, sym, ap, subst, inl, inr, arith}
-use Rattle.std.specs.Prelude.{filter, nat_lt}
+use Rattle.std.specs.Prelude.{filter, nat_lt, Result, Ok, Err, OnOk, OnErr}
 use Rattle.std.specs.List.{AllByRecursion}
 use Rattle.std.proofs.lemmas.Bool.{cases_eq, cases_lt, eq-eqb, ne_eqb, lt-ltb, le-ltb}
 use Rattle.table_types.specs.declared.update.Update.{Update}
@@ -83,7 +83,12 @@ put-filter keeps id n (l ∷ ls) kept rise = elim (cases_eq l.0 id) [
     behind true other le later = rw (ne_eqb l.0 id other, le-ltb id l.0 le) (ap (λ (xs : List (ℕ × ℕ)). l ∷ xs) later)
     behind false other le later = later
 
--- so it is at each step
+-- where one was put, and where none was
+pub rising-put_or_not : {X E : Type 0} (result : Result X E) (id n : ℕ) (old new : List (ℕ × ℕ)) → OnOk result (new ≡ put_last id n old) → OnErr result (new ≡ old) → AreRising old → AreRising new
+rising-put_or_not (Ok x) id n old new put stays rise = subst AreRising (sym put) (rising-put id n old rise)
+rising-put_or_not (Err e) id n old new put stays rise = subst AreRising (sym stays) rise
+
+-- and at each step
 pub rising-step : (s e : State) (m : Message) (us : List Update) → AreRising s.lasts → Step s m us e → AreRising e.lasts
 rising-step s e (messages.Update u) us rise step = subst AreRising (sym step.9) (rising-put step.1 step.3 s.lasts rise)
 rising-step s e (messages.Define d) us rise step = subst (λ (x : State). AreRising x.lasts) (sym step.2) (rising-filter _ s.lasts rise)

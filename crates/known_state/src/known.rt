@@ -4,7 +4,7 @@ ghost use Rattle.std.specs.Prelude.{◌≡◌, ◌≢◌, Some, None, Err, IfOk,
 ghost use Rattle.table_types.specs.declared.update.Update.{Update};
 ghost use Rattle.peers_msg.specs.declared.message.Message.TheVariants as messages;
 ghost use Rattle.peers_msg.specs.Steps.{Step, IsOwn};
-ghost use Rattle.known_state.specs.Told.{known_of};
+ghost use Rattle.known_state.specs.Told.{known_of, AreRising};
 ghost use Rattle.known_state.specs.declared.known.KnownError.{KnownError};
 ghost use Rattle.known_state.specs.declared.known.KnownError.TheVariants as build_errors;
 ghost use Rattle.known_state.specs.declared.known.StepError.{StepError};
@@ -159,8 +159,9 @@ impl Known {
         heard: &Heard,
         resolver: &Resolver,
     ) -> Result<Known, Memory>
-        ensures { IfOk result (λ known. known
+        ensures known { IfOk result (λ known. known
             ≡ known_of roster (record { heard = heard.now; lasts = resolver.now.lasts; slots = resolver.now.slots })) }
+        ensures rising { AreRising resolver.now.lasts }
     {
         let lasts = resolver.lasts().own_part(alloc, heard, &roster)?;
         let slots = resolver.slots().copy(alloc)?;

@@ -5,7 +5,7 @@ ghost use Rattle.table_types.specs.Rosters.{table_at};
 ghost use Rattle.peers_msg.specs.Steps.{last_of, put_last, keeps_last};
 ghost use Rattle.peers_msg.specs.OwnTables.{is_own_one};
 ghost use Rattle.known_state.specs.Known.{lasts_put};
-ghost use Rattle.known_state.specs.Told.{own_lasts};
+ghost use Rattle.known_state.specs.Told.{own_lasts, AreRising};
 
 use peers_msg::{Heard, is_own};
 use std::alloc::Global;
@@ -20,10 +20,13 @@ pub struct Lasts {
 
 impl Model for Lasts {
     ghost use Rattle.std.specs.Prelude.{List, ℕ};
+    ghost use Rattle.known_state.specs.Told.{AreRising};
 
     ghost Value = { List (ℕ × ℕ) };
 
     ghost view = { λ a. a.numbers.items };
+
+    ghost invariant = { λ a. AreRising a.numbers.items };
 }
 
 fn last_of(numbers: &[(u64, u32)], id: u64) -> Option<u32>
@@ -141,7 +144,8 @@ impl Lasts {
     /// The last numbers of a roster's own tables, by what was heard of them: of the ids that stand for that very
     /// definition.
     pub fn own_part(&self, alloc: Global, heard: &Heard, roster: &Roster) -> Result<Lasts, Memory>
-        ensures { IfOk result (λ part. part ≡ own_lasts roster.now heard.now self.now) }
+        ensures part { IfOk result (λ part. part ≡ own_lasts roster.now heard.now self.now) }
+        ensures rising { AreRising self.now }
     {
         let mut numbers = Vec::new(alloc);
         for last in self.numbers.as_slice() {

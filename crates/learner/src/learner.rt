@@ -3,7 +3,7 @@
 ghost use Rattle.std.specs.Prelude.{◌≡◌, ◌≢◌, ◌<◌, ◌≤◌, [], false, IfOk, IfErr, OnOk, OnErr, IsSome, IfSome, length, option_copied};
 ghost use Rattle.std.specs.Map.{keys_of};
 ghost use Rattle.std.specs.List.Sorted.{IsStrictlySortedBy};
-ghost use Rattle.known_state.specs.Told.{known_of};
+ghost use Rattle.known_state.specs.Told.{known_of, AreRising};
 ghost use Rattle.learner.specs.declared.fault.Fault.TheVariants as faults;
 ghost use Rattle.learner.specs.Intake.{acks_of};
 ghost use Rattle.learner.specs.Rows.{key_cmp, row_at, rows_at, place_of, put};
@@ -211,9 +211,10 @@ impl Learner {
 
     /// What a teacher of that roster knows of this learner: of the roster's tables those are defined whose id stands
     /// for that very definition, with their last numbers as held, the slots as held, and the selected table where it
-    /// is one of them.
+    /// is one of them. All last numbers that are held stand in rising id.
     pub fn known(&self, roster: &Roster) -> Result<Known, Memory>
-        ensures { IfOk result (λ known. known ≡ known_of roster.now self.now.intake.state) }
+        ensures known { IfOk result (λ known. known ≡ known_of roster.now self.now.intake.state) }
+        ensures rising { IfOk result (λ _. AreRising self.now.intake.state.lasts) }
     {
         let roster = roster.copy(self.alloc)?;
         Known::of_learner(
