@@ -37,9 +37,9 @@ abbrev pub AreTooFew : ℕ → List Message → Type 0
 AreTooFew left [] = left ≡ 0
 AreTooFew left (m ∷ ms) = left < length (spelled m)
 
--- A stream of messages comes in pieces, from the state s on and behind so many bytes of it that came before. There is a
--- part for each piece, of the updates that are carried by the messages whose last byte lies in that piece: those that
--- end in it leave fewer bytes than the next message has.
+-- A stream of these messages, of which so many bytes came before, comes in pieces; the messages make their steps from s
+-- on and lead to e. There is a part for each piece: the updates that are carried by the messages whose last byte lies in
+-- that piece. Those that end in it leave fewer bytes than the next message has.
 abbrev pub FallInto : ℕ → State → List Message → List Piece → List (List Update) → State → Type 0
 FallInto before s ms [] parts e = (ms ≡ []) × (parts ≡ []) × (e ≡ s)
 FallInto before s ms (p ∷ ps) parts e =
