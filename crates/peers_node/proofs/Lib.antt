@@ -1,4 +1,5 @@
 mod Choices
+mod Learns
 mod Messages
 mod Numerals
 mod Spelled

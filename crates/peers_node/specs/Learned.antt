@@ -1,6 +1,7 @@
 -- How what a learner holds is printed (own).
-use Rattle.std.specs.Prelude.{◌++◌, ℕ, Bool, true, false, List, [], ◌∷◌, Option, Some, None, codes, flat_map}
+use Rattle.std.specs.Prelude.{◌≡◌, ◌≢◌, ◌++◌, ℕ, Bool, true, false, List, [], ◌∷◌, Option, Some, None, Result, Ok, Err, codes, flat_map}
 use Rattle.std.specs.Fmt.{decimal}
+use Rattle.std.specs.List.Sorted.{IsNonDecreasingBy, IsPermutation}
 use Rattle.table_types.specs.declared.key.Key.{Key}
 use Rattle.table_types.specs.declared.key.Key.TheVariants as keys
 use Rattle.table_types.specs.declared.row.Cell.{Cell}
@@ -10,10 +11,14 @@ use Rattle.table_types.specs.Tables.{Definition}
 use Rattle.table_types.specs.Updates.{stores_name}
 use Rattle.peers_msg.specs.declared.message.Message.{Message}
 use Rattle.peers_msg.specs.declared.message.Message.TheVariants as messages
+use Rattle.learner.specs.declared.fault.Fault.{Fault}
+use Rattle.learner.specs.declared.fault.Fault.TheVariants as faults
+use Rattle.learner.specs.Faults.{fault_name}
 use Rattle.learner.specs.Intake.{acks_of}
 use Rattle.learner.specs.Rows.{rows_at}
-use Rattle.learner.specs.Learning.{Learning}
+use Rattle.learner.specs.Learning.{Fed, Learning, unlearned}
 use Rattle.peers_node.specs.Printed.{digits_of}
+use Rattle.peers_node.specs.declared.scene.Scene.{Scene}
 
 -- the moment at which a row ends, or `-`
 abbrev pub end_text : Option ℕ → List ℕ
@@ -61,3 +66,39 @@ rows_text l = flat_map (table_lines l) l.intake.roster
 -- the lines of the acknowledgements that are due
 abbrev pub acks_text : Learning → List ℕ
 acks_text l = flat_map ack_line (acks_of l.intake)
+
+-- ---- what the program learns of a scene
+
+-- the same tables, in rising id
+abbrev pub AreInRisingId : List Definition → List Definition → Type 0
+AreInRisingId tables roster = IsPermutation tables roster × IsNonDecreasingBy (λ d. d.id) roster
+
+-- At the scene's moment, a learner of the scene's tables in rising id, which was fed nothing, is fed the scene's stream:
+-- that is the answer, and the learner then.
+unfoldable pub IsLearned : Scene → Result ℕ Fault → Learning → Type 0
+IsLearned scene answer l =
+    (now : ℕ)
+    × (roster : List Definition)
+    × (scene.moment ≡ Some now)
+    × AreInRisingId scene.tables.items roster
+    × Fed now (unlearned roster) scene.stream.items answer l
+
+-- what is said of a fault
+abbrev pub fault_line : Fault → List ℕ
+fault_line fault = codes "fault " ++ (fault_name fault ++ 10 ∷ [])
+
+-- What is printed for a scene, and what is said where its stream has a fault: without one, the rows and the
+-- acknowledgements that are due; behind one, the rows so far, and the fault.
+abbrev pub IsPrinted : Scene → List ℕ → Option (List ℕ) → Type 0
+IsPrinted scene text None =
+    (count : ℕ)
+    × (l : Learning)
+    × IsLearned scene (Ok count) l
+    × (text ≡ rows_text l ++ acks_text l)
+IsPrinted scene text (Some line) =
+    (fault : Fault)
+    × (l : Learning)
+    × (fault ≢ faults.Memory)
+    × IsLearned scene (Err fault) l
+    × (text ≡ rows_text l)
+    × (line ≡ fault_line fault)

@@ -1,5 +1,11 @@
 //! The subcommand `learn`.
-ghost use Rattle.std.specs.Prelude.{◌≡◌, None};
+ghost use Rattle.std.specs.Prelude.{◌≡◌, ◌≢◌, ◌++◌, ◌⊎◌, ℕ, Ok, Err, IfOk, option_map, string_bytes};
+ghost use Rattle.std.specs.Io.KnownBytes.{Appends};
+ghost use Rattle.learner.specs.declared.fault.Fault.{Fault};
+ghost use Rattle.learner.specs.declared.fault.Fault.TheVariants as faults;
+ghost use Rattle.learner.specs.Learning.{Learning};
+ghost use Rattle.peers_node.specs.Learned.{AreInRisingId, IsLearned, IsPrinted, acks_text, fault_line, rows_text};
+ghost use Rattle.peers_node.specs.declared.scene.Scene.{Scene};
 
 use crate::failure::Failure;
 use crate::input::read_whole;
@@ -9,9 +15,9 @@ use crate::scene::{Scene, read_scene};
 use crate::status::Status;
 use learner::{Fault, Learner};
 use peers_engine::Faults;
-use std::alloc::Global;
+use std::alloc::{AllocError, Global};
 use std::io::{Read, Write};
-use table_types::Roster;
+use table_types::{Roster, RosterError, TableDef};
 
 /// Reads a scene, feeds its stream to a learner of its tables at its moment, and writes the rows that the learner
 /// then has, and the acknowledgements that are due.
@@ -24,35 +30,69 @@ pub fn learn<R: Read + Faults, W: Write + Faults, E: Write + Faults>(
     input: &mut R,
     output: &mut W,
     errors: &mut E,
-) -> Status {
-    let learned = match learned_of(alloc, input) {
+) -> Status
+    ensures done { result ≡ Status.Done → (scene : Scene) × (count : ℕ) × (l : Learning) × IsLearned scene (Ok count) l
+        × Appends (W.contents output.old) (W.contents output.new) (rows_text l ++ acks_text l) }
+    ensures refused { result ≡ Status.Refused → (output.new ≡ output.old)
+        ⊎ ((scene : Scene) × (fault : Fault) × (l : Learning) × (fault ≢ faults.Memory) × IsLearned scene (Err fault) l
+        × Appends (W.contents output.old) (W.contents output.new) (rows_text l)
+        × Appends (E.contents errors.old) (E.contents errors.new) (fault_line fault)) }
+    ensures silent { result ≢ Status.Done → result ≢ Status.Refused → result ≢ Status.Device → output.new ≡ output.old }
+{
+    let Learned { text, fault } = match learned_of(alloc, input) {
         Ok(learned) => learned,
         Err(failure) => return failure.said(alloc, errors),
     };
-    match write_whole(output, learned.text.as_slice()) {
-        Ok(()) => ended(alloc, learned.fault, errors),
-        Err(_) => Status::Device.said(errors, "device\n"),
+    let Ok(()) = write_whole(output, text.as_slice()) else {
+        return Status::Device.said(errors, "device\n");
+    };
+    match fault {
+        None => Status::Done,
+        Some(line) => Status::Refused.said(errors, line.as_str()),
     }
 }
 
-/// What is printed, and the fault of the stream if it has one.
+/// What is printed for a scene, and the line for the writer for errors where its stream has a fault.
 #[derive(Debug, Drop)]
 struct Learned {
     text: Vec<u8>,
-    fault: Option<Fault>,
+    fault: Option<String>,
 }
 
-/// What a learner makes of the scene of an input.
-fn learned_of<R: Read + Faults>(alloc: Global, input: &mut R) -> Result<Learned, Failure> {
+/// What is printed for the scene of an input.
+fn learned_of<R: Read + Faults>(alloc: Global, input: &mut R) -> Result<Learned, Failure>
+    ensures { IfOk result (λ learned. (scene : Scene) × IsPrinted scene learned.text.items (option_map string_bytes learned.fault)) }
+{
     let text = read_whole(alloc, input)?;
     let scene = read_scene(alloc, text.as_slice())?;
-    learned_from(alloc, scene)
+    let learned = learned_from(alloc, scene)?;
+    Ok(learned)
 }
 
-/// What a learner makes of a scene.
-fn learned_from(alloc: Global, scene: Scene) -> Result<Learned, Failure> {
+/// What is printed for a scene.
+fn learned_from(alloc: Global, scene: Scene) -> Result<Learned, Failure>
+    ensures { IfOk result (λ learned. IsPrinted scene learned.text.items (option_map string_bytes learned.fault)) }
+{
+    let (mut learner, answer) = fed(alloc, scene)?;
+    let mut text = Vec::new(alloc);
+    push_rows(alloc, &mut text, &learner)?;
+    let fault = match answer {
+        Ok(_) => {
+            push_acks(alloc, &mut text, &mut learner)?;
+            None
+        }
+        Err(Fault::Memory) => return Err(Failure::Memory),
+        Err(fault) => Some(fault_line(alloc, fault)?),
+    };
+    Ok(Learned { text, fault })
+}
+
+/// A learner of the scene's tables that was fed its stream, and the answer.
+fn fed(alloc: Global, scene: Scene) -> Result<(Learner, Result<usize, Fault>), Failure>
+    ensures { IfOk result (λ fed. IsLearned scene fed.1 fed.0) }
+{
     let Scene {
-        mut tables,
+        tables,
         moment,
         stream,
         ..
@@ -60,33 +100,26 @@ fn learned_from(alloc: Global, scene: Scene) -> Result<Learned, Failure> {
     let Some(moment) = moment else {
         return Err(Failure::Scene);
     };
-    tables.sort_unstable_by_key(|table| table.id());
-    let mut learner = Learner::new(alloc, Roster::new(tables)?)?;
-    let fault = match learner.feed(stream.as_slice(), moment) {
-        Ok(_) => None,
-        Err(Fault::Memory) => return Err(Failure::Memory),
-        Err(fault) => Some(fault),
-    };
-    let mut text = Vec::new(alloc);
-    push_rows(alloc, &mut text, &learner)?;
-    if fault.is_none() {
-        push_acks(alloc, &mut text, &mut learner)?;
-    }
-    Ok(Learned { text, fault })
+    let mut learner = Learner::new(alloc, rising(tables)?)?;
+    let answer = learner.feed(stream.as_slice(), moment);
+    Ok((learner, answer))
 }
 
-/// How the program ends after a stream with this fault, or with none.
-fn ended<E: Write + Faults>(alloc: Global, fault: Option<Fault>, errors: &mut E) -> Status
-    ensures { result ≡ Status.Done → fault ≡ None }
+/// The roster of these tables in rising id.
+fn rising(mut tables: Vec<TableDef>) -> Result<Roster, RosterError>
+    ensures { IfOk result (λ roster. AreInRisingId tables.items roster) }
 {
-    let Some(fault) = fault else {
-        return Status::Done;
-    };
+    tables.sort_unstable_by_key(|table| table.id());
+    let roster = Roster::new(tables)?;
+    Ok(roster)
+}
+
+/// What is said of a fault of the stream.
+fn fault_line(alloc: Global, fault: Fault) -> Result<String, AllocError>
+    ensures { IfOk result (λ line. string_bytes line ≡ fault_line fault) }
+{
     let name = fault.name();
-    match format!(in alloc; "fault {name}\n") {
-        Ok(text) => Status::Refused.said(errors, text.as_str()),
-        Err(_) => Status::Memory.said(errors, "memory\n"),
-    }
+    format!(in alloc; "fault {name}\n")
 }
 
 #[cfg(test)]

@@ -1,5 +1,6 @@
 //! How the program ends.
-ghost use Rattle.std.specs.Prelude.{◌≡◌, ◌⊎◌};
+ghost use Rattle.std.specs.Prelude.{◌≡◌, ◌≢◌, ◌⊎◌};
+ghost use Rattle.std.specs.Io.KnownBytes.{Appends};
 
 use crate::output::write_whole;
 use peers_engine::Faults;
@@ -35,7 +36,8 @@ impl Status {
     /// Says on the writer for errors why the program ends, and answers how: as it was to, or with
     /// `Device` where the writer fails.
     pub fn said<E: Write + Faults>(self, errors: &mut E, text: &str) -> Status
-        ensures { (result ≡ self) ⊎ (result ≡ Status.Device) }
+        ensures ends { (result ≡ self) ⊎ (result ≡ Status.Device) }
+        ensures said { result ≢ Status.Device → Appends (E.contents errors.old) (E.contents errors.new) text.now }
     {
         match write_whole(errors, text.as_bytes()) {
             Ok(()) => self,
