@@ -13,6 +13,8 @@ mod lesson;
 mod options_error;
 mod output;
 mod printed;
+#[cfg(test)]
+mod round_trips;
 mod run;
 mod scene;
 mod status;
