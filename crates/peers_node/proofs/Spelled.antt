@@ -11,9 +11,10 @@ use Rattle.peers_msg.specs.declared.message.Message.{Message}
 use Rattle.peers_msg.specs.declared.message.Message.TheVariants as messages
 use Rattle.peers_msg.specs.Messages.{OtherFields, UpdateFields}
 use Rattle.known_state.specs.Shortest.{Shortest}
+use Rattle.peers_msg.specs.Steps.{State, Legal}
 use Rattle.peers_msg.specs.Spelling.{control_kind, definition_text, error_kind, framed, spelled, stream_of, update_kind, update_text, word}
 use Rattle.peers_encint.specs.Integers.{spelling}
-use Rattle.known_state.specs.Known.{KnownState, built}
+use Rattle.known_state.specs.Known.{KnownState, built, stores_no_name}
 use Rattle.table_types.specs.Tables.{Definition}
 use Rattle.table_types.specs.declared.update.Update.{Update}
 use Rattle.peers_node.specs.Lessons.{start_of, IsLesson}
@@ -66,11 +67,12 @@ pub stream_joined : (ms : List Message) → stream_of ms ≡ joined (map spelled
 stream_joined ms = sym (flat_map-map (λ message. message) spelled ms)
 
 -- what is taught for the roster, the state and the batch of a scene is the scene's lesson
-pub lesson_of_scene : (scene : Scene) (roster : List Definition) (known : KnownState) (batch : List Update) (ms : List Message)
+pub lesson_of_scene : (scene : Scene) (roster : List Definition) (known : KnownState) (batch : List Update) (ms : List Message) (after : State)
     → roster ≡ scene.tables.items → known ≡ built roster scene.selected scene.defined.items scene.last.items scene.slots → batch ≡ scene.updates.items
-    → Shortest known batch ms → IsLesson scene ms
+    → Legal known.roster known.state ms batch after → (stores_no_name known.roster ≡ true → Shortest known batch ms) → IsLesson scene ms
 unfolding IsLesson
-lesson_of_scene scene roster known batch ms roster_is known_is batch_is shortest =
+lesson_of_scene scene roster known batch ms after roster_is known_is batch_is legal shortest =
     let start : known ≡ start_of scene = known_is ∙ ap (λ r. built r scene.selected scene.defined.items scene.last.items scene.slots) roster_is in
-    let of_batch : Shortest known scene.updates.items ms = subst (λ us. Shortest known us ms) batch_is shortest in
-    subst (λ (k : KnownState). Shortest k scene.updates.items ms) start of_batch
+    let of_batch : (e : State) × Legal known.roster known.state ms scene.updates.items e × (stores_no_name known.roster ≡ true → Shortest known scene.updates.items ms) =
+    subst (λ (us : List Update). (e : State) × Legal known.roster known.state ms us e × (stores_no_name known.roster ≡ true → Shortest known us ms)) batch_is (after, legal, shortest) in
+    subst (λ (k : KnownState). (e : State) × Legal k.roster k.state ms scene.updates.items e × (stores_no_name k.roster ≡ true → Shortest k scene.updates.items ms)) start of_batch

@@ -1,7 +1,8 @@
 -- What the lesson of a scene is.
-use Rattle.std.specs.Prelude.{List}
+use Rattle.std.specs.Prelude.{◌≡◌, true, List}
 use Rattle.peers_msg.specs.declared.message.Message.{Message}
-use Rattle.known_state.specs.Known.{KnownState, built}
+use Rattle.peers_msg.specs.Steps.{State, Legal}
+use Rattle.known_state.specs.Known.{KnownState, built, stores_no_name}
 use Rattle.known_state.specs.Shortest.{Shortest}
 use Rattle.peers_node.specs.declared.scene.Scene.{Scene}
 
@@ -9,6 +10,9 @@ use Rattle.peers_node.specs.declared.scene.Scene.{Scene}
 abbrev pub start_of : Scene → KnownState
 start_of scene = built scene.tables.items scene.selected scene.defined.items scene.last.items scene.slots
 
--- the messages are legal from there, carry the scene's updates, and no others that do have fewer bytes
+-- The messages are legal from there and carry the scene's updates; and where no table of the scene stores names, no
+-- others that do have fewer bytes.
 unfoldable pub IsLesson : Scene → List Message → Type 0
-IsLesson scene messages = Shortest (start_of scene) scene.updates.items messages
+IsLesson scene messages =
+    (after : State) × Legal scene.tables.items (start_of scene).state messages scene.updates.items after
+    × (stores_no_name scene.tables.items ≡ true → Shortest (start_of scene) scene.updates.items messages)

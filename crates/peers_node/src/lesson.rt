@@ -1,9 +1,9 @@
 //! The subcommand `lesson`.
-ghost use Rattle.std.specs.Prelude.{◌≡◌, ◌≢◌, List, [], map, IfOk};
+ghost use Rattle.std.specs.Prelude.{◌≡◌, ◌≢◌, List, map, IfOk};
 ghost use Rattle.std.specs.Io.KnownBytes.{Appends};
-ghost use Rattle.known_state.specs.Known.{stores_no_name};
 ghost use Rattle.peers_msg.specs.Spelling.{spelled, stream_of};
 ghost use Rattle.peers_msg.specs.declared.message.Message.{Message};
+ghost use Rattle.teach_writer.specs.Naming.{no_prices};
 ghost use Rattle.peers_node.specs.Lessons.{IsLesson};
 ghost use Rattle.peers_node.specs.Printed.{printed};
 ghost use Rattle.peers_node.specs.declared.scene.Scene.{Scene};
@@ -14,7 +14,7 @@ use crate::output::write_whole;
 use crate::printed::printed_lesson;
 use crate::scene::{Scene, read_scene};
 use crate::status::Status;
-use known_state::{Known, stores_no_name};
+use known_state::Known;
 use peers_engine::Faults;
 use std::alloc::Global;
 use std::io::{Read, Write};
@@ -32,7 +32,7 @@ pub fn lesson<R: Read + Faults, W: Write + Faults, E: Write + Faults>(
     errors: &mut E,
 ) -> Status
     ensures done { result ≡ Status.Done → (scene : Scene) × (messages : List Message) × IsLesson scene messages
-        × Appends (W.contents output.old) (W.contents output.new) (printed (map spelled messages) []) }
+        × Appends (W.contents output.old) (W.contents output.new) (printed (map spelled messages) (no_prices scene.updates.items)) }
     ensures silent { result ≢ Status.Done → result ≢ Status.Device → output.new ≡ output.old }
 {
     let text = match lesson_text(alloc, input) {
@@ -48,7 +48,7 @@ pub fn lesson<R: Read + Faults, W: Write + Faults, E: Write + Faults>(
 /// What is printed for the scene of an input.
 fn lesson_text<R: Read + Faults>(alloc: Global, input: &mut R) -> Result<Vec<u8>, Failure>
     ensures { IfOk result (λ text. (scene : Scene) × (messages : List Message) × IsLesson scene messages
-        × (text.items ≡ printed (map spelled messages) [])) }
+        × (text.items ≡ printed (map spelled messages) (no_prices scene.updates.items))) }
 {
     let text = read_whole(alloc, input)?;
     let scene = read_scene(alloc, text.as_slice())?;
@@ -60,7 +60,7 @@ fn lesson_text<R: Read + Faults>(alloc: Global, input: &mut R) -> Result<Vec<u8>
 /// The lesson of a scene.
 fn lesson_of(alloc: Global, scene: Scene) -> Result<Lesson, Failure>
     ensures lesson { IfOk result (λ lesson. (messages : List Message) × (lesson.bytes ≡ stream_of messages) × IsLesson scene messages) }
-    ensures prices { IfOk result (λ lesson. lesson.prices ≡ []) }
+    ensures prices { IfOk result (λ lesson. lesson.prices ≡ no_prices scene.updates.items) }
 {
     let Scene {
         tables,
@@ -72,9 +72,6 @@ fn lesson_of(alloc: Global, scene: Scene) -> Result<Lesson, Failure>
         ..
     } = scene;
     let roster = Roster::new(tables)?;
-    if !stores_no_name(&roster) {
-        return Err(Failure::Scene);
-    }
     let batch = Batch::new(&roster, updates)?;
     let known = Known::build(alloc, roster, selected, defined, last, slots)?;
     Ok(teach(alloc, &known, &batch)?)

@@ -3,7 +3,7 @@
 use crate::learned::{push_acks, push_rows};
 use crate::scene::{Scene, read_scene};
 use dict_slots::Slots;
-use known_state::{Known, stores_no_name};
+use known_state::Known;
 use learner::{Fault, Learner};
 use std::alloc::Global;
 use std::test::Fail;
@@ -269,9 +269,6 @@ fn lesson_of(alloc: Global, example: &Example) -> Result<Lesson, Fail> {
         ..
     } = read_scene(alloc, text.as_bytes())?;
     let roster = Roster::new(tables)?;
-    if !stores_no_name(&roster) {
-        return Err(Fail::from("names"));
-    }
     let batch = Batch::new(&roster, updates)?;
     let known = Known::build(alloc, roster, selected, defined, last, slots)?;
     Ok(teach(alloc, &known, &batch)?)
@@ -429,12 +426,55 @@ fn rate_table(rt: HostRuntime) -> Result<(), Fail> {
 
 #[test]
 fn names(rt: HostRuntime) -> Result<(), Fail> {
-    learns_however_cut(rt.alloc(), &ONE_NAME_TWICE)?;
-    learns_however_cut(rt.alloc(), &NAME_IN_TWO_SLOTS)?;
-    learns_however_cut(rt.alloc(), &RENUMBERED)
+    round_trip(rt.alloc(), &ONE_NAME_TWICE)?;
+    round_trip(rt.alloc(), &NAME_IN_TWO_SLOTS)?;
+    round_trip(rt.alloc(), &RENUMBERED)
 }
 
 #[test]
 fn long_key_saving(rt: HostRuntime) -> Result<(), Fail> {
-    learns_however_cut(rt.alloc(), &LONG_KEY_SAVING)
+    round_trip(rt.alloc(), &LONG_KEY_SAVING)
+}
+
+/// The scene of table `st` and 258 updates of key `k`, numbered from 1, that have the names n000 to n128, twice.
+fn cyclic_scene(alloc: Global) -> Result<String, Fail> {
+    let mut text = String::new(alloc);
+    text.push_str("table 3 st string 33 30000 server_key\n")?;
+    for place in 0..258u32 {
+        let (number, name) = (place + 1, place % 129);
+        let line = format!(in alloc; "update 3 {number} 30000 =k n{name:03}\n")?;
+        text.push_str(line.as_str())?;
+    }
+    Ok(text)
+}
+
+/// Feeds the lesson of the scene to a learner that was fed nothing, cut so.
+fn learns_cyclic(alloc: Global, scene: &str, cut: Cut) -> Result<(), Fail> {
+    let Scene {
+        tables,
+        updates,
+        ..
+    } = read_scene(alloc, scene.as_bytes())?;
+    let known = Known::fresh(alloc, Roster::new(tables)?);
+    let batch = Batch::new(known.roster(), updates)?;
+    let lesson = teach(alloc, &known, &batch)?;
+    let mut learner = Learner::new(alloc, known.roster().copy(alloc)?)?;
+    let rows = feed(&mut learner, lesson.bytes.as_slice(), cut)?;
+    must(rows == 258, "not all updates")?;
+    must(lesson.prices.len() == 258, "not a price for each name")?;
+    let reached = learner.known(known.roster())?;
+    must(is_same(&reached, &lesson.known), "it ends elsewhere")?;
+    let printed = lines_of(alloc, &mut learner)?;
+    let lines = "row 3 4294997296 =k n128\nack 3 258\n";
+    must(printed.as_slice() == lines.as_bytes(), "other rows")
+}
+
+/// 129 names that come round don't all fit in the slots, and the lesson still teaches them all.
+#[test]
+fn cyclic_names(rt: HostRuntime) -> Result<(), Fail> {
+    let scene = cyclic_scene(rt.alloc())?;
+    for cut in [Cut::Whole, Cut::Bytes, Cut::Thrice] {
+        learns_cyclic(rt.alloc(), scene.as_str(), cut)?;
+    }
+    Ok(())
 }

@@ -27,7 +27,7 @@ use Rattle.known_state.proofs.CostLaws.{falls, told_shorter, last-kept, last-put
 use Rattle.known_state.proofs.StepPays.{moved_last, is_there, none_shorter}
 use Rattle.known_state.specs.Requests.{IsTaught}
 use Rattle.known_state.proofs.BatchLemmas.{batch_taught}
-use Rattle.teach_writer.specs.Telling.{is_table, selection, update_told}
+use Rattle.teach_writer.specs.Telling.{is_table, selection}
 use Rattle.teach_writer.proofs.TellingLaws.{found_is_own}
 
 -- a name is the same as itself
@@ -239,19 +239,19 @@ selection_knows k d m us e sound own listed is step = at (is_table (selected_tab
     at false h None f = let same : m ∷ [] ≡ messages.Define d ∷ [] = is ∙ rw (h, f) refl in let one : m ≡ messages.Define d = cc in defined_so (rw f refl) (subst (λ (x : Message). Step k.state x us e) one step)
 
 -- an update told behind the selection of its table costs no more than with its name written, and loses nothing
-pub told_cheap : (roster : List Definition) (s mid e : State) (d : Definition) (u : Update) (last : Option ℕ) (us rest : List Update) → KnowsLess (with_selected (knowledge_of s) u.table) (knowledge_of mid) → selected_table mid.heard ≡ Some d → d.id ≡ u.table → table_at roster u.table ≡ Some d → stores_name d ≡ false → last ≡ last_of mid.lasts u.table → Step mid (messages.Update (update_told last u)) us e → us ≡ u ∷ [] → AllByRecursion (IsOfRoster roster) rest
-    → size_of (messages.Update (update_told last u)) + full roster e rest ≤ written_cost roster (knowledge_of s) u + full_from roster (knowledge_after (knowledge_of s) u) rest
+pub told_cheap : (roster : List Definition) (s mid e : State) (d : Definition) (u : Update) (last : Option ℕ) (us rest : List Update) → KnowsLess (with_selected (knowledge_of s) u.table) (knowledge_of mid) → selected_table mid.heard ≡ Some d → d.id ≡ u.table → table_at roster u.table ≡ Some d → stores_name d ≡ false → last ≡ last_of mid.lasts u.table → Step mid (messages.Update (told_as last names.NotStored u)) us e → us ≡ u ∷ [] → AllByRecursion (IsOfRoster roster) rest
+    → size_of (messages.Update (told_as last names.NotStored u)) + full roster e rest ≤ written_cost roster (knowledge_of s) u + full_from roster (knowledge_after (knowledge_of s) u) rest
 told_cheap roster s mid e d u last us rest knows sel id listed no_name is_last (fit, table, on, number, numbered, name, named, carried, heard, lasts) us_is all =
     let k = knowledge_of s in
-    let one : resolved (update_told last u) table number name ∷ [] ≡ u ∷ [] = sym carried ∙ us_is in
-    let same_update : resolved (update_told last u) table number name ≡ u = cc in
+    let one : resolved (told_as last names.NotStored u) table number name ∷ [] ≡ u ∷ [] = sym carried ∙ us_is in
+    let same_update : resolved (told_as last names.NotStored u) table number name ≡ u = cc in
     let table_is : table ≡ u.table = ap (λ (x : Update). x.table) same_update in
     let number_is : number ≡ u.number = ap (λ (x : Update). x.number) same_update in
     let put : e.lasts ≡ put_last u.table u.number mid.lasts = lasts ∙ ap (λ (t : ℕ). put_last t number mid.lasts) table_is ∙ ap (λ (n : ℕ). put_last u.table n mid.lasts) number_is in
     let here : table_at mid.heard.tables u.table ≡ Some d = subst (λ (n : ℕ). table_at mid.heard.tables n ≡ Some d) id (selected_heard mid.heard d sel) in
     let known : (knowledge_of mid).last u.table ≡ last = rw here (sym is_last) in
     let cost : written_cost roster k u ≡ size_of (messages.Update (told_as (k.last u.table) names.NotStored u)) = rw (listed, no_name) refl in
-    let form : size_of (messages.Update (update_told last u)) ≤ size_of (messages.Update (told_as (k.last u.table) names.NotStored u)) = by_last (k.last u.table) (knows.last u.table) known in
+    let form : size_of (messages.Update (told_as last names.NotStored u)) ≤ size_of (messages.Update (told_as (k.last u.table) names.NotStored u)) = by_last (k.last u.table) (knows.last u.table) known in
     let knows_after : KnowsLess (knowledge_after k u) (knowledge_of e) = record {
       defined = λ other h. subst (λ (x : Heard). is_some (table_at x.tables other) ≡ true) (sym heard) (knows.defined other h);
       selected = knows.selected ∙ ap (λ (x : Heard). option_map (λ (t : Definition). t.id) (selected_table x)) (sym heard);
@@ -264,7 +264,7 @@ told_cheap roster s mid e d u last us rest knows sel id listed no_name is_last (
     let less = falls roster (knowledge_after k u) (knowledge_of e) rest knows_after all in
     omega arith
   where
-    by_last : (l : Option ℕ) → (l ≡ (knowledge_of mid).last u.table) ⊎ (l ≡ None) → (knowledge_of mid).last u.table ≡ last → size_of (messages.Update (update_told last u)) ≤ size_of (messages.Update (told_as l names.NotStored u))
+    by_last : (l : Option ℕ) → (l ≡ (knowledge_of mid).last u.table) ⊎ (l ≡ None) → (knowledge_of mid).last u.table ≡ last → size_of (messages.Update (told_as last names.NotStored u)) ≤ size_of (messages.Update (told_as l names.NotStored u))
     by_last l (inl same) known = let is : l ≡ last = same ∙ known in rw is (omega arith)
     by_last l (inr none) known = rw none (told_shorter last names.NotStored u)
 

@@ -7,20 +7,23 @@ use Rattle.std.proofs.lemmas.Bool.Decides.{nat_tests}
 use Rattle.std.proofs.lemmas.Grind.{flat_map-append}
 use Rattle.table_types.specs.declared.update.Update.{Update}
 use Rattle.table_types.specs.Tables.{Definition, is_definition}
-use Rattle.table_types.specs.Updates.{fits, is_optional_word, stores_name, may_be_named, life_fits}
+use Rattle.table_types.specs.Updates.{fits, is_optional_word, stores_name, life_fits}
 use Rattle.table_types.specs.Rosters.{table_at}
+use Rattle.peers_msg.specs.declared.name_field.NameField.{NameField}
 use Rattle.peers_msg.specs.declared.message.Message.{Message}
 use Rattle.peers_msg.specs.declared.message.Message.TheVariants as messages
 use Rattle.peers_msg.specs.Heard.{Heard, selected_table, heard_after}
 use Rattle.peers_msg.specs.Spelling.{spelled, stream_of}
-use Rattle.peers_msg.specs.Fitting.{update_fits}
+use Rattle.peers_msg.specs.Fitting.{update_fits, name_fits}
 use Rattle.peers_msg.specs.Steps.{State, Step, Teaches, IsOwn, Legal, last_of, resolved_number}
 use Rattle.known_state.specs.Known.{KnownState, AreOwn, switch_refusal, update_refusal, stores_no_name}
 use Rattle.known_state.proofs.KnownLemmas.{table_at-id, table_at-passes, table_at-nameless, define_selects}
 use Rattle.known_state.proofs.StepLemmas.{has_id-table_at, selected-id, selected-found, update_fits_heard}
-use Rattle.known_state.specs.Cost.{number_told}
+use Rattle.known_state.specs.Resolving.{name_of, reads_empty}
+use Rattle.known_state.proofs.ResolvingLemmas.{named_so}
+use Rattle.known_state.specs.Cost.{number_told, told_as}
 use Rattle.known_state.proofs.BatchLemmas.{row_of_fits, life_of_fits}
-use Rattle.teach_writer.specs.Telling.{is_table, selection, update_told, IsTaken}
+use Rattle.teach_writer.specs.Telling.{is_table, selection, IsTaken}
 
 -- a table that is heard is the roster's of its id
 pub found_is_own : (roster ds : List Definition) (id : ℕ) (t d : Definition) → AreOwn roster ds → table_at ds id ≡ Some t → table_at roster id ≡ Some d → t ≡ d
@@ -89,33 +92,28 @@ life_word d (Some n) small fit = grind (arith, nat_tests)
 expire_small : (d : Definition) → is_definition d ≡ true → d.expire < 2 ^ 32
 expire_small d is = grind (arith, nat_tests)
 
--- a table that stores no name has updates without one
-pub unnamed : (d : Definition) (name : Option (List ℕ)) → stores_name d ≡ false → may_be_named d name ≡ true → name ≡ None
-unnamed d None no_name fit = refl
-unnamed d (Some name) no_name fit = let bad : false ≡ true = sym (rw no_name refl) ∙ fit in cc
+-- an update fits as it is told where its name field does
+told_fits : (last : Option ℕ) (field : NameField) (d : Definition) (u : Update) → is_definition d ≡ true → name_fits d field ≡ true → fits d u ≡ true → is_optional_word (number_told last u.number) ≡ true → update_fits d (told_as last field u) ≡ true
+told_fits last field d u is field_fits fit word = rw (word, life_word d u.life (expire_small d is) (life_of_fits d u fit), row_of_fits d u fit, field_fits) refl
 
--- an update of a table without names fits as it is told
-told_fits : (last : Option ℕ) (d : Definition) (u : Update) → is_definition d ≡ true → stores_name d ≡ false → fits d u ≡ true → is_optional_word (number_told last u.number) ≡ true → update_fits d (update_told last u) ≡ true
-told_fits last d u is no_name fit word = rw (word, life_word d u.life (expire_small d is) (life_of_fits d u fit), row_of_fits d u fit, no_name) refl
-
--- it is taken where its table is selected
-pub told_taken : (k : KnownState) (d : Definition) (u : Update) (last : Option ℕ) → last ≡ last_of k.state.lasts d.id → selected_table k.state.heard ≡ Some d → is_definition d ≡ true → stores_name d ≡ false → fits d u ≡ true → is_optional_word (number_told last u.number) ≡ true → IsTaken k (messages.Update (update_told last u))
-told_taken k d u last is_last sel is no_name fit word = λ e refuses.
+-- it is taken where its table is selected, and it reads no empty slot
+pub told_taken : (k : KnownState) (d : Definition) (u : Update) (last : Option ℕ) (field : NameField) → last ≡ last_of k.state.lasts d.id → selected_table k.state.heard ≡ Some d → is_definition d ≡ true → name_fits d field ≡ true → reads_empty k.state.slots field ≡ false → fits d u ≡ true → is_optional_word (number_told last u.number) ≡ true → IsTaken k (messages.Update (told_as last field u))
+told_taken k d u last field is_last sel is field_fits reads fit word = λ e refuses.
     let resolved_here : resolved_number (number_told last u.number) (last_of k.state.lasts d.id) ≡ Some u.number = subst (λ (l : Option ℕ). resolved_number (number_told last u.number) l ≡ Some u.number) is_last (told_resolved last u.number) in
-    let none : update_refusal k (update_told last u) (selected_table k.state.heard) ≡ None = rw (sel, update_fits_heard k.state.heard (update_told last u) d sel (told_fits last d u is no_name fit word) is, resolved_here) refl in
+    let none : update_refusal k (told_as last field u) (selected_table k.state.heard) ≡ None = rw (sel, update_fits_heard k.state.heard (told_as last field u) d sel (told_fits last field d u is field_fits fit word) is, resolved_here, reads) refl in
     let bad : None ≡ Some e = sym none ∙ refuses in
     cc
 
 -- and carries exactly the update
-pub told_carries : (s : State) (d : Definition) (u : Update) (last : Option ℕ) (us : List Update) (e : State) → last ≡ last_of s.lasts d.id → selected_table s.heard ≡ Some d → u.table ≡ d.id → u.name ≡ None → Step s (messages.Update (update_told last u)) us e → us ≡ u ∷ []
-told_carries s d u last us e is_last sel table_of is_name (fit, table, on_table, number, is_number, name, named, carried, heard, lasts) =
+pub told_carries : (s : State) (d : Definition) (u : Update) (last : Option ℕ) (field : NameField) (us : List Update) (e : State) → last ≡ last_of s.lasts d.id → selected_table s.heard ≡ Some d → u.table ≡ d.id → name_of s.slots field ≡ u.name → Step s (messages.Update (told_as last field u)) us e → us ≡ u ∷ []
+told_carries s d u last field us e is_last sel table_of is_name (fit, table, on_table, number, is_number, name, named, carried, heard, lasts) =
     let same_table : Some d.id ≡ Some table = sym (selected-id s.heard d sel) ∙ on_table in
     let id_is : d.id ≡ table = cc in
     let last_is : last_of s.lasts table ≡ last = sym (subst (λ (n : ℕ). last ≡ last_of s.lasts n) id_is is_last) in
     let numbers : Some u.number ≡ Some number = sym (told_resolved last u.number) ∙ ap (λ (l : Option ℕ). resolved_number (number_told last u.number) l) (sym last_is) ∙ is_number in
     let number_is : u.number ≡ number = cc in
     let table_is : table ≡ u.table = sym id_is ∙ sym table_of in
-    let name_is : name ≡ u.name = named.0 ∙ sym is_name in
+    let name_is : name ≡ u.name = (named_so s.slots field name e.slots named).1 ∙ is_name in
     carried ∙ rw (table_is, ← number_is, name_is) refl
 
 -- legal messages one after another are legal, and carry what each part carries

@@ -1,17 +1,22 @@
 //! Lessons.
 
-ghost use Rattle.std.specs.Prelude.{◌≡◌, [], true, IfOk, List};
+ghost use Rattle.std.specs.Prelude.{◌≡◌, true, IfOk, IfSome, List};
 ghost use Rattle.table_types.specs.Batches.{IsBatchFor};
+ghost use Rattle.table_types.specs.Slots.{is_slot};
 ghost use Rattle.peers_msg.specs.declared.message.Message.{Message};
 ghost use Rattle.peers_msg.specs.Spelling.{stream_of};
 ghost use Rattle.peers_msg.specs.Steps.{Legal};
 ghost use Rattle.known_state.specs.Known.{stores_no_name};
+ghost use Rattle.known_state.specs.Lessons.{IsLessonFor};
 ghost use Rattle.known_state.specs.Shortest.{Shortest};
+ghost use Rattle.teach_writer.specs.Naming.{is_that_name, is_asked, no_prices};
 
+use crate::kept::Kept;
 use crate::telling::tell;
+use dict_slots::Slots;
 use known_state::Known;
 use std::alloc::Global;
-use table_types::{Batch, Items, Memory};
+use table_types::{Batch, Items, Memory, Name, Update, is_same_name};
 use thiserror::Error;
 
 /// Why there is no lesson. What was lent is as before.
@@ -33,35 +38,105 @@ impl From<Memory> for TeachError {
 pub struct Lesson {
     /// The bytes of its messages, one after another.
     pub bytes: Items<u8>,
-    /// One price for each named update of the batch: none, since no table of the roster stores names.
+    /// One price for each update of the batch that has a name. All are 0: which names are read is a simple choice yet,
+    /// and no prices show that it is the best.
     pub prices: Items<u64>,
     /// What the learner knows behind it.
     pub known: Known,
 }
 
+/// Whether an update asks for the name.
+fn asks(update: &Update, name: &Name) -> bool
+    ensures { result ≡ is_that_name name.now update.now.name }
+{
+    match &update.name {
+        Some(asked) => is_same_name(asked.as_slice(), name.as_slice()),
+        None => false,
+    }
+}
+
+/// Whether one of these updates asks for the name.
+fn is_asked(updates: &[Update], name: &Name) -> bool
+    ensures { result ≡ is_asked name.now updates.now }
+{
+    for update in updates {
+        if asks(update, name) {
+            return true;
+        }
+    }
+    false
+}
+
+/// What is kept at the start: each name that the slots hold and an update asks for, in the lowest slot that holds it.
+fn kept_at_start(slots: &Slots, updates: &[Update]) -> Kept {
+    let mut kept = Kept::none();
+    for slot in 1..=Slots::COUNT {
+        if let Some(name) = slots.name(slot)
+            && kept.find(slots, name).is_none()
+            && is_asked(updates, name)
+        {
+            kept.keep(slot);
+        }
+    }
+    kept
+}
+
+/// Behind an update with that name, which went through that slot: it is kept where a later update asks for it.
+fn settle(kept: &mut Kept, slot: Option<u8>, name: Option<&Name>, later: &[Update])
+    requires { IfSome slot (λ id. is_slot id ≡ true) }
+{
+    let (Some(slot), Some(name)) = (slot, name) else {
+        return;
+    };
+    if is_asked(later, name) {
+        kept.keep(slot);
+    } else {
+        kept.release(slot);
+    }
+}
+
+/// A price of 0 for each update with a name.
+fn no_prices(alloc: Global, updates: &[Update]) -> Result<Vec<u64>, Memory>
+    ensures { IfOk result (λ prices. prices.items ≡ no_prices updates.now) }
+{
+    let mut prices = Vec::new(alloc);
+    for update in updates {
+        if update.name.is_some() {
+            prices.push(0)?;
+        }
+    }
+    Ok(prices)
+}
+
 /// The lesson that teaches the batch to a learner in the known state. It goes through the batch in order. Where an
 /// update's table isn't selected, its definition comes first if it isn't defined yet, and else a switch. An update
-/// comes without its number exactly where that is one more than its table's last, modulo 2^32, and with its life.
+/// comes without its number exactly where that is one more than its table's last, modulo 2^32, and with its life. Its
+/// name is read where a slot keeps it, and else written to the lowest slot that keeps none; a slot keeps a name that
+/// the slots hold, from the start or from an update on, until the next update that asks for it, as long as one slot
+/// stays free.
 ///
-/// The batch was made for the roster of the known state, and no table of that roster stores names. No legal stream that
-/// carries the same updates in that order has fewer bytes.
+/// The batch was made for the roster of the known state. Where no table of that roster stores names, no legal stream
+/// that carries the same updates in that order has fewer bytes.
 pub fn teach(alloc: Global, known: &Known, batch: &Batch) -> Result<Lesson, TeachError>
     requires batch { IsBatchFor known.now.roster batch.now }
-    requires nameless { stores_no_name known.now.roster ≡ true }
     ensures lesson { IfOk result (λ lesson. (ms : List Message) × (lesson.bytes ≡ stream_of ms)
         × Legal known.now.roster known.now.state ms batch.now lesson.known.state
-        × Shortest known.now batch.now ms) }
+        × (stores_no_name known.now.roster ≡ true → Shortest known.now batch.now ms)) }
+    ensures taught { IfOk result (λ lesson. IsLessonFor known.now batch.now lesson.bytes lesson.known) }
     ensures roster { IfOk result (λ lesson. lesson.known.roster ≡ known.now.roster) }
-    ensures prices { IfOk result (λ lesson. lesson.prices ≡ []) }
+    ensures prices { IfOk result (λ lesson. lesson.prices ≡ no_prices batch.now) }
 {
+    let updates = batch.updates();
     let mut after = known.copy(alloc)?;
+    let mut kept = kept_at_start(after.slots(), updates);
     let mut bytes = Vec::new(alloc);
-    for update in batch.updates() {
-        tell(alloc, &mut after, update, &mut bytes)?;
+    for (place, update) in updates.iter().enumerate() {
+        let slot = tell(alloc, &mut after, &kept, update, &mut bytes)?;
+        settle(&mut kept, slot, update.name.as_ref(), &updates[place + 1..]);
     }
     Ok(Lesson {
         bytes: Items::new(bytes),
-        prices: Items::new(Vec::new(alloc)),
+        prices: Items::new(no_prices(alloc, updates)?),
         known: after,
     })
 }

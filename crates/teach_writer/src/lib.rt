@@ -1,6 +1,7 @@
 //! Lessons: the stream that teaches a learner one batch.
 #![tactic(auto)]
 
+mod kept;
 mod lesson;
 mod telling;
 #[cfg(test)]

@@ -1,21 +1,27 @@
 //! How one update is told.
 
-ghost use Rattle.std.specs.Prelude.{◌≡◌, ◌≤◌, ◌+◌, ◌^◌, ◌<◌, ◌∷◌, [], ◌++◌, true, List, Some, IfOk, OnOk, option_to_list};
+ghost use Rattle.std.specs.Prelude.{◌≡◌, ◌≤◌, ◌+◌, ◌^◌, ◌<◌, ◌∷◌, [], ◌++◌, true, false, List, Some, IfOk, OnOk, IfSome, option_to_list};
 ghost use Rattle.std.specs.List.{AllByRecursion};
 ghost use Rattle.table_types.specs.declared.update.Update.{Update};
 ghost use Rattle.table_types.specs.Tables.{Definition, is_definition};
-ghost use Rattle.table_types.specs.Updates.{is_optional_word};
+ghost use Rattle.table_types.specs.Updates.{fits, is_optional_word, stores_name};
 ghost use Rattle.table_types.specs.Rosters.{table_at};
+ghost use Rattle.table_types.specs.Slots.{is_slot};
 ghost use Rattle.peers_msg.specs.declared.message.Message.{Message};
 ghost use Rattle.peers_msg.specs.Messages.{is_small};
+ghost use Rattle.peers_msg.specs.Fitting.{name_fits};
 ghost use Rattle.peers_msg.specs.Heard.{selected_table};
 ghost use Rattle.known_state.specs.Known.{stores_no_name};
+ghost use Rattle.known_state.specs.Resolving.{name_of, reads_empty};
 ghost use Rattle.peers_msg.specs.Spelling.{spelled, stream_of, size_of_all};
 ghost use Rattle.peers_msg.specs.Steps.{Step, Teaches, IsOwn, Legal};
-ghost use Rattle.known_state.specs.Cost.{number_told, knowledge_of, with_selected, selection_cost, KnowsLess, IsOfRoster, full};
+ghost use Rattle.known_state.specs.Cost.{number_told, told_as, knowledge_of, with_selected, selection_cost, KnowsLess, IsOfRoster, full};
 ghost use Rattle.known_state.specs.Requests.{IsTaught};
-ghost use Rattle.teach_writer.specs.Telling.{selection, update_told, IsTaken};
+ghost use Rattle.teach_writer.specs.Naming.{IsNameField};
+ghost use Rattle.teach_writer.specs.Telling.{selection, slot_of, IsTaken};
 
+use crate::kept::Kept;
+use dict_slots::Slots;
 use known_state::{Known, StepError, number_told};
 use peers_msg::{Heard, Message, NameField, UpdateMsg, encode};
 use std::alloc::Global;
@@ -36,10 +42,43 @@ fn selection(alloc: Global, heard: &Heard, table: &TableDef) -> Result<Option<Me
     }
 }
 
-/// The update as its message tells it, behind that last number of its table.
-fn update_told(alloc: Global, last: Option<u32>, update: &Update) -> Result<UpdateMsg, Memory>
+/// How the name of an update of that table is told: read where it is kept, and else written where a slot is free.
+fn name_field(
+    alloc: Global,
+    kept: &Kept,
+    slots: &Slots,
+    table: &TableDef,
+    update: &Update,
+) -> Result<NameField, Memory>
+    requires { fits table.now update.now ≡ true }
+    ensures field { IfOk result (λ field. IsNameField kept.now slots.now (stores_name table.now) update.now.name field) }
+    ensures fits { IfOk result (λ field. name_fits table.now field ≡ true) }
+    ensures reads { IfOk result (λ field. reads_empty slots.now field ≡ false) }
+    ensures named { IfOk result (λ field. name_of slots.now field ≡ update.now.name) }
+    ensures slot { IfOk result (λ field. IfSome (slot_of field) (λ id. is_slot id ≡ true)) }
+{
+    let Some(name) = &update.name else {
+        return Ok(if table.stores_name() {
+            NameField::NoName
+        } else {
+            NameField::NotStored
+        });
+    };
+    match kept.find(slots, name) {
+        Some(slot) => Ok(NameField::Held(slot)),
+        None => Ok(NameField::Written(kept.free(), name.copy(alloc)?)),
+    }
+}
+
+/// The update as its message tells it, behind that last number of its table, with that name field.
+fn update_told(
+    alloc: Global,
+    last: Option<u32>,
+    field: NameField,
+    update: &Update,
+) -> Result<UpdateMsg, Memory>
     requires { is_small update.now.key update.now.values ≡ true }
-    ensures told { IfOk result (λ told. told ≡ update_told last update.now) }
+    ensures told { IfOk result (λ told. told ≡ told_as last field update.now) }
     ensures word { is_optional_word (number_told last update.now.number) ≡ true }
 {
     Ok(UpdateMsg::new(
@@ -47,7 +86,7 @@ fn update_told(alloc: Global, last: Option<u32>, update: &Update) -> Result<Upda
         update.life,
         update.key.copy(alloc)?,
         update.values.copy(alloc)?,
-        NameField::NotStored,
+        field,
     ))
 }
 
@@ -111,23 +150,53 @@ fn select(alloc: Global, known: &mut Known, id: u64, bytes: &mut Vec<u8>) -> Res
     Ok(())
 }
 
-/// Tells one update of a table of the roster: selects its table where it isn't selected, and says the update.
+/// How the name of an update is told, once its table is found in the roster.
+fn named(alloc: Global, known: &Known, kept: &Kept, update: &Update) -> Result<NameField, Memory>
+    requires { IsTaught known.now.roster update.now }
+    ensures field { IfOk result (λ field. (d : Definition) → table_at known.now.roster update.now.table ≡ Some d →
+        IsNameField kept.now known.now.state.slots (stores_name d) update.now.name field) }
+    ensures fits { IfOk result (λ field. (d : Definition) → table_at known.now.roster update.now.table ≡ Some d → name_fits d field ≡ true) }
+    ensures reads { IfOk result (λ field. reads_empty known.now.state.slots field ≡ false) }
+    ensures named { IfOk result (λ field. name_of known.now.state.slots field ≡ update.now.name) }
+    ensures slot { IfOk result (λ field. IfSome (slot_of field) (λ id. is_slot id ≡ true)) }
+{
+    match known.roster().table(update.table) {
+        Some(table) => name_field(alloc, kept, known.slots(), table, update),
+        None => unreachable!(),
+    }
+}
+
+/// The slot that a name field reads or writes, if it does.
+fn slot_of(field: &NameField) -> Option<u8>
+    ensures { result ≡ slot_of field.now }
+{
+    match field {
+        NameField::Held(slot) | NameField::Written(slot, _) => Some(*slot),
+        NameField::NotStored | NameField::NoName => None,
+    }
+}
+
+/// Tells one update of a table of the roster: selects its table where it isn't selected, and says the update. The answer
+/// is the slot through which its name went, if it has one.
 pub fn tell(
     alloc: Global,
     known: &mut Known,
+    kept: &Kept,
     update: &Update,
     bytes: &mut Vec<u8>,
-) -> Result<(), Memory>
-    requires taught { IsTaught known.old.roster update.now }
-    requires nameless { stores_no_name known.old.roster ≡ true }
+) -> Result<Option<u8>, Memory>
+    requires { IsTaught known.old.roster update.now }
     ensures told { OnOk result ((ms : List Message) × (bytes.new.items ≡ bytes.old.items ++ stream_of ms)
         × Legal known.old.roster known.old.state ms (update.now ∷ []) known.new.state
-        × ((rest : List Update) → AllByRecursion (IsOfRoster known.old.roster) rest →
+        × (stores_no_name known.old.roster ≡ true → (rest : List Update) → AllByRecursion (IsOfRoster known.old.roster) rest →
         size_of_all ms + full known.old.roster known.new.state rest ≤ full known.old.roster known.old.state (update.now ∷ rest))) }
+    ensures slot { IfOk result (λ slot. IfSome slot (λ id. is_slot id ≡ true)) }
     ensures roster { known.new.roster ≡ known.old.roster }
 {
     select(alloc, known, update.table, bytes)?;
-    let told = update_told(alloc, known.lasts().last(update.table), update)?;
+    let field = named(alloc, known, kept, update)?;
+    let slot = slot_of(&field);
+    let told = update_told(alloc, known.lasts().last(update.table), field, update)?;
     say_owned(alloc, known, Message::Update(told), bytes)?;
-    Ok(())
+    Ok(slot)
 }

@@ -5,10 +5,10 @@ ghost use Rattle.table_types.specs.Batches.{IsBatchFor};
 
 use crate::lesson::{Lesson, teach};
 use dict_slots::Slots;
-use known_state::{Known, stores_no_name};
+use known_state::Known;
 use std::alloc::Global;
 use std::test::Fail;
-use table_types::{Batch, DataType, Items, Key, KeyKind, Roster, TableDef, Update, Value};
+use table_types::{Batch, DataType, Items, Key, KeyKind, Name, Roster, TableDef, Update, Value};
 
 const T1_DEFINED: [u8; 13] = [
     0x0A, 0x82, 0x0A, 1, 2, 0x74, 0x31, 2, 4, 4, 0xF0, 0xC4, 0x0D,
@@ -79,13 +79,10 @@ fn batch(alloc: Global, known: &Known, rows: &[Row]) -> Result<Batch, Fail>
     Ok(Batch::new(known.roster(), updates)?)
 }
 
-/// The lesson of a batch of tables that store no names.
+/// The lesson of a batch.
 fn taught(alloc: Global, known: &Known, batch: &Batch) -> Result<Lesson, Fail>
     requires { IsBatchFor known.now.roster batch.now }
 {
-    if !stores_no_name(known.roster()) {
-        return Err(Fail::from("a table stores a name"));
-    }
     Ok(teach(alloc, known, batch)?)
 }
 
@@ -94,8 +91,8 @@ fn lesson(alloc: Global, known: &Known, rows: &[Row]) -> Result<Lesson, Fail> {
     taught(alloc, known, &batch(alloc, known, rows)?)
 }
 
-/// Whether the bytes of the lesson are these parts, one after another, and it has no price.
-fn is_spelled(lesson: &Lesson, parts: &[&[u8]]) -> bool {
+/// Whether the bytes of the lesson are these parts, one after another.
+fn is_made_of(lesson: &Lesson, parts: &[&[u8]]) -> bool {
     let mut rest = lesson.bytes.as_slice();
     for part in parts {
         match rest.strip_prefix(*part) {
@@ -103,7 +100,12 @@ fn is_spelled(lesson: &Lesson, parts: &[&[u8]]) -> bool {
             None => return false,
         }
     }
-    rest.is_empty() && lesson.prices.is_empty()
+    rest.is_empty()
+}
+
+/// The same, of a lesson that has no price.
+fn is_spelled(lesson: &Lesson, parts: &[&[u8]]) -> bool {
+    is_made_of(lesson, parts) && lesson.prices.is_empty()
 }
 
 #[test]
@@ -229,5 +231,135 @@ fn rate_table(rt: HostRuntime) -> Result<(), Fail> {
     ];
     assert!(rt; is_spelled(&lesson, &[&definition, &row]));
     assert_eq!(rt; lesson.bytes.len(), 33);
+    Ok(())
+}
+
+/// Table 3 `st`, of strings, that stores the server's name and keeps rows for 30 s.
+fn naming(alloc: Global) -> Result<Roster, Fail> {
+    let name = Vec::from_slice(alloc, b"st")?;
+    let types = vec![in alloc; (DataType::ServerKey, None)]?;
+    let table = TableDef::new(alloc, 3, name, KeyKind::String, 33, 30_000, types)?;
+    Ok(Roster::new(vec![in alloc; table]?)?)
+}
+
+/// The server `s` with that digit.
+fn name(alloc: Global, digit: u8) -> Result<Name, Fail> {
+    match Name::new(vec![in alloc; b's', digit]?) {
+        Some(name) => Ok(name),
+        None => Err(Fail::from("no name")),
+    }
+}
+
+/// Number, key and server of a row of `st`: a letter, and the digit behind `s`, or `-` for none.
+type NamedRow = (u32, u8, u8);
+
+fn named(alloc: Global, row: NamedRow) -> Result<Update, Fail> {
+    let server = match row.2 {
+        b'-' => None,
+        digit => Some(name(alloc, digit)?),
+    };
+    Ok(Update {
+        table: 3,
+        number: row.0,
+        life: Some(30_000),
+        key: Key::Str(Items::new(vec![in alloc; row.1]?)),
+        values: Items::new(Vec::new(alloc)),
+        name: server,
+    })
+}
+
+/// The lesson of these rows of `st`.
+fn naming_lesson(alloc: Global, known: &Known, rows: &[NamedRow]) -> Result<Lesson, Fail> {
+    let mut updates = Vec::with_capacity(alloc, rows.len())?;
+    for row in rows {
+        updates.push(named(alloc, *row)?)?;
+    }
+    taught(alloc, known, &Batch::new(known.roster(), updates)?)
+}
+
+/// Whether slot 1 holds `s1` behind a lesson.
+fn holds_first(alloc: Global, lesson: &Lesson) -> Result<bool, Fail> {
+    Ok(lesson.known.slots().find(&name(alloc, b'1')?) == Some(1))
+}
+
+/// Whether there are so many prices, all 0.
+fn is_free(lesson: &Lesson, count: usize) -> bool {
+    let prices = lesson.prices.as_slice();
+    prices.len() == count && prices.iter().all(|price| *price == 0)
+}
+
+const ST_DEFINED: [u8; 16] = [
+    0x0A, 0x82, 0x0D, 3, 2, 0x73, 0x74, 6, 0x21, 0xF0, 0xF1, 0xFE, 0, 0xF0, 0xC4, 0x0D,
+];
+
+const WRITTEN: [u8; 18] = [
+    0x0A, 0x85, 0x0F, 0, 0, 0, 1, 0, 0, 0x75, 0x30, 1, 0x61, 4, 1, 2, 0x73, 0x31,
+];
+
+const ONE_NAME_TWICE: [NamedRow; 2] = [(1, b'a', b'1'), (2, b'b', b'1')];
+
+const READ: [u8; 11] = [0x0A, 0x86, 8, 0, 0, 0x75, 0x30, 1, 0x62, 1, 1];
+
+#[test]
+fn one_name_twice(rt: HostRuntime) -> Result<(), Fail> {
+    let alloc = rt.alloc();
+    let known = Known::fresh(alloc, naming(alloc)?);
+    let lesson = naming_lesson(alloc, &known, &ONE_NAME_TWICE)?;
+    assert!(rt; is_made_of(&lesson, &[&ST_DEFINED, &WRITTEN, &READ]));
+    assert!(rt; is_free(&lesson, 2));
+    assert!(rt; holds_first(alloc, &lesson)?);
+    Ok(())
+}
+
+/// A learner to which `st` was defined, with the last number 5, and `s1` in slots 1 and 2.
+fn in_two_slots(alloc: Global) -> Result<Known, Fail> {
+    let mut slots = Slots::new(alloc);
+    let _empty = slots.write(2, name(alloc, b'1')?);
+    let _empty = slots.write(1, name(alloc, b'1')?);
+    let (defined, last) = (vec![in alloc; 3]?, vec![in alloc; (3, 5)]?);
+    Ok(Known::build(alloc, naming(alloc)?, Some(3), defined, last, slots)?)
+}
+
+const SIXTH: [NamedRow; 1] = [(6, b'a', b'1')];
+
+const SIXTH_READ: [u8; 11] = [0x0A, 0x86, 8, 0, 0, 0x75, 0x30, 1, 0x61, 1, 1];
+
+#[test]
+fn name_in_two_slots(rt: HostRuntime) -> Result<(), Fail> {
+    let alloc = rt.alloc();
+    let known = in_two_slots(alloc)?;
+    let lesson = naming_lesson(alloc, &known, &SIXTH)?;
+    assert!(rt; is_made_of(&lesson, &[&SIXTH_READ]));
+    assert!(rt; is_free(&lesson, 1));
+    assert!(rt; holds_first(alloc, &lesson)?);
+    assert!(rt; lesson.known.slots().name(2).is_some());
+    Ok(())
+}
+
+/// A name is kept over another, which goes to the lowest slot that keeps none; a row without a name has an empty field;
+/// and a slot is written again once no later update asks for what it holds.
+const OVER_ANOTHER: [NamedRow; 5] = [
+    (1, b'a', b'1'),
+    (2, b'b', b'2'),
+    (3, b'c', b'-'),
+    (4, b'd', b'1'),
+    (5, b'e', b'3'),
+];
+
+/// The messages behind the first update of these rows.
+const BEHIND: [u8; 49] = [
+    0x0A, 0x86, 11, 0, 0, 0x75, 0x30, 1, 0x62, 4, 2, 2, 0x73, 0x32, // s2 into slot 2
+    0x0A, 0x86, 7, 0, 0, 0x75, 0x30, 1, 0x63, 0, // no name
+    0x0A, 0x86, 8, 0, 0, 0x75, 0x30, 1, 0x64, 1, 1, // s1 out of slot 1
+    0x0A, 0x86, 11, 0, 0, 0x75, 0x30, 1, 0x65, 4, 1, 2, 0x73, 0x33, // s3 into slot 1
+];
+
+#[test]
+fn kept_over_another(rt: HostRuntime) -> Result<(), Fail> {
+    let alloc = rt.alloc();
+    let known = Known::fresh(alloc, naming(alloc)?);
+    let lesson = naming_lesson(alloc, &known, &OVER_ANOTHER)?;
+    assert!(rt; is_made_of(&lesson, &[&ST_DEFINED, &WRITTEN, &BEHIND]));
+    assert!(rt; is_free(&lesson, 4));
     Ok(())
 }

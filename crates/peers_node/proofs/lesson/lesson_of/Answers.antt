@@ -7,4 +7,4 @@ returns-clause-lesson c =
     let roster = c.in_ok-roster.roster in
     let known = c.in_ok-known.known in
     let batch = c.in_ok-batch.batch in
-    (taught.0, taught.1, lesson_of_scene c.args.scene roster known batch taught.0 c.in_ok-roster.ensures.made.0 c.in_ok-known.ensures.built.0 c.in_ok-batch.ensures.made.0 taught.3)
+    (taught.0, taught.1, lesson_of_scene c.args.scene roster known batch taught.0 c.in_ok-teach.field-0.known.state c.in_ok-roster.ensures.made.0 c.in_ok-known.ensures.built.0 c.in_ok-batch.ensures.made.0 taught.2 taught.3)

@@ -7,55 +7,66 @@ use Rattle.table_types.specs.Rosters.{table_at}
 use Rattle.peers_msg.specs.declared.message.Message.{Message}
 use Rattle.peers_msg.specs.declared.message.Message.TheVariants as messages
 use Rattle.peers_msg.specs.Messages.{UpdateFields}
+use Rattle.peers_msg.specs.declared.name_field.NameField.{NameField}
+use Rattle.peers_msg.specs.declared.name_field.NameField.TheVariants as names
+use Rattle.peers_msg.specs.Fitting.{name_fits}
 use Rattle.peers_msg.specs.Heard.{selected_table}
 use Rattle.peers_msg.specs.Spelling.{spelled, stream_of, size_of, size_of_all}
 use Rattle.peers_msg.specs.Steps.{Step, IsOwn, Legal, last_of}
 use Rattle.peers_msg.proofs.DataLaws.{row_small}
-use Rattle.known_state.specs.Cost.{number_told}
-use Rattle.teach_writer.specs.Telling.{update_told, IsTaken}
-use Rattle.teach_writer.proofs.TellingLaws.{told_taken, told_carries, told_legal, unnamed, nameless_own, stream-one, stream-append}
+use Rattle.known_state.specs.Resolving.{name_of, reads_empty}
+use Rattle.known_state.proofs.StepLemmas.{nameless}
+use Rattle.known_state.specs.Cost.{number_told, told_as}
+use Rattle.teach_writer.specs.Telling.{IsTaken}
+use Rattle.teach_writer.proofs.TellingLaws.{told_taken, told_carries, told_legal, nameless_own, stream-one, stream-append}
 use Rattle.known_state.specs.Known.{stores_no_name}
 use Rattle.known_state.proofs.KnownLemmas.{table_at-id}
 use Rattle.known_state.specs.Cost.{KnowsLess, with_selected, knowledge_of, knowledge_after, selection_cost, written_cost, full, full_from, IsOfRoster}
 use Rattle.teach_writer.proofs.ShortLaws.{told_cheap, tell_cheap}
-use Rattle.known_state.proofs.BatchLemmas.{row_of_fits, name_of_fits}
+use Rattle.known_state.proofs.BatchLemmas.{row_of_fits}
 use Rattle.teach_writer.proofs.telling.tell.Goals as goal
 
 pub update_told-requires : goal.update_told-requires
 update_told-requires c =
-    let d = c.requires.taught.0 in
+    let d = c.requires.0 in
     let defined : (d : Definition) → table_at c.args.known.now.roster c.args.update.now.table ≡ Some d → is_definition d ≡ true = search rules in
-    row_small d c.args.update.now.key c.args.update.now.values (defined d c.requires.taught.1) (row_of_fits d c.args.update.now c.requires.taught.2)
+    row_small d c.args.update.now.key c.args.update.now.values (defined d c.requires.1) (row_of_fits d c.args.update.now c.requires.2)
 
 pub say_owned-requires : goal.say_owned-requires
 say_owned-requires c =
     let k = c.select.new.known in
     let u = c.args.update.now in
-    let d = c.requires.taught.0 in
-    let listed : table_at c.args.known.now.roster u.table ≡ Some d = c.requires.taught.1 in
+    let d = c.requires.0 in
+    let field = c.in_ok-field.field in
+    let listed : table_at c.args.known.now.roster u.table ≡ Some d = c.requires.1 in
     let each : (d : Definition) → table_at c.args.known.now.roster u.table ≡ Some d → is_definition d ≡ true = search rules in
-    let nameless : stores_no_name c.args.known.now.roster ≡ true = c.requires.nameless in
     let selected : selected_table k.state.heard ≡ table_at c.args.known.now.roster u.table = search rules in
-    let told_is : c.in_ok-told.told ≡ update_told c.last.result u = search rules in
+    let told_is : c.in_ok-told.told ≡ told_as c.last.result field u = search rules in
     let here : c.last.result ≡ last_of k.state.lasts u.table = search rules in
     let last_is : c.last.result ≡ last_of k.state.lasts d.id = subst (λ (n : ℕ). c.last.result ≡ last_of k.state.lasts n) (sym (table_at-id c.args.known.now.roster u.table d listed)) here in
-    let no_name : stores_name d ≡ false = nameless_own c.args.known.now.roster u.table d nameless listed in
+    let same_roster : k.roster ≡ c.args.known.now.roster = search rules in
+    let each_fits : (d : Definition) → table_at k.roster u.table ≡ Some d → name_fits d field ≡ true = search rules in
+    let field_fits : name_fits d field ≡ true = each_fits d (ap (λ (r : List Definition). table_at r u.table) same_roster ∙ listed) in
+    let reads : reads_empty k.state.slots field ≡ false = search rules in
     let word : is_optional_word (number_told c.last.result u.number) ≡ true = c.update_told.ensures.word in
-    subst (λ (t : UpdateFields). IsTaken k (messages.Update t)) (sym told_is) (told_taken k d u c.last.result last_is (selected ∙ listed) (each d listed) no_name c.requires.taught.2 word)
+    subst (λ (t : UpdateFields). IsTaken k (messages.Update t)) (sym told_is) (told_taken k d u c.last.result field last_is (selected ∙ listed) (each d listed) field_fits reads c.requires.2 word)
 
 pub returns-clause-told : goal.returns-clause-told
 returns-clause-told c =
     let k = c.select.new.known in
     let u = c.args.update.now in
-    let d = c.requires.taught.0 in
-    let listed : table_at c.args.known.now.roster u.table ≡ Some d = c.requires.taught.1 in
+    let d = c.requires.0 in
+    let field = c.in_ok-field.field in
+    let listed : table_at c.args.known.now.roster u.table ≡ Some d = c.requires.1 in
     let each : (d : Definition) → table_at c.args.known.now.roster u.table ≡ Some d → is_definition d ≡ true = search rules in
-    let nameless : stores_no_name c.args.known.now.roster ≡ true = c.requires.nameless in
     let selected : selected_table k.state.heard ≡ table_at c.args.known.now.roster u.table = search rules in
-    let told_is : c.in_ok-told.told ≡ update_told c.last.result u = search rules in
+    let told_is : c.in_ok-told.told ≡ told_as c.last.result field u = search rules in
     let here : c.last.result ≡ last_of k.state.lasts u.table = search rules in
     let last_is : c.last.result ≡ last_of k.state.lasts d.id = subst (λ (n : ℕ). c.last.result ≡ last_of k.state.lasts n) (sym (table_at-id c.args.known.now.roster u.table d listed)) here in
-    let no_name : stores_name d ≡ false = nameless_own c.args.known.now.roster u.table d nameless listed in
+    let same_roster : k.roster ≡ c.args.known.now.roster = search rules in
+    let each_fits : (d : Definition) → table_at k.roster u.table ≡ Some d → name_fits d field ≡ true = search rules in
+    let field_fits : name_fits d field ≡ true = each_fits d (ap (λ (r : List Definition). table_at r u.table) same_roster ∙ listed) in
+    let named : name_of k.state.slots field ≡ u.name = search rules in
     let e = c.say_owned.new.known.state in
     let m : Message = messages.Update c.in_ok-told.told in
     let roster = c.args.known.now.roster in
@@ -64,13 +75,18 @@ returns-clause-told c =
     let knows : KnowsLess (with_selected (knowledge_of s) u.table) (knowledge_of k.state) = search rules in
     let said : c.say_owned.new.bytes.items ≡ c.select.new.bytes.items ++ spelled m = search rules in
     let step : (us : List Update) × Step k.state m us e × IsOwn k.roster m = search rules in
-    let as_told : Step k.state (messages.Update (update_told c.last.result u)) step.0 e = subst (λ (t : UpdateFields). Step k.state (messages.Update t) step.0 e) told_is step.1 in
-    let carried : step.0 ≡ u ∷ [] = told_carries k.state d u c.last.result step.0 e last_is (selected ∙ listed) (sym (table_at-id c.args.known.now.roster u.table d listed)) (unnamed d u.name no_name (name_of_fits d u c.requires.taught.2)) as_told in
+    let as_told : Step k.state (messages.Update (told_as c.last.result field u)) step.0 e = subst (λ (t : UpdateFields). Step k.state (messages.Update t) step.0 e) told_is step.1 in
+    let carried : step.0 ≡ u ∷ [] = told_carries k.state d u c.last.result field step.0 e last_is (selected ∙ listed) (sym (table_at-id c.args.known.now.roster u.table d listed)) named as_told in
     let bytes : c.say_owned.new.bytes.items ≡ c.args.bytes.now.items ++ stream_of (chosen.0 ++ m ∷ []) =
     said ∙ ap (λ x. x ++ spelled m) chosen.1 ∙ append_assoc c.args.bytes.now.items (stream_of chosen.0) (spelled m)
     ∙ ap (λ x. c.args.bytes.now.items ++ x) (ap (λ x. stream_of chosen.0 ++ x) (sym (stream-one m)) ∙ sym (stream-append chosen.0 (m ∷ []))) in
-    let cheap : (rest : List Update) → AllByRecursion (IsOfRoster roster) rest → size_of_all (chosen.0 ++ m ∷ []) + full roster e rest ≤ full roster s (u ∷ rest) =
-    λ rest all. tell_cheap roster s e u m chosen.0 rest chosen.3
-    (subst (λ (t : UpdateFields). size_of (messages.Update t) + full roster e rest ≤ written_cost roster (knowledge_of s) u + full_from roster (knowledge_after (knowledge_of s) u) rest) (sym told_is)
-    (told_cheap roster s k.state e d u c.last.result step.0 rest knows (selected ∙ listed) (table_at-id roster u.table d listed) listed no_name here as_told carried all)) in
+    let cheap : stores_no_name roster ≡ true → (rest : List Update) → AllByRecursion (IsOfRoster roster) rest → size_of_all (chosen.0 ++ m ∷ []) + full roster e rest ≤ full roster s (u ∷ rest) =
+    λ nameless_roster rest all.
+    let no_name : stores_name d ≡ false = nameless_own roster u.table d nameless_roster listed in
+    let field_is : field ≡ names.NotStored = nameless d field no_name field_fits in
+    let plain : Step k.state (messages.Update (told_as c.last.result names.NotStored u)) step.0 e = subst (λ (f : NameField). Step k.state (messages.Update (told_as c.last.result f u)) step.0 e) field_is as_told in
+    let plainly : c.in_ok-told.told ≡ told_as c.last.result names.NotStored u = told_is ∙ ap (λ (f : NameField). told_as c.last.result f u) field_is in
+    tell_cheap roster s e u m chosen.0 rest chosen.3
+    (subst (λ (t : UpdateFields). size_of (messages.Update t) + full roster e rest ≤ written_cost roster (knowledge_of s) u + full_from roster (knowledge_after (knowledge_of s) u) rest) (sym plainly)
+    (told_cheap roster s k.state e d u c.last.result step.0 rest knows (selected ∙ listed) (table_at-id roster u.table d listed) listed no_name here plain carried all)) in
     (chosen.0 ++ m ∷ [], bytes, told_legal roster s k.state e chosen.0 m u step.0 chosen.2 tt carried step.1, cheap)

@@ -1,0 +1,52 @@
+-- Through which slots the names of a lesson go (own).
+use Rattle.std.specs.Prelude.{◌≡◌, ◌≤◌, ℕ, ◌-◌, Bool, true, false, ◌||◌, List, [], ◌∷◌, is_some, replicate, slice_index_or, Option, Some, None, if◌then◌else◌}
+use Rattle.table_types.specs.declared.update.Update.{Update}
+use Rattle.table_types.specs.Rosters.{is_same_name}
+use Rattle.table_types.specs.Slots.{is_slot}
+use Rattle.dict_slots.specs.Slots.{Holds}
+use Rattle.peers_msg.specs.declared.name_field.NameField.{NameField}
+use Rattle.peers_msg.specs.declared.name_field.NameField.TheVariants as names
+use Rattle.known_state.specs.Cost.{written_field}
+
+-- no slot's name is kept
+abbrev pub none_kept : List Bool
+none_kept = replicate 128 false
+
+-- whether the name that a slot, 1 to 128, holds is kept for a later update that asks for it
+abbrev pub kept_at : List Bool → ℕ → Bool
+kept_at kept slot = slice_index_or kept (slot - 1) false
+
+-- the name is kept in that slot
+abbrev pub Keeps : List Bool → List (Option (List ℕ)) → ℕ → List ℕ → Type 0
+Keeps kept slots slot name = (kept_at kept slot ≡ true) × Holds slots slot name
+
+-- that slot may be written: no name is kept there
+abbrev pub IsFree : List Bool → ℕ → Type 0
+IsFree kept slot = (is_slot slot ≡ true) × (kept_at kept slot ≡ false)
+
+-- How an update's name is told. One that is kept is read, in the lowest slot that keeps it; any other is written, to the
+-- lowest slot that is free. Where there is none, it is as it would be with every name written.
+abbrev pub IsNameField : List Bool → List (Option (List ℕ)) → Bool → Option (List ℕ) → NameField → Type 0
+IsNameField kept slots stored (Some name) (names.Held slot) =
+    Keeps kept slots slot name × ((other : ℕ) → Keeps kept slots other name → slot ≤ other)
+IsNameField kept slots stored (Some name) (names.Written slot written) =
+    (written ≡ name)
+    × ((other : ℕ) → Keeps kept slots other name → ⊥)
+    × IsFree kept slot
+    × ((other : ℕ) → IsFree kept other → slot ≤ other)
+IsNameField kept slots stored (Some name) field = ⊥
+IsNameField kept slots stored None field = field ≡ written_field stored None
+
+abbrev pub is_that_name : List ℕ → Option (List ℕ) → Bool
+is_that_name name None = false
+is_that_name name (Some asked) = is_same_name asked name
+
+-- whether an update asks for the name
+abbrev pub is_asked : List ℕ → List Update → Bool
+is_asked name [] = false
+is_asked name (u ∷ us) = is_that_name name u.name || is_asked name us
+
+-- a price of 0 for each update with a name
+abbrev pub no_prices : List Update → List ℕ
+no_prices [] = []
+no_prices (u ∷ us) = if is_some u.name then 0 ∷ no_prices us else no_prices us
