@@ -1,5 +1,6 @@
 pub mod CommandLine
 pub mod Devices
+pub mod Endings
 pub mod Lessons
 pub mod Printed
 pub mod Words

@@ -22,6 +22,11 @@ number_of word most =
     if is_without_needless_zero word && (list_all is_digit word && nat_le (digits_from 0 word) most)
     then Some (digits_from 0 word) else None
 
+-- a number, unless it is 0
+abbrev pub from_one : Option ℕ → Option ℕ
+from_one None = None
+from_one (Some number) = if number == 0 then None else Some number
+
 -- printable, and no space
 abbrev pub is_text : List ℕ → Bool
 is_text word = list_all (λ byte. nat_le 33 byte && nat_le byte 126) word

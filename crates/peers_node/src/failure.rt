@@ -1,5 +1,6 @@
 //! Why a subcommand ends without its output.
-ghost use Rattle.std.specs.Prelude.{◌≡◌, ◌≢◌};
+ghost use Rattle.std.specs.Prelude.{◌≡◌, ◌≢◌, ◌⊎◌};
+ghost use Rattle.peers_node.specs.Endings.{status_of};
 
 use crate::input::InputError;
 use crate::scene::SceneError;
@@ -32,7 +33,9 @@ pub enum Failure {
 impl Failure {
     /// The exit status of a program that ends so.
     pub fn status(self) -> Status
-        ensures { result ≢ Status.Done }
+        ensures exactly { result ≡ status_of self }
+        ensures early { result ≢ Status.Done }
+        ensures read { result ≢ Status.Words }
     {
         match self {
             Failure::Line(_) | Failure::Scene => Status::Refused,
@@ -41,9 +44,12 @@ impl Failure {
         }
     }
 
-    /// Says the failure on the writer for errors, and answers how the program ends.
+    /// Says the failure on the writer for errors, and answers how the program ends: by the failure, or by want of
+    /// memory to say it, or by the writer.
     pub fn said<E: Write + Faults>(self, alloc: Global, errors: &mut E) -> Status
-        ensures { result ≢ Status.Done }
+        ensures status { (result ≡ status_of self) ⊎ ((result ≡ Status.Memory) ⊎ (result ≡ Status.Device)) }
+        ensures early { result ≢ Status.Done }
+        ensures read { result ≢ Status.Words }
     {
         match format!(in alloc; "{self}\n") {
             Ok(text) => self.status().said(errors, text.as_str()),

@@ -34,6 +34,7 @@ pub fn lesson<R: Read + Faults, W: Write + Faults, E: Write + Faults>(
     ensures done { result ≡ Status.Done → (scene : Scene) × (messages : List Message) × IsLesson scene messages
         × Appends (W.contents output.old) (W.contents output.new) (printed (map spelled messages) (no_prices scene.updates.items)) }
     ensures silent { result ≢ Status.Done → result ≢ Status.Device → output.new ≡ output.old }
+    ensures read { result ≢ Status.Words }
 {
     let text = match lesson_text(alloc, input) {
         Ok(text) => text,

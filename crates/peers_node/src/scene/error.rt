@@ -1,5 +1,8 @@
 //! Why a scene is refused.
 
+ghost use Rattle.std.specs.Prelude.{◌≡◌};
+ghost use Rattle.peers_node.specs.declared.scene.error.LineError.TheVariants as line_errors;
+
 use std::alloc::{AllocError, AllocFailed};
 use table_types::{DefError, Memory};
 use thiserror::Error;
@@ -46,6 +49,8 @@ impl From<AllocError> for LineError {
 }
 
 impl<T: Drop> From<AllocFailed<T>> for LineError {
+    ghost from_gives = { λ _ e. e ≡ line_errors.Memory };
+
     fn from(_refused: AllocFailed<T>) -> LineError {
         LineError::Memory
     }

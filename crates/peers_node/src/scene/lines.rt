@@ -1,6 +1,7 @@
 //! The kinds of lines of a scene.
-ghost use Rattle.std.specs.Prelude.{◌≡◌, ◌∷◌, ◌++◌, ◌≤◌, [], None, Some, true, Contains, IfOk, IfSome, OnOk, vec_len};
+ghost use Rattle.std.specs.Prelude.{◌≡◌, ◌∷◌, ◌++◌, ◌-◌, ◌^◌, ◌≤◌, ℕ, [], None, Some, Err, true, Contains, IfOk, IfSome, IsSome, OnOk, OnErr, vec_len};
 ghost use Rattle.table_types.specs.Slots.{is_slot};
+ghost use Rattle.peers_node.specs.Words.{from_one, number_of};
 
 use super::Scene;
 use super::error::LineError;
@@ -145,7 +146,10 @@ impl Scene {
 
     /// The id of a defined table that a word writes.
     fn defined_id(&self, word: &[u8]) -> Result<u64, LineError>
-        ensures { IfOk result (λ id. Contains self.now.defined.items id) }
+        ensures defined { IfOk result (λ id. Contains self.now.defined.items id) }
+        ensures written { IfOk result (λ id. number_of word.now (2 ^ 64 - 1) ≡ Some id) }
+        ensures refused { OnErr result ((id : ℕ) → number_of word.now (2 ^ 64 - 1) ≡ Some id →
+            Contains self.now.defined.items id → ⊥) }
     {
         let id = number(word, u64::MAX).ok_or(LineError::Refused)?;
         if self.defined.contains(&id) {
@@ -158,7 +162,8 @@ impl Scene {
 
 /// The slot that a word writes: 1 to 128.
 fn slot(word: &[u8]) -> Option<u8>
-    ensures { IfSome result (λ id. is_slot id ≡ true) }
+    ensures exactly { result ≡ from_one (number_of word.now 128) }
+    ensures slot { IfSome result (λ id. is_slot id ≡ true) }
 {
     let id = number(word, u64::from(Slots::COUNT))?;
     if id == 0 { None } else { Some(id as u8) }
@@ -166,7 +171,8 @@ fn slot(word: &[u8]) -> Option<u8>
 
 /// Gives a value to what has none yet.
 fn set_once<T: Drop>(place: &mut Option<T>, value: T) -> Result<(), LineError>
-    ensures { OnOk result ((place.old ≡ None) × (place.new ≡ Some value)) }
+    ensures set { OnOk result ((place.old ≡ None) × (place.new ≡ Some value)) }
+    ensures refused { OnErr result (IsSome place.old) }
 {
     if place.is_some() {
         return Err(LineError::Refused);
@@ -177,7 +183,8 @@ fn set_once<T: Drop>(place: &mut Option<T>, value: T) -> Result<(), LineError>
 
 /// Adds an item to a list of at most so many.
 fn push_within<T: Drop>(items: &mut Vec<T>, most: usize, item: T) -> Result<(), LineError>
-    ensures { OnOk result ((items.new.items ≡ items.old.items ++ item ∷ []) × (vec_len items.new ≤ most)) }
+    ensures pushed { OnOk result ((items.new.items ≡ items.old.items ++ item ∷ []) × (vec_len items.new ≤ most)) }
+    ensures refused { result ≡ Err LineError.Refused → most ≤ vec_len items.old }
 {
     if items.len() >= most {
         return Err(LineError::Refused);
