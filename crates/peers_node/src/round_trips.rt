@@ -259,6 +259,11 @@ fn setting_of(alloc: Global, tables: &str, lines: &str) -> Result<Setting, Fail>
 fn lesson_of(alloc: Global, example: &Example) -> Result<Lesson, Fail> {
     let (tables, before, updates) = (example.tables, example.before, example.updates);
     let text = format!(in alloc; "{tables}{before}{updates}")?;
+    lesson_of_scene(alloc, text.as_str())
+}
+
+/// The lesson of a scene.
+fn lesson_of_scene(alloc: Global, text: &str) -> Result<Lesson, Fail> {
     let Scene {
         tables,
         defined,
@@ -436,45 +441,47 @@ fn long_key_saving(rt: HostRuntime) -> Result<(), Fail> {
     round_trip(rt.alloc(), &LONG_KEY_SAVING)
 }
 
-/// The scene of table `st` and 258 updates of key `k`, numbered from 1, that have the names n000 to n128, twice.
+/// A line of update `place` of 258: key `k`, numbers from 1, the names n000 to n128 twice.
+fn cyclic_line(alloc: Global, place: u32) -> Result<String, Fail> {
+    let (number, name) = (place.saturating_add(1), place % 129);
+    Ok(format!(in alloc; "update 3 {number} 30000 =k n{name:03}\n")?)
+}
+
+/// The scene of these updates of `st`.
 fn cyclic_scene(alloc: Global) -> Result<String, Fail> {
-    let mut text = String::new(alloc);
-    text.push_str("table 3 st string 33 30000 server_key\n")?;
-    for place in 0..258u32 {
-        let (number, name) = (place + 1, place % 129);
-        let line = format!(in alloc; "update 3 {number} 30000 =k n{name:03}\n")?;
+    let mut text = String::from_str(alloc, "table 3 st string 33 30000 server_key\n")?;
+    for place in 0..258 {
+        let line = cyclic_line(alloc, place)?;
         text.push_str(line.as_str())?;
     }
     Ok(text)
 }
 
-/// Feeds the lesson of the scene to a learner that was fed nothing, cut so.
-fn learns_cyclic(alloc: Global, scene: &str, cut: Cut) -> Result<(), Fail> {
-    let Scene {
-        tables,
-        updates,
-        ..
-    } = read_scene(alloc, scene.as_bytes())?;
-    let known = Known::fresh(alloc, Roster::new(tables)?);
-    let batch = Batch::new(known.roster(), updates)?;
-    let lesson = teach(alloc, &known, &batch)?;
-    let mut learner = Learner::new(alloc, known.roster().copy(alloc)?)?;
-    let rows = feed(&mut learner, lesson.bytes.as_slice(), cut)?;
-    must(rows == 258, "not all updates")?;
-    must(lesson.prices.len() == 258, "not a price for each name")?;
+/// Whether a learner of `st` has just the last row of these updates, and knows what their lesson says.
+fn knows_cyclic(alloc: Global, learner: &mut Learner, known: &Known) -> Result<(), Fail> {
     let reached = learner.known(known.roster())?;
-    must(is_same(&reached, &lesson.known), "it ends elsewhere")?;
-    let printed = lines_of(alloc, &mut learner)?;
+    must(is_same(&reached, known), "it ends elsewhere")?;
+    let printed = lines_of(alloc, learner)?;
     let lines = "row 3 4294997296 =k n128\nack 3 258\n";
     must(printed.as_slice() == lines.as_bytes(), "other rows")
+}
+
+/// Feeds the lesson of these updates to a learner that was fed nothing, cut so.
+fn learns_cyclic(alloc: Global, lesson: &Lesson, cut: Cut) -> Result<(), Fail> {
+    let mut learner = Learner::new(alloc, lesson.known.roster().copy(alloc)?)?;
+    let rows = feed(&mut learner, lesson.bytes.as_slice(), cut)?;
+    must(rows == 258, "not all updates")?;
+    knows_cyclic(alloc, &mut learner, &lesson.known)
 }
 
 /// 129 names that come round don't all fit in the slots, and the lesson still teaches them all.
 #[test]
 fn cyclic_names(rt: HostRuntime) -> Result<(), Fail> {
-    let scene = cyclic_scene(rt.alloc())?;
-    for cut in [Cut::Whole, Cut::Bytes, Cut::Thrice] {
-        learns_cyclic(rt.alloc(), scene.as_str(), cut)?;
-    }
-    Ok(())
+    let alloc = rt.alloc();
+    let scene = cyclic_scene(alloc)?;
+    let lesson = lesson_of_scene(alloc, scene.as_str())?;
+    must(lesson.prices.len() == 258, "not a price for each name")?;
+    learns_cyclic(alloc, &lesson, Cut::Whole)?;
+    learns_cyclic(alloc, &lesson, Cut::Bytes)?;
+    learns_cyclic(alloc, &lesson, Cut::Thrice)
 }
