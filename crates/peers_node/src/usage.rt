@@ -5,7 +5,7 @@ use std::alloc::{AllocError, Global};
 /// How the program is called.
 const USAGE: &str = "usage: peers_node COMMAND < SCENE
 commands, each of which reads a scene on standard input:
-  lesson  write the shortest stream that teaches the updates of the scene
+  lesson  write a stream that teaches the updates of the scene
   learn   write the rows that a learner has behind the stream of the scene, and its acknowledgements
 ";
 
