@@ -91,6 +91,12 @@ fn lesson(alloc: Global, known: &Known, rows: &[Row]) -> Result<Lesson, Fail> {
     taught(alloc, known, &batch(alloc, known, rows)?)
 }
 
+/// Whether table 1 is the one that was defined, is selected, and has that last number.
+fn stands_at(known: &Known, last: Option<u32>) -> bool {
+    let heard = known.heard();
+    heard.tables().len() == 1 && heard.selected() == Some(1) && known.lasts().last(1) == last
+}
+
 /// Whether the bytes of the lesson are these parts, one after another.
 fn is_made_of(lesson: &Lesson, parts: &[&[u8]]) -> bool {
     let mut rest = lesson.bytes.as_slice();
@@ -114,9 +120,7 @@ fn empty_batch(rt: HostRuntime) -> Result<(), Fail> {
     let known = counted_to(alloc, 5)?;
     let lesson = lesson(alloc, &known, &[])?;
     assert!(rt; is_spelled(&lesson, &[]));
-    assert_eq!(rt; lesson.known.heard().selected(), Some(1));
-    assert_eq!(rt; lesson.known.heard().tables().len(), 1);
-    assert_eq!(rt; lesson.known.lasts().last(1), Some(5));
+    assert!(rt; stands_at(&lesson.known, Some(5)));
     Ok(())
 }
 
@@ -131,18 +135,32 @@ fn two_updates(rt: HostRuntime) -> Result<(), Fail> {
     let lesson = lesson(alloc, &known, &TWO_UPDATES)?;
     assert_eq!(rt; lesson.bytes.len(), 42);
     assert!(rt; is_spelled(&lesson, &[&T1_DEFINED, &FIRST_ROW, &SECOND_ROW]));
-    assert_eq!(rt; lesson.known.heard().selected(), Some(1));
-    assert_eq!(rt; lesson.known.lasts().last(1), Some(2));
-    assert_eq!(rt; known.heard().selected(), None);
+    assert!(rt; stands_at(&lesson.known, Some(2)));
+    assert!(rt; known.heard().selected().is_none());
     Ok(())
+}
+
+/// Copies of a known state and of a batch for it.
+fn copies(alloc: Global, known: &Known, batch: &Batch) -> Result<(Known, Batch), Fail>
+    requires { IsBatchFor known.now.roster batch.now }
+    ensures { IfOk result (λ copies. IsBatchFor copies.0.roster copies.1) }
+{
+    let (state, updates) = (known.copy(alloc)?, batch.copy(alloc)?);
+    Ok((state, updates))
+}
+
+/// The lesson of these rows, made of copies of the state and of the batch.
+fn lesson_of_copies(alloc: Global, known: &Known, rows: &[Row]) -> Result<Lesson, Fail> {
+    let batch = batch(alloc, known, rows)?;
+    let (state, updates) = copies(alloc, known, &batch)?;
+    taught(alloc, &state, &updates)
 }
 
 #[test]
 fn two_updates_copied(rt: HostRuntime) -> Result<(), Fail> {
     let alloc = rt.alloc();
     let known = fresh(alloc, vec![in alloc; counting(alloc, 1, b"t1")?]?)?;
-    let copied = batch(alloc, &known, &TWO_UPDATES)?.copy(alloc)?;
-    let lesson = taught(alloc, &known.copy(alloc)?, &copied)?;
+    let lesson = lesson_of_copies(alloc, &known, &TWO_UPDATES)?;
     assert!(rt; is_spelled(&lesson, &[&T1_DEFINED, &FIRST_ROW, &SECOND_ROW]));
     Ok(())
 }
@@ -198,7 +216,7 @@ fn wrap(rt: HostRuntime) -> Result<(), Fail> {
     let lesson = lesson(alloc, &known, &[(1, 0, 7, 5)])?;
     let row = [0x0A, 0x86, 9, 0, 0, 0x75, 0x30, 0, 0, 0, 7, 5];
     assert!(rt; is_spelled(&lesson, &[&row]));
-    assert_eq!(rt; lesson.known.lasts().last(1), Some(0));
+    assert!(rt; stands_at(&lesson.known, Some(0)));
     Ok(())
 }
 
@@ -219,18 +237,23 @@ fn rate_update(alloc: Global) -> Result<Update, Fail> {
     })
 }
 
+const RATE_TAUGHT: [u8; 33] = [
+    0x0A, 0x82, 0x0B, 5, 1, 0x72, 4, 4, 8, 0, 3, 0xF0, 0xE2, 3, // the definition
+    0x0A, 0x85, 0x10, 0, 0, 0, 9, 0, 0, 0, 0, 0x7F, 0, 0, 1, 0xFC, 3, 2, 0, // the row
+];
+
+/// The lesson of that row.
+fn rate_lesson(alloc: Global, known: &Known) -> Result<Lesson, Fail> {
+    let updates = vec![in alloc; rate_update(alloc)?]?;
+    taught(alloc, known, &Batch::new(known.roster(), updates)?)
+}
+
 #[test]
 fn rate_table(rt: HostRuntime) -> Result<(), Fail> {
     let alloc = rt.alloc();
     let known = fresh(alloc, rating(alloc)?)?;
-    let batch = Batch::new(known.roster(), vec![in alloc; rate_update(alloc)?]?)?;
-    let lesson = taught(alloc, &known, &batch)?;
-    let definition = [0x0A, 0x82, 0x0B, 5, 1, 0x72, 4, 4, 8, 0, 3, 0xF0, 0xE2, 3];
-    let row = [
-        0x0A, 0x85, 0x10, 0, 0, 0, 9, 0, 0, 0, 0, 0x7F, 0, 0, 1, 0xFC, 3, 2, 0,
-    ];
-    assert!(rt; is_spelled(&lesson, &[&definition, &row]));
-    assert_eq!(rt; lesson.bytes.len(), 33);
+    let lesson = rate_lesson(alloc, &known)?;
+    assert!(rt; is_spelled(&lesson, &[&RATE_TAUGHT]));
     Ok(())
 }
 
