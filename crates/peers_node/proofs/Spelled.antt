@@ -17,6 +17,7 @@ use Rattle.peers_encint.specs.Integers.{spelling}
 use Rattle.known_state.specs.Known.{KnownState, built, stores_no_name}
 use Rattle.table_types.specs.Tables.{Definition}
 use Rattle.table_types.specs.declared.update.Update.{Update}
+use Rattle.teach_writer.specs.Telling.{GoesThrough}
 use Rattle.peers_node.specs.Lessons.{start_of, IsLesson}
 use Rattle.peers_node.specs.declared.scene.Scene.{Scene}
 use Rattle.peers_node.specs.Printed.{IsMessage, joined}
@@ -69,10 +70,11 @@ stream_joined ms = sym (flat_map-map (λ message. message) spelled ms)
 -- what is taught for the roster, the state and the batch of a scene is the scene's lesson
 pub lesson_of_scene : (scene : Scene) (roster : List Definition) (known : KnownState) (batch : List Update) (ms : List Message) (after : State)
     → roster ≡ scene.tables.items → known ≡ built roster scene.selected scene.defined.items scene.last.items scene.slots → batch ≡ scene.updates.items
-    → Legal known.roster known.state ms batch after → (stores_no_name known.roster ≡ true → Shortest known batch ms) → IsLesson scene ms
+    → Legal known.roster known.state ms batch after → (stores_no_name known.roster ≡ true → Shortest known batch ms) → GoesThrough known batch (stream_of ms) after
+    → IsLesson scene ms
 unfolding IsLesson
-lesson_of_scene scene roster known batch ms after roster_is known_is batch_is legal shortest =
+lesson_of_scene scene roster known batch ms after roster_is known_is batch_is legal shortest order =
     let start : known ≡ start_of scene = known_is ∙ ap (λ r. built r scene.selected scene.defined.items scene.last.items scene.slots) roster_is in
-    let of_batch : (e : State) × Legal known.roster known.state ms scene.updates.items e × (stores_no_name known.roster ≡ true → Shortest known scene.updates.items ms) =
-    subst (λ (us : List Update). (e : State) × Legal known.roster known.state ms us e × (stores_no_name known.roster ≡ true → Shortest known us ms)) batch_is (after, legal, shortest) in
-    subst (λ (k : KnownState). (e : State) × Legal k.roster k.state ms scene.updates.items e × (stores_no_name k.roster ≡ true → Shortest k scene.updates.items ms)) start of_batch
+    let of_batch : (e : State) × Legal known.roster known.state ms scene.updates.items e × (stores_no_name known.roster ≡ true → Shortest known scene.updates.items ms) × GoesThrough known scene.updates.items (stream_of ms) e =
+    subst (λ (us : List Update). (e : State) × Legal known.roster known.state ms us e × (stores_no_name known.roster ≡ true → Shortest known us ms) × GoesThrough known us (stream_of ms) e) batch_is (after, legal, shortest, order) in
+    subst (λ (k : KnownState). (e : State) × Legal k.roster k.state ms scene.updates.items e × (stores_no_name k.roster ≡ true → Shortest k scene.updates.items ms) × GoesThrough k scene.updates.items (stream_of ms) e) start of_batch

@@ -1,2 +1,4 @@
 pub mod TellingLaws
 pub mod ShortLaws
+pub mod NamingLaws
+pub mod OrderLaws

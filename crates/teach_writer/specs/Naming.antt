@@ -1,5 +1,5 @@
 -- Through which slots the names of a lesson go (own).
-use Rattle.std.specs.Prelude.{◌≡◌, ◌≤◌, ℕ, ◌-◌, Bool, true, false, ◌||◌, List, [], ◌∷◌, is_some, replicate, slice_index_or, Option, Some, None, if◌then◌else◌}
+use Rattle.std.specs.Prelude.{◌≡◌, ◌≤◌, ℕ, ◌-◌, Bool, true, false, ◌||◌, List, [], ◌∷◌, is_some, replicate, slice_index_or, slice_set, Option, Some, None, if◌then◌else◌}
 use Rattle.table_types.specs.declared.update.Update.{Update}
 use Rattle.table_types.specs.Rosters.{is_same_name}
 use Rattle.table_types.specs.Slots.{is_slot}
@@ -25,7 +25,7 @@ abbrev pub IsFree : List Bool → ℕ → Type 0
 IsFree kept slot = (is_slot slot ≡ true) × (kept_at kept slot ≡ false)
 
 -- How an update's name is told. One that is kept is read, in the lowest slot that keeps it; any other is written, to the
--- lowest slot that is free. Where there is none, it is as it would be with every name written.
+-- lowest slot that is free. An update without a name has an empty field where its table stores names, and else no field.
 abbrev pub IsNameField : List Bool → List (Option (List ℕ)) → Bool → Option (List ℕ) → NameField → Type 0
 IsNameField kept slots stored (Some name) (names.Held slot) =
     Keeps kept slots slot name × ((other : ℕ) → Keeps kept slots other name → slot ≤ other)
@@ -45,6 +45,24 @@ is_that_name name (Some asked) = is_same_name asked name
 abbrev pub is_asked : List ℕ → List Update → Bool
 is_asked name [] = false
 is_asked name (u ∷ us) = is_that_name name u.name || is_asked name us
+
+-- a slot may keep its name from the start: it is the lowest that holds that name, and an update asks for it
+abbrev pub MayKeep : List (Option (List ℕ)) → List Update → ℕ → Type 0
+MayKeep slots us slot =
+    (name : List ℕ) × Holds slots slot name
+    × ((other : ℕ) → Holds slots other name → slot ≤ other)
+    × (is_asked name us ≡ true)
+
+-- before the first of the updates only such slots keep their names; not all of them have to
+abbrev pub IsKeptAtStart : List (Option (List ℕ)) → List Update → List Bool → Type 0
+IsKeptAtStart slots us kept = (slot : ℕ) → is_slot slot ≡ true → kept_at kept slot ≡ true → MayKeep slots us slot
+
+-- Behind an update whose name went through that slot, the slot may keep the name where a later update asks for it, and
+-- else keeps nothing; every other slot stays as it was. Behind an update without a name nothing changes.
+abbrev pub IsSettled : List Bool → Option ℕ → Option (List ℕ) → List Update → List Bool → Type 0
+IsSettled kept (Some slot) (Some name) later next =
+    (keeps : Bool) × (keeps ≡ true → is_asked name later ≡ true) × (next ≡ slice_set kept (slot - 1) keeps)
+IsSettled kept slot name later next = next ≡ kept
 
 -- a price of 0 for each update with a name
 abbrev pub no_prices : List Update → List ℕ

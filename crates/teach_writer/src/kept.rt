@@ -1,6 +1,6 @@
 //! Which slots hold a name that is kept.
 
-ghost use Rattle.std.specs.Prelude.{◌≡◌, ◌≤◌, ◌-◌, ℕ, true, false, IsTrue, ◌↔◌, Some, IfSome, IsNone, option_copied, slice_set};
+ghost use Rattle.std.specs.Prelude.{◌≡◌, ◌≤◌, ◌-◌, ℕ, true, false, ◌⊎◌, IsTrue, ◌↔◌, Some, IfSome, IsNone, option_copied, slice_set};
 ghost use Rattle.table_types.specs.Slots.{slot_at, is_slot};
 ghost use Rattle.teach_writer.specs.Naming.{none_kept, Keeps, IsFree};
 
@@ -98,6 +98,7 @@ impl Kept {
         requires { is_slot slot ≡ true }
         ensures kept { ((other : ℕ) × IsFree (slice_set self.old (slot - 1) true) other) → self.new ≡ slice_set self.old (slot - 1) true }
         ensures full { (((other : ℕ) × IsFree (slice_set self.old (slot - 1) true) other) → ⊥) → self.new ≡ self.old }
+        ensures either { (self.new ≡ slice_set self.old (slot - 1) true) ⊎ (self.new ≡ self.old) }
     {
         let mut flags = self.flags;
         flags[usize::from(slot) - 1] = true;

@@ -1,6 +1,6 @@
 //! Lessons.
 
-ghost use Rattle.std.specs.Prelude.{◌≡◌, true, IfOk, IfSome, List};
+ghost use Rattle.std.specs.Prelude.{◌≡◌, true, IsTrue, ◌↔◌, IfOk, IfSome, List, option_copied};
 ghost use Rattle.table_types.specs.Batches.{IsBatchFor};
 ghost use Rattle.table_types.specs.Slots.{is_slot};
 ghost use Rattle.peers_msg.specs.declared.message.Message.{Message};
@@ -9,7 +9,8 @@ ghost use Rattle.peers_msg.specs.Steps.{Legal};
 ghost use Rattle.known_state.specs.Known.{stores_no_name};
 ghost use Rattle.known_state.specs.Lessons.{IsLessonFor};
 ghost use Rattle.known_state.specs.Shortest.{Shortest};
-ghost use Rattle.teach_writer.specs.Naming.{is_that_name, is_asked, no_prices};
+ghost use Rattle.teach_writer.specs.Naming.{is_that_name, is_asked, no_prices, MayKeep, IsKeptAtStart, IsSettled};
+ghost use Rattle.teach_writer.specs.Telling.{GoesThrough};
 
 use crate::kept::Kept;
 use crate::telling::tell;
@@ -67,23 +68,36 @@ fn is_asked(updates: &[Update], name: &Name) -> bool
     false
 }
 
-/// What is kept at the start: each name that the slots hold and an update asks for, in the lowest slot that holds it.
-fn kept_at_start(slots: &Slots, updates: &[Update]) -> Kept {
+/// Whether the slot may keep its name from the start: it is the lowest that holds that name, and an update asks for it.
+fn may_keep(slots: &Slots, updates: &[Update], slot: u8) -> bool
+    requires { is_slot slot ≡ true }
+    ensures { IsTrue result ↔ MayKeep slots.now updates.now slot }
+{
+    match slots.name(slot) {
+        Some(name) => slots.find(name) == Some(slot) && is_asked(updates, name),
+        None => false,
+    }
+}
+
+/// What is kept at the start: each name that the slots hold and an update asks for, in the lowest slot that holds it,
+/// where another slot stays free.
+fn kept_at_start(slots: &Slots, updates: &[Update]) -> Kept
+    ensures { IsKeptAtStart slots.now updates.now result }
+{
     let mut kept = Kept::none();
     for slot in 1..=Slots::COUNT {
-        if let Some(name) = slots.name(slot)
-            && kept.find(slots, name).is_none()
-            && is_asked(updates, name)
-        {
+        if may_keep(slots, updates, slot) {
             kept.keep(slot);
         }
     }
     kept
 }
 
-/// Behind an update with that name, which went through that slot: it is kept where a later update asks for it.
+/// Behind an update with that name, which went through that slot: it is kept where a later update asks for it and
+/// another slot stays free.
 fn settle(kept: &mut Kept, slot: Option<u8>, name: Option<&Name>, later: &[Update])
     requires { IfSome slot (λ id. is_slot id ≡ true) }
+    ensures { IsSettled kept.old slot (option_copied name.entry) later.now kept.new }
 {
     let (Some(slot), Some(name)) = (slot, name) else {
         return;
@@ -111,9 +125,9 @@ fn no_prices(alloc: Global, updates: &[Update]) -> Result<Vec<u64>, Memory>
 /// The lesson that teaches the batch to a learner in the known state. It goes through the batch in order. Where an
 /// update's table isn't selected, its definition comes first if it isn't defined yet, and else a switch. An update
 /// comes without its number exactly where that is one more than its table's last, modulo 2^32, and with its life. Its
-/// name is read where a slot keeps it, and else written to the lowest slot that keeps none; a slot keeps a name that
-/// the slots hold, from the start or from an update on, until the next update that asks for it, as long as one slot
-/// stays free.
+/// name is read where a slot keeps it, and else written to the lowest slot that keeps none. A slot keeps its name, from
+/// the start or from an update that had it, until the next update that asks for it, where another slot stays free when
+/// that begins.
 ///
 /// The batch was made for the roster of the known state. Where no table of that roster stores names, no legal stream
 /// that carries the same updates in that order has fewer bytes.
@@ -123,6 +137,7 @@ pub fn teach(alloc: Global, known: &Known, batch: &Batch) -> Result<Lesson, Teac
         × Legal known.now.roster known.now.state ms batch.now lesson.known.state
         × (stores_no_name known.now.roster ≡ true → Shortest known.now batch.now ms)) }
     ensures taught { IfOk result (λ lesson. IsLessonFor known.now batch.now lesson.bytes lesson.known) }
+    ensures order { IfOk result (λ lesson. GoesThrough known.now batch.now lesson.bytes lesson.known.state) }
     ensures roster { IfOk result (λ lesson. lesson.known.roster ≡ known.now.roster) }
     ensures prices { IfOk result (λ lesson. lesson.prices ≡ no_prices batch.now) }
 {

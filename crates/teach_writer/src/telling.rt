@@ -18,7 +18,7 @@ ghost use Rattle.peers_msg.specs.Steps.{Step, Teaches, IsOwn, Legal};
 ghost use Rattle.known_state.specs.Cost.{number_told, told_as, knowledge_of, with_selected, selection_cost, KnowsLess, IsOfRoster, full};
 ghost use Rattle.known_state.specs.Requests.{IsTaught};
 ghost use Rattle.teach_writer.specs.Naming.{IsNameField};
-ghost use Rattle.teach_writer.specs.Telling.{selection, slot_of, IsTaken};
+ghost use Rattle.teach_writer.specs.Telling.{selection, slot_of, IsTaken, IsTold};
 
 use crate::kept::Kept;
 use dict_slots::Slots;
@@ -135,6 +135,9 @@ fn select(alloc: Global, known: &mut Known, id: u64, bytes: &mut Vec<u8>) -> Res
     ensures legal { OnOk result ((ms : List Message) × (bytes.new.items ≡ bytes.old.items ++ stream_of ms)
         × Legal known.old.roster known.old.state ms [] known.new.state
         × (size_of_all ms ≤ selection_cost known.old.roster (knowledge_of known.old.state) id)) }
+    ensures chosen { OnOk result ((d : Definition) → table_at known.old.roster id ≡ Some d →
+        (bytes.new.items ≡ bytes.old.items ++ stream_of (selection known.old.state.heard d))
+        × Teaches known.old.state (selection known.old.state.heard d) [] known.new.state) }
     ensures knows { OnOk result (KnowsLess (with_selected (knowledge_of known.old.state) id) (knowledge_of known.new.state)) }
     ensures selected { OnOk result (selected_table known.new.state.heard ≡ table_at known.old.roster id) }
     ensures defined { OnOk result ((d : Definition) → table_at known.old.roster id ≡ Some d → is_definition d ≡ true) }
@@ -190,6 +193,9 @@ pub fn tell(
         × Legal known.old.roster known.old.state ms (update.now ∷ []) known.new.state
         × (stores_no_name known.old.roster ≡ true → (rest : List Update) → AllByRecursion (IsOfRoster known.old.roster) rest →
         size_of_all ms + full known.old.roster known.new.state rest ≤ full known.old.roster known.old.state (update.now ∷ rest))) }
+    ensures order { IfOk result (λ slot. (field : NameField) × (ms : List Message) × (slot ≡ slot_of field)
+        × (bytes.new.items ≡ bytes.old.items ++ stream_of ms)
+        × IsTold known.old.roster known.old.state kept.now update.now field ms known.new.state) }
     ensures slot { IfOk result (λ slot. IfSome slot (λ id. is_slot id ≡ true)) }
     ensures roster { known.new.roster ≡ known.old.roster }
 {

@@ -1,16 +1,21 @@
-use Rattle.std.proofs.Common.{◌≡◌, ℕ, true, ◌+◌, ◌≤◌, drop, [], ◌∷◌, ◌++◌, rules, sym, ap, ◌∙◌, subst, List, length, take, arith}
-use Rattle.std.proofs.lemmas.List.{take_more, drop_more, take_all}
+use Rattle.std.proofs.Common.{◌≡◌, ℕ, Bool, true, ◌+◌, ◌-◌, ◌≤◌, drop, [], ◌∷◌, ◌++◌, Option, rules, sym, ap, ◌∙◌, subst, List, length, take, arith}
+use Rattle.std.proofs.lemmas.List.{take_more, drop_more, take_all, drop_all, length-drop}
 use Rattle.table_types.specs.declared.update.Update.{Update}
 use Rattle.table_types.specs.Tables.{Definition}
 use Rattle.table_types.specs.Batches.{IsBatchFor}
+use Rattle.std.specs.Option.{option_copied}
 use Rattle.peers_msg.specs.declared.message.Message.{Message}
 use Rattle.std.specs.List.{AllByRecursion}
 use Rattle.peers_msg.specs.Spelling.{stream_of, size_of_all}
-use Rattle.known_state.specs.Known.{AreOwn, stores_no_name}
+use Rattle.known_state.specs.Known.{KnownState, AreOwn, stores_no_name}
 use Rattle.known_state.specs.Cost.{full, IsOfRoster}
 use Rattle.peers_msg.specs.Steps.{Legal}
 use Rattle.known_state.specs.Requests.{IsTaught}
 use Rattle.known_state.proofs.BatchLemmas.{batch_taught}
+use Rattle.peers_msg.specs.declared.name_field.NameField.{NameField}
+use Rattle.teach_writer.specs.Naming.{IsKeptAtStart, IsSettled}
+use Rattle.teach_writer.specs.Telling.{slot_of, IsTold, AreTold}
+use Rattle.teach_writer.proofs.OrderLaws.{Leads, leads_first, leads_next, leads_last}
 use Rattle.teach_writer.proofs.TellingLaws.{legal-append, stream-append}
 use Rattle.teach_writer.proofs.ShortLaws.{batch_rest, joined_costs, whole_cost, shortest_at_end}
 use Rattle.teach_writer.proofs.lesson.teach.Goals as goal
@@ -22,6 +27,19 @@ tell-requires c =
     let batch : IsBatchFor c.args.known.now.roster us = subst (λ (l : List Update). IsBatchFor c.args.known.now.roster l) (sym c.updates-updates.ensures.updates) c.requires.batch in
     let taught : IsTaught c.args.known.now.roster u = batch_taught c.args.known.now.roster us c.loop-place.place u batch c.loop-place-test.true c.index-updates-place.is in
     subst (λ (r : List Definition). IsTaught r u) (sym c.loop-place.invariant.roster) taught
+
+pub loop-place-init : goal.loop-place-init
+loop-place-init c =
+    let k = c.args.known.now in
+    let us = c.updates-updates.result.now in
+    let start : List Bool = c.kept_at_start-kept.result in
+    let same : k ≡ c.in_ok-after.after = search rules in
+    let first : Leads k.roster k.state start us [] c.in_ok-after.after.state start us = subst (λ (x : KnownState). Leads k.roster k.state start us [] x.state start us) same (leads_first k.roster k.state start us) in
+    record {
+      roster = search rules;
+      told = ([], search rules, search rules, search rules);
+      order = (start, [], search rules, search rules, first);
+    }
 
 pub loop-place-preserved : goal.loop-place-preserved
 loop-place-preserved c =
@@ -46,9 +64,23 @@ loop-place-preserved c =
     let here : u ∷ drop (i + 1) us ≡ drop i us = sym (drop_more us i u c.loop-place-test.true ∙ ap (λ (x : Update). x ∷ drop (i + 1) us) (sym c.index-updates-place.is)) in
     let left : stores_no_name roster ≡ true → size_of_all told.0 + full roster e (drop (i + 1) us) ≤ full roster mid (drop i us) =
     λ nameless. subst (λ (l : List Update). size_of_all told.0 + full roster e (drop (i + 1) us) ≤ full roster mid l) here (cheap nameless (drop (i + 1) us) (batch_rest roster us (i + 1) batch)) in
+    let start : List Bool = c.loop-place.invariant.order.0 in
+    let sent : List Message = c.loop-place.invariant.order.1 in
+    let in_order : (field : NameField) × (ms : List Message) × (c.in_ok-slot.slot ≡ slot_of field) × (c.tell.new.bytes.items ≡ c.loop-place.bytes.items ++ stream_of ms) × IsTold c.loop-place.after.roster mid c.loop-place.kept u field ms e = search rules in
+    let one : IsTold roster mid c.loop-place.kept u in_order.0 in_order.1 e = subst (λ (r : List Definition). IsTold r mid c.loop-place.kept u in_order.0 in_order.1 e) c.loop-place.invariant.roster in_order.4 in
+    let raw : IsSettled c.loop-place.kept c.in_ok-slot.slot (option_copied c.as_ref.result) (take (length us - (i + 1)) (drop (i + 1) us)) c.settle.new.kept = c.settle.ensures in
+    let later : take (length us - (i + 1)) (drop (i + 1) us) ≡ drop (i + 1) us = take_all (length us - (i + 1)) (drop (i + 1) us) (rw (length-drop (i + 1) us) (omega arith)) in
+    let next : IsSettled c.loop-place.kept c.in_ok-slot.slot u.name (drop (i + 1) us) c.settle.new.kept =
+    subst (λ (n : Option (List ℕ)). IsSettled c.loop-place.kept c.in_ok-slot.slot n (drop (i + 1) us) c.settle.new.kept) c.as_ref.ensures.value
+    (subst (λ (l : List Update). IsSettled c.loop-place.kept c.in_ok-slot.slot (option_copied c.as_ref.result) l c.settle.new.kept) later raw) in
+    let settled : IsSettled c.loop-place.kept (slot_of in_order.0) u.name (drop (i + 1) us) c.settle.new.kept = subst (λ (slot : Option ℕ). IsSettled c.loop-place.kept slot u.name (drop (i + 1) us) c.settle.new.kept) in_order.2 next in
+    let leads : Leads roster s start us sent mid c.loop-place.kept (u ∷ drop (i + 1) us) = subst (λ (l : List Update). Leads roster s start us sent mid c.loop-place.kept l) (sym here) c.loop-place.invariant.order.4 in
+    let sent_more : c.tell.new.bytes.items ≡ stream_of (sent ++ in_order.1) =
+    in_order.3 ∙ ap (λ (x : List ℕ). x ++ stream_of in_order.1) c.loop-place.invariant.order.2 ∙ sym (stream-append sent in_order.1) in
     record {
       roster = same ∙ c.loop-place.invariant.roster;
       told = (before ++ told.0, bytes, subst (λ (l : List Update). Legal roster s (before ++ told.0) l e) more whole, λ nameless. joined_costs roster s mid e before told.0 (drop i us) (drop (i + 1) us) us (c.loop-place.invariant.told.3 nameless) (left nameless));
+      order = (start, sent ++ in_order.1, sent_more, c.loop-place.invariant.order.3, leads_next roster s mid e start c.loop-place.kept c.settle.new.kept us (drop (i + 1) us) u sent in_order.1 in_order.0 leads one settled);
     }
 
 pub returns-clause-lesson : goal.returns-clause-lesson
@@ -78,3 +110,19 @@ returns-clause-taught c =
     let legal : Legal k.roster k.state ms c.args.batch.now e = subst (λ (l : List Update). Legal k.roster k.state ms l e) (take_all i us ended ∙ same) c.loop-place.invariant.told.2 in
     let bytes : c.new.result ≡ stream_of ms = search rules in
     (ms, bytes, legal, c.loop-place.invariant.roster)
+
+pub returns-clause-order : goal.returns-clause-order
+returns-clause-order c =
+    let k = c.args.known.now in
+    let us = c.updates-updates.result.now in
+    let i = c.loop-place.place in
+    let e = c.loop-place.after.state in
+    let start : List Bool = c.loop-place.invariant.order.0 in
+    let ms : List Message = c.loop-place.invariant.order.1 in
+    let same : us ≡ c.args.batch.now = c.updates-updates.ensures.updates in
+    let ended : length us ≤ i = omega arith in
+    let bytes : c.new.result ≡ stream_of ms = search rules in
+    let leads : Leads k.roster k.state start us ms e c.loop-place.kept [] = subst (λ (l : List Update). Leads k.roster k.state start us ms e c.loop-place.kept l) (drop_all i us ended) c.loop-place.invariant.order.4 in
+    let told = leads_last k.roster k.state e start c.loop-place.kept us ms leads in
+    let first : IsKeptAtStart k.state.slots us start = c.loop-place.invariant.order.3 in
+    subst (λ (l : List Update). (start : List Bool) × (ms : List Message) × IsKeptAtStart k.state.slots l start × AreTold k.roster k.state start l ms e × (c.new.result ≡ stream_of ms)) same (start, ms, first, told, bytes)

@@ -1,9 +1,11 @@
-use Rattle.std.proofs.Common.{◌≡◌, ℕ, ◌≤◌, Some, None, [], ◌∷◌, ◌++◌, rules, sym, ap, ◌∙◌, subst, List}
+use Rattle.std.proofs.Common.{◌≡◌, ℕ, ◌≤◌, Some, None, [], ◌∷◌, ◌++◌, rules, refl, sym, ap, ◌∙◌, subst, List}
+use Rattle.std.proofs.lemmas.List.{append-nil}
 use Rattle.table_types.specs.declared.update.Update.{Update}
+use Rattle.table_types.specs.Tables.{Definition}
 use Rattle.table_types.specs.Rosters.{table_at, roster_fault}
 use Rattle.peers_msg.specs.declared.message.Message.{Message}
-use Rattle.peers_msg.specs.Spelling.{spelled, size_of_all}
-use Rattle.peers_msg.specs.Steps.{Step, IsOwn, Legal}
+use Rattle.peers_msg.specs.Spelling.{spelled, stream_of, size_of_all}
+use Rattle.peers_msg.specs.Steps.{Step, Teaches, IsOwn, Legal}
 use Rattle.teach_writer.specs.Telling.{selection}
 use Rattle.teach_writer.proofs.TellingLaws.{selection_taken, selection_selects, selection_none, listed_by_id, legal-one, stream-one}
 use Rattle.known_state.specs.Cost.{KnowsLess, with_selected, knowledge_of, selection_cost}
@@ -77,3 +79,34 @@ returns-in_default-clause-selected c =
     let listed : table_at k.roster c.args.id ≡ Some d = search rules in
     let is : [] ≡ selection k.state.heard d = search rules in
     selection_none k d c.roster.ensures.own (listed_by_id k.roster c.args.id d listed) is ∙ sym listed
+
+pub returns-in_ok-say_owned-clause-chosen : goal.returns-in_ok-say_owned-clause-chosen
+returns-in_ok-say_owned-clause-chosen c = λ other found.
+    let k = c.args.known.now in
+    let d = c.in-Some.table.now in
+    let m = c.in-Some-chosen.message in
+    let e = c.say_owned.new.known.state in
+    let listed : table_at k.roster c.args.id ≡ Some d = search rules in
+    let is : m ∷ [] ≡ selection k.state.heard d = search rules in
+    let both : Some d ≡ Some other = sym listed ∙ found in
+    let same : d ≡ other = cc in
+    let said : c.say_owned.new.bytes.items ≡ c.args.bytes.now.items ++ spelled m = search rules in
+    let step : (us : List Update) × Step k.state m us e × IsOwn k.roster m = search rules in
+    let none = selection_selects k d m step.0 e c.roster.ensures.own (listed_by_id k.roster c.args.id d listed) is step.1 in
+    let legal : Legal k.roster k.state (m ∷ []) [] e = subst (λ (us : List Update). Legal k.roster k.state (m ∷ []) us e) none.0 (legal-one k.roster m k.state e step.0 step.2 step.1) in
+    let one : (c.say_owned.new.bytes.items ≡ c.args.bytes.now.items ++ stream_of (m ∷ [])) × Teaches k.state (m ∷ []) [] e = (said ∙ ap (λ x. c.args.bytes.now.items ++ x) (sym (stream-one m)), legal.1) in
+    subst (λ (x : Definition). (c.say_owned.new.bytes.items ≡ c.args.bytes.now.items ++ stream_of (selection k.state.heard x)) × Teaches k.state (selection k.state.heard x) [] e) same
+    (subst (λ (ms : List Message). (c.say_owned.new.bytes.items ≡ c.args.bytes.now.items ++ stream_of ms) × Teaches k.state ms [] e) is one)
+
+pub returns-in_default-clause-chosen : goal.returns-in_default-clause-chosen
+returns-in_default-clause-chosen c = λ other found.
+    let k = c.args.known.now in
+    let d = c.in-Some.table.now in
+    let bytes = c.args.bytes.now.items in
+    let listed : table_at k.roster c.args.id ≡ Some d = search rules in
+    let is : [] ≡ selection k.state.heard d = search rules in
+    let both : Some d ≡ Some other = sym listed ∙ found in
+    let same : d ≡ other = cc in
+    let none : (bytes ≡ bytes ++ stream_of []) × Teaches k.state [] [] k.state = (sym (append-nil bytes), (refl, refl)) in
+    subst (λ (x : Definition). (bytes ≡ bytes ++ stream_of (selection k.state.heard x)) × Teaches k.state (selection k.state.heard x) [] k.state) same
+    (subst (λ (ms : List Message). (bytes ≡ bytes ++ stream_of ms) × Teaches k.state ms [] k.state) is none)

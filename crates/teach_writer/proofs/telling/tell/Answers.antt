@@ -1,5 +1,5 @@
 use Rattle.std.specs.List.{AllByRecursion}
-use Rattle.std.proofs.Common.{◌≡◌, ℕ, ◌+◌, ◌≤◌, Some, true, false, [], ◌∷◌, ◌++◌, rules, sym, ap, ◌∙◌, subst, List, append_assoc}
+use Rattle.std.proofs.Common.{◌≡◌, ℕ, ◌+◌, ◌≤◌, Option, Some, true, false, [], ◌∷◌, ◌++◌, rules, refl, sym, ap, ◌∙◌, subst, List, append_assoc}
 use Rattle.table_types.specs.declared.update.Update.{Update}
 use Rattle.table_types.specs.Tables.{Definition, is_definition}
 use Rattle.table_types.specs.Updates.{is_optional_word, stores_name}
@@ -12,12 +12,13 @@ use Rattle.peers_msg.specs.declared.name_field.NameField.TheVariants as names
 use Rattle.peers_msg.specs.Fitting.{name_fits}
 use Rattle.peers_msg.specs.Heard.{selected_table}
 use Rattle.peers_msg.specs.Spelling.{spelled, stream_of, size_of, size_of_all}
-use Rattle.peers_msg.specs.Steps.{Step, IsOwn, Legal, last_of}
+use Rattle.peers_msg.specs.Steps.{Step, Teaches, IsOwn, Legal, last_of}
 use Rattle.peers_msg.proofs.DataLaws.{row_small}
 use Rattle.known_state.specs.Resolving.{name_of, reads_empty}
 use Rattle.known_state.proofs.StepLemmas.{nameless}
 use Rattle.known_state.specs.Cost.{number_told, told_as}
-use Rattle.teach_writer.specs.Telling.{IsTaken}
+use Rattle.teach_writer.specs.Naming.{IsNameField}
+use Rattle.teach_writer.specs.Telling.{IsTaken, IsTold, selection, update_told}
 use Rattle.teach_writer.proofs.TellingLaws.{told_taken, told_carries, told_legal, nameless_own, stream-one, stream-append}
 use Rattle.known_state.specs.Known.{stores_no_name}
 use Rattle.known_state.proofs.KnownLemmas.{table_at-id}
@@ -90,3 +91,39 @@ returns-clause-told c =
     (subst (λ (t : UpdateFields). size_of (messages.Update t) + full roster e rest ≤ written_cost roster (knowledge_of s) u + full_from roster (knowledge_after (knowledge_of s) u) rest) (sym plainly)
     (told_cheap roster s k.state e d u c.last.result step.0 rest knows (selected ∙ listed) (table_at-id roster u.table d listed) listed no_name here plain carried all)) in
     (chosen.0 ++ m ∷ [], bytes, told_legal roster s k.state e chosen.0 m u step.0 chosen.2 tt carried step.1, cheap)
+
+pub returns-clause-order : goal.returns-clause-order
+returns-clause-order c =
+    let k = c.select.new.known in
+    let u = c.args.update.now in
+    let d = c.requires.0 in
+    let field = c.in_ok-field.field in
+    let roster = c.args.known.now.roster in
+    let s = c.args.known.now.state in
+    let e = c.say_owned.new.known.state in
+    let start = c.args.bytes.now.items in
+    let sent : Message = messages.Update c.in_ok-told.told in
+    let m : Message = update_told k.state field u in
+    let listed : table_at roster u.table ≡ Some d = c.requires.1 in
+    let selected : selected_table k.state.heard ≡ table_at roster u.table = search rules in
+    let told_is : c.in_ok-told.told ≡ told_as c.last.result field u = search rules in
+    let here : c.last.result ≡ last_of k.state.lasts u.table = search rules in
+    let last_is : c.last.result ≡ last_of k.state.lasts d.id = subst (λ (n : ℕ). c.last.result ≡ last_of k.state.lasts n) (sym (table_at-id roster u.table d listed)) here in
+    let same_roster : k.roster ≡ roster = search rules in
+    let by_roster : table_at k.roster u.table ≡ Some d = ap (λ (r : List Definition). table_at r u.table) same_roster ∙ listed in
+    let each_field : (d : Definition) → table_at k.roster u.table ≡ Some d → IsNameField c.args.kept.now k.state.slots (stores_name d) u.name field = search rules in
+    let named : name_of k.state.slots field ≡ u.name = search rules in
+    let each_chosen : (d : Definition) → table_at roster u.table ≡ Some d → (c.select.new.bytes.items ≡ start ++ stream_of (selection s.heard d)) × Teaches s (selection s.heard d) [] k.state = search rules in
+    let chosen = each_chosen d listed in
+    let said : c.say_owned.new.bytes.items ≡ c.select.new.bytes.items ++ spelled sent = search rules in
+    let step : (us : List Update) × Step k.state sent us e × IsOwn k.roster sent = search rules in
+    let as_told : Step k.state (messages.Update (told_as c.last.result field u)) step.0 e = subst (λ (t : UpdateFields). Step k.state (messages.Update t) step.0 e) told_is step.1 in
+    let carried : step.0 ≡ u ∷ [] = told_carries k.state d u c.last.result field step.0 e last_is (selected ∙ listed) (sym (table_at-id roster u.table d listed)) named as_told in
+    let is : sent ≡ m = ap (λ (t : UpdateFields). messages.Update t) told_is ∙ ap (λ (l : Option ℕ). messages.Update (told_as l field u)) here in
+    let moved : Step k.state m (u ∷ []) e = subst (λ (x : Message). Step k.state x (u ∷ []) e) is (subst (λ (us : List Update). Step k.state sent us e) carried step.1) in
+    let ms : List Message = selection s.heard d ++ m ∷ [] in
+    let bytes : c.say_owned.new.bytes.items ≡ start ++ stream_of ms =
+    said ∙ ap (λ (x : Message). c.select.new.bytes.items ++ spelled x) is ∙ ap (λ x. x ++ spelled m) chosen.0 ∙ append_assoc start (stream_of (selection s.heard d)) (spelled m)
+    ∙ ap (λ x. start ++ x) (ap (λ x. stream_of (selection s.heard d) ++ x) (sym (stream-one m)) ∙ sym (stream-append (selection s.heard d) (m ∷ []))) in
+    let told : IsTold roster s c.args.kept.now u field ms e = (d, k.state, listed, chosen.1, each_field d by_roster, moved, refl) in
+    (field, ms, search rules, bytes, told)

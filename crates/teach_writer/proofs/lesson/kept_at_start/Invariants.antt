@@ -1,0 +1,5 @@
+use Rattle.teach_writer.specs.Naming.{IsKeptAtStart}
+use Rattle.teach_writer.proofs.lesson.kept_at_start.Given as goal
+
+abbrev pub invariant-loop-slot : goal.invariant-loop-slot
+invariant-loop-slot l = IsKeptAtStart l.slots l.updates l.kept
