@@ -1,7 +1,7 @@
 //! What holds of the definitions, whatever the program does.
 
 ghost use Rattle.std.specs.Prelude.{◌≡◌, ◌≢◌, ◌+◌, ◌∷◌, ◌++◌, ℕ, List, Result, Ok, Err, Some, None, length};
-ghost use Rattle.peers_encint.specs.Integers.{IsBytes};
+ghost use Rattle.peers_msg.specs.Integers.{IsBytes};
 ghost use Rattle.table_types.specs.declared.key.Key.{Key};
 ghost use Rattle.table_types.specs.declared.update.Update.{Update};
 ghost use Rattle.table_types.specs.Tables.{Definition};

@@ -1,6 +1,6 @@
 -- Which messages fit what was heard (HAProxy, doc/peers-v2.0.txt, "Messages"; the ranges and the greatest length
 -- of the data are own).
-use Rattle.std.specs.Prelude.{ℕ, ◌^◌, Bool, true, false, not, ◌&&◌, nat_lt, nat_le, length, is_some, Option, Some, None}
+use Rattle.std.specs.Prelude.{◌^◌, Bool, true, false, not, ◌&&◌, nat_lt, nat_le, length, is_some, Option, Some, None}
 use Rattle.table_types.specs.Names.{is_name}
 use Rattle.table_types.specs.Tables.{Definition, is_definition}
 use Rattle.table_types.specs.Updates.{is_word, is_optional_word, row_fits, stores_name}

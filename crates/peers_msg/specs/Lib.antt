@@ -1,3 +1,4 @@
+pub use Rattle.peers_encint.specs.Integers
 pub mod Messages
 pub mod Heard
 pub mod OwnTables
@@ -7,3 +8,4 @@ pub mod Steps
 pub mod Reading
 pub mod Stream
 pub mod Decoding
+pub mod Framing

@@ -6,6 +6,7 @@ mod decoder;
 mod encoding;
 mod fault;
 mod fitting;
+mod framing;
 mod heard;
 mod laws;
 mod meaning;
@@ -19,6 +20,7 @@ pub use control::{Control, ErrorKind};
 pub use decoder::Decoder;
 pub use encoding::encode;
 pub use fault::Fault;
+pub use framing::split_message;
 pub use heard::Heard;
 pub use laws::{
     any_cutting, data_is_small, no_prefix, one_lesson, one_list, one_message, one_step,

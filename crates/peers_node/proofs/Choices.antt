@@ -1,39 +1,45 @@
--- Lists of words.
-use Rattle.std.proofs.Common.{◌≡◌, ◌∙◌, ◌<◌, ◌≤◌, ℕ, List, [], ◌∷◌, arith, ap, codes, length, get_or, refl, true}
-use Rattle.std.specs.Borrow.{Bor}
-use Rattle.std.specs.Prelude.{Option, None, Some, Err, ok_or}
-use Rattle.std.specs.Str.{bytes_eq}
-use Rattle.std.proofs.lemmas.Slice.Eq.{bytes_eq-Decides}
-use Rattle.clap.specs.Words.{takes}
+-- The parser takes the words of each choice, and meets its subcommand.
+use Rattle.std.proofs.Common.{◌≡◌, ◌∙◌, ℕ, List, [], ◌∷◌, ap, codes, refl, rules, sym, true}
+use Rattle.std.specs.Prelude.{Option, Some, option_map}
+use Rattle.clap.specs.Words.{is_simple, subcommand_name_of, subcommand_of, subcommand_rows_of, takes}
+use Rattle.clap.specs.declared.error.kind.ErrorKind.{ErrorKind}
+use Rattle.clap.specs.declared.error.kind.ErrorKind.TheVariants.{OutOfMemory}
+use Rattle.clap.specs.declared.parser.matches.ArgMatches.{ArgMatches}
 use Rattle.clap.proofs.OnLiterals.{clap_on_literals}
-use Rattle.peers_node.specs.CommandLine.{Chooses, program, texts}
+use Rattle.peers_node.specs.CommandLine.{Chooses, cause_of_kind, name_of, program, subcommand_named}
+use Rattle.peers_node.specs.declared.options_error.OptionsError.{OptionsError}
+use Rattle.peers_node.specs.declared.options_error.OptionsError.TheVariants as errors
 use Rattle.peers_node.specs.declared.choice.Options.{Options}
 use Rattle.peers_node.specs.declared.choice.Options.TheVariants.{Lesson, Learn}
 
-pub same_text : {xs ys : List ℕ} → bytes_eq xs ys ≡ true → xs ≡ ys
-same_text {xs} {ys} same = (bytes_eq-Decides xs ys).0 same
-
--- two words of which the second is known
-pub two_words : (words : List (Bor (List ℕ))) (d : Bor (List ℕ)) (word : List ℕ) → 2 ≤ length words → length words < 3
-    → bytes_eq (get_or words 1 d).now word ≡ true → (x : List ℕ) × (texts words ≡ x ∷ word ∷ [])
-two_words [] d word low high same = absurd (omega arith)
-two_words (x ∷ []) d word low high same = absurd (omega arith)
-two_words (x ∷ y ∷ []) d word low high same = (x.now, ap (λ w. x.now ∷ w ∷ []) (same_text same))
-two_words (x ∷ y ∷ z ∷ rest) d word low high same = absurd (omega arith)
-
--- the parser takes the words of each choice, whatever the program's name is
-lesson_taken : (name : List ℕ) → takes program (name ∷ codes "lesson" ∷ []) ≡ true
+-- whatever the program's name is
+taken : (name : List ℕ) (chosen : Options) → takes program (name ∷ name_of chosen ∷ []) ≡ true
 unfolding clap_on_literals
-lesson_taken name = refl
+taken name Lesson = refl
+taken name Learn = refl
 
-learn_taken : (name : List ℕ) → takes program (name ∷ codes "learn" ∷ []) ≡ true
+met : (name : List ℕ) (chosen : Options) → subcommand_named (name ∷ name_of chosen ∷ []) ≡ Some (name_of chosen)
 unfolding clap_on_literals
-learn_taken name = refl
+met name Lesson = refl
+met name Learn = refl
 
 pub choice_taken : (words : List (List ℕ)) (chosen : Options) → Chooses words chosen → takes program words ≡ true
-choice_taken words Lesson (name, is) = ap (takes program) is ∙ lesson_taken name
-choice_taken words Learn (name, is) = ap (takes program) is ∙ learn_taken name
+choice_taken words chosen (name, is) = ap (takes program) is ∙ taken name chosen
 
-pub none_there : {A E : Type 0} (found : Option A) (e : E) → ok_or found e ≡ Err e → found ≡ None
-none_there None e same = refl
-none_there (Some x) e same = absurd (cc)
+pub choice_met : (words : List (List ℕ)) (chosen : Options) → Chooses words chosen → subcommand_named words ≡ Some (name_of chosen)
+choice_met words chosen (name, is) = ap subcommand_named is ∙ met name chosen
+
+-- the name of the subcommand that was met, by its name and rows
+named : (m : ArgMatches) → subcommand_name_of m ≡ option_map (λ found. found.0) (subcommand_rows_of m)
+named m = search rules
+
+pub name_met : (m : ArgMatches) (words : List (List ℕ)) (chosen : Options) → subcommand_rows_of m ≡ subcommand_of program words → Chooses words chosen
+    → subcommand_name_of m ≡ Some (name_of chosen)
+name_met m words chosen rows chooses = named m ∙ ap (option_map (λ found. found.0)) rows ∙ choice_met words chosen chooses
+
+pub memory_refuses_no_word : (kind : ErrorKind) → kind ≡ OutOfMemory → cause_of_kind kind ≡ errors.Words → ⊥
+memory_refuses_no_word kind is words = let same : cause_of_kind kind ≡ errors.Memory = ap cause_of_kind is in absurd (cc)
+
+pub program_is_simple : is_simple program ≡ true
+unfolding clap_on_literals
+program_is_simple = refl

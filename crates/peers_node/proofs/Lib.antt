@@ -1,6 +1,1 @@
 mod Choices
-mod Learns
-mod Messages
-mod Numerals
-mod Spelled
-mod Written

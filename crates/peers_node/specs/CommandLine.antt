@@ -1,23 +1,45 @@
 -- Which words are a command line of the program, and what they choose.
-use Rattle.std.specs.Prelude.{◌≡◌, ℕ, List, [], ◌∷◌, map, codes}
+use Rattle.std.specs.Prelude.{◌≡◌, ℕ, true, List, [], ◌∷◌, Option, None, Some, map, codes, option_map}
 use Rattle.std.specs.Borrow.{Bor}
-use Rattle.clap.specs.Words.{App, new_app, with_subcommand}
+use Rattle.clap.specs.Words.{App, Shape, kind_of, new_app, subcommand_of, with_subcommand}
+use Rattle.clap.specs.declared.error.kind.ErrorKind.{ErrorKind}
+use Rattle.clap.specs.declared.error.kind.ErrorKind.TheVariants as kinds
 use Rattle.peers_node.specs.declared.choice.Options.{Options}
 use Rattle.peers_node.specs.declared.choice.Options.TheVariants.{Lesson, Learn}
+use Rattle.peers_node.specs.declared.command_line.Refusal.{Refusal}
+use Rattle.peers_node.specs.declared.command_line.Refusal.TheVariants.{Parser, NoCommand}
+use Rattle.peers_node.specs.declared.options_error.OptionsError.{OptionsError}
+use Rattle.peers_node.specs.declared.options_error.OptionsError.TheVariants.{Words, Memory}
 
 -- the texts of the words
 abbrev pub texts : List (Bor (List ℕ)) → List (List ℕ)
 texts words = map (λ word. word.now) words
 
--- the words after the program's name
-abbrev pub arguments_of : Options → List (List ℕ)
-arguments_of Lesson = codes "lesson" ∷ []
-arguments_of Learn = codes "learn" ∷ []
+-- the name of the subcommand
+abbrev pub name_of : Options → List ℕ
+name_of Lesson = codes "lesson"
+name_of Learn = codes "learn"
 
--- the words are the program's name and then those of this choice
+-- the words are the program's name and then this choice's
 abbrev pub Chooses : List (List ℕ) → Options → Type 0
-Chooses words chosen = (program : List ℕ) × (words ≡ program ∷ arguments_of chosen)
+Chooses words chosen = (program : List ℕ) × (words ≡ program ∷ name_of chosen ∷ [])
 
--- the program as the parser of command lines sees it
+-- the program as the parser of command lines sees it: with a version, and nothing without a subcommand
 abbrev pub program : App
-program = with_subcommand (with_subcommand (new_app (codes "peers_node")) (new_app (codes "lesson")).top) (new_app (codes "learn")).top
+program = with_subcommand (with_subcommand named (new_app (codes "lesson")).top) (new_app (codes "learn")).top
+  where
+    named : App
+    named = record { top = record (new_app (codes "peers_node")).top { has_version = true; subcommand_required = true; arg_required_else_help = true }; subs = [] }
+
+-- the subcommand that the words name, as the parser reads them
+abbrev pub subcommand_named : List (List ℕ) → Option (List ℕ)
+subcommand_named words = option_map (λ found. found.0) (subcommand_of program words)
+
+-- want of memory, or words that are refused
+abbrev pub cause_of_kind : ErrorKind → OptionsError
+cause_of_kind kinds.OutOfMemory = Memory
+cause_of_kind kind = Words
+
+abbrev pub cause_of : Refusal → OptionsError
+cause_of (Parser error) = cause_of_kind (kind_of error)
+cause_of NoCommand = Words

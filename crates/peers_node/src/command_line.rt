@@ -1,28 +1,80 @@
 //! Reading the command line.
-ghost use Rattle.std.specs.Prelude.{◌≡◌, IfOk, IfSome, codes};
-ghost use Rattle.clap.specs.Words.{app_of, kind_of, new_app, with_subcommand};
-ghost use Rattle.peers_node.specs.CommandLine.{Chooses, program, texts};
+ghost use Rattle.std.specs.Prelude.{◌≡◌, ◌≢◌, Err, IfErr, IfOk, IfSome, None, Ok, Some};
+ghost use Rattle.clap.specs.Words.{app_of, kind_of, subcommand_name_of};
+ghost use Rattle.peers_node.specs.declared.options_error.OptionsError.TheVariants as errors;
+ghost use Rattle.peers_node.specs.CommandLine.{Chooses, cause_of, name_of, program, subcommand_named, texts};
 
 use crate::choice::Options;
 use crate::options_error::OptionsError;
 use clap::error::ErrorKind;
-use clap::{Command, Error};
+use clap::{ArgMatches, Command, Error};
 use std::alloc::{AllocError, Global};
 
 /// Reads the words of a command line, the program's name first.
 ///
-/// `Words` stands for every command line that isn't one of this program, a call for help among
-/// them; `Memory` only for want of memory.
+/// `Words` stands for every command line that isn't one of this program, a call for help or the version among them;
+/// `Memory` only for want of memory.
 pub fn options<'a>(alloc: Global, words: &'a [&'a str]) -> Result<Options, OptionsError>
-    ensures ok { IfOk result (λ chosen. Chooses (texts words.now) chosen) }
+    ensures ok { IfOk result (λ chosen. subcommand_named (texts words.now) ≡ Some (name_of chosen)) }
     ensures words { result ≡ Err OptionsError.Words → (chosen : Options) → Chooses (texts words.now) chosen → ⊥ }
 {
-    let Ok(command) = command(alloc) else {
-        return Err(OptionsError::Memory);
-    };
-    match command.try_get_matches_from(words) {
-        Ok(_) => chosen(words).ok_or(OptionsError::Words),
-        Err(error) => Err(refusal(&error)),
+    match read_words(alloc, words) {
+        Ok(chosen) => Ok(chosen),
+        Err(refusal) => Err(refusal.cause()),
+    }
+}
+
+/// Why words choose nothing.
+#[derive(Debug, Drop)]
+pub enum Refusal {
+    /// The parser of command lines refused them, or they ask for help, or memory ran out.
+    Parser(Error),
+    /// They name no subcommand.
+    NoCommand,
+}
+
+impl Refusal {
+    /// Whether the words were refused, or memory ran out.
+    pub fn cause(&self) -> OptionsError
+        ensures { result ≡ cause_of self.now }
+    {
+        match self {
+            Refusal::Parser(error) => match error.kind() {
+                ErrorKind::OutOfMemory => OptionsError::Memory,
+                _ => OptionsError::Words,
+            },
+            Refusal::NoCommand => OptionsError::Words,
+        }
+    }
+
+    /// What is said of it: what is wrong with the words and how the program is called, or the help.
+    pub fn text(&self, alloc: Global) -> Result<String, AllocError> {
+        match self {
+            Refusal::Parser(error) => format!(in alloc; "{error}"),
+            Refusal::NoCommand => String::from_str(alloc, "error: no command given\n"),
+        }
+    }
+}
+
+impl From<AllocError> for Refusal {
+    ghost from_gives = { λ _ refusal. cause_of refusal ≡ errors.Memory };
+
+    fn from(refused: AllocError) -> Refusal {
+        Refusal::Parser(Error::from(refused))
+    }
+}
+
+/// What words choose, as the parser of command lines reads them.
+pub fn read_words<'a>(alloc: Global, words: &'a [&'a str]) -> Result<Options, Refusal>
+    ensures ok { IfOk result (λ chosen. subcommand_named (texts words.now) ≡ Some (name_of chosen)) }
+    ensures refused { IfErr result (λ refusal. cause_of refusal ≡ OptionsError.Words → (chosen : Options) → Chooses (texts words.now) chosen → ⊥) }
+{
+    match command(alloc)?.try_get_matches_from(words) {
+        Ok(matches) => match chosen(&matches) {
+            Some(chosen) => Ok(chosen),
+            None => Err(Refusal::NoCommand),
+        },
+        Err(error) => Err(Refusal::Parser(error)),
     }
 }
 
@@ -30,52 +82,30 @@ pub fn options<'a>(alloc: Global, words: &'a [&'a str]) -> Result<Options, Optio
 fn command<'a>(alloc: Global) -> Result<Command<'a>, AllocError>
     ensures { IfOk result (λ command. app_of command ≡ program) }
 {
+    let lesson = Command::new(alloc, "lesson").about(
+        "Reads a scene, and writes a stream that teaches its updates",
+    );
+    let learn = Command::new(alloc, "learn").about(
+        "Reads a scene, and writes the rows and acknowledgements of a learner of its stream",
+    );
     Command::new(alloc, "peers_node")
-        .subcommand(Command::new(alloc, "lesson"))?
-        .subcommand(Command::new(alloc, "learn"))
+        .version("0.1.0")
+        .about("peers_node 0.1.0 shares HAProxy stick tables over the peers protocol")
+        .after_help("A scene is read on standard input; docs/FORMATS.md says how it is written.")
+        .subcommand_required(true)
+        .arg_required_else_help(true)
+        .subcommand(lesson)?
+        .subcommand(learn)
 }
 
-/// The choice whose words these are.
-fn chosen(words: &[&str]) -> Option<Options>
-    ensures some { IfSome result (λ chosen. Chooses (texts words.now) chosen) }
-    ensures none { result ≡ None → (chosen : Options) → Chooses (texts words.now) chosen → ⊥ }
+/// The choice whose subcommand was met.
+fn chosen(matches: &ArgMatches<'_>) -> Option<Options>
+    ensures some { IfSome result (λ chosen. subcommand_name_of matches.now ≡ Some (name_of chosen)) }
+    ensures none { result ≡ None → (chosen : Options) → subcommand_name_of matches.now ≡ Some (name_of chosen) → ⊥ }
 {
-    match words {
-        [_, word] if *word == "lesson" => Some(Options::Lesson),
-        [_, word] if *word == "learn" => Some(Options::Learn),
+    match matches.subcommand_name() {
+        Some("lesson") => Some(Options::Lesson),
+        Some("learn") => Some(Options::Learn),
         _ => None,
-    }
-}
-
-/// Whether the words were refused, or memory ran out.
-fn refusal(error: &Error) -> OptionsError
-    ensures { kind_of error.now ≡ ErrorKind.OutOfMemory → result ≡ OptionsError.Memory }
-{
-    match error.kind() {
-        ErrorKind::OutOfMemory => OptionsError::Memory,
-        _ => OptionsError::Words,
-    }
-}
-
-#[cfg(test)]
-mod tests {
-    use super::*;
-
-    #[test]
-    fn words_of_a_command_line(rt: HostRuntime) {
-        let refused = Err(OptionsError::Words);
-        let rows = [
-            (["peers_node", "lesson"].as_slice(), Ok(Options::Lesson)),
-            (["peers_node", "learn"].as_slice(), Ok(Options::Learn)),
-            (["peers_node"].as_slice(), refused),
-            (["peers_node", "help"].as_slice(), refused),
-            (["peers_node", "--help"].as_slice(), refused),
-            (["peers_node", "teach"].as_slice(), refused),
-            (["peers_node", "learn", "more"].as_slice(), refused),
-            (["peers_node", "lesson", "more"].as_slice(), refused),
-        ];
-        for (words, answer) in rows {
-            assert_eq!(rt; options(rt.alloc(), words), answer, "{words:?}");
-        }
     }
 }

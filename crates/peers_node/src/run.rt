@@ -1,29 +1,29 @@
 //! From the words of the command line to the exit status.
 
 use crate::choice::Options;
-use crate::learn::learn;
-use crate::lesson::lesson;
+use crate::command_line::{Refusal, read_words};
 use crate::options_error::OptionsError;
-use crate::status::Status;
-use crate::{command_line, usage};
-use peers_engine::{Counting, Faults};
+use peers_devices::{Counting, Faults, write_all};
+use scene_commands::{Ending, learn, lesson};
 use std::alloc::{AllocError, Global};
 use std::env;
 use std::io::{ErrorKind, Write};
 
+/// The exit status of a command line that is refused, or asks for help.
+const WORDS: u8 = 2;
+
 /// Runs the subcommand that the command line chooses, and answers the exit status.
-pub fn run(rt: HostRuntime) -> u8 {
+pub fn status(rt: HostRuntime) -> u8 {
     let alloc = rt.alloc();
     let mut errors = Counting::new(rt.stderr());
-    let status = match arguments(&rt) {
+    match arguments(&rt) {
         Ok(arguments) => match texts(alloc, arguments.as_slice()) {
-            Ok(words) => dispatch(&rt, words.as_slice(), &mut errors),
-            Err(_) => Status::Memory.said(&mut errors, "memory\n"),
+            Ok(words) => dispatched(&rt, words.as_slice(), &mut errors),
+            Err(_) => Ending::Memory.said(alloc, &mut errors).status(),
         },
-        Err(OptionsError::Words) => refuse_words(alloc, [].as_slice(), &mut errors),
-        Err(OptionsError::Memory) => Status::Memory.said(&mut errors, "memory\n"),
-    };
-    status.code()
+        Err(OptionsError::Words) => said(alloc, "error: an argument isn't text\n", &mut errors),
+        Err(OptionsError::Memory) => Ending::Memory.said(alloc, &mut errors).status(),
+    }
 }
 
 /// The words of the command line. One that isn't text makes them no command line.
@@ -45,30 +45,30 @@ fn texts<'a>(alloc: Global, arguments: &'a [String]) -> Result<Vec<&'a str>, All
     Ok(words)
 }
 
-fn dispatch<'a, E: Write + Faults>(
-    rt: &HostRuntime,
-    words: &'a [&'a str],
-    errors: &mut E,
-) -> Status {
-    match command_line::options(rt.alloc(), words) {
-        Ok(Options::Lesson) => {
-            let mut input = Counting::new(rt.stdin());
-            let mut output = Counting::new(rt.stdout());
-            lesson(rt.alloc(), &mut input, &mut output, errors)
-        }
-        Ok(Options::Learn) => {
-            let mut input = Counting::new(rt.stdin());
-            let mut output = Counting::new(rt.stdout());
-            learn(rt.alloc(), &mut input, &mut output, errors)
-        }
-        Err(OptionsError::Words) => refuse_words(rt.alloc(), words, errors),
-        Err(OptionsError::Memory) => Status::Memory.said(errors, "memory\n"),
+/// Runs what these words choose.
+fn dispatched<'a, E: Write + Faults>(rt: &HostRuntime, words: &'a [&'a str], errors: &mut E) -> u8 {
+    let alloc = rt.alloc();
+    let mut input = Counting::new(rt.stdin());
+    let mut output = Counting::new(rt.stdout());
+    match read_words(alloc, words) {
+        Ok(Options::Lesson) => lesson(alloc, &mut input, &mut output, errors).status(),
+        Ok(Options::Learn) => learn(alloc, &mut input, &mut output, errors).status(),
+        Err(refusal) => refused(alloc, &refusal, errors),
     }
 }
 
-fn refuse_words<E: Write + Faults>(alloc: Global, words: &[&str], errors: &mut E) -> Status {
-    match usage::explanation(alloc, words) {
-        Ok(text) => Status::Words.said(errors, text.as_str()),
-        Err(_) => Status::Memory.said(errors, "memory\n"),
+/// Says why words are refused.
+fn refused<E: Write + Faults>(alloc: Global, refusal: &Refusal, errors: &mut E) -> u8 {
+    match (refusal.cause(), refusal.text(alloc)) {
+        (OptionsError::Words, Ok(text)) => said(alloc, text.as_str(), errors),
+        _ => Ending::Memory.said(alloc, errors).status(),
+    }
+}
+
+/// Says what is wrong with the words.
+fn said<E: Write + Faults>(alloc: Global, text: &str, errors: &mut E) -> u8 {
+    match write_all(errors, text.as_bytes()) {
+        Ok(()) => WORDS,
+        Err(_) => Ending::Device.said(alloc, errors).status(),
     }
 }

@@ -1,0 +1,10 @@
+//! Devices: readers and writers that count their failed calls, one read to its end, and all of some bytes written.
+#![tactic(auto)]
+
+mod devices;
+mod input;
+mod output;
+
+pub use devices::{Counting, Faults};
+pub use input::{MOST_READS, ReadError, read_to_end};
+pub use output::{WriteError, write_all};

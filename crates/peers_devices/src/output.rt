@@ -1,0 +1,58 @@
+//! Writing all of some bytes to a device.
+ghost use Rattle.std.specs.Prelude.{◌≡◌, ℕ, ◌≤◌, IfErr, OnOk, length, take};
+ghost use Rattle.std.specs.Io.KnownBytes.{Appends};
+ghost use Rattle.peers_devices.specs.Failures.{Rose, sent_of};
+
+use crate::devices::{Faults, rose};
+use std::io::Write;
+use thiserror::Error;
+
+/// The most writes that may fail uncounted before an output is given up.
+const MOST_RETRIES: u32 = 1_000_000;
+
+/// Why not all bytes were written. Exactly the first `sent` of them went out.
+#[derive(Clone, Copy, Debug, PartialEq, Eq, Error)]
+pub enum WriteError {
+    /// A write failed, and the device counted it.
+    #[error("a write failed after {sent} bytes")]
+    Failed {
+        /// How many bytes went out before.
+        sent: usize,
+    },
+    /// A write took no bytes, or a million writes failed without being counted.
+    #[error("no more is taken after {sent} bytes")]
+    Stuck {
+        /// How many bytes went out before.
+        sent: usize,
+    },
+}
+
+/// Writes all of the bytes.
+///
+/// A write that fails without being counted, as an interrupted one may, is made again.
+pub fn write_all<W: Write + Faults>(output: &mut W, bytes: &[u8]) -> Result<(), WriteError>
+    ensures ok { OnOk result (Appends (W.contents output.old) (W.contents output.new) bytes.now) }
+    ensures failed { (sent : ℕ) → result ≡ Err (WriteError.Failed sent) → Rose (W.failed output.old) (W.failed output.new) }
+    ensures sent { IfErr result (λ error. Appends (W.contents output.old) (W.contents output.new) (take (sent_of error) bytes.now)) }
+    ensures within { IfErr result (λ error. sent_of error ≤ length bytes.now) }
+{
+    let earlier = output.failures();
+    let mut sent = 0;
+    let mut retries = 0;
+    while sent < bytes.len() {
+        match output.write(&bytes[sent..]) {
+            Ok(0) => return Err(WriteError::Stuck { sent }),
+            Ok(count) => sent += count,
+            Err(_) => {
+                if rose(earlier, output.failures()) {
+                    return Err(WriteError::Failed { sent });
+                }
+                if retries == MOST_RETRIES {
+                    return Err(WriteError::Stuck { sent });
+                }
+                retries += 1;
+            }
+        }
+    }
+    Ok(())
+}

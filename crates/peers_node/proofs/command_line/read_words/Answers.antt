@@ -1,0 +1,18 @@
+use Rattle.std.proofs.Common.{◌≡◌, ◌∙◌, ap, refl, true}
+use Rattle.clap.specs.Words.{is_simple, kind_of, subcommand_of, takes}
+use Rattle.peers_node.specs.CommandLine.{texts}
+use Rattle.peers_node.proofs.Choices.{choice_taken, memory_refuses_no_word, name_met, program_is_simple}
+use Rattle.peers_node.proofs.command_line.read_words.Goals as goal
+
+pub returns-in-Ok-clause-refused : goal.returns-in-Ok-clause-refused
+returns-in-Ok-clause-refused c = λ _ chosen chooses.
+    let words = texts c.args.words.now in
+    let simple = ap is_simple c.in_ok-command.ensures ∙ program_is_simple in
+    let rows = (c.in-Ok.ensures.matches simple).1 ∙ ap (λ app. subcommand_of app words) c.in_ok-command.ensures in
+    c.chosen.ensures.none c.in-None.is chosen (name_met c.in-Ok.matches words chosen rows chooses)
+
+pub returns-clause-refused : goal.returns-clause-refused
+returns-clause-refused c = λ refused chosen chooses.
+    let words = texts c.args.words.now in
+    let full = c.in-Err.ensures.passes (ap (λ app. takes app words) c.in_ok-command.ensures ∙ choice_taken words chosen chooses) in
+    memory_refuses_no_word (kind_of c.in-Err.error) full refused

@@ -1,0 +1,76 @@
+-- What a scene asks for is what was taught or learned.
+use Rattle.std.proofs.Common.{◌≡◌, ◌≢◌, ◌∙◌, ◌⊎◌, ◌++◌, inl, inr, List, ap, refl, subst, sym, true, ℕ}
+use Rattle.std.specs.Prelude.{Result, Ok, Err, Some}
+use Rattle.table_types.specs.Tables.{Definition}
+use Rattle.table_types.specs.declared.update.Update.{Update}
+use Rattle.peers_msg.specs.Spelling.{stream_of}
+use Rattle.peers_msg.specs.Steps.{State, Legal}
+use Rattle.peers_msg.specs.declared.message.Message.{Message}
+use Rattle.known_state.specs.Known.{KnownState, built, stores_no_name}
+use Rattle.known_state.specs.Shortest.{Shortest}
+use Rattle.teach_writer.specs.Telling.{GoesThrough}
+use Rattle.learner.specs.declared.fault.Fault.{Fault}
+use Rattle.learner.specs.declared.fault.Fault.TheVariants as faults
+use Rattle.learner.specs.Learning.{Fed, Learning, unlearned}
+use Rattle.scene_text.specs.declared.scene.Scene.{Scene}
+use Rattle.scene_commands.specs.Teaching.{start_of, IsLesson}
+use Rattle.scene_commands.specs.Learning.{AreInRisingId, IsLearned, IsPrinted, acks_text, rows_text}
+use Rattle.scene_commands.specs.declared.ending.Ending.{Ending}
+use Rattle.scene_commands.specs.declared.ending.Ending.TheVariants as endings
+
+-- what is taught for the roster, the state and the batch of a scene is the scene's lesson
+pub lesson_of_scene : (scene : Scene) (roster : List Definition) (known : KnownState) (batch : List Update) (ms : List Message) (after : State)
+    → roster ≡ scene.tables.items → known ≡ built roster scene.selected scene.defined.items scene.last.items scene.slots → batch ≡ scene.updates.items
+    → Legal known.roster known.state ms batch after → (stores_no_name known.roster ≡ true → Shortest known batch ms) → GoesThrough known batch (stream_of ms) after
+    → IsLesson scene ms
+unfolding IsLesson
+lesson_of_scene scene roster known batch ms after roster_is known_is batch_is legal shortest order =
+    let start : known ≡ start_of scene = known_is ∙ ap (λ r. built r scene.selected scene.defined.items scene.last.items scene.slots) roster_is in
+    let of_batch : (e : State) × Legal known.roster known.state ms scene.updates.items e × (stores_no_name known.roster ≡ true → Shortest known scene.updates.items ms) × GoesThrough known scene.updates.items (stream_of ms) e =
+    subst (λ (us : List Update). (e : State) × Legal known.roster known.state ms us e × (stores_no_name known.roster ≡ true → Shortest known us ms) × GoesThrough known us (stream_of ms) e) batch_is (after, legal, shortest, order) in
+    subst (λ (k : KnownState). (e : State) × Legal k.roster k.state ms scene.updates.items e × (stores_no_name k.roster ≡ true → Shortest k scene.updates.items ms) × GoesThrough k scene.updates.items (stream_of ms) e) start of_batch
+
+-- a learner that knows nothing, and is fed bytes that are the scene's stream
+pub learned_of_scene : (scene : Scene) (now : ℕ) (roster : List Definition) (fresh : Learning) (bytes : List ℕ) (answer : Result ℕ Fault) (l : Learning)
+    → scene.moment ≡ Some now → AreInRisingId scene.tables.items roster → fresh ≡ unlearned roster → bytes ≡ scene.stream.items
+    → Fed now fresh bytes answer l → IsLearned scene answer l
+unfolding IsLearned
+learned_of_scene scene now roster fresh bytes answer l at rising begins same fed =
+    (now, roster, at, rising, subst (λ b. Fed now (unlearned roster) b answer l) same (subst (λ f. Fed now f bytes answer l) begins fed))
+
+-- what is printed where all was done
+pub done_printed : (scene : Scene) (text : List ℕ) (ending : Ending) → ending ≡ endings.Done → IsPrinted scene text ending
+    → (count : ℕ) × (l : Learning) × IsLearned scene (Ok count) l × (text ≡ rows_text l ++ acks_text l)
+done_printed scene text endings.Done is printed = printed
+done_printed scene text (endings.Stream fault) is printed = absurd (cc)
+done_printed scene text (endings.Line n) is printed = absurd printed
+done_printed scene text endings.Scene is printed = absurd printed
+done_printed scene text endings.Memory is printed = absurd printed
+done_printed scene text endings.Device is printed = absurd printed
+
+-- what is printed where the stream has a fault
+pub fault_printed : (scene : Scene) (text : List ℕ) (ending : Ending) (fault : Fault) → ending ≡ endings.Stream fault → IsPrinted scene text ending
+    → (l : Learning) × (fault ≢ faults.Memory) × IsLearned scene (Err fault) l × (text ≡ rows_text l)
+fault_printed scene text endings.Done fault is printed = absurd (cc)
+fault_printed scene text (endings.Stream other) fault is printed =
+    let same : other ≡ fault = cc in
+    subst (λ f. (l : Learning) × (f ≢ faults.Memory) × IsLearned scene (Err f) l × (text ≡ rows_text l)) same printed
+fault_printed scene text (endings.Line n) fault is printed = absurd printed
+fault_printed scene text endings.Scene fault is printed = absurd printed
+fault_printed scene text endings.Memory fault is printed = absurd printed
+fault_printed scene text endings.Device fault is printed = absurd printed
+
+-- an ending of which something is printed is that one, unless the writer for errors failed
+pub still : (ending after : Ending) → (after ≡ ending) ⊎ (after ≡ endings.Device) → after ≢ endings.Device → ending ≡ after
+still ending after (inl same) device = sym same
+still ending after (inr failed) device = absurd (device failed)
+
+-- something is printed only where all was done or the stream has a fault
+pub only_printed : (scene : Scene) (text : List ℕ) (ending : Ending) → IsPrinted scene text ending → ending ≢ endings.Done
+    → ((fault : Fault) → ending ≢ endings.Stream fault) → ⊥
+only_printed scene text endings.Done printed done fault = done refl
+only_printed scene text (endings.Stream f) printed done fault = fault f refl
+only_printed scene text (endings.Line n) printed done fault = printed
+only_printed scene text endings.Scene printed done fault = printed
+only_printed scene text endings.Memory printed done fault = printed
+only_printed scene text endings.Device printed done fault = printed

@@ -1,0 +1,175 @@
+//! How a subcommand ends.
+ghost use Rattle.std.specs.Prelude.{◌≡◌, ◌≢◌, ◌⊎◌, IfOk, string_bytes};
+ghost use Rattle.std.specs.Io.KnownBytes.{Appends};
+ghost use Rattle.scene_commands.specs.Endings.{IsEarly, line_of, of_batch, of_input, of_known, of_roster, of_scene, status_of};
+ghost use Rattle.scene_commands.specs.declared.ending.Ending.TheVariants as endings;
+
+use known_state::KnownError;
+use learner::Fault;
+use peers_devices::{Faults, ReadError, write_all};
+use scene_text::SceneError;
+use std::alloc::{AllocError, Global};
+use std::io::Write;
+use table_types::{BatchError, Memory, RosterError};
+use teach_writer::TeachError;
+
+/// How a subcommand ends: with which exit status, and what it says of it on the writer for errors.
+#[derive(Clone, Copy, Debug, PartialEq, Eq)]
+pub enum Ending {
+    /// All was done. Nothing is said.
+    Done,
+    /// A line of the scene, counted from 1, is the first that breaks a rule or a limit: `line N: refused`.
+    Line(usize),
+    /// No line is refused, but the scene lacks what the subcommand needs, or has what it can't do: `scene: refused`.
+    Scene,
+    /// The stream has a fault: `fault` and its name.
+    Stream(Fault),
+    /// Memory ran out: `memory`.
+    Memory,
+    /// A device failed: `device`.
+    Device,
+}
+
+impl Ending {
+    /// The exit status of a program that ends so: 0 where all was done, 1 for refused input and a fault of the stream,
+    /// 3 for want of memory, 4 for a device. (2 is for words of a command line that are refused.)
+    pub fn status(self) -> u8
+        ensures { result ≡ status_of self }
+    {
+        match self {
+            Ending::Done => 0,
+            Ending::Line(_) | Ending::Scene | Ending::Stream(_) => 1,
+            Ending::Memory => 3,
+            Ending::Device => 4,
+        }
+    }
+
+    /// Says the ending on the writer for errors, and answers how the program ends: so, or by want of memory to say it,
+    /// or by the writer. What the answer says has then been written, unless the writer failed.
+    pub fn said<E: Write + Faults>(self, alloc: Global, errors: &mut E) -> Ending
+        ensures ends { (result ≡ self) ⊎ ((result ≡ Ending.Memory) ⊎ (result ≡ Ending.Device)) }
+        ensures said { result ≢ Ending.Device → Appends (E.contents errors.old) (E.contents errors.new) (line_of result) }
+    {
+        match self.line(alloc) {
+            Ok(line) => self.written(errors, line.as_str()),
+            Err(_) => Ending::Memory.written(errors, "memory\n"),
+        }
+    }
+
+    /// Says on the writer for errors that a device failed, for which no memory is needed.
+    pub(crate) fn device<E: Write + Faults>(errors: &mut E) -> Ending
+        ensures { result ≡ Ending.Device }
+    {
+        Ending::Device.written(errors, "device\n")
+    }
+
+    /// Writes its line on the writer for errors, and answers this ending, or `Device` where the writer fails.
+    pub(crate) fn written<E: Write + Faults>(self, errors: &mut E, line: &str) -> Ending
+        ensures ends { (result ≡ self) ⊎ (result ≡ Ending.Device) }
+        ensures written { result ≢ Ending.Device → Appends (E.contents errors.old) (E.contents errors.new) line.now }
+    {
+        match write_all(errors, line.as_bytes()) {
+            Ok(()) => self,
+            Err(_) => Ending::Device,
+        }
+    }
+
+    /// The line that says it.
+    pub(crate) fn line(self, alloc: Global) -> Result<String, AllocError>
+        ensures { IfOk result (λ line. string_bytes line ≡ line_of self) }
+    {
+        match self {
+            Ending::Done => Ok(String::new(alloc)),
+            Ending::Line(number) => format!(in alloc; "line {number}: refused\n"),
+            Ending::Scene => String::from_str(alloc, "scene: refused\n"),
+            Ending::Stream(fault) => {
+                let name = fault.name();
+                format!(in alloc; "fault {name}\n")
+            }
+            Ending::Memory => String::from_str(alloc, "memory\n"),
+            Ending::Device => String::from_str(alloc, "device\n"),
+        }
+    }
+}
+
+impl From<AllocError> for Ending {
+    ghost from_gives = { λ _ ending. (ending ≡ endings.Memory) × IsEarly ending };
+
+    fn from(_refused: AllocError) -> Ending {
+        Ending::Memory
+    }
+}
+
+impl From<Memory> for Ending {
+    ghost from_gives = { λ _ ending. (ending ≡ endings.Memory) × IsEarly ending };
+
+    fn from(_refused: Memory) -> Ending {
+        Ending::Memory
+    }
+}
+
+impl From<ReadError> for Ending {
+    ghost from_gives = { λ error ending. (ending ≡ of_input error) × IsEarly ending };
+
+    fn from(error: ReadError) -> Ending {
+        match error {
+            ReadError::Failed | ReadError::Endless => Ending::Device,
+            ReadError::Memory => Ending::Memory,
+        }
+    }
+}
+
+impl From<SceneError> for Ending {
+    ghost from_gives = { λ error ending. (ending ≡ of_scene error) × IsEarly ending };
+
+    fn from(error: SceneError) -> Ending {
+        match error {
+            SceneError::Line(number) => Ending::Line(number),
+            SceneError::Scene => Ending::Scene,
+            SceneError::Memory => Ending::Memory,
+        }
+    }
+}
+
+impl From<RosterError> for Ending {
+    ghost from_gives = { λ error ending. (ending ≡ of_roster error) × IsEarly ending };
+
+    fn from(error: RosterError) -> Ending {
+        match error {
+            RosterError::Memory => Ending::Memory,
+            _ => Ending::Scene,
+        }
+    }
+}
+
+impl From<BatchError> for Ending {
+    ghost from_gives = { λ error ending. (ending ≡ of_batch error) × IsEarly ending };
+
+    fn from(error: BatchError) -> Ending {
+        match error {
+            BatchError::Memory => Ending::Memory,
+            _ => Ending::Scene,
+        }
+    }
+}
+
+impl From<KnownError> for Ending {
+    ghost from_gives = { λ error ending. (ending ≡ of_known error) × IsEarly ending };
+
+    fn from(error: KnownError) -> Ending {
+        match error {
+            KnownError::Memory => Ending::Memory,
+            _ => Ending::Scene,
+        }
+    }
+}
+
+impl From<TeachError> for Ending {
+    ghost from_gives = { λ _ ending. (ending ≡ endings.Memory) × IsEarly ending };
+
+    fn from(error: TeachError) -> Ending {
+        match error {
+            TeachError::Memory => Ending::Memory,
+        }
+    }
+}

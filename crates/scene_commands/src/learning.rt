@@ -1,0 +1,133 @@
+//! The subcommand `learn`.
+ghost use Rattle.std.specs.Prelude.{◌≡◌, ◌≢◌, ◌++◌, ℕ, Ok, Err, IfErr, IfOk, OnOk, string_bytes};
+ghost use Rattle.std.specs.Io.KnownBytes.{Appends};
+ghost use Rattle.learner.specs.declared.fault.Fault.{Fault};
+ghost use Rattle.learner.specs.declared.fault.Fault.TheVariants as faults;
+ghost use Rattle.learner.specs.Learning.{Learning};
+ghost use Rattle.scene_text.specs.declared.scene.Scene.{Scene};
+ghost use Rattle.scene_commands.specs.Endings.{IsEarly, line_of};
+ghost use Rattle.scene_commands.specs.Learning.{AreInRisingId, IsLearned, IsPrinted, acks_text, rows_text};
+
+use crate::ending::Ending;
+use learner::{Fault, Learner};
+use peers_devices::{Faults, read_to_end, write_all};
+use scene_text::{Scene, push_acks, push_rows, read_scene};
+use std::alloc::Global;
+use std::io::{Read, Write};
+use table_types::{Memory, Roster, RosterError, TableDef};
+
+/// Reads a scene, feeds its stream to a learner of its tables at its moment, and writes the rows that the learner
+/// then has, and the acknowledgements that are due.
+///
+/// Where the stream has a fault, the rows are those so far, no acknowledgement is written, and the writer for errors
+/// gets `fault` and the fault's name. Where it ends early for another reason, nothing is written on the output, unless
+/// it was the output that failed.
+pub fn learn<R: Read + Faults, W: Write + Faults, E: Write + Faults>(
+    alloc: Global,
+    input: &mut R,
+    output: &mut W,
+    errors: &mut E,
+) -> Ending
+    ensures done { result ≡ Ending.Done → (scene : Scene) × (count : ℕ) × (l : Learning) × IsLearned scene (Ok count) l
+        × Appends (W.contents output.old) (W.contents output.new) (rows_text l ++ acks_text l) }
+    ensures fault { (fault : Fault) → result ≡ Ending.Stream fault → (scene : Scene) × (l : Learning) × (fault ≢ faults.Memory) × IsLearned scene (Err fault) l
+        × Appends (W.contents output.old) (W.contents output.new) (rows_text l) }
+    ensures silent { result ≢ Ending.Done → ((fault : Fault) → result ≢ Ending.Stream fault) → result ≢ Ending.Device → output.new ≡ output.old }
+    ensures said { result ≢ Ending.Done → result ≢ Ending.Device → Appends (E.contents errors.old) (E.contents errors.new) (line_of result) }
+{
+    let Learned { text, ending, line } = match learned_of(alloc, input) {
+        Ok(learned) => learned,
+        Err(ending) => return ending.said(alloc, errors),
+    };
+    match write_all(output, text.as_slice()) {
+        Ok(()) => ending.written(errors, line.as_str()),
+        Err(_) => Ending::device(errors),
+    }
+}
+
+/// What is printed for a scene, how the subcommand then ends, and the line that says so.
+#[derive(Debug, Drop)]
+struct Learned {
+    text: Vec<u8>,
+    ending: Ending,
+    line: String,
+}
+
+/// What is printed for the scene of an input.
+fn learned_of<R: Read + Faults>(alloc: Global, input: &mut R) -> Result<Learned, Ending>
+    ensures printed { IfOk result (λ learned. (scene : Scene) × IsPrinted scene learned.text.items learned.ending) }
+    ensures line { IfOk result (λ learned. string_bytes learned.line ≡ line_of learned.ending) }
+    ensures early { IfErr result IsEarly }
+{
+    let text = read_to_end(alloc, input)?;
+    let scene = read_scene(alloc, text.as_slice())?;
+    let (text, ending) = printed_for(alloc, scene)?;
+    let line = ending.line(alloc)?;
+    Ok(Learned { text, ending, line })
+}
+
+/// What is printed for a scene, and how the subcommand then ends.
+fn printed_for(alloc: Global, scene: Scene) -> Result<(Vec<u8>, Ending), Ending>
+    ensures printed { IfOk result (λ learned. IsPrinted scene learned.0.items learned.1) }
+    ensures early { IfErr result IsEarly }
+{
+    let (mut learner, answer) = fed(alloc, scene)?;
+    let mut text = Vec::new(alloc);
+    push_all_rows(alloc, &mut text, &learner)?;
+    match answer {
+        Ok(_) => {
+            push_due_acks(alloc, &mut text, &mut learner)?;
+            Ok((text, Ending::Done))
+        }
+        Err(Fault::Memory) => Err(Ending::Memory),
+        Err(fault) => Ok((text, Ending::Stream(fault))),
+    }
+}
+
+/// A learner of the scene's tables that was fed its stream, and the answer.
+fn fed(alloc: Global, scene: Scene) -> Result<(Learner, Result<usize, Fault>), Ending>
+    ensures fed { IfOk result (λ fed. IsLearned scene fed.1 fed.0) }
+    ensures early { IfErr result IsEarly }
+{
+    let Scene {
+        tables,
+        moment,
+        stream,
+        ..
+    } = scene;
+    let Some(moment) = moment else {
+        return Err(Ending::Scene);
+    };
+    let mut learner = Learner::new(alloc, rising(tables)?)?;
+    let answer = learner.feed(stream.as_slice(), moment);
+    Ok((learner, answer))
+}
+
+/// The roster of these tables in rising id.
+fn rising(mut tables: Vec<TableDef>) -> Result<Roster, RosterError>
+    ensures { IfOk result (λ roster. AreInRisingId tables.items roster) }
+{
+    tables.sort_unstable_by_key(|table| table.id());
+    let roster = Roster::new(tables)?;
+    Ok(roster)
+}
+
+/// Adds a line for each row: in rising table id, and then in rising key. The tables of the learner's roster rise.
+fn push_all_rows(alloc: Global, text: &mut Vec<u8>, learner: &Learner) -> Result<(), Memory>
+    ensures { OnOk result (text.new.items ≡ text.old.items ++ rows_text learner.now) }
+{
+    for table in learner.roster().tables() {
+        let rows = learner.rows(table.id())?;
+        push_rows(alloc, text, table, rows.as_slice())?;
+    }
+    Ok(())
+}
+
+/// Adds a line for each acknowledgement that is due, and then none is due.
+fn push_due_acks(alloc: Global, text: &mut Vec<u8>, learner: &mut Learner) -> Result<(), Memory>
+    ensures { OnOk result (text.new.items ≡ text.old.items ++ acks_text learner.old) }
+{
+    let acks = learner.acks()?;
+    push_acks(alloc, text, acks.as_slice())?;
+    Ok(())
+}

@@ -1,0 +1,80 @@
+//! The subcommand `lesson`.
+ghost use Rattle.std.specs.Prelude.{◌≡◌, ◌≢◌, List, map, IfErr, IfOk};
+ghost use Rattle.std.specs.Io.KnownBytes.{Appends};
+ghost use Rattle.peers_msg.specs.Spelling.{spelled, stream_of};
+ghost use Rattle.peers_msg.specs.declared.message.Message.{Message};
+ghost use Rattle.teach_writer.specs.Naming.{no_prices};
+ghost use Rattle.learner.specs.declared.fault.Fault.{Fault};
+ghost use Rattle.scene_text.specs.Lessons.{printed};
+ghost use Rattle.scene_text.specs.declared.scene.Scene.{Scene};
+ghost use Rattle.scene_commands.specs.Endings.{IsEarly, line_of};
+ghost use Rattle.scene_commands.specs.Teaching.{IsLesson};
+
+use crate::ending::Ending;
+use known_state::Known;
+use peers_devices::{Faults, read_to_end, write_all};
+use scene_text::{Scene, printed_lesson, read_scene};
+use std::alloc::Global;
+use std::io::{Read, Write};
+use table_types::{Batch, Roster};
+use teach_writer::{Lesson, teach};
+
+/// Reads a scene, and writes the lesson that teaches its updates.
+///
+/// Where it ends early, the writer for errors gets a line that says why, and nothing is written on
+/// the output, unless it was the output that failed.
+pub fn lesson<R: Read + Faults, W: Write + Faults, E: Write + Faults>(
+    alloc: Global,
+    input: &mut R,
+    output: &mut W,
+    errors: &mut E,
+) -> Ending
+    ensures done { result ≡ Ending.Done → (scene : Scene) × (messages : List Message) × IsLesson scene messages
+        × Appends (W.contents output.old) (W.contents output.new) (printed (map spelled messages) (no_prices scene.updates.items)) }
+    ensures silent { result ≢ Ending.Done → result ≢ Ending.Device → output.new ≡ output.old }
+    ensures streamless { (fault : Fault) → result ≢ Ending.Stream fault }
+    ensures said { result ≢ Ending.Done → result ≢ Ending.Device → Appends (E.contents errors.old) (E.contents errors.new) (line_of result) }
+{
+    let text = match lesson_text(alloc, input) {
+        Ok(text) => text,
+        Err(ending) => return ending.said(alloc, errors),
+    };
+    match write_all(output, text.as_slice()) {
+        Ok(()) => Ending::Done,
+        Err(_) => Ending::device(errors),
+    }
+}
+
+/// What is printed for the scene of an input.
+fn lesson_text<R: Read + Faults>(alloc: Global, input: &mut R) -> Result<Vec<u8>, Ending>
+    ensures text { IfOk result (λ text. (scene : Scene) × (messages : List Message) × IsLesson scene messages
+        × (text.items ≡ printed (map spelled messages) (no_prices scene.updates.items))) }
+    ensures early { IfErr result IsEarly }
+{
+    let text = read_to_end(alloc, input)?;
+    let scene = read_scene(alloc, text.as_slice())?;
+    let lesson = lesson_of(alloc, scene)?;
+    let text = printed_lesson(alloc, lesson.bytes.as_slice(), lesson.prices.as_slice())?;
+    Ok(text)
+}
+
+/// The lesson of a scene.
+fn lesson_of(alloc: Global, scene: Scene) -> Result<Lesson, Ending>
+    ensures lesson { IfOk result (λ lesson. (messages : List Message) × (lesson.bytes ≡ stream_of messages) × IsLesson scene messages) }
+    ensures prices { IfOk result (λ lesson. lesson.prices ≡ no_prices scene.updates.items) }
+    ensures early { IfErr result IsEarly }
+{
+    let Scene {
+        tables,
+        defined,
+        selected,
+        last,
+        slots,
+        updates,
+        ..
+    } = scene;
+    let roster = Roster::new(tables)?;
+    let batch = Batch::new(&roster, updates)?;
+    let known = Known::build(alloc, roster, selected, defined, last, slots)?;
+    Ok(teach(alloc, &known, &batch)?)
+}

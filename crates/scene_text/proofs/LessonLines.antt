@@ -1,0 +1,50 @@
+-- Messages one after another, and their lines.
+use Rattle.std.proofs.Common.{◌≡◌, ◌==◌, Bool, false, ◌∙◌, ◌+◌, ◌<◌, ◌++◌, ℕ, List, [], ◌∷◌, ap, append-nil, append_assoc, arith, flat_map, get_or, length, length-append, map, sym, take}
+use Rattle.std.proofs.lemmas.List.{flat_map_more, take_more}
+use Rattle.std.proofs.lemmas.List.Folds.{flat_map-map}
+use Rattle.peers_msg.specs.declared.message.Message.{Message}
+use Rattle.peers_msg.specs.Framing.{IsFrame}
+use Rattle.peers_msg.specs.Spelling.{spelled, stream_of}
+use Rattle.scene_text.specs.Lessons.{line_of, price_text}
+
+pub price_added : (old text added prices : List ℕ) (i : ℕ) → i < length prices → text ≡ old ++ flat_map price_text (take i prices)
+    → added ≡ text ++ price_text (get_or prices i 0) → added ≡ old ++ flat_map price_text (take (i + 1) prices)
+price_added old text added prices i within so_far adds =
+    adds ∙ ap (λ t. t ++ price_text (get_or prices i 0)) so_far ∙ flat_map_more price_text old (take i prices) (get_or prices i 0)
+    ∙ ap (λ p. old ++ flat_map price_text p) (sym (take_more prices i 0 within))
+
+-- the bytes of messages one after another
+pub stream_joined : (ms : List Message) → stream_of ms ≡ flat_map (λ message. message) (map spelled ms)
+stream_joined ms = sym (flat_map-map (λ message. message) spelled ms)
+
+-- one frame less is left
+pub shorter : (rest frame after : List ℕ) → IsFrame frame → rest ≡ frame ++ after → length after < length rest
+shorter rest [] after is same = absurd is
+shorter rest (class ∷ frame) after is same =
+    let size : length rest ≡ length (class ∷ frame) + length after = ap length same ∙ length-append (class ∷ frame) after in
+    omega (arith, size)
+
+-- a message less is left, and its line stands
+pub line_added : (rest text added all message after : List ℕ) (left : List Message) → rest ≡ stream_of left → IsFrame message → rest ≡ message ++ after
+    → ((m : Message) (more : List ℕ) → rest ≡ spelled m ++ more → (message ≡ spelled m) × (after ≡ more))
+    → added ≡ text ++ line_of message → text ++ flat_map line_of (map spelled left) ≡ all
+    → (fewer : List Message) × (after ≡ stream_of fewer) × (added ++ flat_map line_of (map spelled fewer) ≡ all)
+line_added rest text added all [] after [] same is parts found adds so_far = absurd is
+line_added rest text added all (class ∷ message) after [] same is parts found adds so_far = absurd (let none = sym same ∙ parts in cc)
+line_added rest text added all message after (m ∷ left) same is parts found adds so_far =
+    let split = found m (stream_of left) same in (
+      left,
+      split.1,
+      ap (λ t. t ++ flat_map line_of (map spelled left)) (adds ∙ ap (λ x. text ++ line_of x) split.0)
+          ∙ append_assoc text (line_of (spelled m)) (flat_map line_of (map spelled left)) ∙ so_far,
+    )
+
+-- no message is left
+pub all_lines : (rest text all : List ℕ) (left : List Message) → rest ≡ stream_of left
+    → ((m : Message) (more : List ℕ) → rest ≡ spelled m ++ more → ⊥)
+    → text ++ flat_map line_of (map spelled left) ≡ all → (rest ≡ []) × (text ≡ all)
+all_lines rest text all [] same none so_far = (same, sym (append-nil text) ∙ so_far)
+all_lines rest text all (m ∷ left) same none so_far = absurd (none m (stream_of left) same)
+
+pub some_length : (rest : List ℕ) (empty : Bool) → empty ≡ (length rest == 0) → empty ≡ false → 0 < length rest
+some_length rest empty is empty_is = grind arith

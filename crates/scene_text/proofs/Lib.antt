@@ -1,0 +1,3 @@
+mod LessonLines
+mod Numerals
+mod ReadAgain

@@ -1,0 +1,20 @@
+-- How a lesson is printed (profile).
+use Rattle.std.specs.Prelude.{◌++◌, ℕ, List, [], ◌∷◌, codes, flat_map, length}
+use Rattle.std.specs.Fmt.{decimal}
+use Rattle.scene_text.specs.Bytes.{digits_of}
+
+-- a message's line
+abbrev pub line_of : List ℕ → List ℕ
+line_of message = flat_map digits_of message ++ 10 ∷ []
+
+-- a price, behind a space
+abbrev pub price_text : ℕ → List ℕ
+price_text price = 32 ∷ decimal price
+
+-- how many bytes there are, and the prices
+abbrev pub sums_of : ℕ → List ℕ → List ℕ
+sums_of count prices = codes "bytes " ++ (decimal count ++ (codes "\nprices" ++ (flat_map price_text prices ++ 10 ∷ [])))
+
+-- a line for each message, and then the sums
+abbrev pub printed : List (List ℕ) → List ℕ → List ℕ
+printed messages prices = flat_map line_of messages ++ sums_of (length (flat_map (λ message. message) messages)) prices

@@ -1,0 +1,69 @@
+//! Lessons as they are printed.
+ghost use Rattle.std.specs.Prelude.{◌≡◌, ◌++◌, List, IfOk, OnOk, flat_map, length, map};
+ghost use Rattle.peers_msg.specs.Spelling.{spelled, stream_of};
+ghost use Rattle.peers_msg.specs.declared.message.Message.{Message};
+ghost use Rattle.scene_text.specs.Lessons.{line_of, price_text, printed, sums_of};
+
+use crate::bytes::push_hexadecimal;
+use peers_msg::split_message;
+use std::alloc::{AllocError, Global};
+
+/// A lesson as it is printed: a line with each message in hexadecimal, a line with the number of
+/// bytes, and one with the prices.
+pub fn printed_lesson(alloc: Global, bytes: &[u8], prices: &[u64]) -> Result<Vec<u8>, AllocError>
+    ensures { IfOk result (λ text. (messages : List Message) → bytes.now ≡ stream_of messages → text.items ≡ printed (map spelled messages) prices.now) }
+{
+    let mut text = Vec::new(alloc);
+    push_messages(&mut text, bytes)?;
+    push_sums(alloc, &mut text, bytes.len(), prices)?;
+    Ok(text)
+}
+
+/// Adds a line for each message, and one for what is left where no message ends there.
+fn push_messages(text: &mut Vec<u8>, bytes: &[u8]) -> Result<(), AllocError>
+    ensures { OnOk result ((messages : List Message) → bytes.now ≡ stream_of messages →
+        text.new.items ≡ text.old.items ++ flat_map line_of (map spelled messages)) }
+{
+    let mut rest = bytes;
+    while let Some((message, after)) = split_message(rest) {
+        push_line(text, message)?;
+        rest = after;
+    }
+    if !rest.is_empty() {
+        push_line(text, rest)?;
+    }
+    Ok(())
+}
+
+/// Adds the line of a message.
+fn push_line(text: &mut Vec<u8>, message: &[u8]) -> Result<(), AllocError>
+    ensures { OnOk result (text.new.items ≡ text.old.items ++ line_of message.now) }
+{
+    push_hexadecimal(text, message)?;
+    text.push(b'\n')?;
+    Ok(())
+}
+
+/// Adds the lines that come after the messages.
+fn push_sums(
+    alloc: Global,
+    text: &mut Vec<u8>,
+    count: usize,
+    prices: &[u64],
+) -> Result<(), AllocError>
+    ensures { OnOk result (text.new.items ≡ text.old.items ++ sums_of count prices.now) }
+{
+    text.extend_from_slice(format!(in alloc; "bytes {count}\nprices")?.as_bytes())?;
+    for price in prices {
+        push_price(alloc, text, *price)?;
+    }
+    text.push(b'\n')?;
+    Ok(())
+}
+
+/// Adds a price, behind a space.
+fn push_price(alloc: Global, text: &mut Vec<u8>, price: u64) -> Result<(), AllocError>
+    ensures { OnOk result (text.new.items ≡ text.old.items ++ price_text price) }
+{
+    text.extend_from_slice(format!(in alloc; " {price}")?.as_bytes())
+}

@@ -1,0 +1,26 @@
+//! The text of the program, in both directions: scenes as they are read, and lessons, rows and acknowledgements as
+//! they are printed. What a scene writes and what is printed have the same form, and each form stands in one module.
+#![tactic(auto)]
+
+mod acks;
+mod bytes;
+mod error;
+mod keys;
+mod laws;
+mod lessons;
+mod lines;
+mod names;
+mod numbers;
+mod rows;
+mod scene;
+mod tables;
+mod updates;
+mod values;
+mod words;
+
+pub use acks::push_acks;
+pub use error::SceneError;
+pub use laws::printed_is_read;
+pub use lessons::printed_lesson;
+pub use rows::push_rows;
+pub use scene::{Scene, read_scene};

@@ -1,0 +1,197 @@
+//! The kinds of lines of a scene.
+ghost use Rattle.std.specs.Prelude.{◌≡◌, ◌∷◌, ◌++◌, ◌-◌, ◌^◌, ◌≤◌, ℕ, [], None, Some, Err, true, Contains, IfOk, IfSome, IsSome, OnOk, OnErr, vec_len};
+ghost use Rattle.table_types.specs.Slots.{is_slot};
+ghost use Rattle.scene_text.specs.Numbers.{from_one, number_of};
+
+use crate::bytes::hexadecimal;
+use crate::error::LineError;
+use crate::names::name;
+use crate::numbers::{number, number32};
+use crate::scene::Scene;
+use crate::tables::table_of;
+use crate::updates::update_of;
+use crate::words::words;
+use dict_slots::Slots;
+use std::alloc::Global;
+use table_types::{Batch, Moment, Roster, TableDef};
+
+impl Scene {
+    /// Takes in what a line says, which comes without its LF. After a refusal the scene isn't to be
+    /// used.
+    pub(crate) fn read_line(&mut self, alloc: Global, line: &[u8]) -> Result<(), LineError> {
+        if line.is_empty() || line.starts_with(b"#") {
+            return Ok(());
+        }
+        let words = words(alloc, line)?.ok_or(LineError::Refused)?;
+        let [kind, words @ ..] = words.as_slice() else {
+            return Err(LineError::Refused);
+        };
+        if *kind == b"table".as_slice() {
+            return self.read_table(alloc, words);
+        }
+        self.tables_ended = true;
+        match *kind {
+            b"define" => self.read_define(words),
+            b"select" => self.read_select(words),
+            b"last" => self.read_last(words),
+            b"slot" => self.read_slot(alloc, words),
+            b"update" => self.read_update(alloc, words),
+            b"moment" => self.read_moment(words),
+            b"stream" => self.read_stream(alloc, words),
+            b"prices" => self.read_prices(alloc, words),
+            _ => Err(LineError::Refused),
+        }
+    }
+
+    fn read_table(&mut self, alloc: Global, words: &[&[u8]]) -> Result<(), LineError> {
+        if self.tables_ended {
+            return Err(LineError::Refused);
+        }
+        let table = table_of(alloc, words)?;
+        for other in &self.tables {
+            if other.id() == table.id() || other.name() == table.name() {
+                return Err(LineError::Refused);
+            }
+        }
+        push_within(&mut self.tables, Roster::MOST, table)
+    }
+
+    fn read_define(&mut self, words: &[&[u8]]) -> Result<(), LineError> {
+        let [id] = words else {
+            return Err(LineError::Refused);
+        };
+        let id = self.table(id)?.id();
+        if self.defined.contains(&id) {
+            return Err(LineError::Refused);
+        }
+        self.defined.push(id)?;
+        Ok(())
+    }
+
+    fn read_select(&mut self, words: &[&[u8]]) -> Result<(), LineError> {
+        let [id] = words else {
+            return Err(LineError::Refused);
+        };
+        let id = self.defined_id(id)?;
+        set_once(&mut self.selected, id)
+    }
+
+    fn read_last(&mut self, words: &[&[u8]]) -> Result<(), LineError> {
+        let [id, last] = words else {
+            return Err(LineError::Refused);
+        };
+        let id = self.defined_id(id)?;
+        let last = number32(last).ok_or(LineError::Refused)?;
+        for (other, _) in &self.last {
+            if *other == id {
+                return Err(LineError::Refused);
+            }
+        }
+        self.last.push((id, last))?;
+        Ok(())
+    }
+
+    fn read_slot(&mut self, alloc: Global, words: &[&[u8]]) -> Result<(), LineError> {
+        let [id, word] = words else {
+            return Err(LineError::Refused);
+        };
+        let id = slot(id).ok_or(LineError::Refused)?;
+        match self.slots.write(id, name(alloc, word)?) {
+            None => Ok(()),
+            Some(_) => Err(LineError::Refused),
+        }
+    }
+
+    fn read_update(&mut self, alloc: Global, words: &[&[u8]]) -> Result<(), LineError> {
+        let [id, words @ ..] = words else {
+            return Err(LineError::Refused);
+        };
+        let update = update_of(alloc, self.table(id)?, words)?;
+        push_within(&mut self.updates, Batch::MOST, update)
+    }
+
+    fn read_moment(&mut self, words: &[&[u8]]) -> Result<(), LineError> {
+        let [moment] = words else {
+            return Err(LineError::Refused);
+        };
+        let milliseconds = number(moment, u64::MAX).ok_or(LineError::Refused)?;
+        let moment = Moment::new(milliseconds).ok_or(LineError::Refused)?;
+        set_once(&mut self.moment, moment)
+    }
+
+    fn read_stream(&mut self, alloc: Global, words: &[&[u8]]) -> Result<(), LineError> {
+        let [piece] = words else {
+            return Err(LineError::Refused);
+        };
+        let piece = hexadecimal(alloc, piece)?.ok_or(LineError::Refused)?;
+        self.stream.extend_from_slice(piece.as_slice())?;
+        Ok(())
+    }
+
+    fn read_prices(&mut self, alloc: Global, words: &[&[u8]]) -> Result<(), LineError> {
+        let mut prices = Vec::new(alloc);
+        for word in words {
+            prices.push(number(word, u64::MAX).ok_or(LineError::Refused)?)?;
+        }
+        set_once(&mut self.prices, prices)
+    }
+
+    /// The table whose id a word writes.
+    fn table(&self, word: &[u8]) -> Result<&TableDef, LineError> {
+        let id = number(word, u64::MAX).ok_or(LineError::Refused)?;
+        for table in &self.tables {
+            if table.id() == id {
+                return Ok(table);
+            }
+        }
+        Err(LineError::Refused)
+    }
+
+    /// The id of a defined table that a word writes.
+    fn defined_id(&self, word: &[u8]) -> Result<u64, LineError>
+        ensures defined { IfOk result (λ id. Contains self.now.defined.items id) }
+        ensures written { IfOk result (λ id. number_of word.now (2 ^ 64 - 1) ≡ Some id) }
+        ensures refused { OnErr result ((id : ℕ) → number_of word.now (2 ^ 64 - 1) ≡ Some id →
+            Contains self.now.defined.items id → ⊥) }
+    {
+        let id = number(word, u64::MAX).ok_or(LineError::Refused)?;
+        if self.defined.contains(&id) {
+            Ok(id)
+        } else {
+            Err(LineError::Refused)
+        }
+    }
+}
+
+/// The slot that a word writes: 1 to 128.
+fn slot(word: &[u8]) -> Option<u8>
+    ensures exactly { result ≡ from_one (number_of word.now 128) }
+    ensures slot { IfSome result (λ id. is_slot id ≡ true) }
+{
+    let id = number(word, u64::from(Slots::COUNT))?;
+    if id == 0 { None } else { Some(id as u8) }
+}
+
+/// Gives a value to what has none yet.
+fn set_once<T: Drop>(place: &mut Option<T>, value: T) -> Result<(), LineError>
+    ensures set { OnOk result ((place.old ≡ None) × (place.new ≡ Some value)) }
+    ensures refused { OnErr result (IsSome place.old) }
+{
+    if place.is_some() {
+        return Err(LineError::Refused);
+    }
+    *place = Some(value);
+    Ok(())
+}
+
+/// Adds an item to a list of at most so many.
+fn push_within<T: Drop>(items: &mut Vec<T>, most: usize, item: T) -> Result<(), LineError>
+    ensures pushed { OnOk result ((items.new.items ≡ items.old.items ++ item ∷ []) × (vec_len items.new ≤ most)) }
+    ensures refused { result ≡ Err LineError.Refused → most ≤ vec_len items.old }
+{
+    if items.len() >= most {
+        return Err(LineError::Refused);
+    }
+    items.push(item)?;
+    Ok(())
+}

@@ -1,0 +1,69 @@
+//! Rows as they are printed.
+ghost use Rattle.std.specs.Prelude.{◌≡◌, ◌++◌, OnOk, flat_map};
+ghost use Rattle.scene_text.specs.Rows.{end_text, row_head, row_line};
+
+use crate::keys::push_key;
+use crate::names::push_stored_name;
+use crate::numbers::push_number;
+use crate::values::push_cells;
+use std::alloc::{AllocError, Global};
+use table_types::{Key, Moment, Row, TableDef};
+
+/// Adds a line for each of these rows of a table, in their order: `row`, the table's id, the moment at which the row
+/// ends or `-`, its key, its values, and its name where the table stores one.
+pub fn push_rows(
+    alloc: Global,
+    text: &mut Vec<u8>,
+    table: &TableDef,
+    rows: &[(Key, Row)],
+) -> Result<(), AllocError>
+    ensures { OnOk result (text.new.items ≡ text.old.items ++ flat_map (row_line table.now) rows.now) }
+{
+    for entry in rows {
+        push_row(alloc, text, table, &entry.0, &entry.1)?;
+    }
+    Ok(())
+}
+
+/// Adds the line of a row.
+fn push_row(
+    alloc: Global,
+    text: &mut Vec<u8>,
+    table: &TableDef,
+    key: &Key,
+    row: &Row,
+) -> Result<(), AllocError>
+    ensures { OnOk result (text.new.items ≡ text.old.items ++ row_line table.now (key.now, row.now)) }
+{
+    push_head(alloc, text, table.id(), row.ends())?;
+    push_key(alloc, text, key)?;
+    push_cells(alloc, text, row.cells())?;
+    push_stored_name(text, table.stores_name(), row.name())?;
+    text.push(b'\n')?;
+    Ok(())
+}
+
+/// Adds the words before the key.
+fn push_head(
+    alloc: Global,
+    text: &mut Vec<u8>,
+    table: u64,
+    ends: Option<Moment>,
+) -> Result<(), AllocError>
+    ensures { OnOk result (text.new.items ≡ text.old.items ++ row_head table ends) }
+{
+    text.extend_from_slice(format!(in alloc; "row {table} ")?.as_bytes())?;
+    push_end(alloc, text, ends)?;
+    text.push(b' ')?;
+    Ok(())
+}
+
+/// Adds the moment at which a row ends, or `-` where it lives for ever.
+fn push_end(alloc: Global, text: &mut Vec<u8>, ends: Option<Moment>) -> Result<(), AllocError>
+    ensures { OnOk result (text.new.items ≡ text.old.items ++ end_text ends) }
+{
+    match ends {
+        Some(moment) => push_number(alloc, text, moment.milliseconds()),
+        None => text.extend_from_slice(b"-"),
+    }
+}
