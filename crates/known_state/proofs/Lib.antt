@@ -11,3 +11,4 @@ pub mod RequestLemmas
 pub mod ToldLemmas
 pub mod RisingLemmas
 pub mod InStepLaws
+pub mod ShortestLaws

@@ -4,6 +4,7 @@ use Rattle.std.specs.Prelude.{is_some, option_map, filter, nat_le, length}
 use Rattle.std.proofs.lemmas.Bool.{cases_eq, eq-eqb, ne_eqb}
 use Rattle.std.proofs.lemmas.List.Sums.{sum_by-cons}
 use Rattle.table_types.specs.Updates.{stores_name}
+use Rattle.peers_msg.specs.declared.name_field.NameField.{NameField}
 use Rattle.peers_msg.specs.declared.name_field.NameField.TheVariants as names
 use Rattle.std.specs.List.{AllByRecursion}
 use Rattle.table_types.specs.declared.update.Update.{Update}
@@ -17,6 +18,7 @@ use Rattle.peers_msg.specs.Spelling.{size_of, size_of_all, data_of}
 use Rattle.peers_msg.specs.Fitting.{fits, name_fits, update_fits}
 use Rattle.peers_msg.specs.Steps.{State, Step, Named, IsOwn, Legal, keeps_last, last_of, put_last, resolved, resolved_number}
 use Rattle.known_state.specs.Known.{AreOwn, stores_no_name}
+use Rattle.known_state.specs.Requests.{AreNameless}
 use Rattle.known_state.specs.Cost.{KnowsLess, with_selected, knowledge_of, knowledge_after, full, saving, selection_cost, definition_cost, is_held, Saves, IsOfRoster, Pays}
 use Rattle.known_state.proofs.KnownLemmas.{table_at-id, table_at-passes, define_selects, AreOwn-defined}
 use Rattle.known_state.proofs.StepLemmas.{selected-id, selected-found, selected-nameless, nameless}
@@ -167,10 +169,18 @@ own_stays roster s mid (messages.Error e) one own is_own (fit, none, is) = subst
 own_stays roster s mid (messages.Ack table number) one own is_own (fit, none, is) = subst (λ (x : State). AreOwn roster x.heard.tables) (sym is) own
 own_stays roster s mid (messages.Other o) one own is_own (fit, none, is) = subst (λ (x : State). AreOwn roster x.heard.tables) (sym is) own
 
-rest_of_roster : (roster : List Definition) (one rest us : List Update) → us ≡ one ++ rest → AllByRecursion (IsOfRoster roster) us → AllByRecursion (IsOfRoster roster) rest
-rest_of_roster roster one rest us is all = behind one (subst (λ (l : List Update). AllByRecursion (IsOfRoster roster) l) is all)
+-- what holds of each of the updates holds of each of the first, and of each of the rest
+pub all_first : (p : Update → Type 0) (one rest us : List Update) → us ≡ one ++ rest → AllByRecursion p us → AllByRecursion p one
+all_first p one rest us is all = ahead one (subst (λ (l : List Update). AllByRecursion p l) is all)
   where
-    behind : (one : List Update) → AllByRecursion (IsOfRoster roster) (one ++ rest) → AllByRecursion (IsOfRoster roster) rest
+    ahead : (one : List Update) → AllByRecursion p (one ++ rest) → AllByRecursion p one
+    ahead [] all = tt
+    ahead (u ∷ us) all = (all.0, ahead us all.1)
+
+pub all_rest : (p : Update → Type 0) (one rest us : List Update) → us ≡ one ++ rest → AllByRecursion p us → AllByRecursion p rest
+all_rest p one rest us is all = behind one (subst (λ (l : List Update). AllByRecursion p l) is all)
+  where
+    behind : (one : List Update) → AllByRecursion p (one ++ rest) → AllByRecursion p rest
     behind [] all = all
     behind (u ∷ us) all = behind us all.1
 
@@ -178,36 +188,67 @@ rest_of_roster roster one rest us is all = behind one (subst (λ (l : List Updat
 pub list_pays : (roster : List Definition) (s e : State) (ms : List Message) (us : List Update) → AreOwn roster s.heard.tables → AllByRecursion (IsOfRoster roster) us → Legal roster s ms us e → (saved : ℕ) × Saves roster s ms us saved × (full roster s us ≤ size_of_all ms + saved)
 list_pays roster s e [] us own all (owns, (none, same)) = (0, refl, rw none (omega arith))
 list_pays roster s e (m ∷ ms) us own all (owns, (one, rest, mid, is, step, later)) =
-    let all_rest = rest_of_roster roster one rest us is all in
-    let others = list_pays roster mid e ms rest (own_stays roster s mid m one own owns.0 step) all_rest (owns.1, later) in
-    let here = step_pays roster s mid m one rest own owns.0 all_rest step in
+    let of_roster = all_rest (IsOfRoster roster) one rest us is all in
+    let others = list_pays roster mid e ms rest (own_stays roster s mid m one own owns.0 step) of_roster (owns.1, later) in
+    let here = step_pays roster s mid m one rest own owns.0 of_roster step in
     let sum : size_of_all (m ∷ ms) ≡ size_of m + size_of_all ms = sum_by-cons size_of m ms in
     let both : full roster s us ≡ full roster s (one ++ rest) = ap (full roster s) is in
     (saving roster (knowledge_of s) m one + others.0, (one, rest, mid, others.0, is, step, refl, others.1), omega arith)
 
--- in a table without names nothing is saved
-saves_nothing : (roster : List Definition) (s mid : State) (m : Message) (one : List Update) → AreOwn roster s.heard.tables → stores_no_name roster ≡ true → Step s m one mid → saving roster (knowledge_of s) m one ≡ 0
-saves_nothing roster s mid (messages.Update m) one own no_name (fit, table, on, number, numbered, name, named, carried, heard, lasts) =
-    let sel = selection s.heard m fit in
-    let none : stores_name sel.0 ≡ false = selected-nameless (record { roster = roster; state = s }) sel.0 own no_name sel.1 in
-    let field : m.name ≡ names.NotStored = nameless sel.0 m.name none (name_fitting s.heard m sel.0 fit sel.1) in
-    let unread : is_held m.name ≡ false = rw field refl in
+-- a message that carries no name saves nothing
+saves_nothing : (roster : List Definition) (s mid : State) (m : Message) (one : List Update) → AreNameless one → Step s m one mid → saving roster (knowledge_of s) m one ≡ 0
+saves_nothing roster s mid (messages.Update m) one unnamed (fit, table, on, number, numbered, name, named, carried, heard, lasts) =
+    let alone : AreNameless (resolved m table number name ∷ []) = subst (λ (l : List Update). AreNameless l) carried unnamed in
+    let unread : is_held m.name ≡ false = reads_none m.name name alone.0 named in
     rw (carried, unread) refl
-saves_nothing roster s mid (messages.Define d) one own no_name step = refl
-saves_nothing roster s mid (messages.Switch id) one own no_name step = refl
-saves_nothing roster s mid (messages.Control c) one own no_name step = refl
-saves_nothing roster s mid (messages.Error e) one own no_name step = refl
-saves_nothing roster s mid (messages.Ack table number) one own no_name step = refl
-saves_nothing roster s mid (messages.Other o) one own no_name step = refl
+  where
+    reads_none : (field : NameField) (name : Option (List ℕ)) → name ≡ None → Named s.slots field name mid.slots → is_held field ≡ false
+    reads_none names.NotStored name none named = refl
+    reads_none names.NoName name none named = refl
+    reads_none (names.Written slot bytes) name none named = refl
+    reads_none (names.Held slot) name none (bytes, held, is, same) = let bad : Some bytes ≡ None = sym is ∙ none in cc
+saves_nothing roster s mid (messages.Define d) one unnamed step = refl
+saves_nothing roster s mid (messages.Switch id) one unnamed step = refl
+saves_nothing roster s mid (messages.Control c) one unnamed step = refl
+saves_nothing roster s mid (messages.Error e) one unnamed step = refl
+saves_nothing roster s mid (messages.Ack table number) one unnamed step = refl
+saves_nothing roster s mid (messages.Other o) one unnamed step = refl
 
--- where no table stores names, no legal list is shorter than the whole cost
-pub none_shorter : (roster : List Definition) (s e : State) (ms : List Message) (us : List Update) → AreOwn roster s.heard.tables → stores_no_name roster ≡ true → AllByRecursion (IsOfRoster roster) us → Legal roster s ms us e → full roster s us ≤ size_of_all ms
-none_shorter roster s e [] us own no_name all (owns, (none, same)) = rw none (omega arith)
-none_shorter roster s e (m ∷ ms) us own no_name all (owns, (one, rest, mid, is, step, later)) =
-    let all_rest = rest_of_roster roster one rest us is all in
-    let others = none_shorter roster mid e ms rest (own_stays roster s mid m one own owns.0 step) no_name all_rest (owns.1, later) in
-    let here = step_pays roster s mid m one rest own owns.0 all_rest step in
-    let nothing = saves_nothing roster s mid m one own no_name step in
+-- where no update has a name, no legal list is shorter than the whole cost
+pub none_shorter : (roster : List Definition) (s e : State) (ms : List Message) (us : List Update) → AreOwn roster s.heard.tables → AreNameless us → AllByRecursion (IsOfRoster roster) us → Legal roster s ms us e → full roster s us ≤ size_of_all ms
+none_shorter roster s e [] us own unnamed all (owns, (none, same)) = rw none (omega arith)
+none_shorter roster s e (m ∷ ms) us own unnamed all (owns, (one, rest, mid, is, step, later)) =
+    let of_roster = all_rest (IsOfRoster roster) one rest us is all in
+    let others = none_shorter roster mid e ms rest (own_stays roster s mid m one own owns.0 step) (all_rest (λ (u : Update). u.name ≡ None) one rest us is unnamed) of_roster (owns.1, later) in
+    let here = step_pays roster s mid m one rest own owns.0 of_roster step in
+    let nothing = saves_nothing roster s mid m one (all_first (λ (u : Update). u.name ≡ None) one rest us is unnamed) step in
     let sum : size_of_all (m ∷ ms) ≡ size_of m + size_of_all ms = sum_by-cons size_of m ms in
     let both : full roster s us ≡ full roster s (one ++ rest) = ap (full roster s) is in
     omega arith
+
+-- where no table of the roster stores names, a message carries none
+carries_none : (roster : List Definition) (s mid : State) (m : Message) (one : List Update) → AreOwn roster s.heard.tables → stores_no_name roster ≡ true → Step s m one mid → AreNameless one
+carries_none roster s mid (messages.Update m) one own no_name (fit, table, on, number, numbered, name, named, carried, heard, lasts) =
+    let sel = selection s.heard m fit in
+    let none : stores_name sel.0 ≡ false = selected-nameless (record { roster = roster; state = s }) sel.0 own no_name sel.1 in
+    let field : m.name ≡ names.NotStored = nameless sel.0 m.name none (name_fitting s.heard m sel.0 fit sel.1) in
+    let unnamed : name ≡ None = (subst (λ (f : NameField). Named s.slots f name mid.slots) field named).0 in
+    subst (λ (l : List Update). AreNameless l) (sym carried) (unnamed, tt)
+carries_none roster s mid (messages.Define d) one own no_name (fit, none, is) = rw none tt
+carries_none roster s mid (messages.Switch id) one own no_name (fit, none, is) = rw none tt
+carries_none roster s mid (messages.Control c) one own no_name (fit, none, is) = rw none tt
+carries_none roster s mid (messages.Error e) one own no_name (fit, none, is) = rw none tt
+carries_none roster s mid (messages.Ack table number) one own no_name (fit, none, is) = rw none tt
+carries_none roster s mid (messages.Other o) one own no_name (fit, none, is) = rw none tt
+
+-- nor does a legal list
+pub none_carried : (roster : List Definition) (s e : State) (ms : List Message) (us : List Update) → AreOwn roster s.heard.tables → stores_no_name roster ≡ true → Legal roster s ms us e → AreNameless us
+none_carried roster s e [] us own no_name (owns, (none, same)) = rw none tt
+none_carried roster s e (m ∷ ms) us own no_name (owns, (one, rest, mid, is, step, later)) =
+    let first = carries_none roster s mid m one own no_name step in
+    let others = none_carried roster mid e ms rest (own_stays roster s mid m one own owns.0 step) no_name (owns.1, later) in
+    subst (λ (l : List Update). AreNameless l) (sym is) (joined one rest first others)
+  where
+    joined : (a b : List Update) → AreNameless a → AreNameless b → AreNameless (a ++ b)
+    joined [] b first second = second
+    joined (u ∷ us) b first second = (first.0, joined us b first.1 second)

@@ -1,5 +1,6 @@
 -- What a batch asks of the dictionary of server names (own).
 use Rattle.std.specs.Prelude.{◌≡◌, ℕ, true, List, [], ◌∷◌, ◌++◌, fold, Option, Some, None}
+use Rattle.std.specs.List.{AllByRecursion}
 use Rattle.table_types.specs.declared.update.Update.{Update}
 use Rattle.table_types.specs.Tables.{Definition}
 use Rattle.table_types.specs.Updates.{fits}
@@ -36,3 +37,7 @@ knowledge_behind k us = fold knowledge_after k us
 -- the update is one of a table of the roster
 abbrev pub IsTaught : List Definition → Update → Type 0
 IsTaught roster u = (d : Definition) × (table_at roster u.table ≡ Some d) × (fits d u ≡ true)
+
+-- no update has a name
+abbrev pub AreNameless : List Update → Type 0
+AreNameless us = AllByRecursion (λ u. u.name ≡ None) us

@@ -5,13 +5,15 @@ ghost use Rattle.std.specs.List.{AllByRecursion};
 ghost use Rattle.table_types.specs.declared.update.Update.{Update};
 ghost use Rattle.table_types.specs.Tables.{Definition};
 ghost use Rattle.peers_msg.specs.declared.message.Message.{Message};
-ghost use Rattle.peers_msg.specs.Spelling.{size_of_all};
+ghost use Rattle.peers_msg.specs.Spelling.{stream_of, size_of_all};
 ghost use Rattle.peers_msg.specs.declared.name_field.NameField.{NameField};
 ghost use Rattle.peers_msg.specs.Steps.{State, Step, Named, IsOwn, Legal, fresh};
 ghost use Rattle.known_state.specs.declared.known.StepError.{StepError};
 ghost use Rattle.known_state.specs.Known.{KnownState, AreOwn, stores_no_name, Refuses};
 ghost use Rattle.known_state.specs.Resolving.{reads_empty, name_of, slots_after};
+ghost use Rattle.known_state.specs.Requests.{AreNameless};
 ghost use Rattle.known_state.specs.Cost.{IsOfRoster, Pays, Saves, full};
+ghost use Rattle.known_state.specs.Shortest.{Shortest};
 ghost use Rattle.known_state.specs.Told.{known_of, AreRising};
 
 /// A name field names an update exactly where it reads no empty slot, and then by one name and with one list of
@@ -46,11 +48,23 @@ pub fn a_list_pays()
         (saved : ℕ) × Saves roster s ms us saved × (full roster s us ≤ size_of_all ms + saved) }
 {}
 
-/// Where no table stores names, no legal list is shorter than the lesson.
+/// Where no update has a name, no legal list is shorter than the lesson.
 pub fn none_is_shorter()
     ensures { (roster : List Definition) (s e : State) (ms : List Message) (us : List Update) →
-        AreOwn roster s.heard.tables → stores_no_name roster ≡ true → AllByRecursion (IsOfRoster roster) us →
+        AreOwn roster s.heard.tables → AreNameless us → AllByRecursion (IsOfRoster roster) us →
         Legal roster s ms us e → full roster s us ≤ size_of_all ms }
+{}
+
+/// Where no table of the roster stores names, no legal list carries an update with a name.
+pub fn no_name_is_carried()
+    ensures { (roster : List Definition) (s e : State) (ms : List Message) (us : List Update) →
+        AreOwn roster s.heard.tables → stores_no_name roster ≡ true → Legal roster s ms us e → AreNameless us }
+{}
+
+/// Which list is the shortest goes by the bytes alone: a legal list with the bytes of a shortest one is a shortest one.
+pub fn shortest_by_bytes()
+    ensures { (k : KnownState) (us : List Update) (ms ns : List Message) (e : State) →
+        Legal k.roster k.state ms us e → Shortest k us ns → stream_of ms ≡ stream_of ns → Shortest k us ms }
 {}
 
 /// What a teacher knows of a learner is enough. Where all that the learner heard is the roster's own, and its last

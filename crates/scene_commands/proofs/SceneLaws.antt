@@ -1,12 +1,13 @@
 -- What a scene asks for is what was taught or learned.
-use Rattle.std.proofs.Common.{◌≡◌, ◌≢◌, ◌∙◌, ◌⊎◌, ◌++◌, inl, inr, List, ap, refl, subst, sym, true, ℕ}
+use Rattle.std.proofs.Common.{◌≡◌, ◌≢◌, ◌∙◌, ◌⊎◌, ◌++◌, inl, inr, List, ap, refl, subst, sym, ℕ}
 use Rattle.std.specs.Prelude.{Result, Ok, Err, Some}
 use Rattle.table_types.specs.Tables.{Definition}
 use Rattle.table_types.specs.declared.update.Update.{Update}
 use Rattle.peers_msg.specs.Spelling.{stream_of}
 use Rattle.peers_msg.specs.Steps.{State, Legal}
 use Rattle.peers_msg.specs.declared.message.Message.{Message}
-use Rattle.known_state.specs.Known.{KnownState, built, stores_no_name}
+use Rattle.known_state.specs.Known.{KnownState, built}
+use Rattle.known_state.specs.Requests.{AreNameless}
 use Rattle.known_state.specs.Shortest.{Shortest}
 use Rattle.teach_writer.specs.Telling.{GoesThrough}
 use Rattle.learner.specs.declared.fault.Fault.{Fault}
@@ -21,14 +22,14 @@ use Rattle.scene_commands.specs.declared.ending.Ending.TheVariants as endings
 -- what is taught for the roster, the state and the batch of a scene is the scene's lesson
 pub lesson_of_scene : (scene : Scene) (roster : List Definition) (known : KnownState) (batch : List Update) (ms : List Message) (after : State)
     → roster ≡ scene.tables.items → known ≡ built roster scene.selected scene.defined.items scene.last.items scene.slots → batch ≡ scene.updates.items
-    → Legal known.roster known.state ms batch after → (stores_no_name known.roster ≡ true → Shortest known batch ms) → GoesThrough known batch (stream_of ms) after
+    → Legal known.roster known.state ms batch after → (AreNameless batch → Shortest known batch ms) → GoesThrough known batch (stream_of ms) after
     → IsLesson scene ms
 unfolding IsLesson
 lesson_of_scene scene roster known batch ms after roster_is known_is batch_is legal shortest order =
     let start : known ≡ start_of scene = known_is ∙ ap (λ r. built r scene.selected scene.defined.items scene.last.items scene.slots) roster_is in
-    let of_batch : (e : State) × Legal known.roster known.state ms scene.updates.items e × (stores_no_name known.roster ≡ true → Shortest known scene.updates.items ms) × GoesThrough known scene.updates.items (stream_of ms) e =
-    subst (λ (us : List Update). (e : State) × Legal known.roster known.state ms us e × (stores_no_name known.roster ≡ true → Shortest known us ms) × GoesThrough known us (stream_of ms) e) batch_is (after, legal, shortest, order) in
-    subst (λ (k : KnownState). (e : State) × Legal k.roster k.state ms scene.updates.items e × (stores_no_name k.roster ≡ true → Shortest k scene.updates.items ms) × GoesThrough k scene.updates.items (stream_of ms) e) start of_batch
+    let of_batch : (e : State) × Legal known.roster known.state ms scene.updates.items e × (AreNameless scene.updates.items → Shortest known scene.updates.items ms) × GoesThrough known scene.updates.items (stream_of ms) e =
+    subst (λ (us : List Update). (e : State) × Legal known.roster known.state ms us e × (AreNameless us → Shortest known us ms) × GoesThrough known us (stream_of ms) e) batch_is (after, legal, shortest, order) in
+    subst (λ (k : KnownState). (e : State) × Legal k.roster k.state ms scene.updates.items e × (AreNameless scene.updates.items → Shortest k scene.updates.items ms) × GoesThrough k scene.updates.items (stream_of ms) e) start of_batch
 
 -- a learner that knows nothing, and is fed bytes that are the scene's stream
 pub learned_of_scene : (scene : Scene) (now : ℕ) (roster : List Definition) (fresh : Learning) (bytes : List ℕ) (answer : Result ℕ Fault) (l : Learning)

@@ -1,9 +1,10 @@
 -- What the lesson of a scene is.
-use Rattle.std.specs.Prelude.{◌≡◌, true, List}
+use Rattle.std.specs.Prelude.{List}
 use Rattle.peers_msg.specs.declared.message.Message.{Message}
 use Rattle.peers_msg.specs.Spelling.{stream_of}
 use Rattle.peers_msg.specs.Steps.{State, Legal}
-use Rattle.known_state.specs.Known.{KnownState, built, stores_no_name}
+use Rattle.known_state.specs.Known.{KnownState, built}
+use Rattle.known_state.specs.Requests.{AreNameless}
 use Rattle.known_state.specs.Shortest.{Shortest}
 use Rattle.teach_writer.specs.Telling.{GoesThrough}
 use Rattle.scene_text.specs.declared.scene.Scene.{Scene}
@@ -13,9 +14,9 @@ abbrev pub start_of : Scene → KnownState
 start_of scene = built scene.tables.items scene.selected scene.defined.items scene.last.items scene.slots
 
 -- The messages are legal from there and carry the scene's updates; they tell one update after another, and nothing else;
--- and where no table of the scene stores names, no others that are legal and carry the same have fewer bytes.
+-- and where no update has a name, no others that are legal and carry the same have fewer bytes.
 unfoldable pub IsLesson : Scene → List Message → Type 0
 IsLesson scene messages =
     (after : State) × Legal scene.tables.items (start_of scene).state messages scene.updates.items after
-    × (stores_no_name scene.tables.items ≡ true → Shortest (start_of scene) scene.updates.items messages)
+    × (AreNameless scene.updates.items → Shortest (start_of scene) scene.updates.items messages)
     × GoesThrough (start_of scene) scene.updates.items (stream_of messages) after

@@ -1,5 +1,5 @@
 -- A lesson costs no more than it has to: its selections and its forms are the cheapest, and nothing that is known is lost.
-use Rattle.std.proofs.Common.{◌≡◌, ℕ, suc, ◌==◌, ◌+◌, ◌<◌, ◌≤◌, drop, get_or, length-drop, Bool, true, false, not, ◌&&◌, ◌||◌, cond, eqb, List, [], ◌∷◌, ◌++◌, Option, Some, None, refl, sym, ap, ◌∙◌, subst, inl, inr, ◌⊎◌, arith}
+use Rattle.std.proofs.Common.{◌≡◌, ℕ, zero, suc, ◌==◌, ◌+◌, ◌<◌, ◌≤◌, drop, get_or, length-drop, Bool, true, false, not, ◌&&◌, ◌||◌, cond, eqb, List, [], ◌∷◌, ◌++◌, Option, Some, None, refl, sym, ap, ◌∙◌, subst, inl, inr, ◌⊎◌, arith}
 use Rattle.std.specs.Prelude.{is_some, option_map, filter, nat_lt, nat_le, length}
 use Rattle.std.specs.List.{AllByRecursion}
 use Rattle.std.specs.Cmp.Lexicographic.{same_text}
@@ -11,21 +11,20 @@ use Rattle.table_types.specs.declared.roster.RosterError.TheVariants as errors
 use Rattle.table_types.specs.Tables.{Definition}
 use Rattle.table_types.specs.Updates.{stores_name}
 use Rattle.table_types.specs.Rosters.{table_at, has_id, has_name, is_same_name, repeats_id, repeats_name, roster_fault}
-use Rattle.peers_msg.specs.declared.name_field.NameField.TheVariants as names
 use Rattle.peers_msg.specs.declared.message.Message.{Message}
 use Rattle.peers_msg.specs.declared.message.Message.TheVariants as messages
 use Rattle.peers_msg.specs.Heard.{Heard, heard_after, defined, put_table, outlives, selected_table}
 use Rattle.peers_msg.specs.Spelling.{size_of, size_of_all}
 use Rattle.peers_msg.specs.Steps.{State, Step, Legal, keeps_last, last_of, put_last, resolved}
 use Rattle.table_types.specs.Batches.{IsBatchFor}
-use Rattle.known_state.specs.Known.{KnownState, AreOwn, stores_no_name}
+use Rattle.known_state.specs.Known.{KnownState, AreOwn}
 use Rattle.known_state.specs.Shortest.{Shortest}
-use Rattle.known_state.specs.Cost.{KnowsLess, with_selected, knowledge_of, knowledge_after, is_selected, selection_cost, written_cost, full, full_from, IsOfRoster, told_as}
+use Rattle.known_state.specs.Cost.{KnowsLess, with_selected, knowledge_of, knowledge_after, is_selected, selection_cost, written_cost, full, full_from, IsOfRoster, told_as, written_field}
 use Rattle.known_state.proofs.KnownLemmas.{table_at-id, table_at-passes, define_selects}
 use Rattle.known_state.proofs.StepLemmas.{selected-found, has_id-table_at}
 use Rattle.known_state.proofs.CostLaws.{falls, told_shorter, last-kept, last-put}
 use Rattle.known_state.proofs.StepPays.{moved_last, is_there, none_shorter}
-use Rattle.known_state.specs.Requests.{IsTaught}
+use Rattle.known_state.specs.Requests.{IsTaught, AreNameless}
 use Rattle.known_state.proofs.BatchLemmas.{batch_taught}
 use Rattle.teach_writer.specs.Telling.{is_table, selection}
 use Rattle.teach_writer.proofs.TellingLaws.{found_is_own}
@@ -238,20 +237,20 @@ selection_knows k d m us e sound own listed is step = at (is_table (selected_tab
     at false h (Some t) f = let same : m ∷ [] ≡ messages.Switch d.id ∷ [] = is ∙ rw (h, f) refl in let one : m ≡ messages.Switch d.id = cc in switched t f (subst (λ (x : Message). Step k.state x us e) one step)
     at false h None f = let same : m ∷ [] ≡ messages.Define d ∷ [] = is ∙ rw (h, f) refl in let one : m ≡ messages.Define d = cc in defined_so (rw f refl) (subst (λ (x : Message). Step k.state x us e) one step)
 
--- an update told behind the selection of its table costs no more than with its name written, and loses nothing
-pub told_cheap : (roster : List Definition) (s mid e : State) (d : Definition) (u : Update) (last : Option ℕ) (us rest : List Update) → KnowsLess (with_selected (knowledge_of s) u.table) (knowledge_of mid) → selected_table mid.heard ≡ Some d → d.id ≡ u.table → table_at roster u.table ≡ Some d → stores_name d ≡ false → last ≡ last_of mid.lasts u.table → Step mid (messages.Update (told_as last names.NotStored u)) us e → us ≡ u ∷ [] → AllByRecursion (IsOfRoster roster) rest
-    → size_of (messages.Update (told_as last names.NotStored u)) + full roster e rest ≤ written_cost roster (knowledge_of s) u + full_from roster (knowledge_after (knowledge_of s) u) rest
-told_cheap roster s mid e d u last us rest knows sel id listed no_name is_last (fit, table, on, number, numbered, name, named, carried, heard, lasts) us_is all =
+-- an update without a name, told behind the selection of its table, costs no more than the whole, and loses nothing
+pub told_cheap : (roster : List Definition) (s mid e : State) (d : Definition) (u : Update) (last : Option ℕ) (us rest : List Update) → KnowsLess (with_selected (knowledge_of s) u.table) (knowledge_of mid) → selected_table mid.heard ≡ Some d → d.id ≡ u.table → table_at roster u.table ≡ Some d → u.name ≡ None → last ≡ last_of mid.lasts u.table → Step mid (messages.Update (told_as last (written_field (stores_name d) None) u)) us e → us ≡ u ∷ [] → AllByRecursion (IsOfRoster roster) rest
+    → size_of (messages.Update (told_as last (written_field (stores_name d) None) u)) + full roster e rest ≤ written_cost roster (knowledge_of s) u + full_from roster (knowledge_after (knowledge_of s) u) rest
+told_cheap roster s mid e d u last us rest knows sel id listed unnamed is_last (fit, table, on, number, numbered, name, named, carried, heard, lasts) us_is all =
     let k = knowledge_of s in
-    let one : resolved (told_as last names.NotStored u) table number name ∷ [] ≡ u ∷ [] = sym carried ∙ us_is in
-    let same_update : resolved (told_as last names.NotStored u) table number name ≡ u = cc in
+    let one : resolved (told_as last (written_field (stores_name d) None) u) table number name ∷ [] ≡ u ∷ [] = sym carried ∙ us_is in
+    let same_update : resolved (told_as last (written_field (stores_name d) None) u) table number name ≡ u = cc in
     let table_is : table ≡ u.table = ap (λ (x : Update). x.table) same_update in
     let number_is : number ≡ u.number = ap (λ (x : Update). x.number) same_update in
     let put : e.lasts ≡ put_last u.table u.number mid.lasts = lasts ∙ ap (λ (t : ℕ). put_last t number mid.lasts) table_is ∙ ap (λ (n : ℕ). put_last u.table n mid.lasts) number_is in
     let here : table_at mid.heard.tables u.table ≡ Some d = subst (λ (n : ℕ). table_at mid.heard.tables n ≡ Some d) id (selected_heard mid.heard d sel) in
     let known : (knowledge_of mid).last u.table ≡ last = rw here (sym is_last) in
-    let cost : written_cost roster k u ≡ size_of (messages.Update (told_as (k.last u.table) names.NotStored u)) = rw (listed, no_name) refl in
-    let form : size_of (messages.Update (told_as last names.NotStored u)) ≤ size_of (messages.Update (told_as (k.last u.table) names.NotStored u)) = by_last (k.last u.table) (knows.last u.table) known in
+    let cost : written_cost roster k u ≡ size_of (messages.Update (told_as (k.last u.table) (written_field (stores_name d) None) u)) = rw (listed, unnamed) refl in
+    let form : size_of (messages.Update (told_as last (written_field (stores_name d) None) u)) ≤ size_of (messages.Update (told_as (k.last u.table) (written_field (stores_name d) None) u)) = by_last (k.last u.table) (knows.last u.table) known in
     let knows_after : KnowsLess (knowledge_after k u) (knowledge_of e) = record {
       defined = λ other h. subst (λ (x : Heard). is_some (table_at x.tables other) ≡ true) (sym heard) (knows.defined other h);
       selected = knows.selected ∙ ap (λ (x : Heard). option_map (λ (t : Definition). t.id) (selected_table x)) (sym heard);
@@ -264,9 +263,9 @@ told_cheap roster s mid e d u last us rest knows sel id listed no_name is_last (
     let less = falls roster (knowledge_after k u) (knowledge_of e) rest knows_after all in
     omega arith
   where
-    by_last : (l : Option ℕ) → (l ≡ (knowledge_of mid).last u.table) ⊎ (l ≡ None) → (knowledge_of mid).last u.table ≡ last → size_of (messages.Update (told_as last names.NotStored u)) ≤ size_of (messages.Update (told_as l names.NotStored u))
+    by_last : (l : Option ℕ) → (l ≡ (knowledge_of mid).last u.table) ⊎ (l ≡ None) → (knowledge_of mid).last u.table ≡ last → size_of (messages.Update (told_as last (written_field (stores_name d) None) u)) ≤ size_of (messages.Update (told_as l (written_field (stores_name d) None) u))
     by_last l (inl same) known = let is : l ≡ last = same ∙ known in rw is (omega arith)
-    by_last l (inr none) known = rw none (told_shorter last names.NotStored u)
+    by_last l (inr none) known = rw none (told_shorter last (written_field (stores_name d) None) u)
 
     joined : (c : Bool) (less more after : Option ℕ) → (less ≡ more) ⊎ (less ≡ None) → after ≡ cond c (Some u.number) more → (cond c (Some u.number) less ≡ after) ⊎ (cond c (Some u.number) less ≡ None)
     joined true less more after h is = inl (sym is)
@@ -294,18 +293,24 @@ batch_rest roster us i is = each (drop i us) (λ j u lt at. of_taught u (batch_t
     each [] h = tt
     each (x ∷ xs) h = (h 0 x (omega arith) refl, each xs (λ j u lt at. h (suc j) u (omega arith) at))
 
+-- each update of a batch without names has none
+pub nameless_at : (us : List Update) (i : ℕ) (u : Update) → AreNameless us → i < length us → u ≡ get_or us i u → u.name ≡ None
+nameless_at [] i u unnamed lt at = absurd (omega arith)
+nameless_at (x ∷ xs) zero u unnamed lt at = ap (λ (y : Update). y.name) at ∙ unnamed.0
+nameless_at (x ∷ xs) (suc i) u unnamed lt at = nameless_at xs i u unnamed.1 (omega arith) at
+
 -- the costs of what was told so far, and of one update more
 pub joined_costs : (roster : List Definition) (s mid e : State) (before told : List Message) (left rest us : List Update) → size_of_all before + full roster mid left ≤ full roster s us → size_of_all told + full roster e rest ≤ full roster mid left → size_of_all (before ++ told) + full roster e rest ≤ full roster s us
 joined_costs roster s mid e before told left rest us so_far one = omega (arith, sum_by-append size_of before told)
 
 -- a lesson that costs no more than the whole is the shortest
-pub shortest_at_end : (k : KnownState) (us : List Update) (ms : List Message) (e : State) → AreOwn k.roster k.state.heard.tables → stores_no_name k.roster ≡ true → IsBatchFor k.roster us → Legal k.roster k.state ms us e → size_of_all ms ≤ full k.roster k.state us → Shortest k us ms
-shortest_at_end k us ms e own no_name batch legal cheap =
+pub shortest_at_end : (k : KnownState) (us : List Update) (ms : List Message) (e : State) → AreOwn k.roster k.state.heard.tables → AreNameless us → IsBatchFor k.roster us → Legal k.roster k.state ms us e → size_of_all ms ≤ full k.roster k.state us → Shortest k us ms
+shortest_at_end k us ms e own unnamed batch legal cheap =
     (e, legal, λ others end fits. none_below others end fits)
   where
     none_below : (others : List Message) (end : State) → Legal k.roster k.state others us end → size_of_all ms ≤ size_of_all others
     none_below others end fits =
-        let whole = none_shorter k.roster k.state end others us own no_name (batch_rest k.roster us 0 batch) fits in
+        let whole = none_shorter k.roster k.state end others us own unnamed (batch_rest k.roster us 0 batch) fits in
         omega arith
 
 -- behind the last update nothing is left to pay

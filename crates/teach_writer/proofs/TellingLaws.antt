@@ -1,13 +1,13 @@
 -- What is selected for an update, that it is told as it is, and that both are legal.
-use Rattle.std.proofs.Common.{◌≡◌, ℕ, ◌+◌, ◌%◌, ◌^◌, ◌<◌, Bool, true, false, not, eqb, List, [], ◌∷◌, ◌++◌, Option, Some, None, refl, sym, ap, ◌∙◌, subst, inl, inr, arith, append_assoc}
+use Rattle.std.proofs.Common.{◌≡◌, ℕ, ◌+◌, ◌%◌, ◌^◌, ◌<◌, Bool, true, false, eqb, List, [], ◌∷◌, ◌++◌, Option, Some, None, refl, sym, ap, ◌∙◌, subst, inl, inr, arith, append_assoc}
 use Rattle.std.specs.Prelude.{is_some, is_none}
-use Rattle.std.specs.List.{AllByRecursion, list_any}
+use Rattle.std.specs.List.{AllByRecursion}
 use Rattle.std.proofs.lemmas.Bool.{cases_eq, eq-eqb, ne_eqb}
 use Rattle.std.proofs.lemmas.Bool.Decides.{nat_tests}
 use Rattle.std.proofs.lemmas.Grind.{flat_map-append}
 use Rattle.table_types.specs.declared.update.Update.{Update}
 use Rattle.table_types.specs.Tables.{Definition, is_definition}
-use Rattle.table_types.specs.Updates.{fits, is_optional_word, stores_name, life_fits}
+use Rattle.table_types.specs.Updates.{fits, is_optional_word, life_fits}
 use Rattle.table_types.specs.Rosters.{table_at}
 use Rattle.peers_msg.specs.declared.name_field.NameField.{NameField}
 use Rattle.peers_msg.specs.declared.message.Message.{Message}
@@ -16,8 +16,8 @@ use Rattle.peers_msg.specs.Heard.{Heard, selected_table, heard_after}
 use Rattle.peers_msg.specs.Spelling.{spelled, stream_of}
 use Rattle.peers_msg.specs.Fitting.{update_fits, name_fits}
 use Rattle.peers_msg.specs.Steps.{State, Step, Teaches, IsOwn, Legal, last_of, resolved_number}
-use Rattle.known_state.specs.Known.{KnownState, AreOwn, switch_refusal, update_refusal, stores_no_name}
-use Rattle.known_state.proofs.KnownLemmas.{table_at-id, table_at-passes, table_at-nameless, define_selects}
+use Rattle.known_state.specs.Known.{KnownState, AreOwn, switch_refusal, update_refusal}
+use Rattle.known_state.proofs.KnownLemmas.{table_at-id, table_at-passes, define_selects}
 use Rattle.known_state.proofs.StepLemmas.{has_id-table_at, selected-id, selected-found, update_fits_heard}
 use Rattle.known_state.specs.Resolving.{name_of, reads_empty}
 use Rattle.known_state.proofs.ResolvingLemmas.{named_so}
@@ -192,14 +192,6 @@ told_legal roster s mid e ms m u us first own is step =
 -- a table of the roster stands there under its own id
 pub listed_by_id : (roster : List Definition) (id : ℕ) (d : Definition) → table_at roster id ≡ Some d → table_at roster d.id ≡ Some d
 listed_by_id roster id d listed = subst (λ (n : ℕ). table_at roster n ≡ Some d) (sym (table_at-id roster id d listed)) listed
-
--- no table of a roster that stores no names stores one
-pub nameless_own : (roster : List Definition) (id : ℕ) (d : Definition) → stores_no_name roster ≡ true → table_at roster id ≡ Some d → stores_name d ≡ false
-nameless_own roster id d no_name listed = table_at-nameless roster id d (not-true (list_any stores_name roster) no_name) listed
-  where
-    not-true : (b : Bool) → not b ≡ true → b ≡ false
-    not-true true h = cc
-    not-true false h = refl
 
 -- the bytes of messages one after another
 pub stream-append : (a b : List Message) → stream_of (a ++ b) ≡ stream_of a ++ stream_of b

@@ -5,9 +5,8 @@ ghost use Rattle.table_types.specs.Batches.{IsBatchFor};
 ghost use Rattle.table_types.specs.Slots.{is_slot};
 ghost use Rattle.peers_msg.specs.declared.message.Message.{Message};
 ghost use Rattle.peers_msg.specs.Spelling.{stream_of};
-ghost use Rattle.peers_msg.specs.Steps.{Legal};
-ghost use Rattle.known_state.specs.Known.{stores_no_name};
 ghost use Rattle.known_state.specs.Lessons.{IsLessonFor};
+ghost use Rattle.known_state.specs.Requests.{AreNameless};
 ghost use Rattle.known_state.specs.Shortest.{Shortest};
 ghost use Rattle.teach_writer.specs.Naming.{is_that_name, is_asked, no_prices, MayKeep, IsKeptAtStart, IsSettled};
 ghost use Rattle.teach_writer.specs.Telling.{GoesThrough};
@@ -129,16 +128,14 @@ fn no_prices(alloc: Global, updates: &[Update]) -> Result<Vec<u64>, Memory>
 /// the start or from an update that had it, until the next update that asks for it, where another slot stays free when
 /// that begins.
 ///
-/// The batch was made for the roster of the known state. Where no table of that roster stores names, no legal stream
-/// that carries the same updates in that order has fewer bytes.
+/// The batch was made for the roster of the known state. Where no update of the batch has a name, no legal stream that
+/// carries the same updates in that order has fewer bytes.
 pub fn teach(alloc: Global, known: &Known, batch: &Batch) -> Result<Lesson, TeachError>
     requires batch { IsBatchFor known.now.roster batch.now }
-    ensures lesson { IfOk result (λ lesson. (ms : List Message) × (lesson.bytes ≡ stream_of ms)
-        × Legal known.now.roster known.now.state ms batch.now lesson.known.state
-        × (stores_no_name known.now.roster ≡ true → Shortest known.now batch.now ms)) }
     ensures taught { IfOk result (λ lesson. IsLessonFor known.now batch.now lesson.bytes lesson.known) }
+    ensures shortest { IfOk result (λ lesson. AreNameless batch.now →
+        (ms : List Message) × (lesson.bytes ≡ stream_of ms) × Shortest known.now batch.now ms) }
     ensures order { IfOk result (λ lesson. GoesThrough known.now batch.now lesson.bytes lesson.known.state) }
-    ensures roster { IfOk result (λ lesson. lesson.known.roster ≡ known.now.roster) }
     ensures prices { IfOk result (λ lesson. lesson.prices ≡ no_prices batch.now) }
 {
     let updates = batch.updates();

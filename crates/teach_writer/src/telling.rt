@@ -1,6 +1,6 @@
 //! How one update is told.
 
-ghost use Rattle.std.specs.Prelude.{◌≡◌, ◌≤◌, ◌+◌, ◌^◌, ◌<◌, ◌∷◌, [], ◌++◌, true, false, List, Some, IfOk, OnOk, IfSome, option_to_list};
+ghost use Rattle.std.specs.Prelude.{◌≡◌, ◌≤◌, ◌+◌, ◌^◌, ◌<◌, ◌∷◌, [], ◌++◌, true, false, List, Some, None, IfOk, OnOk, IfSome, option_to_list};
 ghost use Rattle.std.specs.List.{AllByRecursion};
 ghost use Rattle.table_types.specs.declared.update.Update.{Update};
 ghost use Rattle.table_types.specs.Tables.{Definition, is_definition};
@@ -11,7 +11,6 @@ ghost use Rattle.peers_msg.specs.declared.message.Message.{Message};
 ghost use Rattle.peers_msg.specs.Messages.{is_small};
 ghost use Rattle.peers_msg.specs.Fitting.{name_fits};
 ghost use Rattle.peers_msg.specs.Heard.{selected_table};
-ghost use Rattle.known_state.specs.Known.{stores_no_name};
 ghost use Rattle.known_state.specs.Resolving.{name_of, reads_empty};
 ghost use Rattle.peers_msg.specs.Spelling.{spelled, stream_of, size_of_all};
 ghost use Rattle.peers_msg.specs.Steps.{Step, Teaches, IsOwn, Legal};
@@ -191,7 +190,7 @@ pub fn tell(
     requires { IsTaught known.old.roster update.now }
     ensures told { OnOk result ((ms : List Message) × (bytes.new.items ≡ bytes.old.items ++ stream_of ms)
         × Legal known.old.roster known.old.state ms (update.now ∷ []) known.new.state
-        × (stores_no_name known.old.roster ≡ true → (rest : List Update) → AllByRecursion (IsOfRoster known.old.roster) rest →
+        × (update.now.name ≡ None → (rest : List Update) → AllByRecursion (IsOfRoster known.old.roster) rest →
         size_of_all ms + full known.old.roster known.new.state rest ≤ full known.old.roster known.old.state (update.now ∷ rest))) }
     ensures order { IfOk result (λ slot. (field : NameField) × (ms : List Message) × (slot ≡ slot_of field)
         × (bytes.new.items ≡ bytes.old.items ++ stream_of ms)

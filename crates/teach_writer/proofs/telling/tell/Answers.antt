@@ -1,5 +1,5 @@
 use Rattle.std.specs.List.{AllByRecursion}
-use Rattle.std.proofs.Common.{◌≡◌, ℕ, ◌+◌, ◌≤◌, Option, Some, true, false, [], ◌∷◌, ◌++◌, rules, refl, sym, ap, ◌∙◌, subst, List, append_assoc}
+use Rattle.std.proofs.Common.{◌≡◌, ℕ, ◌+◌, ◌≤◌, Option, Some, None, true, false, [], ◌∷◌, ◌++◌, rules, refl, sym, ap, ◌∙◌, subst, List, append_assoc}
 use Rattle.table_types.specs.declared.update.Update.{Update}
 use Rattle.table_types.specs.Tables.{Definition, is_definition}
 use Rattle.table_types.specs.Updates.{is_optional_word, stores_name}
@@ -8,21 +8,18 @@ use Rattle.peers_msg.specs.declared.message.Message.{Message}
 use Rattle.peers_msg.specs.declared.message.Message.TheVariants as messages
 use Rattle.peers_msg.specs.Messages.{UpdateFields}
 use Rattle.peers_msg.specs.declared.name_field.NameField.{NameField}
-use Rattle.peers_msg.specs.declared.name_field.NameField.TheVariants as names
 use Rattle.peers_msg.specs.Fitting.{name_fits}
 use Rattle.peers_msg.specs.Heard.{selected_table}
 use Rattle.peers_msg.specs.Spelling.{spelled, stream_of, size_of, size_of_all}
 use Rattle.peers_msg.specs.Steps.{Step, Teaches, IsOwn, Legal, last_of}
 use Rattle.peers_msg.proofs.DataLaws.{row_small}
 use Rattle.known_state.specs.Resolving.{name_of, reads_empty}
-use Rattle.known_state.proofs.StepLemmas.{nameless}
 use Rattle.known_state.specs.Cost.{number_told, told_as}
 use Rattle.teach_writer.specs.Naming.{IsNameField}
 use Rattle.teach_writer.specs.Telling.{IsTaken, IsTold, selection, update_told}
-use Rattle.teach_writer.proofs.TellingLaws.{told_taken, told_carries, told_legal, nameless_own, stream-one, stream-append}
-use Rattle.known_state.specs.Known.{stores_no_name}
+use Rattle.teach_writer.proofs.TellingLaws.{told_taken, told_carries, told_legal, stream-one, stream-append}
 use Rattle.known_state.proofs.KnownLemmas.{table_at-id}
-use Rattle.known_state.specs.Cost.{KnowsLess, with_selected, knowledge_of, knowledge_after, selection_cost, written_cost, full, full_from, IsOfRoster}
+use Rattle.known_state.specs.Cost.{KnowsLess, with_selected, knowledge_of, knowledge_after, selection_cost, written_cost, written_field, full, full_from, IsOfRoster}
 use Rattle.teach_writer.proofs.ShortLaws.{told_cheap, tell_cheap}
 use Rattle.known_state.proofs.BatchLemmas.{row_of_fits}
 use Rattle.teach_writer.proofs.telling.tell.Goals as goal
@@ -59,14 +56,11 @@ returns-clause-told c =
     let d = c.requires.0 in
     let field = c.in_ok-field.field in
     let listed : table_at c.args.known.now.roster u.table ≡ Some d = c.requires.1 in
-    let each : (d : Definition) → table_at c.args.known.now.roster u.table ≡ Some d → is_definition d ≡ true = search rules in
     let selected : selected_table k.state.heard ≡ table_at c.args.known.now.roster u.table = search rules in
     let told_is : c.in_ok-told.told ≡ told_as c.last.result field u = search rules in
     let here : c.last.result ≡ last_of k.state.lasts u.table = search rules in
     let last_is : c.last.result ≡ last_of k.state.lasts d.id = subst (λ (n : ℕ). c.last.result ≡ last_of k.state.lasts n) (sym (table_at-id c.args.known.now.roster u.table d listed)) here in
     let same_roster : k.roster ≡ c.args.known.now.roster = search rules in
-    let each_fits : (d : Definition) → table_at k.roster u.table ≡ Some d → name_fits d field ≡ true = search rules in
-    let field_fits : name_fits d field ≡ true = each_fits d (ap (λ (r : List Definition). table_at r u.table) same_roster ∙ listed) in
     let named : name_of k.state.slots field ≡ u.name = search rules in
     let e = c.say_owned.new.known.state in
     let m : Message = messages.Update c.in_ok-told.told in
@@ -81,15 +75,17 @@ returns-clause-told c =
     let bytes : c.say_owned.new.bytes.items ≡ c.args.bytes.now.items ++ stream_of (chosen.0 ++ m ∷ []) =
     said ∙ ap (λ x. x ++ spelled m) chosen.1 ∙ append_assoc c.args.bytes.now.items (stream_of chosen.0) (spelled m)
     ∙ ap (λ x. c.args.bytes.now.items ++ x) (ap (λ x. stream_of chosen.0 ++ x) (sym (stream-one m)) ∙ sym (stream-append chosen.0 (m ∷ []))) in
-    let cheap : stores_no_name roster ≡ true → (rest : List Update) → AllByRecursion (IsOfRoster roster) rest → size_of_all (chosen.0 ++ m ∷ []) + full roster e rest ≤ full roster s (u ∷ rest) =
-    λ nameless_roster rest all.
-    let no_name : stores_name d ≡ false = nameless_own roster u.table d nameless_roster listed in
-    let field_is : field ≡ names.NotStored = nameless d field no_name field_fits in
-    let plain : Step k.state (messages.Update (told_as c.last.result names.NotStored u)) step.0 e = subst (λ (f : NameField). Step k.state (messages.Update (told_as c.last.result f u)) step.0 e) field_is as_told in
-    let plainly : c.in_ok-told.told ≡ told_as c.last.result names.NotStored u = told_is ∙ ap (λ (f : NameField). told_as c.last.result f u) field_is in
+    let by_roster : table_at k.roster u.table ≡ Some d = ap (λ (r : List Definition). table_at r u.table) same_roster ∙ listed in
+    let each_field : (d : Definition) → table_at k.roster u.table ≡ Some d → IsNameField c.args.kept.now k.state.slots (stores_name d) u.name field = search rules in
+    let cheap : u.name ≡ None → (rest : List Update) → AllByRecursion (IsOfRoster roster) rest → size_of_all (chosen.0 ++ m ∷ []) + full roster e rest ≤ full roster s (u ∷ rest) =
+    λ unnamed rest all.
+    let bare : NameField = written_field (stores_name d) None in
+    let field_is : field ≡ bare = subst (λ (n : Option (List ℕ)). IsNameField c.args.kept.now k.state.slots (stores_name d) n field) unnamed (each_field d by_roster) in
+    let plain : Step k.state (messages.Update (told_as c.last.result bare u)) step.0 e = subst (λ (f : NameField). Step k.state (messages.Update (told_as c.last.result f u)) step.0 e) field_is as_told in
+    let plainly : c.in_ok-told.told ≡ told_as c.last.result bare u = told_is ∙ ap (λ (f : NameField). told_as c.last.result f u) field_is in
     tell_cheap roster s e u m chosen.0 rest chosen.3
     (subst (λ (t : UpdateFields). size_of (messages.Update t) + full roster e rest ≤ written_cost roster (knowledge_of s) u + full_from roster (knowledge_after (knowledge_of s) u) rest) (sym plainly)
-    (told_cheap roster s k.state e d u c.last.result step.0 rest knows (selected ∙ listed) (table_at-id roster u.table d listed) listed no_name here plain carried all)) in
+    (told_cheap roster s k.state e d u c.last.result step.0 rest knows (selected ∙ listed) (table_at-id roster u.table d listed) listed unnamed here plain carried all)) in
     (chosen.0 ++ m ∷ [], bytes, told_legal roster s k.state e chosen.0 m u step.0 chosen.2 tt carried step.1, cheap)
 
 pub returns-clause-order : goal.returns-clause-order
