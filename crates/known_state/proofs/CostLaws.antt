@@ -24,7 +24,7 @@ use Rattle.peers_msg.specs.Messages.{UpdateFields}
 use Rattle.peers_msg.specs.Spelling.{spelled, size_of, framed, counted, definition_text, update_text, update_kind, optional_word, word, key_text, value_text, name_text}
 use Rattle.known_state.proofs.KnownLemmas.{table_at-id}
 use Rattle.known_state.proofs.StepLemmas.{has_id-table_at}
-use Rattle.known_state.specs.Cost.{Knowledge, KnowsLess, with_selected, knowledge_after, follows, number_told, told_as, written_field, is_named_table, written_cost, is_selected, definition_cost, selection_cost, full_from, saving, is_held, IsOfRoster}
+use Rattle.known_state.specs.Cost.{Knowledge, KnowsLess, with_selected, knowledge_after, follows, number_told, told_as, written_field, is_named_table, written_cost, is_selected, definition_cost, selection_cost, cost_from, saving, is_held, IsOfRoster}
 
 -- framed data grow with the data
 framed_longer : (c k c' k' : ℕ) (a b : List ℕ) → length a ≤ length b → length (framed c k a) ≤ length (framed c' k' b)
@@ -94,7 +94,7 @@ knows_after less more u knows = record {
     last-chosen false x y h = h
 
 -- a lesson costs no more where more is known
-pub falls : (roster : List Definition) (less more : Knowledge) (us : List Update) → KnowsLess less more → AllByRecursion (IsOfRoster roster) us → full_from roster more us ≤ full_from roster less us
+pub falls : (roster : List Definition) (less more : Knowledge) (us : List Update) → KnowsLess less more → AllByRecursion (IsOfRoster roster) us → cost_from roster more us ≤ cost_from roster less us
 falls roster less more [] knows all = omega arith
 falls roster less more (u ∷ us) knows all =
     let a = selection_falls roster less more u knows all.0 in
@@ -132,7 +132,7 @@ gains_nothing k more t u same defined last = record {
         subst (λ (n : ℕ). (eqb id n || k.is_defined id) ≡ true) (sym same) here
 
 -- a definition ahead of its time saves no more than itself
-defined_pays : (roster : List Definition) (k : Knowledge) (t : ℕ) (us : List Update) → AllByRecursion (IsOfRoster roster) us → full_from roster k us ≤ definition_cost (table_at roster t) + full_from roster (with_defined k t) us
+defined_pays : (roster : List Definition) (k : Knowledge) (t : ℕ) (us : List Update) → AllByRecursion (IsOfRoster roster) us → cost_from roster k us ≤ definition_cost (table_at roster t) + cost_from roster (with_defined k t) us
 defined_pays roster k t [] all = omega arith
 defined_pays roster k t (u ∷ us) all =
     elim (cases_eq u.table t) [
@@ -170,7 +170,7 @@ selection_same : (roster : List Definition) (k : Knowledge) (t : ℕ) (u : Updat
 selection_same roster k t u same = rw (eq-eqb t u.table (sym same)) refl
 
 -- a switch saves no more than itself
-pub switched_pays : (roster : List Definition) (k : Knowledge) (t : ℕ) (us : List Update) → k.is_defined t ≡ true → AllByRecursion (IsOfRoster roster) us → full_from roster k us ≤ size_of (messages.Switch t) + full_from roster (with_selected k t) us
+pub switched_pays : (roster : List Definition) (k : Knowledge) (t : ℕ) (us : List Update) → k.is_defined t ≡ true → AllByRecursion (IsOfRoster roster) us → cost_from roster k us ≤ size_of (messages.Switch t) + cost_from roster (with_selected k t) us
 switched_pays roster k t [] known all = omega arith
 switched_pays roster k t (u ∷ us) known all =
     elim (cases_eq u.table t) [
@@ -203,7 +203,7 @@ switched_pays roster k t (u ∷ us) known all =
     known_already k t u known = record { defined = λ id h. or_right (eqb id u.table) (id == t || k.is_defined id) (k.is_defined id) (absorbed k t id known) h; selected = refl; last = λ id. inl refl }
 
 -- and so does a definition
-pub defining_pays : (roster : List Definition) (k : Knowledge) (t : ℕ) (us : List Update) → AllByRecursion (IsOfRoster roster) us → full_from roster k us ≤ definition_cost (table_at roster t) + full_from roster (with_selected k t) us
+pub defining_pays : (roster : List Definition) (k : Knowledge) (t : ℕ) (us : List Update) → AllByRecursion (IsOfRoster roster) us → cost_from roster k us ≤ definition_cost (table_at roster t) + cost_from roster (with_selected k t) us
 defining_pays roster k t [] all = omega arith
 defining_pays roster k t (u ∷ us) all =
     elim (cases_eq u.table t) [
@@ -294,15 +294,15 @@ update_pays roster k d m u slots after listed fit named life key values number =
     by : (field : NameField) → m.name ≡ field → name_fits d field ≡ true → Named slots field u.name after → written_cost roster k u ≤ size_of (messages.Update m) + saving roster k (messages.Update m) (u ∷ [])
     by names.NotStored e f n =
         let none : stores_name d ≡ false = not-true (stores_name d) f in
-        let cost : written_cost roster k u ≡ size_of (messages.Update (told_as (k.last u.table) names.NotStored u)) = rw (listed, none) refl in
+        let whole : written_cost roster k u ≡ size_of (messages.Update (told_as (k.last u.table) names.NotStored u)) = rw (listed, none) refl in
         omega (arith, as_meant names.NotStored e)
     by names.NoName e f n =
-        let cost : written_cost roster k u ≡ size_of (messages.Update (told_as (k.last u.table) names.NoName u)) = rw (listed, f, n.0) refl in
+        let whole : written_cost roster k u ≡ size_of (messages.Update (told_as (k.last u.table) names.NoName u)) = rw (listed, f, n.0) refl in
         omega (arith, as_meant names.NoName e)
     by (names.Written slot bytes) e f n =
         let stored : stores_name d ≡ true = and-left (stores_name d) (is_slot slot) (and-left (stores_name d && is_slot slot) (is_name bytes) f) in
         let slotted : is_slot slot ≡ true = and-right (stores_name d) (is_slot slot) (and-left (stores_name d && is_slot slot) (is_name bytes) f) in
-        let cost : written_cost roster k u ≡ size_of (messages.Update (told_as (k.last u.table) (names.Written 1 bytes) u)) = rw (listed, stored, n.0) refl in
+        let whole : written_cost roster k u ≡ size_of (messages.Update (told_as (k.last u.table) (names.Written 1 bytes) u)) = rw (listed, stored, n.0) refl in
         let alike = written_alike (number_told (k.last u.table) u.number) u.life u.key u.values slot bytes slotted in
         omega (arith, as_meant (names.Written slot bytes) e)
     by (names.Held slot) e f n =

@@ -12,3 +12,4 @@ pub mod ToldLemmas
 pub mod RisingLemmas
 pub mod InStepLaws
 pub mod ShortestLaws
+pub mod FullLaws

@@ -19,14 +19,14 @@ use Rattle.peers_msg.specs.Fitting.{fits, name_fits, update_fits}
 use Rattle.peers_msg.specs.Steps.{State, Step, Named, IsOwn, Legal, keeps_last, last_of, put_last, resolved, resolved_number}
 use Rattle.known_state.specs.Known.{AreOwn, stores_no_name}
 use Rattle.known_state.specs.Requests.{AreNameless}
-use Rattle.known_state.specs.Cost.{KnowsLess, with_selected, knowledge_of, knowledge_after, full, saving, selection_cost, definition_cost, is_held, Saves, IsOfRoster, Pays}
+use Rattle.known_state.specs.Cost.{KnowsLess, with_selected, knowledge_of, knowledge_after, cost, saving, selection_cost, definition_cost, is_held, Saves, IsOfRoster}
 use Rattle.known_state.proofs.KnownLemmas.{table_at-id, table_at-passes, define_selects, AreOwn-defined}
 use Rattle.known_state.proofs.StepLemmas.{selected-id, selected-found, selected-nameless, nameless}
 use Rattle.known_state.proofs.RefusalLaws.{switch_found, selection}
 use Rattle.known_state.proofs.CostLaws.{falls, defining_pays, switched_pays, update_pays, found_before, last-dropped, last-filter, last-put}
 
 -- what moves nothing pays
-stays_pays : (roster : List Definition) (s mid : State) (m : Message) (one rest : List Update) → one ≡ [] → mid ≡ s → full roster s (one ++ rest) ≤ size_of m + saving roster (knowledge_of s) m one + full roster mid rest
+stays_pays : (roster : List Definition) (s mid : State) (m : Message) (one rest : List Update) → one ≡ [] → mid ≡ s → cost roster s (one ++ rest) ≤ size_of m + saving roster (knowledge_of s) m one + cost roster mid rest
 stays_pays roster s mid m one rest none same = rw (none, same) (omega arith)
 
 or_true : (a b : Bool) → b ≡ true → (a || b) ≡ true
@@ -35,11 +35,11 @@ or_true false b h = h
 
 -- a definition of the roster's own pays
 define_pays : (roster : List Definition) (s : State) (d : Definition) (rest : List Update) → table_at roster d.id ≡ Some d → AllByRecursion (IsOfRoster roster) rest
-    → full roster s rest ≤ size_of (messages.Define d) + full roster (record { heard = heard_after s.heard (messages.Define d); lasts = filter (λ l. keeps_last d (table_at s.heard.tables l.0) l.0) s.lasts; slots = s.slots }) rest
+    → cost roster s rest ≤ size_of (messages.Define d) + cost roster (record { heard = heard_after s.heard (messages.Define d); lasts = filter (λ l. keeps_last d (table_at s.heard.tables l.0) l.0) s.lasts; slots = s.slots }) rest
 define_pays roster s d rest own all =
     let k = knowledge_of s in
     let after : State = record { heard = heard_after s.heard (messages.Define d); lasts = filter (λ l. keeps_last d (table_at s.heard.tables l.0) l.0) s.lasts; slots = s.slots } in
-    let cost : definition_cost (table_at roster d.id) ≡ size_of (messages.Define d) = rw own refl in
+    let own_cost : definition_cost (table_at roster d.id) ≡ size_of (messages.Define d) = rw own refl in
     let paid = defining_pays roster k d.id rest all in
     let knows : KnowsLess (knowledge_of after) (with_selected k d.id) = record {
       defined = λ id h. found_before d s.heard.tables id h;
@@ -70,7 +70,7 @@ define_pays roster s d rest own all =
 
 -- a switch to a table that is heard pays
 switch_pays : (roster : List Definition) (s : State) (id : ℕ) (d : Definition) (rest : List Update) → table_at s.heard.tables id ≡ Some d → AllByRecursion (IsOfRoster roster) rest
-    → full roster s rest ≤ size_of (messages.Switch id) + full roster (record { heard = heard_after s.heard (messages.Switch id); lasts = s.lasts; slots = s.slots }) rest
+    → cost roster s rest ≤ size_of (messages.Switch id) + cost roster (record { heard = heard_after s.heard (messages.Switch id); lasts = s.lasts; slots = s.slots }) rest
 switch_pays roster s id d rest found all =
     let k = knowledge_of s in
     let after : State = record { heard = heard_after s.heard (messages.Switch id); lasts = s.lasts; slots = s.slots } in
@@ -115,7 +115,7 @@ is_there ds table id d here same = elim (cases_eq id table) [
 -- an update pays, and what it saves by reading a name
 take_pays : (roster : List Definition) (s mid : State) (m : UpdateFields) (d : Definition) (table number : ℕ) (name : Option (List ℕ)) (rest : List Update) → AreOwn roster s.heard.tables → AllByRecursion (IsOfRoster roster) rest
     → selected_table s.heard ≡ Some d → d.id ≡ table → name_fits d m.name ≡ true → Named s.slots m.name name mid.slots → resolved_number m.number (last_of s.lasts table) ≡ Some number → mid.heard ≡ s.heard → mid.lasts ≡ put_last table number s.lasts
-    → full roster s (resolved m table number name ∷ rest) ≤ size_of (messages.Update m) + saving roster (knowledge_of s) (messages.Update m) (resolved m table number name ∷ []) + full roster mid rest
+    → cost roster s (resolved m table number name ∷ rest) ≤ size_of (messages.Update m) + saving roster (knowledge_of s) (messages.Update m) (resolved m table number name ∷ []) + cost roster mid rest
 take_pays roster s mid m d table number name rest own all sel is fit named numbered heard lasts =
     let k = knowledge_of s in
     let u : Update = resolved m table number name in
@@ -140,7 +140,7 @@ take_pays roster s mid m d table number name rest own all sel is fit named numbe
     omega arith
 
 -- a step pays for what it saves
-pub step_pays : (roster : List Definition) (s mid : State) (m : Message) (one rest : List Update) → AreOwn roster s.heard.tables → IsOwn roster m → AllByRecursion (IsOfRoster roster) rest → Step s m one mid → Pays roster s m one rest mid
+pub step_pays : (roster : List Definition) (s mid : State) (m : Message) (one rest : List Update) → AreOwn roster s.heard.tables → IsOwn roster m → AllByRecursion (IsOfRoster roster) rest → Step s m one mid → cost roster s (one ++ rest) ≤ size_of m + saving roster (knowledge_of s) m one + cost roster mid rest
 step_pays roster s mid (messages.Define d) one rest own is_own all (fit, none, is) =
     let paid = define_pays roster s d rest is_own all in
     rw (none, is) (omega arith)
@@ -185,14 +185,14 @@ all_rest p one rest us is all = behind one (subst (λ (l : List Update). AllByRe
     behind (u ∷ us) all = behind us all.1
 
 -- messages pay for what they save
-pub list_pays : (roster : List Definition) (s e : State) (ms : List Message) (us : List Update) → AreOwn roster s.heard.tables → AllByRecursion (IsOfRoster roster) us → Legal roster s ms us e → (saved : ℕ) × Saves roster s ms us saved × (full roster s us ≤ size_of_all ms + saved)
+pub list_pays : (roster : List Definition) (s e : State) (ms : List Message) (us : List Update) → AreOwn roster s.heard.tables → AllByRecursion (IsOfRoster roster) us → Legal roster s ms us e → (saved : ℕ) × Saves roster s ms us saved × (cost roster s us ≤ size_of_all ms + saved)
 list_pays roster s e [] us own all (owns, (none, same)) = (0, refl, rw none (omega arith))
 list_pays roster s e (m ∷ ms) us own all (owns, (one, rest, mid, is, step, later)) =
     let of_roster = all_rest (IsOfRoster roster) one rest us is all in
     let others = list_pays roster mid e ms rest (own_stays roster s mid m one own owns.0 step) of_roster (owns.1, later) in
     let here = step_pays roster s mid m one rest own owns.0 of_roster step in
     let sum : size_of_all (m ∷ ms) ≡ size_of m + size_of_all ms = sum_by-cons size_of m ms in
-    let both : full roster s us ≡ full roster s (one ++ rest) = ap (full roster s) is in
+    let both : cost roster s us ≡ cost roster s (one ++ rest) = ap (cost roster s) is in
     (saving roster (knowledge_of s) m one + others.0, (one, rest, mid, others.0, is, step, refl, others.1), omega arith)
 
 -- a message that carries no name saves nothing
@@ -215,7 +215,7 @@ saves_nothing roster s mid (messages.Ack table number) one unnamed step = refl
 saves_nothing roster s mid (messages.Other o) one unnamed step = refl
 
 -- where no update has a name, no legal list is shorter than the whole cost
-pub none_shorter : (roster : List Definition) (s e : State) (ms : List Message) (us : List Update) → AreOwn roster s.heard.tables → AreNameless us → AllByRecursion (IsOfRoster roster) us → Legal roster s ms us e → full roster s us ≤ size_of_all ms
+pub none_shorter : (roster : List Definition) (s e : State) (ms : List Message) (us : List Update) → AreOwn roster s.heard.tables → AreNameless us → AllByRecursion (IsOfRoster roster) us → Legal roster s ms us e → cost roster s us ≤ size_of_all ms
 none_shorter roster s e [] us own unnamed all (owns, (none, same)) = rw none (omega arith)
 none_shorter roster s e (m ∷ ms) us own unnamed all (owns, (one, rest, mid, is, step, later)) =
     let of_roster = all_rest (IsOfRoster roster) one rest us is all in
@@ -223,7 +223,7 @@ none_shorter roster s e (m ∷ ms) us own unnamed all (owns, (one, rest, mid, is
     let here = step_pays roster s mid m one rest own owns.0 of_roster step in
     let nothing = saves_nothing roster s mid m one (all_first (λ (u : Update). u.name ≡ None) one rest us is unnamed) step in
     let sum : size_of_all (m ∷ ms) ≡ size_of m + size_of_all ms = sum_by-cons size_of m ms in
-    let both : full roster s us ≡ full roster s (one ++ rest) = ap (full roster s) is in
+    let both : cost roster s us ≡ cost roster s (one ++ rest) = ap (cost roster s) is in
     omega arith
 
 -- where no table of the roster stores names, a message carries none

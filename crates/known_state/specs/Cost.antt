@@ -1,4 +1,4 @@
--- What a lesson costs in bytes where every name is written (own).
+-- The lesson in which every name is written, and what it costs in bytes (own).
 use Rattle.std.specs.Prelude.{ℕ, ◌+◌, ◌-◌, ◌%◌, ◌^◌, ◌≤◌, Bool, true, false, ◌||◌, ◌==◌, ◌⊎◌, List, [], ◌∷◌, ◌++◌, ◌≡◌, is_some, Option, Some, None, option_map, if◌then◌else◌}
 use Rattle.table_types.specs.declared.update.Update.{Update}
 use Rattle.table_types.specs.Tables.{Definition}
@@ -10,7 +10,7 @@ use Rattle.peers_msg.specs.declared.message.Message.{Message}
 use Rattle.peers_msg.specs.declared.message.Message.TheVariants as messages
 use Rattle.peers_msg.specs.Messages.{UpdateFields}
 use Rattle.peers_msg.specs.Heard.{selected_table}
-use Rattle.peers_msg.specs.Spelling.{size_of}
+use Rattle.peers_msg.specs.Spelling.{size_of, size_of_all}
 use Rattle.peers_msg.specs.Steps.{State, Step, last_of}
 
 -- what bears on the cost of a lesson: which ids are defined, the one selected, and the last number of each id defined
@@ -63,13 +63,39 @@ abbrev pub is_named_table : Option Definition → Bool
 is_named_table None = false
 is_named_table (Some d) = stores_name d
 
+-- an update with its name written
+abbrev pub written : List Definition → Knowledge → Update → Message
+written roster k u = messages.Update (told_as (k.last u.table) (written_field (is_named_table (table_at roster u.table)) u.name) u)
+
 -- what an update costs with its name written
 abbrev pub written_cost : List Definition → Knowledge → Update → ℕ
-written_cost roster k u = size_of (messages.Update (told_as (k.last u.table) (written_field (is_named_table (table_at roster u.table)) u.name) u))
+written_cost roster k u = size_of (written roster k u)
 
 abbrev pub is_selected : Option ℕ → ℕ → Bool
 is_selected None id = false
 is_selected (Some selected) id = selected == id
+
+abbrev pub defining : Option Definition → List Message
+defining None = []
+defining (Some d) = messages.Define d ∷ []
+
+-- what selects a table: nothing, a switch, or its definition
+abbrev pub selecting : List Definition → Knowledge → ℕ → List Message
+selecting roster k id =
+    if is_selected k.selected id then []
+    else (if k.is_defined id then messages.Switch id ∷ [] else defining (table_at roster id))
+
+-- The lesson with every name written: the updates one after another, each behind what selects its table, in its shortest
+-- number form. Nothing is kept in a slot, so each name is written to the first.
+abbrev pub written_lesson : List Definition → Knowledge → List Update → List Message
+written_lesson roster k [] = []
+written_lesson roster k (u ∷ us) = selecting roster k u.table ++ (written roster k u ∷ written_lesson roster (knowledge_after k u) us)
+
+-- its size
+abbrev pub full : List Definition → State → List Update → ℕ
+full roster s us = size_of_all (written_lesson roster (knowledge_of s) us)
+
+-- ---- the same number, update by update
 
 abbrev pub definition_cost : Option Definition → ℕ
 definition_cost None = 0
@@ -82,13 +108,15 @@ selection_cost roster k id =
     else (if k.is_defined id then size_of (messages.Switch id) else definition_cost (table_at roster id))
 
 -- what the updates cost, one after another
-abbrev pub full_from : List Definition → Knowledge → List Update → ℕ
-full_from roster k [] = 0
-full_from roster k (u ∷ us) = selection_cost roster k u.table + written_cost roster k u + full_from roster (knowledge_after k u) us
+abbrev pub cost_from : List Definition → Knowledge → List Update → ℕ
+cost_from roster k [] = 0
+cost_from roster k (u ∷ us) = selection_cost roster k u.table + written_cost roster k u + cost_from roster (knowledge_after k u) us
 
--- the size of the lesson with every name written
-abbrev pub full : List Definition → State → List Update → ℕ
-full roster s us = full_from roster (knowledge_of s) us
+-- and what they cost from a state on
+abbrev pub cost : List Definition → State → List Update → ℕ
+cost roster s us = cost_from roster (knowledge_of s) us
+
+-- ---- what reads save
 
 abbrev pub is_held : NameField → Bool
 is_held (names.Held slot) = true

@@ -12,7 +12,7 @@ ghost use Rattle.known_state.specs.declared.known.StepError.{StepError};
 ghost use Rattle.known_state.specs.Known.{KnownState, AreOwn, stores_no_name, Refuses};
 ghost use Rattle.known_state.specs.Resolving.{reads_empty, name_of, slots_after};
 ghost use Rattle.known_state.specs.Requests.{AreNameless};
-ghost use Rattle.known_state.specs.Cost.{IsOfRoster, Pays, Saves, full};
+ghost use Rattle.known_state.specs.Cost.{IsOfRoster, Pays, Saves, cost, full};
 ghost use Rattle.known_state.specs.Shortest.{Shortest};
 ghost use Rattle.known_state.specs.Told.{known_of, AreRising};
 
@@ -30,6 +30,12 @@ pub fn one_name()
 pub fn refused_is_no_step()
     ensures { (k : KnownState) (m : Message) (e : StepError) (us : List Update) (after : State) →
         AreOwn k.roster k.state.heard.tables → Refuses k m e → IsOwn k.roster m → Step k.state m us after → ⊥ }
+{}
+
+/// The size of the lesson with every name written is what its updates cost one after another, by what is known behind
+/// those before: the selection of the table, and the update with its name written.
+pub fn full_adds_up()
+    ensures { (roster : List Definition) (s : State) (us : List Update) → full roster s us ≡ cost roster s us }
 {}
 
 /// A step pays for what it saves: with every name written, what is to be told costs no more before a message than

@@ -19,7 +19,7 @@ use Rattle.peers_msg.specs.Steps.{State, Step, Legal, keeps_last, last_of, put_l
 use Rattle.table_types.specs.Batches.{IsBatchFor}
 use Rattle.known_state.specs.Known.{KnownState, AreOwn}
 use Rattle.known_state.specs.Shortest.{Shortest}
-use Rattle.known_state.specs.Cost.{KnowsLess, with_selected, knowledge_of, knowledge_after, is_selected, selection_cost, written_cost, full, full_from, IsOfRoster, told_as, written_field}
+use Rattle.known_state.specs.Cost.{KnowsLess, with_selected, knowledge_of, knowledge_after, is_selected, selection_cost, written_cost, cost, cost_from, IsOfRoster, told_as, written_field}
 use Rattle.known_state.proofs.KnownLemmas.{table_at-id, table_at-passes, define_selects}
 use Rattle.known_state.proofs.StepLemmas.{selected-found, has_id-table_at}
 use Rattle.known_state.proofs.CostLaws.{falls, told_shorter, last-kept, last-put}
@@ -239,7 +239,7 @@ selection_knows k d m us e sound own listed is step = at (is_table (selected_tab
 
 -- an update without a name, told behind the selection of its table, costs no more than the whole, and loses nothing
 pub told_cheap : (roster : List Definition) (s mid e : State) (d : Definition) (u : Update) (last : Option ℕ) (us rest : List Update) → KnowsLess (with_selected (knowledge_of s) u.table) (knowledge_of mid) → selected_table mid.heard ≡ Some d → d.id ≡ u.table → table_at roster u.table ≡ Some d → u.name ≡ None → last ≡ last_of mid.lasts u.table → Step mid (messages.Update (told_as last (written_field (stores_name d) None) u)) us e → us ≡ u ∷ [] → AllByRecursion (IsOfRoster roster) rest
-    → size_of (messages.Update (told_as last (written_field (stores_name d) None) u)) + full roster e rest ≤ written_cost roster (knowledge_of s) u + full_from roster (knowledge_after (knowledge_of s) u) rest
+    → size_of (messages.Update (told_as last (written_field (stores_name d) None) u)) + cost roster e rest ≤ written_cost roster (knowledge_of s) u + cost_from roster (knowledge_after (knowledge_of s) u) rest
 told_cheap roster s mid e d u last us rest knows sel id listed unnamed is_last (fit, table, on, number, numbered, name, named, carried, heard, lasts) us_is all =
     let k = knowledge_of s in
     let one : resolved (told_as last (written_field (stores_name d) None) u) table number name ∷ [] ≡ u ∷ [] = sym carried ∙ us_is in
@@ -249,7 +249,7 @@ told_cheap roster s mid e d u last us rest knows sel id listed unnamed is_last (
     let put : e.lasts ≡ put_last u.table u.number mid.lasts = lasts ∙ ap (λ (t : ℕ). put_last t number mid.lasts) table_is ∙ ap (λ (n : ℕ). put_last u.table n mid.lasts) number_is in
     let here : table_at mid.heard.tables u.table ≡ Some d = subst (λ (n : ℕ). table_at mid.heard.tables n ≡ Some d) id (selected_heard mid.heard d sel) in
     let known : (knowledge_of mid).last u.table ≡ last = rw here (sym is_last) in
-    let cost : written_cost roster k u ≡ size_of (messages.Update (told_as (k.last u.table) (written_field (stores_name d) None) u)) = rw (listed, unnamed) refl in
+    let whole : written_cost roster k u ≡ size_of (messages.Update (told_as (k.last u.table) (written_field (stores_name d) None) u)) = rw (listed, unnamed) refl in
     let form : size_of (messages.Update (told_as last (written_field (stores_name d) None) u)) ≤ size_of (messages.Update (told_as (k.last u.table) (written_field (stores_name d) None) u)) = by_last (k.last u.table) (knows.last u.table) known in
     let knows_after : KnowsLess (knowledge_after k u) (knowledge_of e) = record {
       defined = λ other h. subst (λ (x : Heard). is_some (table_at x.tables other) ≡ true) (sym heard) (knows.defined other h);
@@ -273,7 +273,7 @@ told_cheap roster s mid e d u last us rest knows sel id listed unnamed is_last (
     joined false less more after (inr none) is = inr none
 
 -- the whole of an update: its selection, its message, and what is left
-pub tell_cheap : (roster : List Definition) (s e : State) (u : Update) (m : Message) (chosen : List Message) (rest : List Update) → size_of_all chosen ≤ selection_cost roster (knowledge_of s) u.table → size_of m + full roster e rest ≤ written_cost roster (knowledge_of s) u + full_from roster (knowledge_after (knowledge_of s) u) rest → size_of_all (chosen ++ m ∷ []) + full roster e rest ≤ full roster s (u ∷ rest)
+pub tell_cheap : (roster : List Definition) (s e : State) (u : Update) (m : Message) (chosen : List Message) (rest : List Update) → size_of_all chosen ≤ selection_cost roster (knowledge_of s) u.table → size_of m + cost roster e rest ≤ written_cost roster (knowledge_of s) u + cost_from roster (knowledge_after (knowledge_of s) u) rest → size_of_all (chosen ++ m ∷ []) + cost roster e rest ≤ cost roster s (u ∷ rest)
 tell_cheap roster s e u m chosen rest first second =
     let sum : size_of_all (chosen ++ m ∷ []) ≡ size_of_all chosen + size_of_all (m ∷ []) = sum_by-append size_of chosen (m ∷ []) in
     let one : size_of_all (m ∷ []) ≡ size_of m + size_of_all [] = sum_by-cons size_of m [] in
@@ -300,11 +300,11 @@ nameless_at (x ∷ xs) zero u unnamed lt at = ap (λ (y : Update). y.name) at �
 nameless_at (x ∷ xs) (suc i) u unnamed lt at = nameless_at xs i u unnamed.1 (omega arith) at
 
 -- the costs of what was told so far, and of one update more
-pub joined_costs : (roster : List Definition) (s mid e : State) (before told : List Message) (left rest us : List Update) → size_of_all before + full roster mid left ≤ full roster s us → size_of_all told + full roster e rest ≤ full roster mid left → size_of_all (before ++ told) + full roster e rest ≤ full roster s us
+pub joined_costs : (roster : List Definition) (s mid e : State) (before told : List Message) (left rest us : List Update) → size_of_all before + cost roster mid left ≤ cost roster s us → size_of_all told + cost roster e rest ≤ cost roster mid left → size_of_all (before ++ told) + cost roster e rest ≤ cost roster s us
 joined_costs roster s mid e before told left rest us so_far one = omega (arith, sum_by-append size_of before told)
 
 -- a lesson that costs no more than the whole is the shortest
-pub shortest_at_end : (k : KnownState) (us : List Update) (ms : List Message) (e : State) → AreOwn k.roster k.state.heard.tables → AreNameless us → IsBatchFor k.roster us → Legal k.roster k.state ms us e → size_of_all ms ≤ full k.roster k.state us → Shortest k us ms
+pub shortest_at_end : (k : KnownState) (us : List Update) (ms : List Message) (e : State) → AreOwn k.roster k.state.heard.tables → AreNameless us → IsBatchFor k.roster us → Legal k.roster k.state ms us e → size_of_all ms ≤ cost k.roster k.state us → Shortest k us ms
 shortest_at_end k us ms e own unnamed batch legal cheap =
     (e, legal, λ others end fits. none_below others end fits)
   where
@@ -314,8 +314,8 @@ shortest_at_end k us ms e own unnamed batch legal cheap =
         omega arith
 
 -- behind the last update nothing is left to pay
-pub whole_cost : (roster : List Definition) (s e : State) (ms : List Message) (i : ℕ) (us batch : List Update) → length us ≤ i → us ≡ batch → size_of_all ms + full roster e (drop i us) ≤ full roster s us → size_of_all ms ≤ full roster s batch
-whole_cost roster s e ms i us batch ended same cost =
-    let left : full roster e (drop i us) ≡ 0 = rw (drop_all i us ended) refl in
-    let paid : size_of_all ms ≤ full roster s us = omega arith in
-    subst (λ (l : List Update). size_of_all ms ≤ full roster s l) same paid
+pub whole_cost : (roster : List Definition) (s e : State) (ms : List Message) (i : ℕ) (us batch : List Update) → length us ≤ i → us ≡ batch → size_of_all ms + cost roster e (drop i us) ≤ cost roster s us → size_of_all ms ≤ cost roster s batch
+whole_cost roster s e ms i us batch ended same whole =
+    let left : cost roster e (drop i us) ≡ 0 = rw (drop_all i us ended) refl in
+    let paid : size_of_all ms ≤ cost roster s us = omega arith in
+    subst (λ (l : List Update). size_of_all ms ≤ cost roster s l) same paid

@@ -14,7 +14,7 @@ ghost use Rattle.peers_msg.specs.Heard.{selected_table};
 ghost use Rattle.known_state.specs.Resolving.{name_of, reads_empty};
 ghost use Rattle.peers_msg.specs.Spelling.{spelled, stream_of, size_of_all};
 ghost use Rattle.peers_msg.specs.Steps.{Step, Teaches, IsOwn, Legal};
-ghost use Rattle.known_state.specs.Cost.{number_told, told_as, knowledge_of, with_selected, selection_cost, KnowsLess, IsOfRoster, full};
+ghost use Rattle.known_state.specs.Cost.{number_told, told_as, knowledge_of, with_selected, selection_cost, KnowsLess, IsOfRoster, cost};
 ghost use Rattle.known_state.specs.Requests.{IsTaught};
 ghost use Rattle.teach_writer.specs.Naming.{IsNameField};
 ghost use Rattle.teach_writer.specs.Telling.{selection, slot_of, IsTaken, IsTold};
@@ -191,7 +191,7 @@ pub fn tell(
     ensures told { OnOk result ((ms : List Message) × (bytes.new.items ≡ bytes.old.items ++ stream_of ms)
         × Legal known.old.roster known.old.state ms (update.now ∷ []) known.new.state
         × (update.now.name ≡ None → (rest : List Update) → AllByRecursion (IsOfRoster known.old.roster) rest →
-        size_of_all ms + full known.old.roster known.new.state rest ≤ full known.old.roster known.old.state (update.now ∷ rest))) }
+        size_of_all ms + cost known.old.roster known.new.state rest ≤ cost known.old.roster known.old.state (update.now ∷ rest))) }
     ensures order { IfOk result (λ slot. (field : NameField) × (ms : List Message) × (slot ≡ slot_of field)
         × (bytes.new.items ≡ bytes.old.items ++ stream_of ms)
         × IsTold known.old.roster known.old.state kept.now update.now field ms known.new.state) }

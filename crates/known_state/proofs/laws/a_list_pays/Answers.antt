@@ -1,5 +1,5 @@
-use Rattle.known_state.proofs.StepPays.{list_pays}
+use Rattle.known_state.proofs.FullLaws.{list_pays_full}
 use Rattle.known_state.proofs.laws.a_list_pays.Goals as goal
 
 pub returns : goal.returns
-returns c = list_pays
+returns c = list_pays_full

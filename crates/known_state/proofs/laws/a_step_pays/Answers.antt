@@ -1,5 +1,5 @@
-use Rattle.known_state.proofs.StepPays.{step_pays}
+use Rattle.known_state.proofs.FullLaws.{step_pays_full}
 use Rattle.known_state.proofs.laws.a_step_pays.Goals as goal
 
 pub returns : goal.returns
-returns c = step_pays
+returns c = step_pays_full

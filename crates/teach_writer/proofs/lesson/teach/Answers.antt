@@ -8,7 +8,7 @@ use Rattle.peers_msg.specs.declared.message.Message.{Message}
 use Rattle.std.specs.List.{AllByRecursion}
 use Rattle.peers_msg.specs.Spelling.{stream_of, size_of_all}
 use Rattle.known_state.specs.Known.{KnownState, AreOwn}
-use Rattle.known_state.specs.Cost.{full, IsOfRoster}
+use Rattle.known_state.specs.Cost.{cost, IsOfRoster}
 use Rattle.peers_msg.specs.Steps.{Legal}
 use Rattle.known_state.specs.Requests.{IsTaught, AreNameless}
 use Rattle.known_state.proofs.BatchLemmas.{batch_taught}
@@ -52,18 +52,18 @@ loop-place-preserved c =
     let us = c.updates-updates.result.now in
     let before : List Message = c.loop-place.invariant.told.0 in
     let same : c.tell.new.known.roster ≡ c.loop-place.after.roster = search rules in
-    let told : (ms : List Message) × (c.tell.new.bytes.items ≡ c.loop-place.bytes.items ++ stream_of ms) × Legal c.loop-place.after.roster mid ms (u ∷ []) e × (u.name ≡ None → (rest : List Update) → AllByRecursion (IsOfRoster c.loop-place.after.roster) rest → size_of_all ms + full c.loop-place.after.roster e rest ≤ full c.loop-place.after.roster mid (u ∷ rest)) = search rules in
+    let told : (ms : List Message) × (c.tell.new.bytes.items ≡ c.loop-place.bytes.items ++ stream_of ms) × Legal c.loop-place.after.roster mid ms (u ∷ []) e × (u.name ≡ None → (rest : List Update) → AllByRecursion (IsOfRoster c.loop-place.after.roster) rest → size_of_all ms + cost c.loop-place.after.roster e rest ≤ cost c.loop-place.after.roster mid (u ∷ rest)) = search rules in
     let legal : Legal roster mid told.0 (u ∷ []) e = subst (λ (r : List Definition). Legal r mid told.0 (u ∷ []) e) c.loop-place.invariant.roster told.2 in
     let more : take i us ++ u ∷ [] ≡ take (i + 1) us = sym (take_more us i u c.loop-place-test.true ∙ ap (λ (x : Update). take i us ++ x ∷ []) (sym c.index-updates-place.is)) in
     let whole : Legal roster s (before ++ told.0) (take i us ++ u ∷ []) e = legal-append roster before told.0 s mid e (take i us) (u ∷ []) c.loop-place.invariant.told.2 legal in
     let bytes : c.tell.new.bytes.items ≡ stream_of (before ++ told.0) =
     told.1 ∙ ap (λ (x : List ℕ). x ++ stream_of told.0) c.loop-place.invariant.told.1 ∙ sym (stream-append before told.0) in
     let batch : IsBatchFor roster us = subst (λ (l : List Update). IsBatchFor roster l) (sym c.updates-updates.ensures.updates) c.requires.batch in
-    let cheap : u.name ≡ None → (rest : List Update) → AllByRecursion (IsOfRoster roster) rest → size_of_all told.0 + full roster e rest ≤ full roster mid (u ∷ rest) =
-    subst (λ (r : List Definition). u.name ≡ None → (rest : List Update) → AllByRecursion (IsOfRoster r) rest → size_of_all told.0 + full r e rest ≤ full r mid (u ∷ rest)) c.loop-place.invariant.roster told.3 in
+    let cheap : u.name ≡ None → (rest : List Update) → AllByRecursion (IsOfRoster roster) rest → size_of_all told.0 + cost roster e rest ≤ cost roster mid (u ∷ rest) =
+    subst (λ (r : List Definition). u.name ≡ None → (rest : List Update) → AllByRecursion (IsOfRoster r) rest → size_of_all told.0 + cost r e rest ≤ cost r mid (u ∷ rest)) c.loop-place.invariant.roster told.3 in
     let here : u ∷ drop (i + 1) us ≡ drop i us = sym (drop_more us i u c.loop-place-test.true ∙ ap (λ (x : Update). x ∷ drop (i + 1) us) (sym c.index-updates-place.is)) in
-    let left : AreNameless us → size_of_all told.0 + full roster e (drop (i + 1) us) ≤ full roster mid (drop i us) =
-    λ unnamed. subst (λ (l : List Update). size_of_all told.0 + full roster e (drop (i + 1) us) ≤ full roster mid l) here (cheap (nameless_at us i u unnamed c.loop-place-test.true c.index-updates-place.is) (drop (i + 1) us) (batch_rest roster us (i + 1) batch)) in
+    let left : AreNameless us → size_of_all told.0 + cost roster e (drop (i + 1) us) ≤ cost roster mid (drop i us) =
+    λ unnamed. subst (λ (l : List Update). size_of_all told.0 + cost roster e (drop (i + 1) us) ≤ cost roster mid l) here (cheap (nameless_at us i u unnamed c.loop-place-test.true c.index-updates-place.is) (drop (i + 1) us) (batch_rest roster us (i + 1) batch)) in
     let start : List Bool = c.loop-place.invariant.order.0 in
     let sent : List Message = c.loop-place.invariant.order.1 in
     let in_order : (field : NameField) × (ms : List Message) × (c.in_ok-slot.slot ≡ slot_of field) × (c.tell.new.bytes.items ≡ c.loop-place.bytes.items ++ stream_of ms) × IsTold c.loop-place.after.roster mid c.loop-place.kept u field ms e = search rules in
@@ -110,7 +110,7 @@ returns-clause-shortest c =
     let bytes : c.new.result ≡ stream_of ms = search rules in
     λ unnamed.
     let all : AreNameless us = subst (λ (l : List Update). AreNameless l) (sym same) unnamed in
-    let cheap : size_of_all ms ≤ full k.roster k.state c.args.batch.now = whole_cost k.roster k.state e ms i us c.args.batch.now ended same (c.loop-place.invariant.told.3 all) in
+    let cheap : size_of_all ms ≤ cost k.roster k.state c.args.batch.now = whole_cost k.roster k.state e ms i us c.args.batch.now ended same (c.loop-place.invariant.told.3 all) in
     (ms, bytes, shortest_at_end k c.args.batch.now ms e own unnamed c.requires.batch legal cheap)
 
 pub returns-clause-order : goal.returns-clause-order

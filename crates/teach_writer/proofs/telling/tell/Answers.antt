@@ -19,7 +19,7 @@ use Rattle.teach_writer.specs.Naming.{IsNameField}
 use Rattle.teach_writer.specs.Telling.{IsTaken, IsTold, selection, update_told}
 use Rattle.teach_writer.proofs.TellingLaws.{told_taken, told_carries, told_legal, stream-one, stream-append}
 use Rattle.known_state.proofs.KnownLemmas.{table_at-id}
-use Rattle.known_state.specs.Cost.{KnowsLess, with_selected, knowledge_of, knowledge_after, selection_cost, written_cost, written_field, full, full_from, IsOfRoster}
+use Rattle.known_state.specs.Cost.{KnowsLess, with_selected, knowledge_of, knowledge_after, selection_cost, written_cost, written_field, cost, cost_from, IsOfRoster}
 use Rattle.teach_writer.proofs.ShortLaws.{told_cheap, tell_cheap}
 use Rattle.known_state.proofs.BatchLemmas.{row_of_fits}
 use Rattle.teach_writer.proofs.telling.tell.Goals as goal
@@ -77,14 +77,14 @@ returns-clause-told c =
     ∙ ap (λ x. c.args.bytes.now.items ++ x) (ap (λ x. stream_of chosen.0 ++ x) (sym (stream-one m)) ∙ sym (stream-append chosen.0 (m ∷ []))) in
     let by_roster : table_at k.roster u.table ≡ Some d = ap (λ (r : List Definition). table_at r u.table) same_roster ∙ listed in
     let each_field : (d : Definition) → table_at k.roster u.table ≡ Some d → IsNameField c.args.kept.now k.state.slots (stores_name d) u.name field = search rules in
-    let cheap : u.name ≡ None → (rest : List Update) → AllByRecursion (IsOfRoster roster) rest → size_of_all (chosen.0 ++ m ∷ []) + full roster e rest ≤ full roster s (u ∷ rest) =
+    let cheap : u.name ≡ None → (rest : List Update) → AllByRecursion (IsOfRoster roster) rest → size_of_all (chosen.0 ++ m ∷ []) + cost roster e rest ≤ cost roster s (u ∷ rest) =
     λ unnamed rest all.
     let bare : NameField = written_field (stores_name d) None in
     let field_is : field ≡ bare = subst (λ (n : Option (List ℕ)). IsNameField c.args.kept.now k.state.slots (stores_name d) n field) unnamed (each_field d by_roster) in
     let plain : Step k.state (messages.Update (told_as c.last.result bare u)) step.0 e = subst (λ (f : NameField). Step k.state (messages.Update (told_as c.last.result f u)) step.0 e) field_is as_told in
     let plainly : c.in_ok-told.told ≡ told_as c.last.result bare u = told_is ∙ ap (λ (f : NameField). told_as c.last.result f u) field_is in
     tell_cheap roster s e u m chosen.0 rest chosen.3
-    (subst (λ (t : UpdateFields). size_of (messages.Update t) + full roster e rest ≤ written_cost roster (knowledge_of s) u + full_from roster (knowledge_after (knowledge_of s) u) rest) (sym plainly)
+    (subst (λ (t : UpdateFields). size_of (messages.Update t) + cost roster e rest ≤ written_cost roster (knowledge_of s) u + cost_from roster (knowledge_after (knowledge_of s) u) rest) (sym plainly)
     (told_cheap roster s k.state e d u c.last.result step.0 rest knows (selected ∙ listed) (table_at-id roster u.table d listed) listed unnamed here plain carried all)) in
     (chosen.0 ++ m ∷ [], bytes, told_legal roster s k.state e chosen.0 m u step.0 chosen.2 tt carried step.1, cheap)
 
