@@ -27,7 +27,7 @@ use Rattle.known_state.proofs.StepLemmas.{has_id-table_at}
 use Rattle.known_state.specs.Cost.{Knowledge, KnowsLess, with_selected, knowledge_after, follows, number_told, told_as, written_field, is_named_table, written_cost, is_selected, definition_cost, selection_cost, cost_from, saving, is_held, IsOfRoster}
 
 -- framed data grow with the data
-framed_longer : (c k c' k' : ℕ) (a b : List ℕ) → length a ≤ length b → length (framed c k a) ≤ length (framed c' k' b)
+pub framed_longer : (c k c' k' : ℕ) (a b : List ℕ) → length a ≤ length b → length (framed c k a) ≤ length (framed c' k' b)
 framed_longer c k c' k' a b le =
     omega (arith, length-append (spelling (length a)) a, length-append (spelling (length b)) b, integers.longer (length a) (length b) le)
 

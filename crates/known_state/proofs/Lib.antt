@@ -13,3 +13,5 @@ pub mod RisingLemmas
 pub mod InStepLaws
 pub mod ShortestLaws
 pub mod FullLaws
+pub mod RosterLemmas
+pub mod ReadLaws

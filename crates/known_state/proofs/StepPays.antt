@@ -160,7 +160,7 @@ step_pays roster s mid (messages.Ack table number) one rest own is_own all (fit,
 step_pays roster s mid (messages.Other o) one rest own is_own all (fit, none, is) = stays_pays roster s mid (messages.Other o) one rest none is
 
 -- what is heard behind a legal step is the roster's own
-own_stays : (roster : List Definition) (s mid : State) (m : Message) (one : List Update) → AreOwn roster s.heard.tables → IsOwn roster m → Step s m one mid → AreOwn roster mid.heard.tables
+pub own_stays : (roster : List Definition) (s mid : State) (m : Message) (one : List Update) → AreOwn roster s.heard.tables → IsOwn roster m → Step s m one mid → AreOwn roster mid.heard.tables
 own_stays roster s mid (messages.Define d) one own is_own (fit, none, is) = subst (λ (x : State). AreOwn roster x.heard.tables) (sym is) (AreOwn-defined roster d s.heard.tables is_own own)
 own_stays roster s mid (messages.Switch id) one own is_own (fit, none, is) = subst (λ (x : State). AreOwn roster x.heard.tables) (sym is) own
 own_stays roster s mid (messages.Update m) one own is_own (fit, table, on, number, numbered, name, named, carried, heard, lasts) = subst (λ (x : Heard). AreOwn roster x.tables) (sym heard) own

@@ -1,11 +1,13 @@
 -- What a batch asks of the dictionary of server names (own).
-use Rattle.std.specs.Prelude.{◌≡◌, ℕ, true, List, [], ◌∷◌, ◌++◌, fold, Option, Some, None}
+use Rattle.std.specs.Prelude.{◌≡◌, ℕ, ◌+◌, ◌-◌, Bool, true, false, List, [], ◌∷◌, ◌++◌, fold, Option, Some, None}
 use Rattle.std.specs.List.{AllByRecursion}
 use Rattle.table_types.specs.declared.update.Update.{Update}
 use Rattle.table_types.specs.Tables.{Definition}
 use Rattle.table_types.specs.Updates.{fits}
 use Rattle.table_types.specs.Rosters.{table_at}
+use Rattle.peers_msg.specs.declared.name_field.NameField.{NameField}
 use Rattle.peers_msg.specs.declared.name_field.NameField.TheVariants as names
+use Rattle.peers_msg.specs.declared.message.Message.{Message}
 use Rattle.peers_msg.specs.declared.message.Message.TheVariants as messages
 use Rattle.peers_msg.specs.Spelling.{size_of}
 use Rattle.known_state.specs.Cost.{Knowledge, knowledge_after, told_as, written_cost}
@@ -37,6 +39,29 @@ knowledge_behind k us = fold knowledge_after k us
 -- the update is one of a table of the roster
 abbrev pub IsTaught : List Definition → Update → Type 0
 IsTaught roster u = (d : Definition) × (table_at roster u.table ≡ Some d) × (fits d u ≡ true)
+
+-- ---- what a list of messages reads
+
+-- the mark of a name field: true where the name is read, false where it is written; a field without a name has none
+abbrev pub mark_of : NameField → List Bool
+mark_of (names.Held slot) = true ∷ []
+mark_of (names.Written slot name) = false ∷ []
+mark_of field = []
+
+-- one mark for each update with a name, in order: whether its message reads the name
+abbrev pub reads_of : List Message → List Bool
+reads_of [] = []
+reads_of (messages.Update u ∷ ms) = mark_of u.name ++ reads_of ms
+reads_of (m ∷ ms) = reads_of ms
+
+-- what the requests save that are read, by the mark of each: its cost written, less its cost read
+abbrev pub read_savings : List Asked → List Bool → ℕ
+read_savings [] marks = 0
+read_savings (r ∷ rs) [] = 0
+read_savings (r ∷ rs) (true ∷ marks) = (r.write_cost - r.read_cost) + read_savings rs marks
+read_savings (r ∷ rs) (false ∷ marks) = read_savings rs marks
+
+-- ---- batches that ask for nothing
 
 -- no update has a name
 abbrev pub AreNameless : List Update → Type 0

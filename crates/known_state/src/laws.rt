@@ -1,18 +1,19 @@
 //! What holds of known states, whatever the program does.
 
-ghost use Rattle.std.specs.Prelude.{◌≡◌, ◌≤◌, ◌+◌, ◌++◌, ℕ, true, false, List, Option};
+ghost use Rattle.std.specs.Prelude.{◌≡◌, ◌≤◌, ◌+◌, ◌++◌, ℕ, true, false, List, length, None, Option};
 ghost use Rattle.std.specs.List.{AllByRecursion};
 ghost use Rattle.table_types.specs.declared.update.Update.{Update};
+ghost use Rattle.table_types.specs.Rosters.{roster_fault};
 ghost use Rattle.table_types.specs.Tables.{Definition};
 ghost use Rattle.peers_msg.specs.declared.message.Message.{Message};
 ghost use Rattle.peers_msg.specs.Spelling.{stream_of, size_of_all};
 ghost use Rattle.peers_msg.specs.declared.name_field.NameField.{NameField};
-ghost use Rattle.peers_msg.specs.Steps.{State, Step, Named, IsOwn, Legal, fresh};
+ghost use Rattle.peers_msg.specs.Steps.{State, Step, Teaches, Named, IsOwn, Legal, fresh};
 ghost use Rattle.known_state.specs.declared.known.StepError.{StepError};
 ghost use Rattle.known_state.specs.Known.{KnownState, AreOwn, stores_no_name, Refuses};
 ghost use Rattle.known_state.specs.Resolving.{reads_empty, name_of, slots_after};
-ghost use Rattle.known_state.specs.Requests.{AreNameless};
-ghost use Rattle.known_state.specs.Cost.{IsOfRoster, Pays, Saves, cost, full};
+ghost use Rattle.known_state.specs.Requests.{AreNameless, read_savings, reads_of, requests_of};
+ghost use Rattle.known_state.specs.Cost.{IsOfRoster, Knowledge, Pays, Saves, cost, full, knowledge_of};
 ghost use Rattle.known_state.specs.Shortest.{Shortest};
 ghost use Rattle.known_state.specs.Told.{known_of, AreRising};
 
@@ -52,6 +53,17 @@ pub fn a_list_pays()
     ensures { (roster : List Definition) (s e : State) (ms : List Message) (us : List Update) →
         AreOwn roster s.heard.tables → AllByRecursion (IsOfRoster roster) us → Legal roster s ms us e →
         (saved : ℕ) × Saves roster s ms us saved × (full roster s us ≤ size_of_all ms + saved) }
+{}
+
+/// A legal list has at least the size of the lesson with every name written, less the savings of the requests that it
+/// reads; it has one mark for each request.
+pub fn reads_pay()
+    ensures pay { (roster : List Definition) (s e : State) (ms : List Message) (us : List Update) →
+        roster_fault roster ≡ None → AreOwn roster s.heard.tables → AllByRecursion (IsOfRoster roster) us →
+        Legal roster s ms us e →
+        full roster s us ≤ size_of_all ms + read_savings (requests_of roster (knowledge_of s) us) (reads_of ms) }
+    ensures marks { (roster : List Definition) (k : Knowledge) (s e : State) (ms : List Message) (us : List Update) →
+        Teaches s ms us e → length (reads_of ms) ≡ length (requests_of roster k us) }
 {}
 
 /// Where no update has a name, no legal list is shorter than the lesson.
