@@ -1,5 +1,5 @@
 -- What a scene asks for is what was taught or learned.
-use Rattle.std.proofs.Common.{◌≡◌, ◌≢◌, ◌∙◌, ◌⊎◌, ◌++◌, inl, inr, List, ap, refl, subst, sym, ℕ}
+use Rattle.std.proofs.Common.{Bool, ◌≡◌, ◌≢◌, ◌∙◌, ◌⊎◌, ◌++◌, inl, inr, List, ap, refl, subst, sym, ℕ}
 use Rattle.std.specs.Prelude.{Result, Ok, Err, Some}
 use Rattle.table_types.specs.Tables.{Definition}
 use Rattle.table_types.specs.declared.update.Update.{Update}
@@ -22,14 +22,14 @@ use Rattle.scene_commands.specs.declared.ending.Ending.TheVariants as endings
 -- what is taught for the roster, the state and the batch of a scene is the scene's lesson
 pub lesson_of_scene : (scene : Scene) (roster : List Definition) (known : KnownState) (batch : List Update) (ms : List Message) (after : State)
     → roster ≡ scene.tables.items → known ≡ built roster scene.selected scene.defined.items scene.last.items scene.slots → batch ≡ scene.updates.items
-    → Legal known.roster known.state ms batch after → (AreNameless batch → Shortest known batch ms) → GoesThrough known batch (stream_of ms) after
+    → Legal known.roster known.state ms batch after → (AreNameless batch → Shortest known batch ms) → (marks : List Bool) × GoesThrough known batch marks (stream_of ms) after
     → IsLesson scene ms
 unfolding IsLesson
 lesson_of_scene scene roster known batch ms after roster_is known_is batch_is legal shortest order =
     let start : known ≡ start_of scene = known_is ∙ ap (λ r. built r scene.selected scene.defined.items scene.last.items scene.slots) roster_is in
-    let of_batch : (e : State) × Legal known.roster known.state ms scene.updates.items e × (AreNameless scene.updates.items → Shortest known scene.updates.items ms) × GoesThrough known scene.updates.items (stream_of ms) e =
-    subst (λ (us : List Update). (e : State) × Legal known.roster known.state ms us e × (AreNameless us → Shortest known us ms) × GoesThrough known us (stream_of ms) e) batch_is (after, legal, shortest, order) in
-    subst (λ (k : KnownState). (e : State) × Legal k.roster k.state ms scene.updates.items e × (AreNameless scene.updates.items → Shortest k scene.updates.items ms) × GoesThrough k scene.updates.items (stream_of ms) e) start of_batch
+    let of_batch : (e : State) × Legal known.roster known.state ms scene.updates.items e × (AreNameless scene.updates.items → Shortest known scene.updates.items ms) × (marks : List Bool) × GoesThrough known scene.updates.items marks (stream_of ms) e =
+    subst (λ (us : List Update). (e : State) × Legal known.roster known.state ms us e × (AreNameless us → Shortest known us ms) × (marks : List Bool) × GoesThrough known us marks (stream_of ms) e) batch_is (after, legal, shortest, order.0, order.1) in
+    subst (λ (k : KnownState). (e : State) × Legal k.roster k.state ms scene.updates.items e × (AreNameless scene.updates.items → Shortest k scene.updates.items ms) × (marks : List Bool) × GoesThrough k scene.updates.items marks (stream_of ms) e) start of_batch
 
 -- a learner that knows nothing, and is fed bytes that are the scene's stream
 pub learned_of_scene : (scene : Scene) (now : ℕ) (roster : List Definition) (fresh : Learning) (bytes : List ℕ) (answer : Result ℕ Fault) (l : Learning)

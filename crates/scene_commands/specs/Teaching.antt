@@ -1,5 +1,5 @@
 -- What the lesson of a scene is.
-use Rattle.std.specs.Prelude.{List}
+use Rattle.std.specs.Prelude.{Bool, List}
 use Rattle.peers_msg.specs.declared.message.Message.{Message}
 use Rattle.peers_msg.specs.Spelling.{stream_of}
 use Rattle.peers_msg.specs.Steps.{State, Legal}
@@ -19,4 +19,4 @@ unfoldable pub IsLesson : Scene → List Message → Type 0
 IsLesson scene messages =
     (after : State) × Legal scene.tables.items (start_of scene).state messages scene.updates.items after
     × (AreNameless scene.updates.items → Shortest (start_of scene) scene.updates.items messages)
-    × GoesThrough (start_of scene) scene.updates.items (stream_of messages) after
+    × (marks : List Bool) × GoesThrough (start_of scene) scene.updates.items marks (stream_of messages) after

@@ -2,3 +2,4 @@ pub mod TellingLaws
 pub mod ShortLaws
 pub mod NamingLaws
 pub mod OrderLaws
+pub mod MarkLaws

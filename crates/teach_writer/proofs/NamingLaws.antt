@@ -4,7 +4,7 @@ use Rattle.std.proofs.Common.{◌≡◌, ℕ, ◌-◌, Bool, true, false, List, 
 use Rattle.std.proofs.lemmas.Bool.Decides.{nat_tests}
 use Rattle.std.proofs.lemmas.List.{set-get_or, get_or-replicate}
 use Rattle.table_types.specs.declared.update.Update.{Update}
-use Rattle.teach_writer.specs.Naming.{none_kept, kept_at, is_asked, IsKeptAtStart, IsSettled}
+use Rattle.teach_writer.specs.Kept.{none_kept, kept_at, is_asked, IsKeptAtStart, IsSettled}
 
 -- where nothing is kept, no slot has to be one that may
 pub start_none : (slots : List (Option (List ℕ))) (us : List Update) (kept : List Bool) → kept ≡ none_kept → IsKeptAtStart slots us kept

@@ -1,68 +1,65 @@
--- Through which slots the names of a lesson go (own).
-use Rattle.std.specs.Prelude.{◌≡◌, ◌≤◌, ℕ, ◌-◌, Bool, true, false, ◌||◌, List, [], ◌∷◌, is_some, replicate, slice_index_or, slice_set, Option, Some, None, if◌then◌else◌}
+-- Through which slots the names of a lesson go (own). A request is an update with a name; each has a mark, whether it is
+-- kept. A request has a link where its name was requested before, or stands in a slot at the start.
+use Rattle.std.specs.Prelude.{◌≡◌, ◌≤◌, ℕ, ◌+◌, Bool, true, false, List, [], ◌∷◌, is_some, Option, Some, None, if◌then◌else◌}
 use Rattle.table_types.specs.declared.update.Update.{Update}
 use Rattle.table_types.specs.Rosters.{is_same_name}
 use Rattle.table_types.specs.Slots.{is_slot}
-use Rattle.dict_slots.specs.Slots.{Holds}
 use Rattle.peers_msg.specs.declared.name_field.NameField.{NameField}
 use Rattle.peers_msg.specs.declared.name_field.NameField.TheVariants as names
 use Rattle.known_state.specs.Cost.{written_field}
-
--- no slot's name is kept
-abbrev pub none_kept : List Bool
-none_kept = replicate 128 false
-
--- whether the name that a slot, 1 to 128, holds is kept for a later update that asks for it
-abbrev pub kept_at : List Bool → ℕ → Bool
-kept_at kept slot = slice_index_or kept (slot - 1) false
-
--- the name is kept in that slot
-abbrev pub Keeps : List Bool → List (Option (List ℕ)) → ℕ → List ℕ → Type 0
-Keeps kept slots slot name = (kept_at kept slot ≡ true) × Holds slots slot name
-
--- that slot may be written: no name is kept there
-abbrev pub IsFree : List Bool → ℕ → Type 0
-IsFree kept slot = (is_slot slot ≡ true) × (kept_at kept slot ≡ false)
-
--- How an update's name is told. One that is kept is read, in the lowest slot that keeps it; any other is written, to the
--- lowest slot that is free. An update without a name has an empty field where its table stores names, and else no field.
-abbrev pub IsNameField : List Bool → List (Option (List ℕ)) → Bool → Option (List ℕ) → NameField → Type 0
-IsNameField kept slots stored (Some name) (names.Held slot) =
-    Keeps kept slots slot name × ((other : ℕ) → Keeps kept slots other name → slot ≤ other)
-IsNameField kept slots stored (Some name) (names.Written slot written) =
-    (written ≡ name)
-    × ((other : ℕ) → Keeps kept slots other name → ⊥)
-    × IsFree kept slot
-    × ((other : ℕ) → IsFree kept other → slot ≤ other)
-IsNameField kept slots stored (Some name) field = ⊥
-IsNameField kept slots stored None field = field ≡ written_field stored None
 
 abbrev pub is_that_name : List ℕ → Option (List ℕ) → Bool
 is_that_name name None = false
 is_that_name name (Some asked) = is_same_name asked name
 
--- whether an update asks for the name
-abbrev pub is_asked : List ℕ → List Update → Bool
-is_asked name [] = false
-is_asked name (u ∷ us) = is_that_name name u.name || is_asked name us
+abbrev pub lowest_from : ℕ → List (Option (List ℕ)) → List ℕ → Option ℕ
+lowest_from slot [] name = None
+lowest_from slot (held ∷ slots) name = if is_that_name name held then Some slot else lowest_from (slot + 1) slots name
 
--- a slot may keep its name from the start: it is the lowest that holds that name, and an update asks for it
-abbrev pub MayKeep : List (Option (List ℕ)) → List Update → ℕ → Type 0
-MayKeep slots us slot =
-    (name : List ℕ) × Holds slots slot name
-    × ((other : ℕ) → Holds slots other name → slot ≤ other)
-    × (is_asked name us ≡ true)
+-- The slot in which a link for each name begins: at the start the lowest slot that holds the name, and then the slot that
+-- the last request for it read or wrote. Without one the next request for the name has no link.
+abbrev pub starts_at_first : List (Option (List ℕ)) → List ℕ → Option ℕ
+starts_at_first slots = λ name. lowest_from 1 slots name
 
--- before the first of the updates only such slots keep their names; not all of them have to
-abbrev pub IsKeptAtStart : List (Option (List ℕ)) → List Update → List Bool → Type 0
-IsKeptAtStart slots us kept = (slot : ℕ) → is_slot slot ≡ true → kept_at kept slot ≡ true → MayKeep slots us slot
+abbrev pub starts_behind : (List ℕ → Option ℕ) → Option (List ℕ) → Option ℕ → List ℕ → Option ℕ
+starts_behind starts (Some name) (Some slot) = λ other. if is_same_name name other then Some slot else starts other
+starts_behind starts name slot = starts
 
--- Behind an update whose name went through that slot, the slot may keep the name where a later update asks for it, and
--- else keeps nothing; every other slot stays as it was. Behind an update without a name nothing changes.
-abbrev pub IsSettled : List Bool → Option ℕ → Option (List ℕ) → List Update → List Bool → Type 0
-IsSettled kept (Some slot) (Some name) later next =
-    (keeps : Bool) × (keeps ≡ true → is_asked name later ≡ true) × (next ≡ slice_set kept (slot - 1) keeps)
-IsSettled kept slot name later next = next ≡ kept
+-- the mark of the first request, and those of the requests behind an update
+abbrev pub first_mark : List Bool → Bool
+first_mark [] = false
+first_mark (mark ∷ marks) = mark
+
+abbrev pub marks_behind : Option (List ℕ) → List Bool → List Bool
+marks_behind None marks = marks
+marks_behind (Some name) [] = []
+marks_behind (Some name) (mark ∷ marks) = marks
+
+-- whether the next request for a name is kept
+abbrev pub keeps_next : List ℕ → List Update → List Bool → Bool
+keeps_next name [] marks = false
+keeps_next name (u ∷ us) marks = if is_that_name name u.name then first_mark marks else keeps_next name us (marks_behind u.name marks)
+
+-- A name is kept over the place of the first of these updates in that slot: it is the very slot that a kept link will
+-- read, which began before and ends behind.
+abbrev pub IsKeptOver : (List ℕ → Option ℕ) → List Update → List Bool → ℕ → Type 0
+IsKeptOver starts us marks slot = (name : List ℕ) × (starts name ≡ Some slot) × (keeps_next name us marks ≡ true)
+
+-- that slot may be written there: no name is kept in it
+abbrev pub IsOpen : (List ℕ → Option ℕ) → List Update → List Bool → ℕ → Type 0
+IsOpen starts us marks slot = (is_slot slot ≡ true) × (IsKeptOver starts us marks slot → ⊥)
+
+-- How the name of the first of these updates is told. A kept request reads the slot in which its link began; any other name
+-- is written, to the lowest slot in which no name is kept over this place. An update without a name has an empty field where
+-- its table stores names, and else no field.
+abbrev pub IsNamed : (List ℕ → Option ℕ) → List Update → List Bool → Bool → Option (List ℕ) → NameField → Type 0
+IsNamed starts us (true ∷ marks) stored (Some name) (names.Held slot) = starts name ≡ Some slot
+IsNamed starts us (false ∷ marks) stored (Some name) (names.Written slot written) =
+    (written ≡ name)
+    × IsOpen starts us (false ∷ marks) slot
+    × ((other : ℕ) → IsOpen starts us (false ∷ marks) other → slot ≤ other)
+IsNamed starts us marks stored (Some name) field = ⊥
+IsNamed starts us marks stored None field = field ≡ written_field stored None
 
 -- a price of 0 for each update with a name
 abbrev pub no_prices : List Update → List ℕ

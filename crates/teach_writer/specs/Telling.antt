@@ -4,7 +4,6 @@
 use Rattle.std.specs.Prelude.{◌≡◌, ℕ, Bool, false, ◌==◌, List, [], ◌∷◌, ◌++◌, is_some, Option, Some, None, if◌then◌else◌}
 use Rattle.table_types.specs.declared.update.Update.{Update}
 use Rattle.table_types.specs.Tables.{Definition}
-use Rattle.table_types.specs.Updates.{stores_name}
 use Rattle.table_types.specs.Rosters.{table_at}
 use Rattle.peers_msg.specs.declared.name_field.NameField.{NameField}
 use Rattle.peers_msg.specs.declared.name_field.NameField.TheVariants as names
@@ -15,8 +14,8 @@ use Rattle.peers_msg.specs.Spelling.{stream_of}
 use Rattle.peers_msg.specs.Steps.{State, Step, Teaches, last_of}
 use Rattle.known_state.specs.declared.known.StepError.{StepError}
 use Rattle.known_state.specs.Known.{KnownState, Refuses}
-use Rattle.known_state.specs.Cost.{told_as}
-use Rattle.teach_writer.specs.Naming.{IsNameField, IsSettled, IsKeptAtStart}
+use Rattle.known_state.specs.Cost.{told_as, is_named_table}
+use Rattle.teach_writer.specs.Naming.{IsNamed, starts_at_first, starts_behind, marks_behind}
 
 abbrev pub is_table : Option Definition → ℕ → Bool
 is_table None id = false
@@ -42,32 +41,33 @@ IsTaken k m = (e : StepError) → Refuses k m e → ⊥
 abbrev pub update_told : State → NameField → Update → Message
 update_told s field u = messages.Update (told_as (last_of s.lasts u.table) field u)
 
--- These messages tell one update and lead from s to e, where those slots keep their names: what selects its table, then
--- the update in its shortest number form, its name read or written as IsNameField says.
-abbrev pub IsTold : List Definition → State → List Bool → Update → NameField → List Message → State → Type 0
-IsTold roster s kept u field ms e =
+-- These messages tell one update and lead from s to e: what selects its table, then the update in its shortest number form,
+-- with that name field.
+abbrev pub IsTold : List Definition → State → Update → NameField → List Message → State → Type 0
+IsTold roster s u field ms e =
     (d : Definition) × (mid : State)
     × (table_at roster u.table ≡ Some d)
     × Teaches s (selection s.heard d) [] mid
-    × IsNameField kept mid.slots (stores_name d) u.name field
     × Step mid (update_told mid field u) (u ∷ []) e
     × (ms ≡ selection s.heard d ++ update_told mid field u ∷ [])
 
--- these messages tell the updates one after another, and nothing else
-abbrev pub AreTold : List Definition → State → List Bool → List Update → List Message → State → Type 0
-AreTold roster s kept [] ms e = (ms ≡ []) × (e ≡ s)
-AreTold roster s kept (u ∷ us) ms e =
-    (field : NameField) × (first : List Message) × (mid : State) × (next : List Bool) × (rest : List Message)
-    × IsTold roster s kept u field first mid
-    × IsSettled kept (slot_of field) u.name us next
-    × AreTold roster mid next us rest e
+-- whether the update's table stores names
+abbrev pub is_stored : List Definition → Update → Bool
+is_stored roster u = is_named_table (table_at roster u.table)
+
+-- These messages tell the updates one after another, and nothing else, with one mark for each request: each name is read or
+-- written as IsNamed says.
+abbrev pub AreTold : List Definition → State → (List ℕ → Option ℕ) → List Update → List Bool → List Message → State → Type 0
+AreTold roster s starts [] marks ms e = (marks ≡ []) × (ms ≡ []) × (e ≡ s)
+AreTold roster s starts (u ∷ us) marks ms e =
+    (field : NameField) × (first : List Message) × (mid : State) × (rest : List Message)
+    × IsTold roster s u field first mid
+    × IsNamed starts (u ∷ us) marks (is_stored roster u) u.name field
+    × AreTold roster mid (starts_behind starts u.name (slot_of field)) us (marks_behind u.name marks) rest e
     × (ms ≡ first ++ rest)
 
--- The bytes go through the updates in order: they spell messages that tell one after another, and nothing else, from the
--- known state to the state e.
-abbrev pub GoesThrough : KnownState → List Update → List ℕ → State → Type 0
-GoesThrough k us bytes e =
-    (kept : List Bool) × (ms : List Message)
-    × IsKeptAtStart k.state.slots us kept
-    × AreTold k.roster k.state kept us ms e
-    × (bytes ≡ stream_of ms)
+-- The bytes go through the updates in order, and keep the requests that are marked so: they spell messages that tell one
+-- update after another, and nothing else, from the known state to the state e.
+abbrev pub GoesThrough : KnownState → List Update → List Bool → List ℕ → State → Type 0
+GoesThrough k us marks bytes e =
+    (ms : List Message) × AreTold k.roster k.state (starts_at_first k.state.slots) us marks ms e × (bytes ≡ stream_of ms)

@@ -2,7 +2,7 @@
 
 ghost use Rattle.std.specs.Prelude.{◌≡◌, ◌≤◌, ◌-◌, ℕ, true, false, ◌⊎◌, IsTrue, ◌↔◌, Some, IfSome, IsNone, option_copied, slice_set};
 ghost use Rattle.table_types.specs.Slots.{slot_at, is_slot};
-ghost use Rattle.teach_writer.specs.Naming.{none_kept, Keeps, IsFree};
+ghost use Rattle.teach_writer.specs.Kept.{none_kept, Keeps, IsFree};
 
 use dict_slots::Slots;
 use std::marker::Model;
@@ -17,7 +17,7 @@ pub struct Kept {
 
 impl Model for Kept {
     ghost use Rattle.std.specs.Prelude.{◌≡◌, ℕ, Bool, List, length};
-    ghost use Rattle.teach_writer.specs.Naming.{IsFree};
+    ghost use Rattle.teach_writer.specs.Kept.{IsFree};
 
     ghost Value = { List Bool };
 

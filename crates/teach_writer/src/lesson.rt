@@ -1,6 +1,6 @@
 //! Lessons.
 
-ghost use Rattle.std.specs.Prelude.{◌≡◌, true, IsTrue, ◌↔◌, IfOk, IfSome, List, option_copied};
+ghost use Rattle.std.specs.Prelude.{◌≡◌, true, IsTrue, ◌↔◌, IfOk, IfSome, Bool, List, length, option_copied};
 ghost use Rattle.table_types.specs.Batches.{IsBatchFor};
 ghost use Rattle.table_types.specs.Slots.{is_slot};
 ghost use Rattle.peers_msg.specs.declared.message.Message.{Message};
@@ -8,7 +8,8 @@ ghost use Rattle.peers_msg.specs.Spelling.{stream_of};
 ghost use Rattle.known_state.specs.Lessons.{IsLessonFor};
 ghost use Rattle.known_state.specs.Requests.{AreNameless};
 ghost use Rattle.known_state.specs.Shortest.{Shortest};
-ghost use Rattle.teach_writer.specs.Naming.{is_that_name, is_asked, no_prices, MayKeep, IsKeptAtStart, IsSettled};
+ghost use Rattle.teach_writer.specs.Naming.{is_that_name, no_prices};
+ghost use Rattle.teach_writer.specs.Kept.{is_asked, MayKeep, IsKeptAtStart, IsSettled};
 ghost use Rattle.teach_writer.specs.Telling.{GoesThrough};
 
 use crate::kept::Kept;
@@ -81,10 +82,11 @@ fn may_keep(slots: &Slots, updates: &[Update], slot: u8) -> bool
 /// What is kept at the start: each name that the slots hold and an update asks for, in the lowest slot that holds it,
 /// where another slot stays free.
 fn kept_at_start(slots: &Slots, updates: &[Update]) -> Kept
-    ensures { IsKeptAtStart slots.now updates.now result }
+    ensures kept { IsKeptAtStart slots.now updates.now result }
+    ensures count { length slots.now ≡ 128 }
 {
     let mut kept = Kept::none();
-    for slot in 1..=Slots::COUNT {
+    for slot in 1..=slots.len() as u8 {
         if may_keep(slots, updates, slot) {
             kept.keep(slot);
         }
@@ -135,7 +137,7 @@ pub fn teach(alloc: Global, known: &Known, batch: &Batch) -> Result<Lesson, Teac
     ensures taught { IfOk result (λ lesson. IsLessonFor known.now batch.now lesson.bytes lesson.known) }
     ensures shortest { IfOk result (λ lesson. AreNameless batch.now →
         (ms : List Message) × (lesson.bytes ≡ stream_of ms) × Shortest known.now batch.now ms) }
-    ensures order { IfOk result (λ lesson. GoesThrough known.now batch.now lesson.bytes lesson.known.state) }
+    ensures order { IfOk result (λ lesson. (marks : List Bool) × GoesThrough known.now batch.now marks lesson.bytes lesson.known.state) }
     ensures prices { IfOk result (λ lesson. lesson.prices ≡ no_prices batch.now) }
 {
     let updates = batch.updates();

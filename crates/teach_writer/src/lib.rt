@@ -2,9 +2,11 @@
 #![tactic(auto)]
 
 mod kept;
+mod laws;
 mod lesson;
 mod telling;
 #[cfg(test)]
 mod tests;
 
+pub use laws::marks_are_reads;
 pub use lesson::{Lesson, TeachError, teach};

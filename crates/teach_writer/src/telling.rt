@@ -16,8 +16,8 @@ ghost use Rattle.peers_msg.specs.Spelling.{spelled, stream_of, size_of_all};
 ghost use Rattle.peers_msg.specs.Steps.{Step, Teaches, IsOwn, Legal};
 ghost use Rattle.known_state.specs.Cost.{number_told, told_as, knowledge_of, with_selected, selection_cost, KnowsLess, IsOfRoster, cost};
 ghost use Rattle.known_state.specs.Requests.{IsTaught};
-ghost use Rattle.teach_writer.specs.Naming.{IsNameField};
-ghost use Rattle.teach_writer.specs.Telling.{selection, slot_of, IsTaken, IsTold};
+ghost use Rattle.teach_writer.specs.Kept.{IsNameField};
+ghost use Rattle.teach_writer.specs.Telling.{selection, slot_of, is_stored, IsTaken, IsTold};
 
 use crate::kept::Kept;
 use dict_slots::Slots;
@@ -194,7 +194,8 @@ pub fn tell(
         size_of_all ms + cost known.old.roster known.new.state rest ≤ cost known.old.roster known.old.state (update.now ∷ rest))) }
     ensures order { IfOk result (λ slot. (field : NameField) × (ms : List Message) × (slot ≡ slot_of field)
         × (bytes.new.items ≡ bytes.old.items ++ stream_of ms)
-        × IsTold known.old.roster known.old.state kept.now update.now field ms known.new.state) }
+        × IsTold known.old.roster known.old.state update.now field ms known.new.state
+        × IsNameField kept.now known.old.state.slots (is_stored known.old.roster update.now) update.now.name field) }
     ensures slot { IfOk result (λ slot. IfSome slot (λ id. is_slot id ≡ true)) }
     ensures roster { known.new.roster ≡ known.old.roster }
 {

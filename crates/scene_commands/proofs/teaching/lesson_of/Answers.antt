@@ -1,4 +1,4 @@
-use Rattle.std.proofs.Common.{◌∙◌, ℕ, List, subst, sym}
+use Rattle.std.proofs.Common.{◌∙◌, ℕ, Bool, List, subst, sym}
 use Rattle.known_state.specs.Requests.{AreNameless}
 use Rattle.known_state.specs.Shortest.{Shortest}
 use Rattle.known_state.proofs.ShortestLaws.{same_bytes}
@@ -13,7 +13,7 @@ returns-clause-lesson c =
     let known = c.in_ok-known.known in
     let batch = c.in_ok-batch.batch in
     let after = c.in_ok-teach.field-0.known.state in
-    let order = subst (λ (bytes : List ℕ). GoesThrough known batch bytes after) taught.1 c.in_ok-teach.ensures.order in
+    let order = subst (λ (bytes : List ℕ). (marks : List Bool) × GoesThrough known batch marks bytes after) taught.1 c.in_ok-teach.ensures.order in
     let shortest : AreNameless batch → Shortest known batch taught.0 =
     λ unnamed. let short = c.in_ok-teach.ensures.shortest unnamed in same_bytes known batch taught.0 short.0 after taught.2 short.2 (sym taught.1 ∙ short.1) in
     (taught.0, taught.1, lesson_of_scene c.args.scene roster known batch taught.0 after c.in_ok-roster.ensures.made.0 c.in_ok-known.ensures.built.0 c.in_ok-batch.ensures.made.0 taught.2 shortest order)

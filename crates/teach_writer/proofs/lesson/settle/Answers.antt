@@ -1,5 +1,5 @@
 use Rattle.std.proofs.Common.{◌≡◌, true, Some, option_copied, rules}
-use Rattle.teach_writer.specs.Naming.{is_asked}
+use Rattle.teach_writer.specs.Kept.{is_asked}
 use Rattle.teach_writer.proofs.NamingLaws.{settled_kept}
 use Rattle.teach_writer.proofs.lesson.settle.Goals as goal
 

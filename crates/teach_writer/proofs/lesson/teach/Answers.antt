@@ -13,8 +13,9 @@ use Rattle.peers_msg.specs.Steps.{Legal}
 use Rattle.known_state.specs.Requests.{IsTaught, AreNameless}
 use Rattle.known_state.proofs.BatchLemmas.{batch_taught}
 use Rattle.peers_msg.specs.declared.name_field.NameField.{NameField}
-use Rattle.teach_writer.specs.Naming.{IsKeptAtStart, IsSettled}
-use Rattle.teach_writer.specs.Telling.{slot_of, IsTold, AreTold}
+use Rattle.teach_writer.specs.Kept.{IsKeptAtStart, IsNameField, IsSettled}
+use Rattle.teach_writer.specs.Telling.{slot_of, is_stored, IsTold, GoesThrough}
+use Rattle.teach_writer.proofs.MarkLaws.{told_by_marks}
 use Rattle.teach_writer.proofs.OrderLaws.{Leads, leads_first, leads_next, leads_last}
 use Rattle.teach_writer.proofs.TellingLaws.{legal-append, stream-append}
 use Rattle.teach_writer.proofs.ShortLaws.{batch_rest, nameless_at, joined_costs, whole_cost, shortest_at_end}
@@ -66,8 +67,9 @@ loop-place-preserved c =
     λ unnamed. subst (λ (l : List Update). size_of_all told.0 + cost roster e (drop (i + 1) us) ≤ cost roster mid l) here (cheap (nameless_at us i u unnamed c.loop-place-test.true c.index-updates-place.is) (drop (i + 1) us) (batch_rest roster us (i + 1) batch)) in
     let start : List Bool = c.loop-place.invariant.order.0 in
     let sent : List Message = c.loop-place.invariant.order.1 in
-    let in_order : (field : NameField) × (ms : List Message) × (c.in_ok-slot.slot ≡ slot_of field) × (c.tell.new.bytes.items ≡ c.loop-place.bytes.items ++ stream_of ms) × IsTold c.loop-place.after.roster mid c.loop-place.kept u field ms e = search rules in
-    let one : IsTold roster mid c.loop-place.kept u in_order.0 in_order.1 e = subst (λ (r : List Definition). IsTold r mid c.loop-place.kept u in_order.0 in_order.1 e) c.loop-place.invariant.roster in_order.4 in
+    let in_order : (field : NameField) × (ms : List Message) × (c.in_ok-slot.slot ≡ slot_of field) × (c.tell.new.bytes.items ≡ c.loop-place.bytes.items ++ stream_of ms) × IsTold c.loop-place.after.roster mid u field ms e × IsNameField c.loop-place.kept mid.slots (is_stored c.loop-place.after.roster u) u.name field = search rules in
+    let one : IsTold roster mid u in_order.0 in_order.1 e = subst (λ (r : List Definition). IsTold r mid u in_order.0 in_order.1 e) c.loop-place.invariant.roster in_order.4 in
+    let named : IsNameField c.loop-place.kept mid.slots (is_stored roster u) u.name in_order.0 = subst (λ (r : List Definition). IsNameField c.loop-place.kept mid.slots (is_stored r u) u.name in_order.0) c.loop-place.invariant.roster in_order.5 in
     let raw : IsSettled c.loop-place.kept c.in_ok-slot.slot (option_copied c.as_ref.result) (take (length us - (i + 1)) (drop (i + 1) us)) c.settle.new.kept = c.settle.ensures in
     let later : take (length us - (i + 1)) (drop (i + 1) us) ≡ drop (i + 1) us = take_all (length us - (i + 1)) (drop (i + 1) us) (rw (length-drop (i + 1) us) (omega arith)) in
     let next : IsSettled c.loop-place.kept c.in_ok-slot.slot u.name (drop (i + 1) us) c.settle.new.kept =
@@ -80,7 +82,7 @@ loop-place-preserved c =
     record {
       roster = same ∙ c.loop-place.invariant.roster;
       told = (before ++ told.0, bytes, subst (λ (l : List Update). Legal roster s (before ++ told.0) l e) more whole, λ unnamed. joined_costs roster s mid e before told.0 (drop i us) (drop (i + 1) us) us (c.loop-place.invariant.told.3 unnamed) (left unnamed));
-      order = (start, sent ++ in_order.1, sent_more, c.loop-place.invariant.order.3, leads_next roster s mid e start c.loop-place.kept c.settle.new.kept us (drop (i + 1) us) u sent in_order.1 in_order.0 leads one settled);
+      order = (start, sent ++ in_order.1, sent_more, c.loop-place.invariant.order.3, leads_next roster s mid e start c.loop-place.kept c.settle.new.kept us (drop (i + 1) us) u sent in_order.1 in_order.0 leads one named settled);
     }
 
 pub returns-clause-taught : goal.returns-clause-taught
@@ -127,4 +129,6 @@ returns-clause-order c =
     let leads : Leads k.roster k.state start us ms e c.loop-place.kept [] = subst (λ (l : List Update). Leads k.roster k.state start us ms e c.loop-place.kept l) (drop_all i us ended) c.loop-place.invariant.order.4 in
     let told = leads_last k.roster k.state e start c.loop-place.kept us ms leads in
     let first : IsKeptAtStart k.state.slots us start = c.loop-place.invariant.order.3 in
-    subst (λ (l : List Update). (start : List Bool) × (ms : List Message) × IsKeptAtStart k.state.slots l start × AreTold k.roster k.state start l ms e × (c.new.result ≡ stream_of ms)) same (start, ms, first, told, bytes)
+    let long : length k.state.slots ≡ 128 = search rules in
+    let by_marks = told_by_marks k.roster k.state e start us ms long first told in
+    subst (λ (l : List Update). (marks : List Bool) × GoesThrough k l marks c.new.result e) same (by_marks.0, (ms, by_marks.1, bytes))

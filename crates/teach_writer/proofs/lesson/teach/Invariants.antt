@@ -4,7 +4,7 @@ use Rattle.peers_msg.specs.Spelling.{stream_of, size_of_all}
 use Rattle.peers_msg.specs.Steps.{Legal}
 use Rattle.known_state.specs.Requests.{AreNameless}
 use Rattle.known_state.specs.Cost.{cost}
-use Rattle.teach_writer.specs.Naming.{IsKeptAtStart}
+use Rattle.teach_writer.specs.Kept.{IsKeptAtStart}
 use Rattle.teach_writer.proofs.OrderLaws.{Leads}
 use Rattle.teach_writer.proofs.lesson.teach.Given as goal
 

@@ -1,5 +1,5 @@
 use Rattle.std.specs.List.{AllByRecursion}
-use Rattle.std.proofs.Common.{◌≡◌, ℕ, ◌+◌, ◌≤◌, Option, Some, None, true, false, [], ◌∷◌, ◌++◌, rules, refl, sym, ap, ◌∙◌, subst, List, append_assoc}
+use Rattle.std.proofs.Common.{◌≡◌, ℕ, Bool, ◌+◌, ◌≤◌, Option, Some, None, true, false, [], ◌∷◌, ◌++◌, rules, refl, sym, ap, ◌∙◌, subst, List, append_assoc}
 use Rattle.table_types.specs.declared.update.Update.{Update}
 use Rattle.table_types.specs.Tables.{Definition, is_definition}
 use Rattle.table_types.specs.Updates.{is_optional_word, stores_name}
@@ -15,11 +15,12 @@ use Rattle.peers_msg.specs.Steps.{Step, Teaches, IsOwn, Legal, last_of}
 use Rattle.peers_msg.proofs.DataLaws.{row_small}
 use Rattle.known_state.specs.Resolving.{name_of, reads_empty}
 use Rattle.known_state.specs.Cost.{number_told, told_as}
-use Rattle.teach_writer.specs.Naming.{IsNameField}
-use Rattle.teach_writer.specs.Telling.{IsTaken, IsTold, selection, update_told}
+use Rattle.teach_writer.specs.Kept.{IsNameField}
+use Rattle.teach_writer.specs.Telling.{IsTaken, IsTold, is_stored, selection, update_told}
+use Rattle.teach_writer.proofs.MarkLaws.{selection_slots}
 use Rattle.teach_writer.proofs.TellingLaws.{told_taken, told_carries, told_legal, stream-one, stream-append}
 use Rattle.known_state.proofs.KnownLemmas.{table_at-id}
-use Rattle.known_state.specs.Cost.{KnowsLess, with_selected, knowledge_of, knowledge_after, selection_cost, written_cost, written_field, cost, cost_from, IsOfRoster}
+use Rattle.known_state.specs.Cost.{KnowsLess, with_selected, knowledge_of, knowledge_after, selection_cost, written_cost, written_field, is_named_table, cost, cost_from, IsOfRoster}
 use Rattle.teach_writer.proofs.ShortLaws.{told_cheap, tell_cheap}
 use Rattle.known_state.proofs.BatchLemmas.{row_of_fits}
 use Rattle.teach_writer.proofs.telling.tell.Goals as goal
@@ -121,5 +122,9 @@ returns-clause-order c =
     let bytes : c.say_owned.new.bytes.items ≡ start ++ stream_of ms =
     said ∙ ap (λ (x : Message). c.select.new.bytes.items ++ spelled x) is ∙ ap (λ x. x ++ spelled m) chosen.0 ∙ append_assoc start (stream_of (selection s.heard d)) (spelled m)
     ∙ ap (λ x. start ++ x) (ap (λ x. stream_of (selection s.heard d) ++ x) (sym (stream-one m)) ∙ sym (stream-append (selection s.heard d) (m ∷ []))) in
-    let told : IsTold roster s c.args.kept.now u field ms e = (d, k.state, listed, chosen.1, each_field d by_roster, moved, refl) in
-    (field, ms, search rules, bytes, told)
+    let told : IsTold roster s u field ms e = (d, k.state, listed, chosen.1, moved, refl) in
+    let slots : k.state.slots ≡ s.slots = selection_slots s k.state d chosen.1 in
+    let stored : stores_name d ≡ is_stored roster u = ap is_named_table (sym listed) in
+    let field_is : IsNameField c.args.kept.now s.slots (is_stored roster u) u.name field =
+    subst (λ (b : Bool). IsNameField c.args.kept.now s.slots b u.name field) stored (subst (λ (ss : List (Option (List ℕ))). IsNameField c.args.kept.now ss (stores_name d) u.name field) slots (each_field d by_roster)) in
+    (field, ms, search rules, bytes, told, field_is)

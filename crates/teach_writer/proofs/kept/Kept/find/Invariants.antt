@@ -1,5 +1,5 @@
 use Rattle.std.proofs.Common.{ℕ, ◌≤◌}
-use Rattle.teach_writer.specs.Naming.{Keeps}
+use Rattle.teach_writer.specs.Kept.{Keeps}
 use Rattle.teach_writer.proofs.kept.Kept.find.Given as goal
 
 abbrev pub invariant-loop-place : goal.invariant-loop-place
