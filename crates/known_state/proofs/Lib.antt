@@ -15,3 +15,4 @@ pub mod ShortestLaws
 pub mod FullLaws
 pub mod RosterLemmas
 pub mod ReadLaws
+pub mod BuiltLaws

@@ -36,7 +36,7 @@ abbrev HaveSameLasts : Knowledge → Knowledge → Type 0
 HaveSameLasts one other = (id : ℕ) → one.last id ≡ other.last id
 
 -- a table that is heard is the roster's of its id
-heard_is_own : (roster ds : List Definition) (id : ℕ) (t : Definition) → AreOwn roster ds → table_at ds id ≡ Some t → table_at roster id ≡ Some t
+pub heard_is_own : (roster ds : List Definition) (id : ℕ) (t : Definition) → AreOwn roster ds → table_at ds id ≡ Some t → table_at roster id ≡ Some t
 heard_is_own roster ds id t own found =
     let own_t : table_at roster t.id ≡ Some t = table_at-passes (λ (x : Definition). table_at roster x.id ≡ Some x) ds id t own found in
     subst (λ (n : ℕ). table_at roster n ≡ Some t) (table_at-id ds id t found) own_t

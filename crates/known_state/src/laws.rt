@@ -1,16 +1,16 @@
 //! What holds of known states, whatever the program does.
 
-ghost use Rattle.std.specs.Prelude.{◌≡◌, ◌≤◌, ◌+◌, ◌++◌, ℕ, true, false, List, length, None, Option};
+ghost use Rattle.std.specs.Prelude.{◌≡◌, ◌≤◌, ◌+◌, ◌++◌, ℕ, true, false, List, length, None, Option, if◌then◌else◌};
 ghost use Rattle.std.specs.List.{AllByRecursion};
 ghost use Rattle.table_types.specs.declared.update.Update.{Update};
-ghost use Rattle.table_types.specs.Rosters.{roster_fault};
+ghost use Rattle.table_types.specs.Rosters.{roster_fault, table_at};
 ghost use Rattle.table_types.specs.Tables.{Definition};
 ghost use Rattle.peers_msg.specs.declared.message.Message.{Message};
 ghost use Rattle.peers_msg.specs.Spelling.{stream_of, size_of_all};
 ghost use Rattle.peers_msg.specs.declared.name_field.NameField.{NameField};
-ghost use Rattle.peers_msg.specs.Steps.{State, Step, Teaches, Named, IsOwn, Legal, fresh};
+ghost use Rattle.peers_msg.specs.Steps.{State, Step, Teaches, Named, IsOwn, Legal, fresh, last_of};
 ghost use Rattle.known_state.specs.declared.known.StepError.{StepError};
-ghost use Rattle.known_state.specs.Known.{KnownState, AreOwn, stores_no_name, Refuses};
+ghost use Rattle.known_state.specs.Known.{KnownState, AreOwn, build_fault, built, holds, stores_no_name, Refuses};
 ghost use Rattle.known_state.specs.Resolving.{reads_empty, name_of, slots_after};
 ghost use Rattle.known_state.specs.Requests.{AreNameless, read_savings, reads_of, requests_of};
 ghost use Rattle.known_state.specs.Cost.{IsOfRoster, Knowledge, Pays, Saves, cost, full, knowledge_of};
@@ -25,6 +25,21 @@ pub fn one_name()
     ensures only { (slots : List (Option (List ℕ))) (field : NameField) (name : Option (List ℕ))
         (after : List (Option (List ℕ))) → Named slots field name after →
         (reads_empty slots field ≡ false) × (name ≡ name_of slots field) × (after ≡ slots_after slots field) }
+{}
+
+/// What a built state holds, where no part is wrong. An id is defined exactly where it was given, and then it stands for
+/// the roster's definition; the last number of an id, the table selected and the slots are those given.
+pub fn what_is_built()
+    ensures tables { (roster : List Definition) (selected : Option ℕ) (defined : List ℕ) (lasts : List (ℕ × ℕ)) (slots : List (Option (List ℕ))) (id : ℕ) →
+        roster_fault roster ≡ None → build_fault roster selected defined lasts ≡ None →
+        table_at (built roster selected defined lasts slots).state.heard.tables id ≡ (if holds id defined then table_at roster id else None) }
+    ensures lasts { (roster : List Definition) (selected : Option ℕ) (defined : List ℕ) (lasts : List (ℕ × ℕ)) (slots : List (Option (List ℕ))) (id : ℕ) →
+        build_fault roster selected defined lasts ≡ None →
+        last_of (built roster selected defined lasts slots).state.lasts id ≡ last_of lasts id }
+    ensures others { (roster : List Definition) (selected : Option ℕ) (defined : List ℕ) (lasts : List (ℕ × ℕ)) (slots : List (Option (List ℕ))) →
+        ((built roster selected defined lasts slots).state.heard.selected ≡ selected)
+        × ((built roster selected defined lasts slots).state.slots ≡ slots)
+        × ((built roster selected defined lasts slots).roster ≡ roster) }
 {}
 
 /// What is refused is no step: a message that a known state refuses for whatever cause but memory is not legal there.

@@ -1,5 +1,5 @@
 -- An update that is put changes one row.
-use Rattle.std.proofs.Common.{◌≡◌, ◌≢◌, ℕ, false, cond, List, [], ◌∷◌, length, Option, Some, refl, sym, ap, ◌∙◌, arith, inl, inr}
+use Rattle.std.proofs.Common.{◌≡◌, ◌≢◌, ◌⊎◌, ◌++◌, ℕ, suc, false, cond, List, [], ◌∷◌, length, Option, Some, refl, sym, ap, ◌∙◌, arith, inl, inr}
 use Rattle.std.specs.declared.cmp.Ordering.{Ordering}
 use Rattle.std.specs.declared.cmp.Ordering.TheVariants.{Less, Equal, Greater}
 use Rattle.std.specs.Ordering.{is_eq, nat_cmp}
@@ -14,7 +14,7 @@ use Rattle.table_types.specs.declared.update.Update.{Update}
 use Rattle.table_types.specs.Tables.{Definition}
 use Rattle.table_types.specs.Rosters.{table_at}
 use Rattle.table_types.specs.Rows.{StoredRow, row_of}
-use Rattle.learner.specs.Rows.{key_cmp, row_at, rows_at, put}
+use Rattle.learner.specs.Rows.{key_cmp, row_at, rows_at, put, put_all, AreOfOthers}
 
 -- keys that compare alike are one
 exact_keys : (a b : Key) → key_cmp a b ≡ Equal → a ≡ b
@@ -131,3 +131,28 @@ other_tables now (x ∷ xs) (first ∷ others) u id differs = elim (cases_eq x.i
     | inr unnamed ↦ rw (ne_eqb x.id u.table apart, ne_eqb x.id id unnamed) (other_tables now xs others u id differs)
   ]
 ]
+
+-- ---- updates one after another
+
+put_size : (now : ℕ) (roster : List Definition) (tables : List (List (Key × StoredRow))) (u : Update) → length (put now roster tables u) ≡ length tables
+put_size now [] tables u = refl
+put_size now (x ∷ xs) [] u = refl
+put_size now (x ∷ xs) (first ∷ others) u = elim (cases_eq x.id u.table) [
+  | inl same ↦ rw (eq-eqb x.id u.table same) refl
+  | inr other ↦ rw (ne_eqb x.id u.table other) (ap (λ (n : ℕ). suc n) (put_size now xs others u))
+]
+
+-- the row that none of the updates is of is what it was
+pub others_stay_all : (now : ℕ) (roster : List Definition) (us : List Update) (id : ℕ) (key : Key) (tables : List (List (Key × StoredRow))) → AreOfOthers id key us → row_at key (rows_at roster id (put_all now roster us tables)) ≡ row_at key (rows_at roster id tables)
+others_stay_all now roster [] id key tables others = refl
+others_stay_all now roster (u ∷ us) id key tables others = others_stay_all now roster us id key (put now roster tables u) others.1 ∙ one others.0
+  where
+    one : (u.table ≢ id) ⊎ (u.key ≢ key) → row_at key (rows_at roster id (put now roster tables u)) ≡ row_at key (rows_at roster id tables)
+    one (inl apart) = ap (row_at key) (other_tables now roster tables u id (λ e. apart (sym e)))
+    one (inr apart) = other_keys now roster tables u id key (λ e. apart (sym e))
+
+-- the row of an update behind which none is of its table and key is what it teaches
+pub last_stands : (now : ℕ) (roster : List Definition) (before behind : List Update) (u : Update) (d : Definition) (tables : List (List (Key × StoredRow))) → length tables ≡ length roster → table_at roster u.table ≡ Some d → AreOfOthers u.table u.key behind
+    → row_at u.key (rows_at roster u.table (put_all now roster (before ++ (u ∷ behind)) tables)) ≡ Some (row_of now d.expire u)
+last_stands now roster [] behind u d tables size at others = others_stay_all now roster behind u.table u.key (put now roster tables u) others ∙ here now roster tables u d size at
+last_stands now roster (x ∷ xs) behind u d tables size at others = last_stands now roster xs behind u d (put now roster tables x) (put_size now roster tables x ∙ size) at others

@@ -1,5 +1,6 @@
 -- The rows of the own tables by their keys, and how an update is put among them (own).
-use Rattle.std.specs.Prelude.{ℕ, ◌+◌, ◌==◌, List, [], ◌∷◌, fold, Option, Some, None, option_map, if◌then◌else◌}
+use Rattle.std.specs.Prelude.{ℕ, ◌≢◌, ◌⊎◌, ◌+◌, ◌==◌, List, [], ◌∷◌, fold, Option, Some, None, option_map, if◌then◌else◌}
+use Rattle.std.specs.List.{AllByRecursion}
 use Rattle.std.specs.declared.cmp.Ordering.{Ordering}
 use Rattle.std.specs.Ordering.{nat_cmp, is_eq}
 use Rattle.std.specs.Cmp.Lexicographic.{slice_cmp}
@@ -49,6 +50,10 @@ put now ds tables u = tables
 -- updates are put one after another
 abbrev pub put_all : ℕ → List Definition → List Update → List (List (Key × StoredRow)) → List (List (Key × StoredRow))
 put_all now roster us tables = fold (put now roster) tables us
+
+-- none of the updates is of that table and key
+abbrev pub AreOfOthers : ℕ → Key → List Update → Type 0
+AreOfOthers id key us = AllByRecursion (λ u. (u.table ≢ id) ⊎ (u.key ≢ key)) us
 
 -- the place of the table of that id, from 0
 abbrev pub place_of : List Definition → ℕ → Option ℕ

@@ -16,7 +16,7 @@ ghost use Rattle.known_state.specs.Told.{AreRising};
 ghost use Rattle.known_state.specs.Lessons.{IsLessonFor};
 ghost use Rattle.learner.specs.declared.fault.Fault.{Fault};
 ghost use Rattle.learner.specs.declared.fault.Fault.TheVariants as faults;
-ghost use Rattle.learner.specs.Rows.{put, row_at, rows_at};
+ghost use Rattle.learner.specs.Rows.{put, put_all, row_at, rows_at, AreOfOthers};
 ghost use Rattle.learner.specs.Moments.{Piece, stream_in, AreFedInTime, HasLearnedInTime};
 ghost use Rattle.learner.specs.Learning.{Learning, unlearned, Fed, AreFed, IsReady, IsReadyIn, IsTaught, HasLearned};
 
@@ -43,6 +43,17 @@ pub fn others_stay()
         key ≢ u.key → row_at key (rows_at roster id (put now roster tables u)) ≡ row_at key (rows_at roster id tables) }
     ensures tables { (now : ℕ) (roster : List Definition) (tables : List (List (Key × StoredRow))) (u : Update) (id : ℕ) →
         id ≢ u.table → rows_at roster id (put now roster tables u) ≡ rows_at roster id tables }
+{}
+
+/// What putting updates one after another leaves: the row of a table and key is what the last update of that table and
+/// key teaches, where there is one, and else what it was.
+pub fn the_last_stands()
+    ensures last { (now : ℕ) (roster : List Definition) (before behind : List Update) (u : Update) (d : Definition) (tables : List (List (Key × StoredRow))) →
+        length tables ≡ length roster → table_at roster u.table ≡ Some d → AreOfOthers u.table u.key behind →
+        row_at u.key (rows_at roster u.table (put_all now roster (before ++ (u ∷ behind)) tables)) ≡ Some (row_of now d.expire u) }
+    ensures others { (now : ℕ) (roster : List Definition) (us : List Update) (id : ℕ) (key : Key) (tables : List (List (Key × StoredRow))) →
+        AreOfOthers id key us →
+        row_at key (rows_at roster id (put_all now roster us tables)) ≡ row_at key (rows_at roster id tables) }
 {}
 
 /// What a legal stream teaches. Where each id that a learner heard stands for its own definition, and nothing is

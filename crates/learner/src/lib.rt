@@ -12,5 +12,7 @@ mod shelf;
 mod tests;
 
 pub use fault::Fault;
-pub use laws::{a_legal_stream, a_lesson, any_pieces, numbers_stay_rising, others_stay};
+pub use laws::{
+    a_legal_stream, a_lesson, any_pieces, numbers_stay_rising, others_stay, the_last_stands,
+};
 pub use learner::Learner;
