@@ -9,8 +9,6 @@ mod laws;
 mod parts;
 mod request;
 mod resolver;
-#[cfg(test)]
-mod tests;
 
 pub use costs::number_told;
 pub use known::{Known, KnownError, StepError};

@@ -8,8 +8,6 @@ mod laws;
 mod learner;
 mod own_tables;
 mod shelf;
-#[cfg(test)]
-mod tests;
 
 pub use fault::Fault;
 pub use laws::{

@@ -66,32 +66,3 @@ fn whole(sum: u128, used: usize) -> Read
         Err(_) => Read::Over,
     }
 }
-
-#[cfg(test)]
-mod tests {
-    use super::*;
-    use std::test::*;
-
-    #[test]
-    fn values(rt: HostRuntime) {
-        assert_eq!(rt; get(&[0xEF]), Read::Value(239, 1));
-        assert_eq!(rt; get(&[0xF0, 0x00]), Read::Value(240, 2));
-        assert_eq!(rt; get(&[0xFF, 0x7F]), Read::Value(2287, 2));
-        assert_eq!(rt; get(&[0xF0, 0x80, 0x00]), Read::Value(2288, 3));
-        assert_eq!(rt; get(&[0xF0, 0x80, 0x80, 0x00]), Read::Value(264_432, 4));
-    }
-
-    #[test]
-    fn limits(rt: HostRuntime) {
-        let mut bytes = [0xFF, 0xF0, 0xFE, 0xFE, 0xFE, 0xFE, 0xFE, 0xFE, 0xFE, 0x0E];
-        assert_eq!(rt; get(&bytes), Read::Value(u64::MAX, 10));
-        bytes[9] = 0x0F;
-        assert_eq!(rt; get(&bytes), Read::Over);
-        let more = [
-            0xFF, 0xF0, 0xFE, 0xFE, 0xFE, 0xFE, 0xFE, 0xFE, 0xFE, 0x8E, 0x00,
-        ];
-        assert_eq!(rt; get(&more), Read::Over);
-        assert_eq!(rt; get(&[0xF0]), Read::Short);
-        assert_eq!(rt; get(&[]), Read::Short);
-    }
-}

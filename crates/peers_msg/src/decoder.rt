@@ -189,6 +189,3 @@ impl Decoder {
         }
     }
 }
-
-#[cfg(test)]
-mod tests;

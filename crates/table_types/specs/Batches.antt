@@ -1,11 +1,25 @@
 -- Batches: updates that fit the tables of a roster (own).
-use Rattle.std.specs.Prelude.{◌≡◌, ℕ, ◌+◌, not, nat_lt, List, [], ◌∷◌, length, Option, Some, None, is_none, if◌then◌else◌}
+use Rattle.std.specs.Prelude.{◌≡◌, ◌≤◌, ℕ, ◌+◌, true, not, nat_lt, List, [], ◌∷◌, length, Option, Some, None, is_none, if◌then◌else◌}
+use Rattle.std.specs.List.{AllByRecursion}
 use Rattle.table_types.specs.declared.update.Update.{Update}
 use Rattle.table_types.specs.declared.batch.BatchError.{BatchError}
 use Rattle.table_types.specs.declared.batch.BatchError.TheVariants as errors
 use Rattle.table_types.specs.Tables.{Definition}
 use Rattle.table_types.specs.Updates.{fits}
 use Rattle.table_types.specs.Rosters.{table_at}
+
+-- the update is one for a roster: its table is there, it fits that table, and it has a life
+abbrev pub IsUpdateFor : List Definition → Update → Type 0
+IsUpdateFor roster u =
+    (d : Definition) × (table_at roster u.table ≡ Some d)
+    × (fits d u ≡ true)
+    × ((life : ℕ) × (u.life ≡ Some life))
+
+-- the updates are a batch for a roster: at most 512, and each is one for the roster
+abbrev pub IsBatchFor : List Definition → List Update → Type 0
+IsBatchFor roster us = (length us ≤ 512) × AllByRecursion (IsUpdateFor roster) us
+
+-- ---- what is first wrong
 
 -- what is wrong with the update at a place, given the table of the roster that its id stands for
 abbrev pub fault_in : ℕ → Option Definition → Update → Option BatchError
@@ -28,7 +42,3 @@ faults_from place roster (u ∷ us) = or_else (fault_in place (table_at roster u
 -- and each has a table in the roster, fits it, and has a life
 abbrev pub batch_fault : List Definition → List Update → Option BatchError
 batch_fault roster us = if nat_lt 512 (length us) then Some errors.TooMany else faults_from 0 roster us
-
--- the updates are a batch for the roster
-abbrev pub IsBatchFor : List Definition → List Update → Type 0
-IsBatchFor roster us = batch_fault roster us ≡ None

@@ -5,20 +5,20 @@ mod batch;
 mod data_type;
 mod items;
 mod key;
+mod laws;
 mod memory;
 mod moment;
 mod name;
 mod roster;
 mod row;
 mod table_def;
-#[cfg(test)]
-mod tests;
 mod update;
 
 pub use batch::{Batch, BatchError};
 pub use data_type::{DataType, Shape};
 pub use items::Items;
 pub use key::{Key, KeyKind};
+pub use laws::a_batch_has_no_fault;
 pub use memory::Memory;
 pub use moment::Moment;
 pub use name::Name;

@@ -5,8 +5,6 @@ mod kept;
 mod laws;
 mod lesson;
 mod telling;
-#[cfg(test)]
-mod tests;
 
 pub use laws::marks_are_reads;
 pub use lesson::{Lesson, TeachError, teach};

@@ -1,0 +1,65 @@
+-- Updates are a batch exactly where nothing is wrong with them.
+use Rattle.std.proofs.Common.{◌≡◌, ℕ, ◌+◌, ◌≤◌, Bool, true, false, List, [], ◌∷◌, length, Option, Some, None, refl, sym, ap, ◌∙◌, arith}
+use Rattle.std.specs.Prelude.{nat_lt}
+use Rattle.std.specs.List.{AllByRecursion}
+use Rattle.std.proofs.lemmas.Bool.Decides.{nat_tests}
+use Rattle.table_types.specs.declared.update.Update.{Update}
+use Rattle.table_types.specs.Tables.{Definition}
+use Rattle.table_types.specs.Updates.{fits}
+use Rattle.table_types.specs.Rosters.{table_at}
+use Rattle.table_types.specs.declared.batch.BatchError.{BatchError}
+use Rattle.table_types.specs.declared.batch.BatchError.TheVariants as errors
+use Rattle.table_types.specs.Batches.{IsUpdateFor, IsBatchFor, fault_in, or_else, faults_from, batch_fault}
+
+first-none : (a b : Option BatchError) → or_else a b ≡ None → a ≡ None
+first-none None b h = refl
+first-none (Some e) b h = cc
+
+second-none : (a b : Option BatchError) → or_else a b ≡ None → b ≡ None
+second-none None b h = h
+second-none (Some e) b h = cc
+
+-- an update without a fault is one for the roster
+faultless : (place : ℕ) (roster : List Definition) (u : Update) → fault_in place (table_at roster u.table) u ≡ None → IsUpdateFor roster u
+faultless place roster u h = at (table_at roster u.table) refl
+  where
+    parts : (d : Definition) (b : Bool) → fits d u ≡ b → (life : Option ℕ) → u.life ≡ life → fault_in place (Some d) u ≡ None → (fits d u ≡ true) × ((life : ℕ) × (u.life ≡ Some life))
+    parts d true e (Some life) f none = (e, (life, f))
+    parts d true e None f none = let bad : Some (errors.Untimed place) ≡ None = sym (rw (e, f) refl) ∙ none in absurd (cc)
+    parts d false e life f none = let bad : Some (errors.Misfit place) ≡ None = sym (rw e refl) ∙ none in absurd (cc)
+
+    at : (o : Option Definition) → table_at roster u.table ≡ o → IsUpdateFor roster u
+    at None e = let bad : Some (errors.NoTable place) ≡ None = sym (rw e refl) ∙ h in absurd (cc)
+    at (Some d) e =
+        let none : fault_in place (Some d) u ≡ None = ap (λ (o : Option Definition). fault_in place o u) (sym e) ∙ h in
+        let both = parts d (fits d u) refl u.life refl none in
+        (d, e, both.0, both.1)
+
+all_faultless : (place : ℕ) (roster : List Definition) (us : List Update) → faults_from place roster us ≡ None → AllByRecursion (IsUpdateFor roster) us
+all_faultless place roster [] h = tt
+all_faultless place roster (u ∷ us) h =
+    (faultless place roster u (first-none (fault_in place (table_at roster u.table) u) (faults_from (place + 1) roster us) h), all_faultless (place + 1) roster us (second-none (fault_in place (table_at roster u.table) u) (faults_from (place + 1) roster us) h))
+
+-- and one for the roster has none
+no_fault : (place : ℕ) (roster : List Definition) (u : Update) → IsUpdateFor roster u → fault_in place (table_at roster u.table) u ≡ None
+no_fault place roster u (d, listed, fit, (life, timed)) = rw (listed, fit, timed) refl
+
+no_faults : (place : ℕ) (roster : List Definition) (us : List Update) → AllByRecursion (IsUpdateFor roster) us → faults_from place roster us ≡ None
+no_faults place roster [] all = refl
+no_faults place roster (u ∷ us) all = rw (no_fault place roster u all.0) (no_faults (place + 1) roster us all.1)
+
+-- at most so many, and no fault from the first on
+pub batch_of_parts : (roster : List Definition) (us : List Update) → length us ≤ 512 → faults_from 0 roster us ≡ None → IsBatchFor roster us
+batch_of_parts roster us few none = (few, all_faultless 0 roster us none)
+
+pub batch_without_fault : (roster : List Definition) (us : List Update) → batch_fault roster us ≡ None → IsBatchFor roster us
+batch_without_fault roster us h = at (nat_lt 512 (length us)) refl
+  where
+    at : (b : Bool) → nat_lt 512 (length us) ≡ b → IsBatchFor roster us
+    at true e = let bad : Some errors.TooMany ≡ None = sym (rw e refl) ∙ h in absurd (cc)
+    at false e = batch_of_parts roster us (grind (arith, nat_tests)) (sym (rw e refl) ∙ h)
+
+pub batch_has_no_fault : (roster : List Definition) (us : List Update) → IsBatchFor roster us → batch_fault roster us ≡ None
+batch_has_no_fault roster us (few, all) =
+    let small : nat_lt 512 (length us) ≡ false = grind (arith, nat_tests) in
+    rw small (no_faults 0 roster us all)

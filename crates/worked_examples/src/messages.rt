@@ -1,0 +1,168 @@
+//! Messages and their bytes.
+
+use crate::fixtures::{ST, T1, definition, named};
+use peers_msg::{Control, ErrorKind, Message, NameField, Other, UpdateMsg, encode, size};
+use std::alloc::Global;
+use table_types::{Items, Key, Value};
+
+/// A message, written in short.
+enum Short {
+    T1,
+    St,
+    Heartbeat,
+    ProtocolError,
+    Switch(u64),
+    Ack(u64, u32),
+    /// Class and type, and data, of a message without meaning here.
+    Other((u8, u8), &'static [u8]),
+    /// An update of a count: number, life, key and value.
+    Count(Option<u32>, Option<u32>, u32, u64),
+    /// An update of a rate.
+    Rate,
+    /// An update of a letter with 30,000 ms to live, whose name is read from slot 1, or written there; or it has none.
+    Reads(Option<u32>, u8),
+    Writes(Option<u32>, u8),
+    Unnamed(Option<u32>, u8),
+}
+
+/// Messages and their bytes.
+static MESSAGES: [(Short, &[u8]); 15] = [
+    (
+        Short::T1,
+        &[
+            0x0A, 0x82, 0x0A, 1, 2, 0x74, 0x31, 2, 4, 4, 0xF0, 0xC4, 0x0D,
+        ],
+    ),
+    (
+        Short::St,
+        &[
+            0x0A, 0x82, 0x0D, 3, 2, 0x73, 0x74, 6, 0x21, 0xF0, 0xF1, 0xFE, 0, 0xF0, 0xC4, 0x0D,
+        ],
+    ),
+    (Short::Heartbeat, &[0, 4]),
+    (Short::ProtocolError, &[1, 0]),
+    (Short::Switch(1), &[0x0A, 0x83, 1, 1]),
+    (Short::Ack(1, 2), &[0x0A, 0x84, 5, 1, 0, 0, 0, 2]),
+    (Short::Other((10, 135), &[1, 2]), &[0x0A, 0x87, 2, 1, 2]),
+    (
+        Short::Count(Some(1), Some(30_000), 7, 5),
+        &[
+            0x0A, 0x85, 0x0D, 0, 0, 0, 1, 0, 0, 0x75, 0x30, 0, 0, 0, 7, 5,
+        ],
+    ),
+    (
+        Short::Count(None, Some(30_000), 8, 240),
+        &[0x0A, 0x86, 0x0A, 0, 0, 0x75, 0x30, 0, 0, 0, 8, 0xF0, 0],
+    ),
+    (
+        Short::Count(Some(1), None, 7, 5),
+        &[0x0A, 0x80, 9, 0, 0, 0, 1, 0, 0, 0, 7, 5],
+    ),
+    (
+        Short::Count(None, None, 8, 240),
+        &[0x0A, 0x81, 6, 0, 0, 0, 8, 0xF0, 0],
+    ),
+    (
+        Short::Rate,
+        &[
+            0x0A, 0x85, 0x10, 0, 0, 0, 9, 0, 0, 0, 0, 0x7F, 0, 0, 1, 0xFC, 3, 2, 0,
+        ],
+    ),
+    (
+        Short::Writes(Some(1), b'a'),
+        &[
+            0x0A, 0x85, 0x0F, 0, 0, 0, 1, 0, 0, 0x75, 0x30, 1, 0x61, 4, 1, 2, 0x73, 0x31,
+        ],
+    ),
+    (
+        Short::Reads(None, b'b'),
+        &[0x0A, 0x86, 8, 0, 0, 0x75, 0x30, 1, 0x62, 1, 1],
+    ),
+    (
+        Short::Unnamed(None, b'c'),
+        &[0x0A, 0x86, 7, 0, 0, 0x75, 0x30, 1, 0x63, 0],
+    ),
+];
+
+fn count(
+    alloc: Global,
+    number: Option<u32>,
+    life: Option<u32>,
+    key: u32,
+    count: u64,
+) -> Option<UpdateMsg> {
+    let values = Items::new(Vec::from_slice(alloc, &[Value::Count(count)]).ok()?);
+    Some(UpdateMsg::new(number, life, Key::Int(key), values, NameField::NotStored))
+}
+
+/// A rate of 127.0.0.1, number 9, which lives for ever.
+fn rate(alloc: Global) -> Option<UpdateMsg> {
+    let rate = Value::Rate {
+        elapsed: 300,
+        current: 2,
+        previous: 0,
+    };
+    let values = Items::new(Vec::from_slice(alloc, &[rate]).ok()?);
+    let key = Key::Ip4([127, 0, 0, 1]);
+    Some(UpdateMsg::new(Some(9), Some(0), key, values, NameField::NotStored))
+}
+
+fn naming(alloc: Global, number: Option<u32>, letter: u8, name: NameField) -> Option<UpdateMsg> {
+    let key = Key::Str(Items::new(Vec::from_slice(alloc, &[letter]).ok()?));
+    let values = Items::new(Vec::new(alloc));
+    Some(UpdateMsg::new(number, Some(30_000), key, values, name))
+}
+
+fn update(alloc: Global, short: &Short) -> Option<UpdateMsg> {
+    match short {
+        Short::Count(number, life, key, value) => count(alloc, *number, *life, *key, *value),
+        Short::Rate => rate(alloc),
+        Short::Reads(number, letter) => naming(alloc, *number, *letter, NameField::Held(1)),
+        Short::Writes(number, letter) => {
+            let name = NameField::Written(1, named(alloc, b"s1")?);
+            naming(alloc, *number, *letter, name)
+        }
+        Short::Unnamed(number, letter) => naming(alloc, *number, *letter, NameField::NoName),
+        _ => None,
+    }
+}
+
+fn other(alloc: Global, pair: (u8, u8), body: &[u8]) -> Option<Other> {
+    Other::new(pair.0, pair.1, Vec::from_slice(alloc, body).ok()?)
+}
+
+fn message(alloc: Global, short: &Short) -> Option<Message> {
+    match short {
+        Short::T1 => Some(Message::Define(definition(alloc, &T1)?)),
+        Short::St => Some(Message::Define(definition(alloc, &ST)?)),
+        Short::Heartbeat => Some(Message::Control(Control::Heartbeat)),
+        Short::ProtocolError => Some(Message::Error(ErrorKind::Protocol)),
+        Short::Switch(id) => Some(Message::Switch(*id)),
+        Short::Ack(table, number) => Some(Message::Ack {
+            table: *table,
+            number: *number,
+        }),
+        Short::Other(pair, body) => Some(Message::Other(other(alloc, *pair, *body)?)),
+        _ => Some(Message::Update(update(alloc, short)?)),
+    }
+}
+
+/// Whether the message has these bytes, and as many as its size says.
+fn is_spelled(alloc: Global, message: &Message, bytes: &[u8]) -> Option<bool> {
+    let spelled = encode(alloc, message).ok()?;
+    Some(spelled.as_slice() == bytes && size(message) == bytes.len())
+}
+
+fn spells(alloc: Global, short: &Short, bytes: &[u8]) -> Option<bool> {
+    is_spelled(alloc, &message(alloc, short)?, bytes)
+}
+
+#[test]
+fn spellings(rt: HostRuntime) {
+    for (short, bytes) in &MESSAGES {
+        assert!(rt;
+            spells(rt.alloc(), short, *bytes) == Some(true),
+            "{bytes:?}"
+        );
+    }
+}
