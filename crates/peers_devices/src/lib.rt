@@ -1,4 +1,4 @@
-//! Devices: readers and writers that count their failed calls, one read to its end, and all of some bytes written.
+//! Devices: readers and writers that count their failed calls, reading one to its end, and writing to one all that there is.
 #![tactic(auto)]
 
 mod devices;

@@ -1,4 +1,4 @@
-//! Writing all of some bytes to a device.
+//! Writing bytes to a device, all of them.
 ghost use Rattle.std.specs.Prelude.{◌≡◌, ℕ, ◌≤◌, IfErr, OnOk, length, take};
 ghost use Rattle.std.specs.Io.KnownBytes.{Appends};
 ghost use Rattle.peers_devices.specs.Failures.{Rose, sent_of};
@@ -19,7 +19,7 @@ pub enum WriteError {
         /// How many bytes went out before.
         sent: usize,
     },
-    /// A write took no bytes, or a million writes failed without being counted.
+    /// A write took no bytes, or more than a million writes failed without being counted.
     #[error("no more is taken after {sent} bytes")]
     Stuck {
         /// How many bytes went out before.

@@ -14,4 +14,4 @@ pub mod DefinitionParts
 pub mod ReadingUses
 pub mod Pieces
 pub mod ShapeLaws
-mod FrameLaws
+pub mod FrameLaws

@@ -12,7 +12,8 @@ use peers_encint::{Read, get};
 /// Only class, type and length are looked at, not what the message means: behind a type of 128 or more stand an encoded
 /// length and that many bytes (doc/peers-v2.0.txt, "Messages").
 pub fn split_message(bytes: &[u8]) -> Option<(&[u8], &[u8])>
-    ensures found { (message : Message) (rest : List ℕ) → bytes.now ≡ spelled message ++ rest → IsSomeAnd result (λ parts. (parts.0.now ≡ spelled message) × (parts.1.now ≡ rest)) }
+    ensures found { (frame rest : List ℕ) → IsFrame frame → bytes.now ≡ frame ++ rest → IsSomeAnd result (λ parts. (parts.0.now ≡ frame) × (parts.1.now ≡ rest)) }
+    ensures message { (message : Message) (rest : List ℕ) → bytes.now ≡ spelled message ++ rest → IsSomeAnd result (λ parts. (parts.0.now ≡ spelled message) × (parts.1.now ≡ rest)) }
     ensures frame { IfSome result (λ parts. IsFrame parts.0.now × (bytes.now ≡ parts.0.now ++ parts.1.now)) }
     ensures none { result ≡ None → (frame rest : List ℕ) → IsFrame frame → bytes.now ≡ frame ++ rest → ⊥ }
 {

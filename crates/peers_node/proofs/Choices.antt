@@ -1,7 +1,7 @@
 -- The parser takes the words of each choice, and meets its subcommand.
 use Rattle.std.proofs.Common.{◌≡◌, ◌∙◌, ℕ, List, [], ◌∷◌, ap, codes, refl, rules, sym, true}
 use Rattle.std.specs.Prelude.{Option, Some, option_map}
-use Rattle.clap.specs.Words.{is_simple, subcommand_name_of, subcommand_of, subcommand_rows_of, takes}
+use Rattle.clap.specs.Words.{is_simple, is_simple_and_free, subcommand_name_of, subcommand_of, subcommand_rows_of, takes}
 use Rattle.clap.specs.declared.error.kind.ErrorKind.{ErrorKind}
 use Rattle.clap.specs.declared.error.kind.ErrorKind.TheVariants.{OutOfMemory}
 use Rattle.clap.specs.declared.parser.matches.ArgMatches.{ArgMatches}
@@ -43,3 +43,11 @@ memory_refuses_no_word kind is words = let same : cause_of_kind kind ≡ errors.
 pub program_is_simple : is_simple program ≡ true
 unfolding clap_on_literals
 program_is_simple = refl
+
+pub name_read : (m : ArgMatches) (words : List (List ℕ)) (chosen : Options) → subcommand_rows_of m ≡ subcommand_of program words
+    → subcommand_name_of m ≡ Some (name_of chosen) → subcommand_named words ≡ Some (name_of chosen)
+name_read m words chosen rows met = ap (option_map (λ found. found.0)) (sym rows) ∙ sym (named m) ∙ met
+
+pub program_is_free : is_simple_and_free program ≡ true
+unfolding clap_on_literals
+program_is_free = refl

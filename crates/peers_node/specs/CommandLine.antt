@@ -1,7 +1,8 @@
 -- Which words are a command line of the program, and what they choose.
 use Rattle.std.specs.Prelude.{◌≡◌, ℕ, true, List, [], ◌∷◌, Option, None, Some, map, codes, option_map}
 use Rattle.std.specs.Borrow.{Bor}
-use Rattle.clap.specs.Words.{App, Shape, kind_of, new_app, subcommand_of, with_subcommand}
+use Rattle.clap.specs.Kinds.{Kinds}
+use Rattle.clap.specs.Words.{App, fault_of, kind_of, new_app, subcommand_of, with_subcommand}
 use Rattle.clap.specs.declared.error.kind.ErrorKind.{ErrorKind}
 use Rattle.clap.specs.declared.error.kind.ErrorKind.TheVariants as kinds
 use Rattle.peers_node.specs.declared.choice.Options.{Options}
@@ -34,6 +35,10 @@ program = with_subcommand (with_subcommand named (new_app (codes "lesson")).top)
 -- the subcommand that the words name, as the parser reads them
 abbrev pub subcommand_named : List (List ℕ) → Option (List ℕ)
 subcommand_named words = option_map (λ found. found.0) (subcommand_of program words)
+
+-- what is wrong with the words, as the parser reads them
+abbrev pub faults_of : List (List ℕ) → Kinds
+faults_of words = fault_of program words
 
 -- want of memory, or words that are refused
 abbrev pub cause_of_kind : ErrorKind → OptionsError

@@ -1,8 +1,8 @@
 //! Reading the command line.
-ghost use Rattle.std.specs.Prelude.{◌≡◌, ◌≢◌, Err, IfErr, IfOk, IfSome, None, Ok, Some};
+ghost use Rattle.std.specs.Prelude.{◌≡◌, ◌≢◌, [], Err, IfErr, IfOk, IfSome, None, Ok, Some};
 ghost use Rattle.clap.specs.Words.{app_of, kind_of, subcommand_name_of};
 ghost use Rattle.peers_node.specs.declared.options_error.OptionsError.TheVariants as errors;
-ghost use Rattle.peers_node.specs.CommandLine.{Chooses, cause_of, name_of, program, subcommand_named, texts};
+ghost use Rattle.peers_node.specs.CommandLine.{Chooses, cause_of, faults_of, name_of, program, subcommand_named, texts};
 
 use crate::choice::Options;
 use crate::options_error::OptionsError;
@@ -15,7 +15,7 @@ use std::alloc::{AllocError, Global};
 /// `Words` stands for every command line that isn't one of this program, a call for help or the version among them;
 /// `Memory` only for want of memory.
 pub fn options<'a>(alloc: Global, words: &'a [&'a str]) -> Result<Options, OptionsError>
-    ensures ok { IfOk result (λ chosen. subcommand_named (texts words.now) ≡ Some (name_of chosen)) }
+    ensures ok { IfOk result (λ chosen. (subcommand_named (texts words.now) ≡ Some (name_of chosen)) × (faults_of (texts words.now) ≡ [])) }
     ensures words { result ≡ Err OptionsError.Words → (chosen : Options) → Chooses (texts words.now) chosen → ⊥ }
 {
     match read_words(alloc, words) {
@@ -66,7 +66,7 @@ impl From<AllocError> for Refusal {
 
 /// What words choose, as the parser of command lines reads them.
 pub fn read_words<'a>(alloc: Global, words: &'a [&'a str]) -> Result<Options, Refusal>
-    ensures ok { IfOk result (λ chosen. subcommand_named (texts words.now) ≡ Some (name_of chosen)) }
+    ensures ok { IfOk result (λ chosen. (subcommand_named (texts words.now) ≡ Some (name_of chosen)) × (faults_of (texts words.now) ≡ [])) }
     ensures refused { IfErr result (λ refusal. cause_of refusal ≡ OptionsError.Words → (chosen : Options) → Chooses (texts words.now) chosen → ⊥) }
 {
     match command(alloc)?.try_get_matches_from(words) {
@@ -77,6 +77,9 @@ pub fn read_words<'a>(alloc: Global, words: &'a [&'a str]) -> Result<Options, Re
         Err(error) => Err(Refusal::Parser(error)),
     }
 }
+
+/// The version of the program.
+const VERSION: &str = "0.1.0";
 
 /// The program with its subcommands.
 fn command<'a>(alloc: Global) -> Result<Command<'a>, AllocError>
@@ -89,8 +92,8 @@ fn command<'a>(alloc: Global) -> Result<Command<'a>, AllocError>
         "Reads a scene, and writes the rows and acknowledgements of a learner of its stream",
     );
     Command::new(alloc, "peers_node")
-        .version("0.1.0")
-        .about("peers_node 0.1.0 shares HAProxy stick tables over the peers protocol")
+        .version(VERSION)
+        .about("Shares HAProxy stick tables over the peers protocol")
         .after_help("A scene is read on standard input; docs/FORMATS.md says how it is written.")
         .subcommand_required(true)
         .arg_required_else_help(true)

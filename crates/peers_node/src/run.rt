@@ -21,7 +21,7 @@ pub fn status(rt: HostRuntime) -> u8 {
             Ok(words) => dispatched(&rt, words.as_slice(), &mut errors),
             Err(_) => Ending::Memory.said(alloc, &mut errors).status(),
         },
-        Err(OptionsError::Words) => said(alloc, "error: an argument isn't text\n", &mut errors),
+        Err(OptionsError::Words) => said("error: an argument isn't text\n", &mut errors),
         Err(OptionsError::Memory) => Ending::Memory.said(alloc, &mut errors).status(),
     }
 }
@@ -60,15 +60,15 @@ fn dispatched<'a, E: Write + Faults>(rt: &HostRuntime, words: &'a [&'a str], err
 /// Says why words are refused.
 fn refused<E: Write + Faults>(alloc: Global, refusal: &Refusal, errors: &mut E) -> u8 {
     match (refusal.cause(), refusal.text(alloc)) {
-        (OptionsError::Words, Ok(text)) => said(alloc, text.as_str(), errors),
+        (OptionsError::Words, Ok(text)) => said(text.as_str(), errors),
         _ => Ending::Memory.said(alloc, errors).status(),
     }
 }
 
 /// Says what is wrong with the words.
-fn said<E: Write + Faults>(alloc: Global, text: &str, errors: &mut E) -> u8 {
+fn said<E: Write + Faults>(text: &str, errors: &mut E) -> u8 {
     match write_all(errors, text.as_bytes()) {
         Ok(()) => WORDS,
-        Err(_) => Ending::Device.said(alloc, errors).status(),
+        Err(_) => Ending::device(errors).status(),
     }
 }

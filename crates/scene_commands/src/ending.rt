@@ -45,7 +45,7 @@ impl Ending {
     }
 
     /// Says the ending on the writer for errors, and answers how the program ends: so, or by want of memory to say it,
-    /// or by the writer. What the answer says has then been written, unless the writer failed.
+    /// or by the writer. The line of the answer has then been written, unless the answer is `Device`.
     pub fn said<E: Write + Faults>(self, alloc: Global, errors: &mut E) -> Ending
         ensures ends { (result ≡ self) ⊎ ((result ≡ Ending.Memory) ⊎ (result ≡ Ending.Device)) }
         ensures said { result ≢ Ending.Device → Appends (E.contents errors.old) (E.contents errors.new) (line_of result) }
@@ -56,8 +56,8 @@ impl Ending {
         }
     }
 
-    /// Says on the writer for errors that a device failed, for which no memory is needed.
-    pub(crate) fn device<E: Write + Faults>(errors: &mut E) -> Ending
+    /// Says on the writer for errors that a device failed, if it can. No memory is needed.
+    pub fn device<E: Write + Faults>(errors: &mut E) -> Ending
         ensures { result ≡ Ending.Device }
     {
         Ending::Device.written(errors, "device\n")

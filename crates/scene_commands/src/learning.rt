@@ -21,7 +21,7 @@ use table_types::{Memory, Roster, RosterError, TableDef};
 ///
 /// Where the stream has a fault, the rows are those so far, no acknowledgement is written, and the writer for errors
 /// gets `fault` and the fault's name. Where it ends early for another reason, nothing is written on the output, unless
-/// it was the output that failed.
+/// a device failed.
 pub fn learn<R: Read + Faults, W: Write + Faults, E: Write + Faults>(
     alloc: Global,
     input: &mut R,
@@ -33,7 +33,7 @@ pub fn learn<R: Read + Faults, W: Write + Faults, E: Write + Faults>(
     ensures fault { (fault : Fault) → result ≡ Ending.Stream fault → (scene : Scene) × (l : Learning) × (fault ≢ faults.Memory) × IsLearned scene (Err fault) l
         × Appends (W.contents output.old) (W.contents output.new) (rows_text l) }
     ensures silent { result ≢ Ending.Done → ((fault : Fault) → result ≢ Ending.Stream fault) → result ≢ Ending.Device → output.new ≡ output.old }
-    ensures said { result ≢ Ending.Done → result ≢ Ending.Device → Appends (E.contents errors.old) (E.contents errors.new) (line_of result) }
+    ensures said { result ≢ Ending.Device → Appends (E.contents errors.old) (E.contents errors.new) (line_of result) }
 {
     let Learned { text, ending, line } = match learned_of(alloc, input) {
         Ok(learned) => learned,

@@ -22,7 +22,7 @@ use teach_writer::{Lesson, teach};
 /// Reads a scene, and writes the lesson that teaches its updates.
 ///
 /// Where it ends early, the writer for errors gets a line that says why, and nothing is written on
-/// the output, unless it was the output that failed.
+/// the output, unless a device failed.
 pub fn lesson<R: Read + Faults, W: Write + Faults, E: Write + Faults>(
     alloc: Global,
     input: &mut R,
@@ -33,7 +33,7 @@ pub fn lesson<R: Read + Faults, W: Write + Faults, E: Write + Faults>(
         × Appends (W.contents output.old) (W.contents output.new) (printed (map spelled messages) (no_prices scene.updates.items)) }
     ensures silent { result ≢ Ending.Done → result ≢ Ending.Device → output.new ≡ output.old }
     ensures streamless { (fault : Fault) → result ≢ Ending.Stream fault }
-    ensures said { result ≢ Ending.Done → result ≢ Ending.Device → Appends (E.contents errors.old) (E.contents errors.new) (line_of result) }
+    ensures said { result ≢ Ending.Device → Appends (E.contents errors.old) (E.contents errors.new) (line_of result) }
 {
     let text = match lesson_text(alloc, input) {
         Ok(text) => text,

@@ -3,9 +3,11 @@ use Rattle.std.proofs.Common.{◌≡◌, ◌==◌, Bool, false, ◌∙◌, ◌+�
 use Rattle.std.proofs.lemmas.List.{flat_map_more, take_more}
 use Rattle.std.proofs.lemmas.List.Folds.{flat_map-map}
 use Rattle.peers_msg.specs.declared.message.Message.{Message}
+use Rattle.std.specs.List.{AllByRecursion}
+use Rattle.peers_msg.proofs.FrameLaws.{is_frame}
 use Rattle.peers_msg.specs.Framing.{IsFrame}
 use Rattle.peers_msg.specs.Spelling.{spelled, stream_of}
-use Rattle.scene_text.specs.Lessons.{line_of, price_text}
+use Rattle.scene_text.specs.Lessons.{joined, line_of, price_text}
 
 pub price_added : (old text added prices : List ℕ) (i : ℕ) → i < length prices → text ≡ old ++ flat_map price_text (take i prices)
     → added ≡ text ++ price_text (get_or prices i 0) → added ≡ old ++ flat_map price_text (take (i + 1) prices)
@@ -25,26 +27,32 @@ shorter rest (class ∷ frame) after is same =
     omega (arith, size)
 
 -- a message less is left, and its line stands
-pub line_added : (rest text added all message after : List ℕ) (left : List Message) → rest ≡ stream_of left → IsFrame message → rest ≡ message ++ after
-    → ((m : Message) (more : List ℕ) → rest ≡ spelled m ++ more → (message ≡ spelled m) × (after ≡ more))
-    → added ≡ text ++ line_of message → text ++ flat_map line_of (map spelled left) ≡ all
-    → (fewer : List Message) × (after ≡ stream_of fewer) × (added ++ flat_map line_of (map spelled fewer) ≡ all)
-line_added rest text added all [] after [] same is parts found adds so_far = absurd is
-line_added rest text added all (class ∷ message) after [] same is parts found adds so_far = absurd (let none = sym same ∙ parts in cc)
-line_added rest text added all message after (m ∷ left) same is parts found adds so_far =
-    let split = found m (stream_of left) same in (
+pub line_added : (rest text added all message after : List ℕ) (left : List (List ℕ)) → AllByRecursion IsFrame left → rest ≡ joined left → IsFrame message → rest ≡ message ++ after
+    → ((frame more : List ℕ) → IsFrame frame → rest ≡ frame ++ more → (message ≡ frame) × (after ≡ more))
+    → added ≡ text ++ line_of message → text ++ flat_map line_of left ≡ all
+    → (fewer : List (List ℕ)) × AllByRecursion IsFrame fewer × (after ≡ joined fewer) × (added ++ flat_map line_of fewer ≡ all)
+line_added rest text added all [] after [] are same is parts found adds so_far = absurd is
+line_added rest text added all (class ∷ message) after [] are same is parts found adds so_far = absurd (let none = sym same ∙ parts in cc)
+line_added rest text added all message after (frame ∷ left) (one, are) same is parts found adds so_far =
+    let split = found frame (joined left) one same in (
       left,
+      are,
       split.1,
-      ap (λ t. t ++ flat_map line_of (map spelled left)) (adds ∙ ap (λ x. text ++ line_of x) split.0)
-          ∙ append_assoc text (line_of (spelled m)) (flat_map line_of (map spelled left)) ∙ so_far,
+      ap (λ t. t ++ flat_map line_of left) (adds ∙ ap (λ x. text ++ line_of x) split.0)
+          ∙ append_assoc text (line_of frame) (flat_map line_of left) ∙ so_far,
     )
 
 -- no message is left
-pub all_lines : (rest text all : List ℕ) (left : List Message) → rest ≡ stream_of left
-    → ((m : Message) (more : List ℕ) → rest ≡ spelled m ++ more → ⊥)
-    → text ++ flat_map line_of (map spelled left) ≡ all → (rest ≡ []) × (text ≡ all)
-all_lines rest text all [] same none so_far = (same, sym (append-nil text) ∙ so_far)
-all_lines rest text all (m ∷ left) same none so_far = absurd (none m (stream_of left) same)
+pub all_lines : (rest text all : List ℕ) (left : List (List ℕ)) → AllByRecursion IsFrame left → rest ≡ joined left
+    → ((frame more : List ℕ) → IsFrame frame → rest ≡ frame ++ more → ⊥)
+    → text ++ flat_map line_of left ≡ all → (rest ≡ []) × (text ≡ all)
+all_lines rest text all [] are same none so_far = (same, sym (append-nil text) ∙ so_far)
+all_lines rest text all (frame ∷ left) (one, are) same none so_far = absurd (none frame (joined left) one same)
+
+-- messages are frames
+pub are_frames : (ms : List Message) → AllByRecursion IsFrame (map spelled ms)
+are_frames [] = tt
+are_frames (m ∷ ms) = (is_frame m, are_frames ms)
 
 pub some_length : (rest : List ℕ) (empty : Bool) → empty ≡ (length rest == 0) → empty ≡ false → 0 < length rest
 some_length rest empty is empty_is = grind arith

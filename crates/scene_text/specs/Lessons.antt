@@ -15,6 +15,10 @@ price_text price = 32 ∷ decimal price
 abbrev pub sums_of : ℕ → List ℕ → List ℕ
 sums_of count prices = codes "bytes " ++ (decimal count ++ (codes "\nprices" ++ (flat_map price_text prices ++ 10 ∷ [])))
 
+-- the bytes of messages one after another
+abbrev pub joined : List (List ℕ) → List ℕ
+joined messages = flat_map (λ message. message) messages
+
 -- a line for each message, and then the sums
 abbrev pub printed : List (List ℕ) → List ℕ → List ℕ
-printed messages prices = flat_map line_of messages ++ sums_of (length (flat_map (λ message. message) messages)) prices
+printed messages prices = flat_map line_of messages ++ sums_of (length (joined messages)) prices

@@ -1,8 +1,10 @@
 //! Lessons as they are printed.
-ghost use Rattle.std.specs.Prelude.{◌≡◌, ◌++◌, List, IfOk, OnOk, flat_map, length, map};
+ghost use Rattle.std.specs.Prelude.{◌≡◌, ◌++◌, ℕ, List, IfOk, OnOk, flat_map, length, map};
+ghost use Rattle.std.specs.List.{AllByRecursion};
+ghost use Rattle.peers_msg.specs.Framing.{IsFrame};
 ghost use Rattle.peers_msg.specs.Spelling.{spelled, stream_of};
 ghost use Rattle.peers_msg.specs.declared.message.Message.{Message};
-ghost use Rattle.scene_text.specs.Lessons.{line_of, price_text, printed, sums_of};
+ghost use Rattle.scene_text.specs.Lessons.{joined, line_of, price_text, printed, sums_of};
 
 use crate::bytes::push_hexadecimal;
 use peers_msg::split_message;
@@ -11,7 +13,8 @@ use std::alloc::{AllocError, Global};
 /// A lesson as it is printed: a line with each message in hexadecimal, a line with the number of
 /// bytes, and one with the prices.
 pub fn printed_lesson(alloc: Global, bytes: &[u8], prices: &[u64]) -> Result<Vec<u8>, AllocError>
-    ensures { IfOk result (λ text. (messages : List Message) → bytes.now ≡ stream_of messages → text.items ≡ printed (map spelled messages) prices.now) }
+    ensures frames { IfOk result (λ text. (frames : List (List ℕ)) → AllByRecursion IsFrame frames → bytes.now ≡ joined frames → text.items ≡ printed frames prices.now) }
+    ensures messages { IfOk result (λ text. (messages : List Message) → bytes.now ≡ stream_of messages → text.items ≡ printed (map spelled messages) prices.now) }
 {
     let mut text = Vec::new(alloc);
     push_messages(&mut text, bytes)?;
@@ -21,8 +24,8 @@ pub fn printed_lesson(alloc: Global, bytes: &[u8], prices: &[u64]) -> Result<Vec
 
 /// Adds a line for each message, and one for what is left where no message ends there.
 fn push_messages(text: &mut Vec<u8>, bytes: &[u8]) -> Result<(), AllocError>
-    ensures { OnOk result ((messages : List Message) → bytes.now ≡ stream_of messages →
-        text.new.items ≡ text.old.items ++ flat_map line_of (map spelled messages)) }
+    ensures { OnOk result ((frames : List (List ℕ)) → AllByRecursion IsFrame frames → bytes.now ≡ joined frames →
+        text.new.items ≡ text.old.items ++ flat_map line_of frames) }
 {
     let mut rest = bytes;
     while let Some((message, after)) = split_message(rest) {

@@ -1,7 +1,7 @@
-use Rattle.std.proofs.Common.{◌≡◌, ◌∙◌, ap, refl, true}
-use Rattle.clap.specs.Words.{is_simple, kind_of, subcommand_of, takes}
+use Rattle.std.proofs.Common.{sym, ◌≡◌, ◌∙◌, ap, refl, true}
+use Rattle.clap.specs.Words.{fault_of, is_simple, is_simple_and_free, kind_of, subcommand_of, takes}
 use Rattle.peers_node.specs.CommandLine.{texts}
-use Rattle.peers_node.proofs.Choices.{choice_taken, memory_refuses_no_word, name_met, program_is_simple}
+use Rattle.peers_node.proofs.Choices.{choice_taken, memory_refuses_no_word, name_met, name_read, program_is_free, program_is_simple}
 use Rattle.peers_node.proofs.command_line.read_words.Goals as goal
 
 pub returns-in-Ok-clause-refused : goal.returns-in-Ok-clause-refused
@@ -16,3 +16,13 @@ returns-clause-refused c = λ refused chosen chooses.
     let words = texts c.args.words.now in
     let full = c.in-Err.ensures.passes (ap (λ app. takes app words) c.in_ok-command.ensures ∙ choice_taken words chosen chooses) in
     memory_refuses_no_word (kind_of c.in-Err.error) full refused
+
+pub returns-in-Some-clause-ok : goal.returns-in-Some-clause-ok
+returns-in-Some-clause-ok c =
+    let words = texts c.args.words.now in
+    let simple = ap is_simple c.in_ok-command.ensures ∙ program_is_simple in
+    let free = ap is_simple_and_free c.in_ok-command.ensures ∙ program_is_free in
+    let rows = (c.in-Ok.ensures.matches simple).1 ∙ ap (λ app. subcommand_of app words) c.in_ok-command.ensures in (
+      name_read c.in-Ok.matches words c.in-Some.chosen rows c.in-Some.ensures.some,
+      ap (λ app. fault_of app words) (sym c.in_ok-command.ensures) ∙ c.in-Ok.ensures.kinds free,
+    )

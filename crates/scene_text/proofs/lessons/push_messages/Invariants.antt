@@ -1,14 +1,14 @@
-use Rattle.std.proofs.Common.{◌≡◌, ◌++◌, List, flat_map, length, map}
-use Rattle.peers_msg.specs.declared.message.Message.{Message}
-use Rattle.peers_msg.specs.Spelling.{spelled, stream_of}
-use Rattle.scene_text.specs.Lessons.{line_of}
+use Rattle.std.proofs.Common.{◌≡◌, ◌++◌, ℕ, List, flat_map, length}
+use Rattle.std.specs.List.{AllByRecursion}
+use Rattle.peers_msg.specs.Framing.{IsFrame}
+use Rattle.scene_text.specs.Lessons.{joined, line_of}
 use Rattle.scene_text.proofs.lessons.push_messages.Given as goal
 
 abbrev pub invariant-loop-message : goal.invariant-loop-message
 invariant-loop-message l =
-    (messages : List Message) → l.bytes ≡ stream_of messages
-    → (left : List Message) × (l.rest ≡ stream_of left)
-    × (l.text.items ++ flat_map line_of (map spelled left) ≡ l.fn.text.items ++ flat_map line_of (map spelled messages))
+    (frames : List (List ℕ)) → AllByRecursion IsFrame frames → l.bytes ≡ joined frames
+    → (left : List (List ℕ)) × AllByRecursion IsFrame left × (l.rest ≡ joined left)
+    × (l.text.items ++ flat_map line_of left ≡ l.fn.text.items ++ flat_map line_of frames)
 
 abbrev pub decreases-loop-message : goal.decreases-loop-message
 decreases-loop-message l = length l.rest
