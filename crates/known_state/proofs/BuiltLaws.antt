@@ -9,19 +9,11 @@ use Rattle.peers_msg.specs.Heard.{defined, with_own}
 use Rattle.peers_msg.specs.Steps.{last_of, put_last}
 use Rattle.known_state.specs.declared.known.KnownError.TheVariants as build_errors
 use Rattle.known_state.specs.Known.{AreOwn, holds, repeats, has_last, repeats_last, or_none, are_known, are_defined, build_fault, built}
-use Rattle.known_state.proofs.KnownLemmas.{table_at-id, define_selects, AreOwn-defined, AreOwn-resumed}
+use Rattle.known_state.proofs.KnownLemmas.{or-false-left, or-false-right, table_at-id, define_selects, AreOwn-defined, AreOwn-resumed}
 use Rattle.known_state.proofs.StepLemmas.{has_id-table_at}
 use Rattle.known_state.proofs.RosterLemmas.{roster_names, still_heard}
 use Rattle.known_state.proofs.CostLaws.{found_before, last-put}
 use Rattle.known_state.proofs.ReadLaws.{heard_is_own}
-
-or-false-left : (a b : Bool) → (a || b) ≡ false → a ≡ false
-or-false-left true b h = h
-or-false-left false b h = refl
-
-or-false-right : (a b : Bool) → (a || b) ≡ false → b ≡ false
-or-false-right true b h = cc
-or-false-right false b h = h
 
 and-left : (a b : Bool) → (a && b) ≡ true → a ≡ true
 and-left true b h = refl

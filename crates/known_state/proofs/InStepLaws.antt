@@ -1,7 +1,7 @@
 -- What is legal from what a teacher knows of a learner is legal from the learner's own state, and what the teacher then
 -- knows is what is known of the learner.
 use Rattle.std.proofs.Common.{◌≡◌, ℕ, Bool, true, false, not, ◌&&◌, ◌||◌, cond, eqb, List, [], ◌∷◌, Option, Some, None, refl, sym, ap, ◌∙◌, subst, inl, inr}
-use Rattle.std.specs.Prelude.{is_some, filter, nat_lt}
+use Rattle.std.specs.Prelude.{is_some, filter}
 use Rattle.std.specs.List.{AllByRecursion}
 use Rattle.std.specs.Option.{option_and_then}
 use Rattle.std.proofs.lemmas.Bool.{cases_eq, eq-eqb, ne_eqb}
@@ -11,13 +11,14 @@ use Rattle.table_types.specs.Rosters.{table_at, has_id, is_same_name}
 use Rattle.peers_msg.specs.declared.message.Message.{Message}
 use Rattle.peers_msg.specs.declared.message.Message.TheVariants as messages
 use Rattle.peers_msg.specs.Messages.{UpdateFields}
-use Rattle.peers_msg.specs.Heard.{Heard, heard_after, put_table, outlives, defined, selected_table}
+use Rattle.peers_msg.specs.Heard.{Heard, heard_after, outlives, defined, selected_table}
 use Rattle.peers_msg.specs.OwnTables.{is_own, is_own_one}
 use Rattle.peers_msg.specs.Fitting.{fits}
 use Rattle.peers_msg.specs.Steps.{State, Step, Teaches, IsOwn, Legal, keeps_last, last_of, put_last, lasts_after, resolved_number}
 use Rattle.peers_msg.proofs.ShapeLaws.{means_shape}
 use Rattle.known_state.specs.Known.{AreOwn}
 use Rattle.known_state.specs.Told.{known_of, own_lasts, AreRising}
+use Rattle.known_state.proofs.RosterLemmas.{has_put}
 use Rattle.known_state.proofs.KnownLemmas.{table_at-id, table_at-passes, define_selects, AreOwn-defined}
 use Rattle.known_state.proofs.StepLemmas.{has_id-table_at}
 use Rattle.known_state.proofs.RefusalLaws.{switch_found, selection}
@@ -68,22 +69,6 @@ known_trimmed roster s own =
     ∙ ap (λ (ls : List (ℕ × ℕ)). record { heard = (trimmed s).heard; lasts = ls; slots = s.slots }) (filter-alike (λ l. is_own_one roster (table_at s.heard.tables l.0)) (λ l. is_some (table_at s.heard.tables l.0)) s.lasts (λ l. own_one roster s.heard.tables l.0 own))
 
 -- ---- definitions
-
-has_put : (d : Definition) (ds : List Definition) (id : ℕ) → has_id id ds ≡ true → has_id id (put_table d ds) ≡ true
-has_put d [] id h = cc
-has_put d (x ∷ xs) id h = at (nat_lt d.id x.id) refl (has_put d xs id)
-  where
-    or-right : (a b : Bool) → b ≡ true → (a || b) ≡ true
-    or-right true b h = refl
-    or-right false b h = h
-
-    or-mono : (a b c : Bool) → (b ≡ true → c ≡ true) → (a || b) ≡ true → (a || c) ≡ true
-    or-mono true b c f h = refl
-    or-mono false b c f h = f h
-
-    at : (b : Bool) → nat_lt d.id x.id ≡ b → (has_id id xs ≡ true → has_id id (put_table d xs) ≡ true) → has_id id (put_table d (x ∷ xs)) ≡ true
-    at true e later = rw e (or-right (eqb d.id id) (has_id id (x ∷ xs)) h)
-    at false e later = rw e (or-mono (eqb x.id id) (has_id id xs) (has_id id (put_table d xs)) later h)
 
 -- a table that passes is still found among those that do
 has_passed : (p : Definition → Bool) (ds : List Definition) (id : ℕ) (d : Definition) → table_at ds id ≡ Some d → p d ≡ true → has_id id (filter p ds) ≡ true

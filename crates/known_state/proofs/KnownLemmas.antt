@@ -29,11 +29,11 @@ pub table_at-has : (ds : List Definition) (id : ℕ) (d : Definition) → table_
 table_at-has [] id d h = cc
 table_at-has (x ∷ xs) id d h = grind (arith, nat_tests, table_at-has xs id d)
 
-or-false-left : (a b : Bool) → (a || b) ≡ false → a ≡ false
+pub or-false-left : (a b : Bool) → (a || b) ≡ false → a ≡ false
 or-false-left true b h = h
 or-false-left false b h = refl
 
-or-false-right : (a b : Bool) → (a || b) ≡ false → b ≡ false
+pub or-false-right : (a b : Bool) → (a || b) ≡ false → b ≡ false
 or-false-right true b h = cc
 or-false-right false b h = h
 

@@ -8,20 +8,13 @@ use Rattle.table_types.specs.Tables.{Definition}
 use Rattle.table_types.specs.Rosters.{table_at, has_id, has_name, is_same_name, repeats_id, repeats_name, roster_fault}
 use Rattle.peers_msg.specs.Heard.{defined, put_table, outlives}
 use Rattle.known_state.specs.Known.{AreOwn}
+use Rattle.known_state.proofs.KnownLemmas.{or-false-left, or-false-right}
 use Rattle.known_state.proofs.StepLemmas.{has_id-table_at}
 
 -- a name is the same as itself
 pub name_itself : (a : List ℕ) → is_same_name a a ≡ true
 name_itself [] = refl
 name_itself (x ∷ xs) = rw (eq-eqb x x refl) (name_itself xs)
-
-or-false-left : (a b : Bool) → (a || b) ≡ false → a ≡ false
-or-false-left true b h = h
-or-false-left false b h = refl
-
-or-false-right : (a b : Bool) → (a || b) ≡ false → b ≡ false
-or-false-right true b h = cc
-or-false-right false b h = h
 
 -- a table among tables of which none has a name has another one
 listed_other_name : (name : List ℕ) (ds : List Definition) (id : ℕ) (b : Definition) → has_name name ds ≡ false → table_at ds id ≡ Some b → is_same_name b.name name ≡ false
@@ -92,7 +85,7 @@ has_kept roster d (x ∷ xs) id distinct listed own apart h =
     passed true e other later = rw (e, ne_eqb x.id id other) later
     passed false e other later = rw e later
 
-has_put : (d : Definition) (ts : List Definition) (id : ℕ) → has_id id ts ≡ true → has_id id (put_table d ts) ≡ true
+pub has_put : (d : Definition) (ts : List Definition) (id : ℕ) → has_id id ts ≡ true → has_id id (put_table d ts) ≡ true
 has_put d [] id h = cc
 has_put d (x ∷ xs) id h = at (nat_lt d.id x.id) refl (has_put d xs id)
   where
