@@ -1,6 +1,15 @@
--- What the dictionary of one direction of a session holds (HAProxy, doc/peers-v2.0.txt, "Stick Table Messages").
-use Rattle.std.specs.Prelude.{◌≡◌, ℕ, true, List, Option, Some}
-use Rattle.table_types.specs.Slots.{slot_at, is_slot}
+-- The slots of the dictionary of server names of one direction of a session (HAProxy, doc/peers-v2.0.txt,
+-- "Stick Table Messages"; that they are numbered 1 to 128 is the profile's choice).
+use Rattle.std.specs.Prelude.{◌≡◌, ℕ, ◌-◌, true, List, replicate, slice_index_or, Option, Some, None}
+use Rattle.table_types.specs.SlotIds.{is_slot}
+
+-- no slot holds a name
+abbrev pub no_names : List (Option (List ℕ))
+no_names = replicate 128 None
+
+-- what a slot, 1 to 128, holds
+abbrev pub slot_at : List (Option (List ℕ)) → ℕ → Option (List ℕ)
+slot_at slots slot = slice_index_or slots (slot - 1) None
 
 -- that slot holds the name
 abbrev pub Holds : List (Option (List ℕ)) → ℕ → List ℕ → Type 0

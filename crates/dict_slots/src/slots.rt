@@ -1,8 +1,8 @@
 //! The slots of the dictionary of server names.
 
 ghost use Rattle.std.specs.Prelude.{◌≡◌, ◌≤◌, ◌-◌, ℕ, Some, IfOk, IfSome, IsNone, true, IsTrue, ◌↔◌, option_copied, length, slice_set};
-ghost use Rattle.table_types.specs.Slots.{no_names, slot_at, is_slot};
-ghost use Rattle.dict_slots.specs.Slots.{Holds};
+ghost use Rattle.dict_slots.specs.Slots.{no_names, slot_at, Holds};
+ghost use Rattle.table_types.specs.SlotIds.{is_slot};
 
 use std::alloc::Global;
 use std::marker::Model;

@@ -5,15 +5,15 @@ use Rattle.std.specs.List.{list_all}
 use Rattle.std.proofs.lemmas.Bool.{cases_eq, eq-eqb, ne_eqb}
 use Rattle.table_types.specs.Tables.{Definition}
 use Rattle.table_types.specs.Rosters.{table_at, has_id, repeats_name, roster_fault}
-use Rattle.peers_msg.specs.Heard.{defined, with_own}
-use Rattle.peers_msg.specs.Steps.{last_of, put_last}
+use Rattle.peers_msg.specs.Received.{defined, with_own}
+use Rattle.known_state.specs.LastNumbers.{last_of, set_last}
 use Rattle.known_state.specs.declared.known.KnownError.TheVariants as build_errors
 use Rattle.known_state.specs.Known.{AreOwn, holds, repeats, has_last, repeats_last, or_none, are_known, are_defined, build_fault, built}
 use Rattle.known_state.proofs.KnownLemmas.{or-false-left, or-false-right, table_at-id, define_selects, AreOwn-defined, AreOwn-resumed}
 use Rattle.known_state.proofs.StepLemmas.{has_id-table_at}
-use Rattle.known_state.proofs.RosterLemmas.{roster_names, still_heard}
+use Rattle.known_state.proofs.RosterLemmas.{roster_names, still_received}
 use Rattle.known_state.proofs.CostLaws.{found_before, last-put}
-use Rattle.known_state.proofs.ReadLaws.{heard_is_own}
+use Rattle.known_state.proofs.ReadLaws.{received_is_own}
 
 and-left : (a b : Bool) → (a && b) ≡ true → a ≡ true
 and-left true b h = refl
@@ -35,9 +35,9 @@ no_fault true true c d h = (refl, last c d h)
 no_fault true false c d h = cc
 no_fault false b c d h = cc
 
-each_listed : (roster : List Definition) (selected : Option ℕ) (ids : List ℕ) (lasts : List (ℕ × ℕ)) → are_known roster selected ids lasts ≡ true → list_all (λ id. has_id id roster) ids ≡ true
-each_listed roster selected ids lasts known =
-    and-right (or_none (λ id. has_id id roster) selected) (list_all (λ id. has_id id roster) ids) (and-left (or_none (λ id. has_id id roster) selected && list_all (λ id. has_id id roster) ids) (list_all (λ (l : ℕ × ℕ). has_id l.0 roster) lasts) known)
+each_listed : (roster : List Definition) (selected : Option ℕ) (ids : List ℕ) (last_numbers : List (ℕ × ℕ)) → are_known roster selected ids last_numbers ≡ true → list_all (λ id. has_id id roster) ids ≡ true
+each_listed roster selected ids last_numbers known =
+    and-right (or_none (λ id. has_id id roster) selected) (list_all (λ id. has_id id roster) ids) (and-left (or_none (λ id. has_id id roster) selected && list_all (λ id. has_id id roster) ids) (list_all (λ (l : ℕ × ℕ). has_id l.0 roster) last_numbers) known)
 
 -- ---- tables
 
@@ -55,11 +55,11 @@ one_more roster d ds id distinct listed own = elim (cases_eq d.id id) [
 ]
   where
     by : (b : Bool) → is_some (table_at ds id) ≡ b → (c : Bool) → is_some (table_at (defined d ds) id) ≡ c → (id ≡ d.id → ⊥) → is_some (table_at (defined d ds) id) ≡ is_some (table_at ds id)
-    by true e c f apart = still_heard roster d ds id distinct listed own apart e ∙ sym e
+    by true e c f apart = still_received roster d ds id distinct listed own apart e ∙ sym e
     by false e false f apart = f ∙ sym e
     by false e true f apart = let bad : false ≡ true = sym (rw (ne_eqb id d.id apart, e) refl) ∙ found_before d ds id f in cc
 
--- so behind the definitions of these ids, these are defined and those from before
+-- so after the definitions of these ids, these are defined and those from before
 all_more : (roster : List Definition) (ids : List ℕ) (ds : List Definition) (id : ℕ) → repeats_name roster ≡ false → list_all (λ other. has_id other roster) ids ≡ true → AreOwn roster ds → is_some (table_at (fold (with_own roster) ds ids) id) ≡ (holds id ids || is_some (table_at ds id))
 all_more roster [] ds id distinct listed own = refl
 all_more roster (i ∷ ids) ds id distinct listed own =
@@ -80,30 +80,30 @@ all_more roster (i ∷ ids) ds id distinct listed own =
         subst (λ (ts : List Definition). is_some (table_at (fold (with_own roster) ts ids) id) ≡ ((eqb i id || holds id ids) || is_some (table_at ds id))) (sym put)
         (later ∙ ap (λ (b : Bool). holds id ids || b) one ∙ or_swap (eqb i id) (holds id ids) (is_some (table_at ds id)))
 
--- what is heard is the roster's, where it is heard
+-- what is received is the roster's, where it is received
 own_at : (roster ds : List Definition) (id : ℕ) → AreOwn roster ds → table_at ds id ≡ cond (is_some (table_at ds id)) (table_at roster id) None
 own_at roster ds id own = at (table_at ds id) refl
   where
     at : (o : Option Definition) → table_at ds id ≡ o → table_at ds id ≡ cond (is_some (table_at ds id)) (table_at roster id) None
     at None e = rw e refl
-    at (Some t) e = e ∙ sym (heard_is_own roster ds id t own e) ∙ rw e refl
+    at (Some t) e = e ∙ sym (received_is_own roster ds id t own e) ∙ rw e refl
 
 or_false : (b : Bool) → (b || false) ≡ b
 or_false true = refl
 or_false false = refl
 
-pub built_tables : (roster : List Definition) (selected : Option ℕ) (ids : List ℕ) (lasts : List (ℕ × ℕ)) (slots : List (Option (List ℕ))) (id : ℕ) → roster_fault roster ≡ None → build_fault roster selected ids lasts ≡ None → table_at (built roster selected ids lasts slots).state.heard.tables id ≡ cond (holds id ids) (table_at roster id) None
-built_tables roster selected ids lasts slots id sound none =
-    let listed : list_all (λ other. has_id other roster) ids ≡ true = each_listed roster selected ids lasts (no_fault (are_known roster selected ids lasts) (are_defined selected ids lasts) (repeats ids) (repeats_last lasts) none).0 in
-    let heard : is_some (table_at (fold (with_own roster) [] ids) id) ≡ holds id ids = all_more roster ids [] id (roster_names roster sound) listed tt ∙ or_false (holds id ids) in
-    own_at roster (fold (with_own roster) [] ids) id (AreOwn-resumed roster ids selected) ∙ ap (λ (b : Bool). cond b (table_at roster id) None) heard
+pub built_tables : (roster : List Definition) (selected : Option ℕ) (ids : List ℕ) (last_numbers : List (ℕ × ℕ)) (slots : List (Option (List ℕ))) (id : ℕ) → roster_fault roster ≡ None → build_fault roster selected ids last_numbers ≡ None → table_at (built roster selected ids last_numbers slots).state.received.tables id ≡ cond (holds id ids) (table_at roster id) None
+built_tables roster selected ids last_numbers slots id sound none =
+    let listed : list_all (λ other. has_id other roster) ids ≡ true = each_listed roster selected ids last_numbers (no_fault (are_known roster selected ids last_numbers) (are_defined selected ids last_numbers) (repeats ids) (repeats_last last_numbers) none).0 in
+    let received : is_some (table_at (fold (with_own roster) [] ids) id) ≡ holds id ids = all_more roster ids [] id (roster_names roster sound) listed tt ∙ or_false (holds id ids) in
+    own_at roster (fold (with_own roster) [] ids) id (AreOwn-resumed roster ids selected) ∙ ap (λ (b : Bool). cond b (table_at roster id) None) received
 
 -- ---- last numbers
 
-lasts_more : (ls placed : List (ℕ × ℕ)) (id : ℕ) → repeats_last ls ≡ false → last_of (fold (λ (placed : List (ℕ × ℕ)) (l : ℕ × ℕ). put_last l.0 l.1 placed) placed ls) id ≡ cond (has_last id ls) (last_of ls id) (last_of placed id)
-lasts_more [] placed id distinct = refl
-lasts_more (l ∷ ls) placed id distinct =
-    let later = lasts_more ls (put_last l.0 l.1 placed) id (or-false-right (has_last l.0 ls) (repeats_last ls) distinct) in
+last_numbers_more : (ls placed : List (ℕ × ℕ)) (id : ℕ) → repeats_last ls ≡ false → last_of (fold (λ (placed : List (ℕ × ℕ)) (l : ℕ × ℕ). set_last l.0 l.1 placed) placed ls) id ≡ cond (has_last id ls) (last_of ls id) (last_of placed id)
+last_numbers_more [] placed id distinct = refl
+last_numbers_more (l ∷ ls) placed id distinct =
+    let later = last_numbers_more ls (set_last l.0 l.1 placed) id (or-false-right (has_last l.0 ls) (repeats_last ls) distinct) in
     let put = last-put l.0 l.1 placed id in
     elim (cases_eq l.0 id) [
       | inl same ↦
@@ -116,10 +116,10 @@ none_there : (ls : List (ℕ × ℕ)) (id : ℕ) → has_last id ls ≡ false �
 none_there [] id none = refl
 none_there (l ∷ ls) id none = rw (or-false-left (eqb l.0 id) (has_last id ls) none) (none_there ls id (or-false-right (eqb l.0 id) (has_last id ls) none))
 
-pub built_lasts : (roster : List Definition) (selected : Option ℕ) (ids : List ℕ) (lasts : List (ℕ × ℕ)) (slots : List (Option (List ℕ))) (id : ℕ) → build_fault roster selected ids lasts ≡ None → last_of (built roster selected ids lasts slots).state.lasts id ≡ last_of lasts id
-built_lasts roster selected ids lasts slots id none =
-    lasts_more lasts [] id (no_fault (are_known roster selected ids lasts) (are_defined selected ids lasts) (repeats ids) (repeats_last lasts) none).1 ∙ at (has_last id lasts) refl
+pub built_last_numbers : (roster : List Definition) (selected : Option ℕ) (ids : List ℕ) (last_numbers : List (ℕ × ℕ)) (slots : List (Option (List ℕ))) (id : ℕ) → build_fault roster selected ids last_numbers ≡ None → last_of (built roster selected ids last_numbers slots).state.last_numbers id ≡ last_of last_numbers id
+built_last_numbers roster selected ids last_numbers slots id none =
+    last_numbers_more last_numbers [] id (no_fault (are_known roster selected ids last_numbers) (are_defined selected ids last_numbers) (repeats ids) (repeats_last last_numbers) none).1 ∙ at (has_last id last_numbers) refl
   where
-    at : (b : Bool) → has_last id lasts ≡ b → cond (has_last id lasts) (last_of lasts id) None ≡ last_of lasts id
+    at : (b : Bool) → has_last id last_numbers ≡ b → cond (has_last id last_numbers) (last_of last_numbers id) None ≡ last_of last_numbers id
     at true e = rw e refl
-    at false e = rw e (sym (none_there lasts id e))
+    at false e = rw e (sym (none_there last_numbers id e))

@@ -11,20 +11,21 @@ use Rattle.table_types.specs.Tables.{Definition}
 use Rattle.table_types.specs.Updates.{stores_name}
 use Rattle.table_types.specs.Names.{is_name}
 use Rattle.table_types.specs.Rosters.{table_at, has_id}
-use Rattle.peers_msg.specs.Heard.{put_table, outlives, defined}
+use Rattle.peers_msg.specs.Received.{put_table, outlives, defined}
 use Rattle.peers_msg.specs.declared.name_field.NameField.{NameField}
 use Rattle.peers_msg.specs.declared.name_field.NameField.TheVariants as names
 use Rattle.peers_msg.specs.declared.message.Message.TheVariants as messages
 use Rattle.table_types.specs.declared.key.Key.{Key}
 use Rattle.table_types.specs.declared.update.Value.{Value}
-use Rattle.table_types.specs.Slots.{is_slot}
+use Rattle.table_types.specs.SlotIds.{is_slot}
 use Rattle.peers_msg.specs.Fitting.{name_fits}
-use Rattle.peers_msg.specs.Steps.{Named, resolved_number, last_of, put_last}
+use Rattle.known_state.specs.State.{Named, resolved_number}
+use Rattle.known_state.specs.LastNumbers.{last_of, set_last}
 use Rattle.peers_msg.specs.Messages.{UpdateFields}
 use Rattle.peers_msg.specs.Spelling.{spelled, size_of, framed, counted, definition_text, update_text, update_kind, optional_word, word, key_text, value_text, name_text}
 use Rattle.known_state.proofs.KnownLemmas.{table_at-id}
 use Rattle.known_state.proofs.StepLemmas.{has_id-table_at}
-use Rattle.known_state.specs.Cost.{Knowledge, KnowsLess, with_selected, knowledge_after, follows, number_told, told_as, written_field, is_named_table, written_cost, is_selected, definition_cost, selection_cost, cost_from, saving, is_held, IsOfRoster}
+use Rattle.known_state.specs.Cost.{Knowledge, KnowsLess, with_selected, knowledge_after, follows, number_sent, sent_as, written_field, is_named_table, written_cost, is_selected, definition_cost, selection_cost, cost_from, saving, is_held, IsOfRoster}
 
 -- framed data grow with the data
 pub framed_longer : (c k c' k' : ℕ) (a b : List ℕ) → length a ≤ length b → length (framed c k a) ≤ length (framed c' k' b)
@@ -44,12 +45,12 @@ incremental_shorter n u =
     framed_longer 10 (update_kind (record u { number = None })) 10 (update_kind (record u { number = Some n })) rest (word n ++ rest) (omega (arith, length-append (word n) rest))
 
 -- an update in its shortest number form is no longer than with its number
-pub told_shorter : (last : Option ℕ) (field : NameField) (u : Update) → size_of (messages.Update (told_as last field u)) ≤ size_of (messages.Update (told_as None field u))
+pub told_shorter : (last : Option ℕ) (field : NameField) (u : Update) → size_of (messages.Update (sent_as last field u)) ≤ size_of (messages.Update (sent_as None field u))
 told_shorter None field u = omega arith
 told_shorter (Some last) field u = at (follows (Some last) u.number) refl
   where
-    at : (b : Bool) → follows (Some last) u.number ≡ b → size_of (messages.Update (told_as (Some last) field u)) ≤ size_of (messages.Update (told_as None field u))
-    at true e = rw e (incremental_shorter u.number (told_as None field u))
+    at : (b : Bool) → follows (Some last) u.number ≡ b → size_of (messages.Update (sent_as (Some last) field u)) ≤ size_of (messages.Update (sent_as None field u))
+    at true e = rw e (incremental_shorter u.number (sent_as None field u))
     at false e = rw e (omega arith)
 
 -- a switch costs no more than a definition of the roster
@@ -77,7 +78,7 @@ written_falls roster less more u knows =
       | inr none ↦ rw none (told_shorter (more.last u.table) field u)
     ]
 
--- behind an update, too, less is known where less was
+-- after an update, too, less is known where less was
 knows_after : (less more : Knowledge) (u : Update) → KnowsLess less more → KnowsLess (knowledge_after less u) (knowledge_after more u)
 knows_after less more u knows = record {
   defined = λ id h. or-implied (eqb id u.table) (less.is_defined id) (more.is_defined id) (knows.defined id) h;
@@ -116,7 +117,7 @@ or_again : (a c : Bool) → (a || (a || c)) ≡ true → (a || c) ≡ true
 or_again true c h = refl
 or_again false c h = h
 
--- behind an update of that table nothing is gained
+-- after an update of that table nothing is gained
 gains_nothing : (k : Knowledge) (more : Knowledge) (t : ℕ) (u : Update) → u.table ≡ t → ((id : ℕ) → more.is_defined id ≡ true → (id == t || k.is_defined id) ≡ true) → ((id : ℕ) → more.last id ≡ k.last id) → KnowsLess (knowledge_after more u) (knowledge_after k u)
 gains_nothing k more t u same defined last = record {
   defined = λ id h. again id (eqb id u.table) refl h;
@@ -242,10 +243,10 @@ and-right true b h = h
 and-right false b h = cc
 
 -- an update in its shortest number form is no longer than in any that means its number
-pub told_least : (number last : Option ℕ) (field : NameField) (u : Update) → resolved_number number last ≡ Some u.number → size_of (messages.Update (told_as last field u)) ≤ size_of (messages.Update (record { number = number; life = u.life; key = u.key; values = u.values; name = field }))
+pub told_least : (number last : Option ℕ) (field : NameField) (u : Update) → resolved_number number last ≡ Some u.number → size_of (messages.Update (sent_as last field u)) ≤ size_of (messages.Update (record { number = number; life = u.life; key = u.key; values = u.values; name = field }))
 told_least (Some n) last field u is =
     let same : n ≡ u.number = cc in
-    let numbered : size_of (messages.Update (told_as None field u)) ≡ size_of (messages.Update (record { number = Some n; life = u.life; key = u.key; values = u.values; name = field })) = rw same refl in
+    let numbered : size_of (messages.Update (sent_as None field u)) ≡ size_of (messages.Update (record { number = Some n; life = u.life; key = u.key; values = u.values; name = field })) = rw same refl in
     let le = told_shorter last field u in
     omega arith
 told_least None None field u is = cc
@@ -285,29 +286,29 @@ written_alike number life key values slot name is =
 pub update_pays : (roster : List Definition) (k : Knowledge) (d : Definition) (m : UpdateFields) (u : Update) (slots after : List (Option (List ℕ))) → table_at roster u.table ≡ Some d → name_fits d m.name ≡ true → Named slots m.name u.name after → m.life ≡ u.life → m.key ≡ u.key → m.values ≡ u.values → resolved_number m.number (k.last u.table) ≡ Some u.number → written_cost roster k u ≤ size_of (messages.Update m) + saving roster k (messages.Update m) (u ∷ [])
 update_pays roster k d m u slots after listed fit named life key values number = by m.name refl fit named
   where
-    as_meant : (field : NameField) → m.name ≡ field → size_of (messages.Update (told_as (k.last u.table) field u)) ≤ size_of (messages.Update m)
+    as_meant : (field : NameField) → m.name ≡ field → size_of (messages.Update (sent_as (k.last u.table) field u)) ≤ size_of (messages.Update m)
     as_meant field e =
         let least = told_least m.number (k.last u.table) field u number in
         let same : record { number = m.number; life = u.life; key = u.key; values = u.values; name = field } ≡ m = rw (← life, ← key, ← values, ← e) refl in
-        subst (λ (f : UpdateFields). size_of (messages.Update (told_as (k.last u.table) field u)) ≤ size_of (messages.Update f)) same least
+        subst (λ (f : UpdateFields). size_of (messages.Update (sent_as (k.last u.table) field u)) ≤ size_of (messages.Update f)) same least
 
     by : (field : NameField) → m.name ≡ field → name_fits d field ≡ true → Named slots field u.name after → written_cost roster k u ≤ size_of (messages.Update m) + saving roster k (messages.Update m) (u ∷ [])
     by names.NotStored e f n =
         let none : stores_name d ≡ false = not-true (stores_name d) f in
-        let whole : written_cost roster k u ≡ size_of (messages.Update (told_as (k.last u.table) names.NotStored u)) = rw (listed, none) refl in
+        let whole : written_cost roster k u ≡ size_of (messages.Update (sent_as (k.last u.table) names.NotStored u)) = rw (listed, none) refl in
         omega (arith, as_meant names.NotStored e)
     by names.NoName e f n =
-        let whole : written_cost roster k u ≡ size_of (messages.Update (told_as (k.last u.table) names.NoName u)) = rw (listed, f, n.0) refl in
+        let whole : written_cost roster k u ≡ size_of (messages.Update (sent_as (k.last u.table) names.NoName u)) = rw (listed, f, n.0) refl in
         omega (arith, as_meant names.NoName e)
     by (names.Written slot bytes) e f n =
         let stored : stores_name d ≡ true = and-left (stores_name d) (is_slot slot) (and-left (stores_name d && is_slot slot) (is_name bytes) f) in
         let slotted : is_slot slot ≡ true = and-right (stores_name d) (is_slot slot) (and-left (stores_name d && is_slot slot) (is_name bytes) f) in
-        let whole : written_cost roster k u ≡ size_of (messages.Update (told_as (k.last u.table) (names.Written 1 bytes) u)) = rw (listed, stored, n.0) refl in
-        let alike = written_alike (number_told (k.last u.table) u.number) u.life u.key u.values slot bytes slotted in
+        let whole : written_cost roster k u ≡ size_of (messages.Update (sent_as (k.last u.table) (names.Written 1 bytes) u)) = rw (listed, stored, n.0) refl in
+        let alike = written_alike (number_sent (k.last u.table) u.number) u.life u.key u.values slot bytes slotted in
         omega (arith, as_meant (names.Written slot bytes) e)
     by (names.Held slot) e f n =
         let reads : is_held m.name ≡ true = rw e refl in
-        let saved : saving roster k (messages.Update m) (u ∷ []) ≡ written_cost roster k u - size_of (messages.Update (told_as (k.last u.table) m.name u)) = rw reads refl in
+        let saved : saving roster k (messages.Update m) (u ∷ []) ≡ written_cost roster k u - size_of (messages.Update (sent_as (k.last u.table) m.name u)) = rw reads refl in
         let least = as_meant m.name refl in
         omega arith
 
@@ -342,7 +343,7 @@ filter_has p (x ∷ xs) id h = at (p x) refl (filter_has p xs id)
     at true e later = or_rest (eqb x.id id) (has_id id (filter p xs)) (has_id id xs) later (sym (rw e refl) ∙ h)
     at false e later = or_true (eqb x.id id) (has_id id xs) (later (sym (rw e refl) ∙ h))
 
--- a definition that is found behind another was found before, or is the new one
+-- a definition that is found after another was found before, or is the new one
 pub found_before : (d : Definition) (ds : List Definition) (id : ℕ) → is_some (table_at (defined d ds) id) ≡ true → (id == d.id || is_some (table_at ds id)) ≡ true
 found_before d ds id h =
     let listed : has_id id (put_table d (filter (outlives d) ds)) ≡ true = has_id-table_at (defined d ds) id ∙ h in
@@ -393,7 +394,7 @@ last-filter q ls id = at (q id) refl
     at false e = inr (last-dropped q ls id e)
 
 -- the last number put is found, and the others are as before
-pub last-put : (t n : ℕ) (ls : List (ℕ × ℕ)) (id : ℕ) → last_of (put_last t n ls) id ≡ cond (eqb id t) (Some n) (last_of ls id)
+pub last-put : (t n : ℕ) (ls : List (ℕ × ℕ)) (id : ℕ) → last_of (set_last t n ls) id ≡ cond (eqb id t) (Some n) (last_of ls id)
 last-put t n [] id = elim (cases_eq t id) [
   | inl same ↦ rw (eq-eqb t id same, eq-eqb id t (sym same)) refl
   | inr other ↦ rw (ne_eqb t id other, ne_eqb id t (λ e. other (sym e))) refl
@@ -408,7 +409,7 @@ last-put t n (l ∷ ls) id =
       | inr apart ↦ before (nat_lt t l.0) refl apart later
     ]
   where
-    before : (b : Bool) → nat_lt t l.0 ≡ b → (l.0 ≡ t → ⊥) → last_of (put_last t n ls) id ≡ cond (eqb id t) (Some n) (last_of ls id) → last_of (put_last t n (l ∷ ls)) id ≡ cond (eqb id t) (Some n) (last_of (l ∷ ls) id)
+    before : (b : Bool) → nat_lt t l.0 ≡ b → (l.0 ≡ t → ⊥) → last_of (set_last t n ls) id ≡ cond (eqb id t) (Some n) (last_of ls id) → last_of (set_last t n (l ∷ ls)) id ≡ cond (eqb id t) (Some n) (last_of (l ∷ ls) id)
     before true e apart later = elim (cases_eq t id) [
       | inl here ↦ rw (ne_eqb l.0 t apart, e, eq-eqb t id here, eq-eqb id t (sym here)) refl
       | inr other ↦ rw (ne_eqb l.0 t apart, e, ne_eqb t id other, ne_eqb id t (λ f. other (sym f))) refl

@@ -8,7 +8,7 @@ use Rattle.table_types.specs.Rosters.{table_at}
 use Rattle.peers_msg.specs.declared.message.Message.{Message}
 use Rattle.peers_msg.specs.declared.message.Message.TheVariants as messages
 use Rattle.peers_msg.specs.Spelling.{size_of, size_of_all}
-use Rattle.peers_msg.specs.Steps.{State, Step, IsOwn, Legal}
+use Rattle.known_state.specs.State.{State, Step, IsOwn, Legal}
 use Rattle.known_state.specs.Known.{AreOwn}
 use Rattle.known_state.specs.Requests.{AreNameless}
 use Rattle.known_state.specs.Cost.{Knowledge, knowledge_of, knowledge_after, is_selected, defining, definition_cost, selecting, selection_cost, written, written_lesson, full, cost, cost_from, IsOfRoster, Pays, Saves}
@@ -42,16 +42,16 @@ pub full_is_cost : (roster : List Definition) (s : State) (us : List Update) →
 full_is_cost roster s us = lesson_size roster (knowledge_of s) us
 
 -- so what pays, pays by the size of that lesson
-pub step_pays_full : (roster : List Definition) (s mid : State) (m : Message) (one rest : List Update) → AreOwn roster s.heard.tables → IsOwn roster m → AllByRecursion (IsOfRoster roster) rest → Step s m one mid → Pays roster s m one rest mid
+pub step_pays_full : (roster : List Definition) (s mid : State) (m : Message) (one rest : List Update) → AreOwn roster s.received.tables → IsOwn roster m → AllByRecursion (IsOfRoster roster) rest → Step s m one mid → Pays roster s m one rest mid
 step_pays_full roster s mid m one rest own is_own all step =
     let paid = step_pays roster s mid m one rest own is_own all step in
     omega (arith, full_is_cost roster s (one ++ rest), full_is_cost roster mid rest)
 
-pub list_pays_full : (roster : List Definition) (s e : State) (ms : List Message) (us : List Update) → AreOwn roster s.heard.tables → AllByRecursion (IsOfRoster roster) us → Legal roster s ms us e → (saved : ℕ) × Saves roster s ms us saved × (full roster s us ≤ size_of_all ms + saved)
+pub list_pays_full : (roster : List Definition) (s e : State) (ms : List Message) (us : List Update) → AreOwn roster s.received.tables → AllByRecursion (IsOfRoster roster) us → Legal roster s ms us e → (saved : ℕ) × Saves roster s ms us saved × (full roster s us ≤ size_of_all ms + saved)
 list_pays_full roster s e ms us own all legal =
     let paid = list_pays roster s e ms us own all legal in
     (paid.0, paid.1, omega (arith, full_is_cost roster s us, paid.2))
 
-pub none_shorter_full : (roster : List Definition) (s e : State) (ms : List Message) (us : List Update) → AreOwn roster s.heard.tables → AreNameless us → AllByRecursion (IsOfRoster roster) us → Legal roster s ms us e → full roster s us ≤ size_of_all ms
+pub none_shorter_full : (roster : List Definition) (s e : State) (ms : List Message) (us : List Update) → AreOwn roster s.received.tables → AreNameless us → AllByRecursion (IsOfRoster roster) us → Legal roster s ms us e → full roster s us ≤ size_of_all ms
 none_shorter_full roster s e ms us own unnamed all legal =
     omega (arith, full_is_cost roster s us, none_shorter roster s e ms us own unnamed all legal)

@@ -1,4 +1,4 @@
--- What is heard in a known state is the roster's own, and stays so.
+-- What is received in a known state is the roster's own, and stays so.
 use Rattle.std.proofs.Common.{◌≡◌, ℕ, Bool, true, false, not, ◌&&◌, ◌||◌, cond, eqb, List, [], ◌∷◌, Option, Some, None, refl, sym, arith, subst, ◌∙◌, inl, inr}
 use Rattle.std.specs.Prelude.{filter, fold, nat_lt}
 use Rattle.std.specs.List.{AllByRecursion, list_any}
@@ -8,7 +8,7 @@ use Rattle.table_types.specs.Tables.{Definition}
 use Rattle.table_types.specs.Updates.{stores_name}
 use Rattle.table_types.specs.Rosters.{table_at, has_id, is_same_name}
 use Rattle.peers_msg.specs.declared.message.Message.TheVariants as messages
-use Rattle.peers_msg.specs.Heard.{Heard, put_table, outlives, defined, with_own, resumed, selected_table, heard_after}
+use Rattle.peers_msg.specs.Received.{Received, put_table, outlives, defined, with_own, resumed, selected_table, received_after}
 use Rattle.known_state.specs.Known.{AreOwn}
 
 -- the table that an id stands for has that id
@@ -56,11 +56,11 @@ AreOwn-put roster d [] is own = (is, tt)
 AreOwn-put roster d (x ∷ xs) is own =
     elim (nat_lt d.id x.id) as (λ b. AreOwn roster (cond b (d ∷ (x ∷ xs)) (x ∷ put_table d xs))) [ true ↦ (is, own) | false ↦ (own.0, AreOwn-put roster d xs is own.1) ]
 
--- what is heard after the roster's own definition is the roster's own
+-- what is received after the roster's own definition is the roster's own
 pub AreOwn-defined : (roster : List Definition) (d : Definition) (ds : List Definition) → table_at roster d.id ≡ Some d → AreOwn roster ds → AreOwn roster (defined d ds)
 AreOwn-defined roster d ds is own = AreOwn-put roster d (filter (outlives d) ds) is (AreOwn-filter roster (outlives d) ds own)
 
--- after the roster's own definition of an id, what is heard is the roster's own
+-- after the roster's own definition of an id, what is received is the roster's own
 AreOwn-with : (roster : List Definition) (ds : List Definition) (id : ℕ) → AreOwn roster ds → AreOwn roster (with_own roster ds id)
 AreOwn-with roster ds id own = at (table_at roster id) refl
   where
@@ -110,6 +110,6 @@ outliving_lacks d (x ∷ xs) = at (outlives d x) refl (outliving_lacks d xs)
         let other : eqb x.id d.id ≡ false = not-first (eqb x.id d.id) (not (is_same_name x.name d.name)) e in
         rw other rest
 
--- behind a definition its table is selected
-pub define_selects : (h : Heard) (d : Definition) → selected_table (heard_after h (messages.Define d)) ≡ Some d
+-- after a definition its table is selected
+pub define_selects : (h : Received) (d : Definition) → selected_table (received_after h (messages.Define d)) ≡ Some d
 define_selects h d = put_found d (filter (outlives d) h.tables) (outliving_lacks d h.tables)

@@ -1,4 +1,5 @@
-pub mod LastsLemmas
+pub mod StepIsDeterministic
+pub mod LastNumbersLemmas
 pub mod KnownLemmas
 pub mod StepLemmas
 pub mod ResolvingLemmas
@@ -8,7 +9,7 @@ pub mod CostLaws
 pub mod StepPays
 pub mod BatchLemmas
 pub mod RequestLemmas
-pub mod ToldLemmas
+pub mod KnownPartLaws
 pub mod RisingLemmas
 pub mod InStepLaws
 pub mod ShortestLaws

@@ -8,16 +8,17 @@ use Rattle.table_types.specs.Rosters.{table_at}
 use Rattle.peers_msg.specs.declared.message.Message.{Message}
 use Rattle.peers_msg.specs.declared.message.Message.TheVariants as messages
 use Rattle.peers_msg.specs.Messages.{UpdateFields}
-use Rattle.peers_msg.specs.Heard.{Heard, selected_table}
+use Rattle.peers_msg.specs.Received.{Received, selected_table}
 use Rattle.peers_msg.specs.Fitting.{fits}
-use Rattle.peers_msg.specs.Steps.{State, Step, IsOwn, last_of, resolved_number}
+use Rattle.known_state.specs.State.{State, Step, IsOwn, resolved_number}
+use Rattle.known_state.specs.LastNumbers.{last_of}
 use Rattle.known_state.specs.declared.known.StepError.{StepError}
 use Rattle.known_state.specs.Known.{KnownState, AreOwn, Refuses, switch_refusal, update_refusal}
 use Rattle.known_state.proofs.KnownLemmas.{table_at-id, table_at-passes}
 use Rattle.known_state.proofs.ResolvingLemmas.{named_so}
 use Rattle.known_state.proofs.StepLemmas.{has_id-table_at, selected-id}
 
-pub switch_found : (h : Heard) (id : ℕ) → fits h (messages.Switch id) ≡ true → (d : Definition) × (table_at h.tables id ≡ Some d)
+pub switch_found : (h : Received) (id : ℕ) → fits h (messages.Switch id) ≡ true → (d : Definition) × (table_at h.tables id ≡ Some d)
 unfolding fits
 switch_found h id fit = at (table_at h.tables id) refl (middle (nat_lt id (2 ^ 64)) (is_some (table_at h.tables id)) (nat_le (length (data_of (messages.Switch id))) 16384) fit)
   where
@@ -30,7 +31,7 @@ switch_found h id fit = at (table_at h.tables id) refl (middle (nat_lt id (2 ^ 6
     at (Some d) e is = (d, e)
     at None e is = let bad : false ≡ true = sym (rw e refl) ∙ is in cc
 
-pub selection : (h : Heard) (u : UpdateFields) → fits h (messages.Update u) ≡ true → (d : Definition) × (selected_table h ≡ Some d)
+pub selection : (h : Received) (u : UpdateFields) → fits h (messages.Update u) ≡ true → (d : Definition) × (selected_table h ≡ Some d)
 unfolding fits
 selection h u fit = at (selected_table h) refl
   where
@@ -38,21 +39,21 @@ selection h u fit = at (selected_table h) refl
     at (Some d) e = (d, e)
     at None e = let bad : false ≡ true = sym (rw e refl) ∙ fit in cc
 
-pub no_step : (k : KnownState) (m : Message) (e : StepError) (us : List Update) (after : State) → AreOwn k.roster k.state.heard.tables → Refuses k m e → IsOwn k.roster m → Step k.state m us after → ⊥
+pub no_step : (k : KnownState) (m : Message) (e : StepError) (us : List Update) (after : State) → AreOwn k.roster k.state.received.tables → Refuses k m e → IsOwn k.roster m → Step k.state m us after → ⊥
 no_step k (messages.Define d) e us after own refuses is_own step = refuses.0 is_own
 no_step k (messages.Switch id) e us after own refuses is_own step =
-    let found = switch_found k.state.heard id step.0 in
-    let listed : table_at k.roster found.0.id ≡ Some found.0 = table_at-passes (λ (t : Definition). table_at k.roster t.id ≡ Some t) k.state.heard.tables id found.0 own found.1 in
-    let here : table_at k.roster id ≡ Some found.0 = subst (λ (n : ℕ). table_at k.roster n ≡ Some found.0) (table_at-id k.state.heard.tables id found.0 found.1) listed in
+    let found = switch_found k.state.received id step.0 in
+    let listed : table_at k.roster found.0.id ≡ Some found.0 = table_at-passes (λ (t : Definition). table_at k.roster t.id ≡ Some t) k.state.received.tables id found.0 own found.1 in
+    let here : table_at k.roster id ≡ Some found.0 = subst (λ (n : ℕ). table_at k.roster n ≡ Some found.0) (table_at-id k.state.received.tables id found.0 found.1) listed in
     let none : switch_refusal k id ≡ None = rw (has_id-table_at k.roster id, here, found.1) refl in
     let bad : None ≡ Some e = sym none ∙ refuses in
     cc
-no_step k (messages.Update u) e us after own refuses is_own (fit, table, is_table, number, is_number, name, named, carried, heard, lasts) =
-    let sel = selection k.state.heard u fit in
-    let same : Some sel.0.id ≡ Some table = sym (selected-id k.state.heard sel.0 sel.1) ∙ is_table in
+no_step k (messages.Update u) e us after own refuses is_own (fit, table, is_table, number, is_number, name, named, carried, received, last_numbers) =
+    let sel = selection k.state.received u fit in
+    let same : Some sel.0.id ≡ Some table = sym (selected-id k.state.received sel.0 sel.1) ∙ is_table in
     let id_is : sel.0.id ≡ table = cc in
-    let numbered : resolved_number u.number (last_of k.state.lasts sel.0.id) ≡ Some number = subst (λ (n : ℕ). resolved_number u.number (last_of k.state.lasts n) ≡ Some number) (sym id_is) is_number in
-    let none : update_refusal k u (selected_table k.state.heard) ≡ None = rw (sel.1, fit, numbered, (named_so k.state.slots u.name name after.slots named).0) refl in
+    let numbered : resolved_number u.number (last_of k.state.last_numbers sel.0.id) ≡ Some number = subst (λ (n : ℕ). resolved_number u.number (last_of k.state.last_numbers n) ≡ Some number) (sym id_is) is_number in
+    let none : update_refusal k u (selected_table k.state.received) ≡ None = rw (sel.1, fit, numbered, (named_so k.state.slots u.name name after.slots named).0) refl in
     let bad : None ≡ Some e = sym none ∙ refuses in
     cc
 no_step k (messages.Control c) e us after own refuses is_own step = refuses

@@ -1,9 +1,9 @@
--- The name that a field tells, and the slots behind it, are those of a step.
+-- The name that a field tells, and the slots after it, are those of a step.
 use Rattle.std.proofs.Common.{◌≡◌, ℕ, ◌∙◌, true, false, List, Option, Some, None, refl, sym}
-use Rattle.table_types.specs.Slots.{slot_at}
+use Rattle.dict_slots.specs.Slots.{slot_at}
 use Rattle.peers_msg.specs.declared.name_field.NameField.{NameField}
 use Rattle.peers_msg.specs.declared.name_field.NameField.TheVariants as names
-use Rattle.peers_msg.specs.Steps.{Named}
+use Rattle.known_state.specs.State.{Named}
 use Rattle.known_state.specs.Resolving.{reads_empty, name_of, slots_after}
 
 -- a field that reads no empty slot names an update

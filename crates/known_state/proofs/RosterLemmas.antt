@@ -6,7 +6,7 @@ use Rattle.std.proofs.lemmas.Bool.{cases_eq, eq-eqb, ne_eqb}
 use Rattle.table_types.specs.declared.roster.RosterError.TheVariants as errors
 use Rattle.table_types.specs.Tables.{Definition}
 use Rattle.table_types.specs.Rosters.{table_at, has_id, has_name, is_same_name, repeats_id, repeats_name, roster_fault}
-use Rattle.peers_msg.specs.Heard.{defined, put_table, outlives}
+use Rattle.peers_msg.specs.Received.{defined, put_table, outlives}
 use Rattle.known_state.specs.Known.{AreOwn}
 use Rattle.known_state.proofs.KnownLemmas.{or-false-left, or-false-right}
 use Rattle.known_state.proofs.StepLemmas.{has_id-table_at}
@@ -101,8 +101,8 @@ has_put d (x ∷ xs) id h = at (nat_lt d.id x.id) refl (has_put d xs id)
     at true e later = rw e (or-right (eqb d.id id) (has_id id (x ∷ xs)) h)
     at false e later = rw e (or-mono (eqb x.id id) (has_id id xs) (has_id id (put_table d xs)) later h)
 
--- so it is heard behind it
-pub still_heard : (roster : List Definition) (d : Definition) (ts : List Definition) (id : ℕ) → repeats_name roster ≡ false → table_at roster d.id ≡ Some d → AreOwn roster ts → (id ≡ d.id → ⊥) → is_some (table_at ts id) ≡ true → is_some (table_at (defined d ts) id) ≡ true
-still_heard roster d ts id distinct listed own apart h =
+-- so it is received after it
+pub still_received : (roster : List Definition) (d : Definition) (ts : List Definition) (id : ℕ) → repeats_name roster ≡ false → table_at roster d.id ≡ Some d → AreOwn roster ts → (id ≡ d.id → ⊥) → is_some (table_at ts id) ≡ true → is_some (table_at (defined d ts) id) ≡ true
+still_received roster d ts id distinct listed own apart h =
     let before : has_id id ts ≡ true = has_id-table_at ts id ∙ h in
     sym (has_id-table_at (defined d ts) id) ∙ has_put d (filter (outlives d) ts) id (has_kept roster d ts id distinct listed own apart before)

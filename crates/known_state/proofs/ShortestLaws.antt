@@ -4,7 +4,7 @@ use Rattle.std.proofs.lemmas.List.Concat.{length-flat_map}
 use Rattle.table_types.specs.declared.update.Update.{Update}
 use Rattle.peers_msg.specs.declared.message.Message.{Message}
 use Rattle.peers_msg.specs.Spelling.{spelled, stream_of, size_of, size_of_all}
-use Rattle.peers_msg.specs.Steps.{State, Legal}
+use Rattle.known_state.specs.State.{State, Legal}
 use Rattle.known_state.specs.Known.{KnownState}
 use Rattle.known_state.specs.Shortest.{Shortest}
 

@@ -13,10 +13,11 @@ use Rattle.table_types.specs.Rosters.{table_at}
 use Rattle.peers_msg.specs.declared.message.Message.{Message}
 use Rattle.peers_msg.specs.declared.message.Message.TheVariants as messages
 use Rattle.peers_msg.specs.Messages.{UpdateFields}
-use Rattle.peers_msg.specs.Heard.{Heard, heard_after, defined, selected_table}
+use Rattle.peers_msg.specs.Received.{Received, received_after, defined, selected_table}
 use Rattle.peers_msg.specs.Spelling.{size_of, size_of_all, data_of}
 use Rattle.peers_msg.specs.Fitting.{fits, name_fits, update_fits}
-use Rattle.peers_msg.specs.Steps.{State, Step, Named, IsOwn, Legal, keeps_last, last_of, put_last, resolved, resolved_number}
+use Rattle.known_state.specs.State.{State, Step, Named, IsOwn, Legal, resolved, resolved_number}
+use Rattle.known_state.specs.LastNumbers.{keeps_last, last_of, set_last}
 use Rattle.known_state.specs.Known.{AreOwn, stores_no_name}
 use Rattle.known_state.specs.Requests.{AreNameless}
 use Rattle.known_state.specs.Cost.{KnowsLess, with_selected, knowledge_of, knowledge_after, cost, saving, selection_cost, definition_cost, is_held, Saves, IsOfRoster}
@@ -35,22 +36,22 @@ or_true false b h = h
 
 -- a definition of the roster's own pays
 define_pays : (roster : List Definition) (s : State) (d : Definition) (rest : List Update) → table_at roster d.id ≡ Some d → AllByRecursion (IsOfRoster roster) rest
-    → cost roster s rest ≤ size_of (messages.Define d) + cost roster (record { heard = heard_after s.heard (messages.Define d); lasts = filter (λ l. keeps_last d (table_at s.heard.tables l.0) l.0) s.lasts; slots = s.slots }) rest
+    → cost roster s rest ≤ size_of (messages.Define d) + cost roster (record { received = received_after s.received (messages.Define d); last_numbers = filter (λ l. keeps_last d (table_at s.received.tables l.0) l.0) s.last_numbers; slots = s.slots }) rest
 define_pays roster s d rest own all =
     let k = knowledge_of s in
-    let after : State = record { heard = heard_after s.heard (messages.Define d); lasts = filter (λ l. keeps_last d (table_at s.heard.tables l.0) l.0) s.lasts; slots = s.slots } in
+    let after : State = record { received = received_after s.received (messages.Define d); last_numbers = filter (λ l. keeps_last d (table_at s.received.tables l.0) l.0) s.last_numbers; slots = s.slots } in
     let own_cost : definition_cost (table_at roster d.id) ≡ size_of (messages.Define d) = rw own refl in
     let paid = defining_pays roster k d.id rest all in
     let knows : KnowsLess (knowledge_of after) (with_selected k d.id) = record {
-      defined = λ id h. found_before d s.heard.tables id h;
-      selected = ap (option_map (λ (t : Definition). t.id)) (define_selects s.heard d);
-      last = λ id. kept_or_gone id (is_some (table_at after.heard.tables id)) refl (is_some (table_at s.heard.tables id)) refl;
+      defined = λ id h. found_before d s.received.tables id h;
+      selected = ap (option_map (λ (t : Definition). t.id)) (define_selects s.received d);
+      last = λ id. kept_or_gone id (is_some (table_at after.received.tables id)) refl (is_some (table_at s.received.tables id)) refl;
     } in
     let less = falls roster (knowledge_of after) (with_selected k d.id) rest knows all in
     omega arith
   where
     keeps : ℕ → Bool
-    keeps id = keeps_last d (table_at s.heard.tables id) id
+    keeps id = keeps_last d (table_at s.received.tables id) id
 
     nothing : (o : Option Definition) → is_some o ≡ false → o ≡ None
     nothing None e = refl
@@ -60,32 +61,32 @@ define_pays roster s d rest own all =
     or_first true b h e = refl
     or_first false b h e = let bad : true ≡ false = sym h ∙ e in cc
 
-    kept_or_gone : (id : ℕ) (b : Bool) → is_some (table_at (defined d s.heard.tables) id) ≡ b → (c : Bool) → is_some (table_at s.heard.tables id) ≡ c → (cond b (last_of (filter (λ l. keeps_last d (table_at s.heard.tables l.0) l.0) s.lasts) id) None ≡ cond c (last_of s.lasts id) None) ⊎ (cond b (last_of (filter (λ l. keeps_last d (table_at s.heard.tables l.0) l.0) s.lasts) id) None ≡ None)
+    kept_or_gone : (id : ℕ) (b : Bool) → is_some (table_at (defined d s.received.tables) id) ≡ b → (c : Bool) → is_some (table_at s.received.tables id) ≡ c → (cond b (last_of (filter (λ l. keeps_last d (table_at s.received.tables l.0) l.0) s.last_numbers) id) None ≡ cond c (last_of s.last_numbers id) None) ⊎ (cond b (last_of (filter (λ l. keeps_last d (table_at s.received.tables l.0) l.0) s.last_numbers) id) None ≡ None)
     kept_or_gone id false e c f = inr refl
-    kept_or_gone id true e true f = last-filter keeps s.lasts id
+    kept_or_gone id true e true f = last-filter keeps s.last_numbers id
     kept_or_gone id true e false f =
-        let here : eqb id d.id ≡ true = or_first (eqb id d.id) (is_some (table_at s.heard.tables id)) (found_before d s.heard.tables id e) f in
-        let dropped : keeps id ≡ false = rw (nothing (table_at s.heard.tables id) f, here) refl in
-        inr (last-dropped keeps s.lasts id dropped)
+        let here : eqb id d.id ≡ true = or_first (eqb id d.id) (is_some (table_at s.received.tables id)) (found_before d s.received.tables id e) f in
+        let dropped : keeps id ≡ false = rw (nothing (table_at s.received.tables id) f, here) refl in
+        inr (last-dropped keeps s.last_numbers id dropped)
 
--- a switch to a table that is heard pays
-switch_pays : (roster : List Definition) (s : State) (id : ℕ) (d : Definition) (rest : List Update) → table_at s.heard.tables id ≡ Some d → AllByRecursion (IsOfRoster roster) rest
-    → cost roster s rest ≤ size_of (messages.Switch id) + cost roster (record { heard = heard_after s.heard (messages.Switch id); lasts = s.lasts; slots = s.slots }) rest
+-- a switch to a table that is received pays
+switch_pays : (roster : List Definition) (s : State) (id : ℕ) (d : Definition) (rest : List Update) → table_at s.received.tables id ≡ Some d → AllByRecursion (IsOfRoster roster) rest
+    → cost roster s rest ≤ size_of (messages.Switch id) + cost roster (record { received = received_after s.received (messages.Switch id); last_numbers = s.last_numbers; slots = s.slots }) rest
 switch_pays roster s id d rest found all =
     let k = knowledge_of s in
-    let after : State = record { heard = heard_after s.heard (messages.Switch id); lasts = s.lasts; slots = s.slots } in
+    let after : State = record { received = received_after s.received (messages.Switch id); last_numbers = s.last_numbers; slots = s.slots } in
     let known : k.is_defined id ≡ true = rw found refl in
     let paid = switched_pays roster k id rest known all in
     let knows : KnowsLess (knowledge_of after) (with_selected k id) = record {
-      defined = λ other h. or_true (eqb other id) (is_some (table_at s.heard.tables other)) h;
-      selected = ap (option_map (λ (t : Definition). t.id)) found ∙ ap (λ (n : ℕ). Some n) (table_at-id s.heard.tables id d found);
+      defined = λ other h. or_true (eqb other id) (is_some (table_at s.received.tables other)) h;
+      selected = ap (option_map (λ (t : Definition). t.id)) found ∙ ap (λ (n : ℕ). Some n) (table_at-id s.received.tables id d found);
       last = λ other. inl refl;
     } in
     let less = falls roster (knowledge_of after) (with_selected k id) rest knows all in
     omega arith
 
 -- the table's part of a fitting update
-name_fitting : (h : Heard) (m : UpdateFields) (d : Definition) → fits h (messages.Update m) ≡ true → selected_table h ≡ Some d → name_fits d m.name ≡ true
+name_fitting : (h : Received) (m : UpdateFields) (d : Definition) → fits h (messages.Update m) ≡ true → selected_table h ≡ Some d → name_fits d m.name ≡ true
 unfolding fits
 name_fitting h m d fit sel = last-part (sym (rw sel refl) ∙ fit)
   where
@@ -113,61 +114,61 @@ is_there ds table id d here same = elim (cases_eq id table) [
 ]
 
 -- an update pays, and what it saves by reading a name
-take_pays : (roster : List Definition) (s mid : State) (m : UpdateFields) (d : Definition) (table number : ℕ) (name : Option (List ℕ)) (rest : List Update) → AreOwn roster s.heard.tables → AllByRecursion (IsOfRoster roster) rest
-    → selected_table s.heard ≡ Some d → d.id ≡ table → name_fits d m.name ≡ true → Named s.slots m.name name mid.slots → resolved_number m.number (last_of s.lasts table) ≡ Some number → mid.heard ≡ s.heard → mid.lasts ≡ put_last table number s.lasts
+take_pays : (roster : List Definition) (s mid : State) (m : UpdateFields) (d : Definition) (table number : ℕ) (name : Option (List ℕ)) (rest : List Update) → AreOwn roster s.received.tables → AllByRecursion (IsOfRoster roster) rest
+    → selected_table s.received ≡ Some d → d.id ≡ table → name_fits d m.name ≡ true → Named s.slots m.name name mid.slots → resolved_number m.number (last_of s.last_numbers table) ≡ Some number → mid.received ≡ s.received → mid.last_numbers ≡ set_last table number s.last_numbers
     → cost roster s (resolved m table number name ∷ rest) ≤ size_of (messages.Update m) + saving roster (knowledge_of s) (messages.Update m) (resolved m table number name ∷ []) + cost roster mid rest
-take_pays roster s mid m d table number name rest own all sel is fit named numbered heard lasts =
+take_pays roster s mid m d table number name rest own all sel is fit named numbered received last_numbers =
     let k = knowledge_of s in
     let u : Update = resolved m table number name in
-    let found = selected-found s.heard d sel in
-    let listed_d : table_at roster d.id ≡ Some d = table_at-passes (λ (t : Definition). table_at roster t.id ≡ Some t) s.heard.tables found.0 d own found.1 in
+    let found = selected-found s.received d sel in
+    let listed_d : table_at roster d.id ≡ Some d = table_at-passes (λ (t : Definition). table_at roster t.id ≡ Some t) s.received.tables found.0 d own found.1 in
     let listed : table_at roster table ≡ Some d = subst (λ (n : ℕ). table_at roster n ≡ Some d) is listed_d in
-    let here : table_at s.heard.tables table ≡ Some d = subst (λ (n : ℕ). table_at s.heard.tables n ≡ Some d) (sym (table_at-id s.heard.tables found.0 d found.1) ∙ is) found.1 in
-    let known : k.last table ≡ last_of s.lasts table = rw here refl in
+    let here : table_at s.received.tables table ≡ Some d = subst (λ (n : ℕ). table_at s.received.tables n ≡ Some d) (sym (table_at-id s.received.tables found.0 d found.1) ∙ is) found.1 in
+    let known : k.last table ≡ last_of s.last_numbers table = rw here refl in
     let paid = update_pays roster k d m u s.slots mid.slots listed fit named refl refl refl (ap (λ (l : Option ℕ). resolved_number m.number l) known ∙ numbered) in
     let selected : selection_cost roster k table ≡ 0 = rw (sel, eq-eqb d.id table is) refl in
     let knows : KnowsLess (knowledge_of mid) (knowledge_after k u) = record {
-      defined = λ id h. or_true (eqb id table) (is_some (table_at s.heard.tables id)) (subst (λ (x : Heard). is_some (table_at x.tables id) ≡ true) heard h);
-      selected = ap (λ (x : Heard). option_map (λ (t : Definition). t.id) (selected_table x)) heard ∙ ap (option_map (λ (t : Definition). t.id)) sel ∙ ap (λ (n : ℕ). Some n) is;
+      defined = λ id h. or_true (eqb id table) (is_some (table_at s.received.tables id)) (subst (λ (x : Received). is_some (table_at x.tables id) ≡ true) received h);
+      selected = ap (λ (x : Received). option_map (λ (t : Definition). t.id) (selected_table x)) received ∙ ap (option_map (λ (t : Definition). t.id)) sel ∙ ap (λ (n : ℕ). Some n) is;
       last = λ id. inl (
-          ap (λ (x : Heard). cond (is_some (table_at x.tables id)) (last_of mid.lasts id) None) heard
-          ∙ ap (λ (ls : List (ℕ × ℕ)). cond (is_some (table_at s.heard.tables id)) (last_of ls id) None) lasts
-          ∙ ap (λ (l : Option ℕ). cond (is_some (table_at s.heard.tables id)) l None) (last-put table number s.lasts id)
-          ∙ moved_last (is_some (table_at s.heard.tables id)) (eqb id table) (last_of s.lasts id) number (is_there s.heard.tables table id d here)
+          ap (λ (x : Received). cond (is_some (table_at x.tables id)) (last_of mid.last_numbers id) None) received
+          ∙ ap (λ (ls : List (ℕ × ℕ)). cond (is_some (table_at s.received.tables id)) (last_of ls id) None) last_numbers
+          ∙ ap (λ (l : Option ℕ). cond (is_some (table_at s.received.tables id)) l None) (last-put table number s.last_numbers id)
+          ∙ moved_last (is_some (table_at s.received.tables id)) (eqb id table) (last_of s.last_numbers id) number (is_there s.received.tables table id d here)
           );
     } in
     let less = falls roster (knowledge_of mid) (knowledge_after k u) rest knows all in
     omega arith
 
 -- a step pays for what it saves
-pub step_pays : (roster : List Definition) (s mid : State) (m : Message) (one rest : List Update) → AreOwn roster s.heard.tables → IsOwn roster m → AllByRecursion (IsOfRoster roster) rest → Step s m one mid → cost roster s (one ++ rest) ≤ size_of m + saving roster (knowledge_of s) m one + cost roster mid rest
+pub step_pays : (roster : List Definition) (s mid : State) (m : Message) (one rest : List Update) → AreOwn roster s.received.tables → IsOwn roster m → AllByRecursion (IsOfRoster roster) rest → Step s m one mid → cost roster s (one ++ rest) ≤ size_of m + saving roster (knowledge_of s) m one + cost roster mid rest
 step_pays roster s mid (messages.Define d) one rest own is_own all (fit, none, is) =
     let paid = define_pays roster s d rest is_own all in
     rw (none, is) (omega arith)
 step_pays roster s mid (messages.Switch id) one rest own is_own all (fit, none, is) =
-    let found = switch_found s.heard id fit in
+    let found = switch_found s.received id fit in
     let paid = switch_pays roster s id found.0 rest found.1 all in
     rw (none, is) (omega arith)
-step_pays roster s mid (messages.Update m) one rest own is_own all (fit, table, on, number, numbered, name, named, carried, heard, lasts) =
-    let sel = selection s.heard m fit in
-    let same : Some sel.0.id ≡ Some table = sym (selected-id s.heard sel.0 sel.1) ∙ on in
+step_pays roster s mid (messages.Update m) one rest own is_own all (fit, table, on, number, numbered, name, named, carried, received, last_numbers) =
+    let sel = selection s.received m fit in
+    let same : Some sel.0.id ≡ Some table = sym (selected-id s.received sel.0 sel.1) ∙ on in
     let id : sel.0.id ≡ table = cc in
-    let paid = take_pays roster s mid m sel.0 table number name rest own all sel.1 id (name_fitting s.heard m sel.0 fit sel.1) named numbered heard lasts in
+    let paid = take_pays roster s mid m sel.0 table number name rest own all sel.1 id (name_fitting s.received m sel.0 fit sel.1) named numbered received last_numbers in
     rw carried (omega arith)
 step_pays roster s mid (messages.Control c) one rest own is_own all (fit, none, is) = stays_pays roster s mid (messages.Control c) one rest none is
 step_pays roster s mid (messages.Error e) one rest own is_own all (fit, none, is) = stays_pays roster s mid (messages.Error e) one rest none is
 step_pays roster s mid (messages.Ack table number) one rest own is_own all (fit, none, is) = stays_pays roster s mid (messages.Ack table number) one rest none is
 step_pays roster s mid (messages.Other o) one rest own is_own all (fit, none, is) = stays_pays roster s mid (messages.Other o) one rest none is
 
--- what is heard behind a legal step is the roster's own
-pub own_stays : (roster : List Definition) (s mid : State) (m : Message) (one : List Update) → AreOwn roster s.heard.tables → IsOwn roster m → Step s m one mid → AreOwn roster mid.heard.tables
-own_stays roster s mid (messages.Define d) one own is_own (fit, none, is) = subst (λ (x : State). AreOwn roster x.heard.tables) (sym is) (AreOwn-defined roster d s.heard.tables is_own own)
-own_stays roster s mid (messages.Switch id) one own is_own (fit, none, is) = subst (λ (x : State). AreOwn roster x.heard.tables) (sym is) own
-own_stays roster s mid (messages.Update m) one own is_own (fit, table, on, number, numbered, name, named, carried, heard, lasts) = subst (λ (x : Heard). AreOwn roster x.tables) (sym heard) own
-own_stays roster s mid (messages.Control c) one own is_own (fit, none, is) = subst (λ (x : State). AreOwn roster x.heard.tables) (sym is) own
-own_stays roster s mid (messages.Error e) one own is_own (fit, none, is) = subst (λ (x : State). AreOwn roster x.heard.tables) (sym is) own
-own_stays roster s mid (messages.Ack table number) one own is_own (fit, none, is) = subst (λ (x : State). AreOwn roster x.heard.tables) (sym is) own
-own_stays roster s mid (messages.Other o) one own is_own (fit, none, is) = subst (λ (x : State). AreOwn roster x.heard.tables) (sym is) own
+-- what is received after a legal step is the roster's own
+pub own_stays : (roster : List Definition) (s mid : State) (m : Message) (one : List Update) → AreOwn roster s.received.tables → IsOwn roster m → Step s m one mid → AreOwn roster mid.received.tables
+own_stays roster s mid (messages.Define d) one own is_own (fit, none, is) = subst (λ (x : State). AreOwn roster x.received.tables) (sym is) (AreOwn-defined roster d s.received.tables is_own own)
+own_stays roster s mid (messages.Switch id) one own is_own (fit, none, is) = subst (λ (x : State). AreOwn roster x.received.tables) (sym is) own
+own_stays roster s mid (messages.Update m) one own is_own (fit, table, on, number, numbered, name, named, carried, received, last_numbers) = subst (λ (x : Received). AreOwn roster x.tables) (sym received) own
+own_stays roster s mid (messages.Control c) one own is_own (fit, none, is) = subst (λ (x : State). AreOwn roster x.received.tables) (sym is) own
+own_stays roster s mid (messages.Error e) one own is_own (fit, none, is) = subst (λ (x : State). AreOwn roster x.received.tables) (sym is) own
+own_stays roster s mid (messages.Ack table number) one own is_own (fit, none, is) = subst (λ (x : State). AreOwn roster x.received.tables) (sym is) own
+own_stays roster s mid (messages.Other o) one own is_own (fit, none, is) = subst (λ (x : State). AreOwn roster x.received.tables) (sym is) own
 
 -- what holds of each of the updates holds of each of the first, and of each of the rest
 pub all_first : (p : Update → Type 0) (one rest us : List Update) → us ≡ one ++ rest → AllByRecursion p us → AllByRecursion p one
@@ -185,7 +186,7 @@ all_rest p one rest us is all = behind one (subst (λ (l : List Update). AllByRe
     behind (u ∷ us) all = behind us all.1
 
 -- messages pay for what they save
-pub list_pays : (roster : List Definition) (s e : State) (ms : List Message) (us : List Update) → AreOwn roster s.heard.tables → AllByRecursion (IsOfRoster roster) us → Legal roster s ms us e → (saved : ℕ) × Saves roster s ms us saved × (cost roster s us ≤ size_of_all ms + saved)
+pub list_pays : (roster : List Definition) (s e : State) (ms : List Message) (us : List Update) → AreOwn roster s.received.tables → AllByRecursion (IsOfRoster roster) us → Legal roster s ms us e → (saved : ℕ) × Saves roster s ms us saved × (cost roster s us ≤ size_of_all ms + saved)
 list_pays roster s e [] us own all (owns, (none, same)) = (0, refl, rw none (omega arith))
 list_pays roster s e (m ∷ ms) us own all (owns, (one, rest, mid, is, step, later)) =
     let of_roster = all_rest (IsOfRoster roster) one rest us is all in
@@ -197,7 +198,7 @@ list_pays roster s e (m ∷ ms) us own all (owns, (one, rest, mid, is, step, lat
 
 -- a message that carries no name saves nothing
 saves_nothing : (roster : List Definition) (s mid : State) (m : Message) (one : List Update) → AreNameless one → Step s m one mid → saving roster (knowledge_of s) m one ≡ 0
-saves_nothing roster s mid (messages.Update m) one unnamed (fit, table, on, number, numbered, name, named, carried, heard, lasts) =
+saves_nothing roster s mid (messages.Update m) one unnamed (fit, table, on, number, numbered, name, named, carried, received, last_numbers) =
     let alone : AreNameless (resolved m table number name ∷ []) = subst (λ (l : List Update). AreNameless l) carried unnamed in
     let unread : is_held m.name ≡ false = reads_none m.name name alone.0 named in
     rw (carried, unread) refl
@@ -215,7 +216,7 @@ saves_nothing roster s mid (messages.Ack table number) one unnamed step = refl
 saves_nothing roster s mid (messages.Other o) one unnamed step = refl
 
 -- where no update has a name, no legal list is shorter than the whole cost
-pub none_shorter : (roster : List Definition) (s e : State) (ms : List Message) (us : List Update) → AreOwn roster s.heard.tables → AreNameless us → AllByRecursion (IsOfRoster roster) us → Legal roster s ms us e → cost roster s us ≤ size_of_all ms
+pub none_shorter : (roster : List Definition) (s e : State) (ms : List Message) (us : List Update) → AreOwn roster s.received.tables → AreNameless us → AllByRecursion (IsOfRoster roster) us → Legal roster s ms us e → cost roster s us ≤ size_of_all ms
 none_shorter roster s e [] us own unnamed all (owns, (none, same)) = rw none (omega arith)
 none_shorter roster s e (m ∷ ms) us own unnamed all (owns, (one, rest, mid, is, step, later)) =
     let of_roster = all_rest (IsOfRoster roster) one rest us is all in
@@ -227,11 +228,11 @@ none_shorter roster s e (m ∷ ms) us own unnamed all (owns, (one, rest, mid, is
     omega arith
 
 -- where no table of the roster stores names, a message carries none
-carries_none : (roster : List Definition) (s mid : State) (m : Message) (one : List Update) → AreOwn roster s.heard.tables → stores_no_name roster ≡ true → Step s m one mid → AreNameless one
-carries_none roster s mid (messages.Update m) one own no_name (fit, table, on, number, numbered, name, named, carried, heard, lasts) =
-    let sel = selection s.heard m fit in
+carries_none : (roster : List Definition) (s mid : State) (m : Message) (one : List Update) → AreOwn roster s.received.tables → stores_no_name roster ≡ true → Step s m one mid → AreNameless one
+carries_none roster s mid (messages.Update m) one own no_name (fit, table, on, number, numbered, name, named, carried, received, last_numbers) =
+    let sel = selection s.received m fit in
     let none : stores_name sel.0 ≡ false = selected-nameless (record { roster = roster; state = s }) sel.0 own no_name sel.1 in
-    let field : m.name ≡ names.NotStored = nameless sel.0 m.name none (name_fitting s.heard m sel.0 fit sel.1) in
+    let field : m.name ≡ names.NotStored = nameless sel.0 m.name none (name_fitting s.received m sel.0 fit sel.1) in
     let unnamed : name ≡ None = (subst (λ (f : NameField). Named s.slots f name mid.slots) field named).0 in
     subst (λ (l : List Update). AreNameless l) (sym carried) (unnamed, tt)
 carries_none roster s mid (messages.Define d) one own no_name (fit, none, is) = rw none tt
@@ -242,7 +243,7 @@ carries_none roster s mid (messages.Ack table number) one own no_name (fit, none
 carries_none roster s mid (messages.Other o) one own no_name (fit, none, is) = rw none tt
 
 -- nor does a legal list
-pub none_carried : (roster : List Definition) (s e : State) (ms : List Message) (us : List Update) → AreOwn roster s.heard.tables → stores_no_name roster ≡ true → Legal roster s ms us e → AreNameless us
+pub none_carried : (roster : List Definition) (s e : State) (ms : List Message) (us : List Update) → AreOwn roster s.received.tables → stores_no_name roster ≡ true → Legal roster s ms us e → AreNameless us
 none_carried roster s e [] us own no_name (owns, (none, same)) = rw none tt
 none_carried roster s e (m ∷ ms) us own no_name (owns, (one, rest, mid, is, step, later)) =
     let first = carries_none roster s mid m one own no_name step in

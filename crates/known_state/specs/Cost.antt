@@ -1,4 +1,4 @@
--- The lesson in which every name is written, and what it costs in bytes (own).
+-- The lesson in which every name is written, and what it costs in bytes (profile).
 use Rattle.std.specs.Prelude.{ℕ, ◌+◌, ◌-◌, ◌%◌, ◌^◌, ◌≤◌, Bool, true, false, ◌||◌, ◌==◌, ◌⊎◌, List, [], ◌∷◌, ◌++◌, ◌≡◌, is_some, Option, Some, None, option_map, if◌then◌else◌}
 use Rattle.table_types.specs.declared.update.Update.{Update}
 use Rattle.table_types.specs.Tables.{Definition}
@@ -9,9 +9,10 @@ use Rattle.peers_msg.specs.declared.name_field.NameField.TheVariants as names
 use Rattle.peers_msg.specs.declared.message.Message.{Message}
 use Rattle.peers_msg.specs.declared.message.Message.TheVariants as messages
 use Rattle.peers_msg.specs.Messages.{UpdateFields}
-use Rattle.peers_msg.specs.Heard.{selected_table}
+use Rattle.peers_msg.specs.Received.{selected_table}
 use Rattle.peers_msg.specs.Spelling.{size_of, size_of_all}
-use Rattle.peers_msg.specs.Steps.{State, Step, last_of}
+use Rattle.known_state.specs.State.{State, Step}
+use Rattle.known_state.specs.LastNumbers.{last_of}
 
 -- what bears on the cost of a lesson: which ids are defined, the one selected, and the last number of each id defined
 pub record Knowledge : Type 0 where
@@ -21,16 +22,16 @@ pub record Knowledge : Type 0 where
 
 abbrev pub knowledge_of : State → Knowledge
 knowledge_of s = record {
-  is_defined = λ id. is_some (table_at s.heard.tables id);
-  selected = option_map (λ d. d.id) (selected_table s.heard);
-  last = λ id. if is_some (table_at s.heard.tables id) then last_of s.lasts id else None;
+  is_defined = λ id. is_some (table_at s.received.tables id);
+  selected = option_map (λ d. d.id) (selected_table s.received);
+  last = λ id. if is_some (table_at s.received.tables id) then last_of s.last_numbers id else None;
 }
 
--- and behind an update: its table is defined and selected, and its number is the table's last
+-- and after an update: its table is defined and selected, and its number is the table's last
 abbrev pub knowledge_after : Knowledge → Update → Knowledge
 knowledge_after k u = record { is_defined = λ id. id == u.table || k.is_defined id; selected = Some u.table; last = λ id. if id == u.table then Some u.number else k.last id }
 
--- and behind the selection of a table
+-- and after the selection of a table
 abbrev pub with_selected : Knowledge → ℕ → Knowledge
 with_selected k t = record { is_defined = λ id. id == t || k.is_defined id; selected = Some t; last = k.last }
 
@@ -46,12 +47,12 @@ follows None number = false
 follows (Some last) number = (last + 1) % 2 ^ 32 == number
 
 -- the number that is told: none where the learner finds it by itself
-abbrev pub number_told : Option ℕ → ℕ → Option ℕ
-number_told last number = if follows last number then None else Some number
+abbrev pub number_sent : Option ℕ → ℕ → Option ℕ
+number_sent last number = if follows last number then None else Some number
 
 -- an update in its shortest number form, with that name field
-abbrev pub told_as : Option ℕ → NameField → Update → UpdateFields
-told_as last field u = record { number = number_told last u.number; life = u.life; key = u.key; values = u.values; name = field }
+abbrev pub sent_as : Option ℕ → NameField → Update → UpdateFields
+sent_as last field u = record { number = number_sent last u.number; life = u.life; key = u.key; values = u.values; name = field }
 
 -- the name field with the name written; each slot is as long as the first
 abbrev pub written_field : Bool → Option (List ℕ) → NameField
@@ -65,7 +66,7 @@ is_named_table (Some d) = stores_name d
 
 -- an update with its name written
 abbrev pub written : List Definition → Knowledge → Update → Message
-written roster k u = messages.Update (told_as (k.last u.table) (written_field (is_named_table (table_at roster u.table)) u.name) u)
+written roster k u = messages.Update (sent_as (k.last u.table) (written_field (is_named_table (table_at roster u.table)) u.name) u)
 
 -- what an update costs with its name written
 abbrev pub written_cost : List Definition → Knowledge → Update → ℕ
@@ -85,7 +86,7 @@ selecting roster k id =
     if is_selected k.selected id then []
     else (if k.is_defined id then messages.Switch id ∷ [] else defining (table_at roster id))
 
--- The lesson with every name written: the updates one after another, each behind what selects its table, in its shortest
+-- The lesson with every name written: the updates one after another, each after what selects its table, in its shortest
 -- number form. Nothing is kept in a slot, so each name is written to the first.
 abbrev pub written_lesson : List Definition → Knowledge → List Update → List Message
 written_lesson roster k [] = []
@@ -124,7 +125,7 @@ is_held field = false
 
 -- what a message saves that reads a name: the cost of its update with the name written, less that with the name read
 abbrev pub saving : List Definition → Knowledge → Message → List Update → ℕ
-saving roster k (messages.Update m) (u ∷ []) = if is_held m.name then written_cost roster k u - size_of (messages.Update (told_as (k.last u.table) m.name u)) else 0
+saving roster k (messages.Update m) (u ∷ []) = if is_held m.name then written_cost roster k u - size_of (messages.Update (sent_as (k.last u.table) m.name u)) else 0
 saving roster k m us = 0
 
 -- the update is of a table of the roster
@@ -132,7 +133,7 @@ abbrev pub IsOfRoster : List Definition → Update → Type 0
 IsOfRoster roster u = (d : Definition) × (table_at roster u.table ≡ Some d)
 
 -- A step pays for what it saves: what is to be told costs no more before the message than its size, the saving of
--- its read, and what is left to tell behind it.
+-- its read, and what is left to tell after it.
 abbrev pub Pays : List Definition → State → Message → List Update → List Update → State → Type 0
 Pays roster s m one rest mid = full roster s (one ++ rest) ≤ size_of m + saving roster (knowledge_of s) m one + full roster mid rest
 

@@ -1,4 +1,4 @@
--- What a teacher knows of its learner, and why a message is refused there (own).
+-- What a teacher knows of its learner, and why a message is refused there (profile).
 use Rattle.std.specs.Prelude.{◌≡◌, ◌≢◌, ◌==◌, ◌&&◌, ℕ, Bool, true, false, not, ◌||◌, List, [], ◌∷◌, fold, is_none, Option, Some, None, if◌then◌else◌}
 use Rattle.std.specs.List.{AllByRecursion, list_any, list_all}
 use Rattle.table_types.specs.Tables.{Definition}
@@ -7,10 +7,12 @@ use Rattle.table_types.specs.Rosters.{table_at, has_id}
 use Rattle.peers_msg.specs.declared.message.Message.{Message}
 use Rattle.peers_msg.specs.declared.message.Message.TheVariants as messages
 use Rattle.peers_msg.specs.Messages.{UpdateFields}
-use Rattle.peers_msg.specs.Heard.{silence, resumed, selected_table}
+use Rattle.peers_msg.specs.Received.{nothing_received, resumed, selected_table}
 use Rattle.peers_msg.specs.Fitting.{fits}
-use Rattle.table_types.specs.Slots.{no_names}
-use Rattle.peers_msg.specs.Steps.{State, last_of, put_last, resolved_number}
+use Rattle.peers_msg.specs.OwnTables.{own_part}
+use Rattle.dict_slots.specs.Slots.{no_names}
+use Rattle.known_state.specs.State.{State, resolved_number}
+use Rattle.known_state.specs.LastNumbers.{last_of, set_last, own_last_numbers}
 use Rattle.known_state.specs.Resolving.{reads_empty}
 use Rattle.known_state.specs.declared.known.KnownError.{KnownError}
 use Rattle.known_state.specs.declared.known.KnownError.TheVariants as build_errors
@@ -22,7 +24,7 @@ pub record KnownState : Type 0 where
   pub roster : List Definition
   pub state : State
 
--- each id heard stands for a definition of the roster
+-- each id received stands for a definition of the roster
 abbrev pub AreOwn : List Definition → List Definition → Type 0
 AreOwn roster ds = AllByRecursion (λ d. table_at roster d.id ≡ Some d) ds
 
@@ -30,9 +32,9 @@ AreOwn roster ds = AllByRecursion (λ d. table_at roster d.id ≡ Some d) ds
 abbrev pub stores_no_name : List Definition → Bool
 stores_no_name roster = not (list_any stores_name roster)
 
--- a learner of the roster that heard nothing
+-- a learner of the roster that received nothing
 abbrev pub fresh_of : List Definition → KnownState
-fresh_of roster = record { roster = roster; state = record { heard = silence; lasts = []; slots = no_names } }
+fresh_of roster = record { roster = roster; state = record { received = nothing_received; last_numbers = []; slots = no_names } }
 
 abbrev pub holds : ℕ → List ℕ → Bool
 holds id ids = list_any (λ other. other == id) ids
@@ -42,7 +44,7 @@ repeats [] = false
 repeats (id ∷ ids) = holds id ids || repeats ids
 
 abbrev pub has_last : ℕ → List (ℕ × ℕ) → Bool
-has_last id lasts = list_any (λ l. l.0 == id) lasts
+has_last id last_numbers = list_any (λ l. l.0 == id) last_numbers
 
 abbrev pub repeats_last : List (ℕ × ℕ) → Bool
 repeats_last [] = false
@@ -54,42 +56,42 @@ or_none test (Some id) = test id
 
 -- each id is the roster's
 abbrev pub are_known : List Definition → Option ℕ → List ℕ → List (ℕ × ℕ) → Bool
-are_known roster selected defined lasts =
-    or_none (λ id. has_id id roster) selected && list_all (λ id. has_id id roster) defined && list_all (λ l. has_id l.0 roster) lasts
+are_known roster selected defined last_numbers =
+    or_none (λ id. has_id id roster) selected && list_all (λ id. has_id id roster) defined && list_all (λ l. has_id l.0 roster) last_numbers
 
 -- what is selected and what has a last number is defined
 abbrev pub are_defined : Option ℕ → List ℕ → List (ℕ × ℕ) → Bool
-are_defined selected defined lasts = or_none (λ id. holds id defined) selected && list_all (λ l. holds l.0 defined) lasts
+are_defined selected defined last_numbers = or_none (λ id. holds id defined) selected && list_all (λ l. holds l.0 defined) last_numbers
 
 -- what is first wrong with the parts of a known state: an id that the roster lacks, one that is selected or has a
 -- last number and isn't defined, or one that is defined twice or has two last numbers
 abbrev pub build_fault : List Definition → Option ℕ → List ℕ → List (ℕ × ℕ) → Option KnownError
-build_fault roster selected defined lasts =
-    if not (are_known roster selected defined lasts) then Some build_errors.NoTable
-    else (if not (are_defined selected defined lasts) then Some build_errors.NotDefined
-    else (if repeats defined || repeats_last lasts then Some build_errors.Repeated
+build_fault roster selected defined last_numbers =
+    if not (are_known roster selected defined last_numbers) then Some build_errors.NoTable
+    else (if not (are_defined selected defined last_numbers) then Some build_errors.NotDefined
+    else (if repeats defined || repeats_last last_numbers then Some build_errors.Repeated
     else None))
 
 -- last numbers put in their places one after another
-abbrev pub lasts_put : List (ℕ × ℕ) → List (ℕ × ℕ)
-lasts_put lasts = fold (λ placed l. put_last l.0 l.1 placed) [] lasts
+abbrev pub last_numbers_put : List (ℕ × ℕ) → List (ℕ × ℕ)
+last_numbers_put last_numbers = fold (λ placed l. set_last l.0 l.1 placed) [] last_numbers
 
 -- the known state of those parts
 abbrev pub built : List Definition → Option ℕ → List ℕ → List (ℕ × ℕ) → List (Option (List ℕ)) → KnownState
-built roster selected defined lasts slots = record { roster = roster; state = record { heard = resumed roster defined selected; lasts = lasts_put lasts; slots = slots } }
+built roster selected defined last_numbers slots = record { roster = roster; state = record { received = resumed roster defined selected; last_numbers = last_numbers_put last_numbers; slots = slots } }
 
 -- why a switch is refused
 abbrev pub switch_refusal : KnownState → ℕ → Option StepError
 switch_refusal k id =
     if not (has_id id k.roster) then Some step_errors.Foreign
-    else (if is_none (table_at k.state.heard.tables id) then Some step_errors.NotDefined else None)
+    else (if is_none (table_at k.state.received.tables id) then Some step_errors.NotDefined else None)
 
 -- why an update is refused, by the table that is selected
 abbrev pub update_refusal : KnownState → UpdateFields → Option Definition → Option StepError
 update_refusal k u None = Some step_errors.NoTable
 update_refusal k u (Some d) =
-    if not (fits k.state.heard (messages.Update u)) then Some step_errors.Foreign
-    else (if is_none (resolved_number u.number (last_of k.state.lasts d.id)) then Some step_errors.NoNumber
+    if not (fits k.state.received (messages.Update u)) then Some step_errors.Foreign
+    else (if is_none (resolved_number u.number (last_of k.state.last_numbers d.id)) then Some step_errors.NoNumber
     else (if reads_empty k.state.slots u.name then Some step_errors.EmptySlot
     else None))
 
@@ -97,7 +99,12 @@ update_refusal k u (Some d) =
 -- incremental and its table has no last number, or where it reads an empty slot. A definition that isn't the roster's
 -- own. A switch to an id that isn't the roster's, or to a table that isn't defined yet.
 abbrev pub Refuses : KnownState → Message → StepError → Type 0
-Refuses k (messages.Update u) e = update_refusal k u (selected_table k.state.heard) ≡ Some e
+Refuses k (messages.Update u) e = update_refusal k u (selected_table k.state.received) ≡ Some e
 Refuses k (messages.Define d) e = (table_at k.roster d.id ≢ Some d) × (e ≡ step_errors.Foreign)
 Refuses k (messages.Switch id) e = switch_refusal k id ≡ Some e
 Refuses k m e = ⊥
+
+-- of the roster's tables those are defined whose id stands for that very definition, with the last numbers that the
+-- learner has of them; the slots are the learner's, and the table selected is named where it is one of them
+abbrev pub known_of : List Definition → State → KnownState
+known_of roster s = record { roster = roster; state = record { received = own_part roster s.received; last_numbers = own_last_numbers roster s.received s.last_numbers; slots = s.slots } }

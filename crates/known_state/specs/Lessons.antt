@@ -1,9 +1,9 @@
--- Lessons for a learner of whom a known state is known (own).
+-- Lessons for a learner of whom a known state is known (profile).
 use Rattle.std.specs.Prelude.{◌≡◌, ℕ, List}
 use Rattle.table_types.specs.declared.update.Update.{Update}
 use Rattle.peers_msg.specs.declared.message.Message.{Message}
 use Rattle.peers_msg.specs.Spelling.{stream_of}
-use Rattle.peers_msg.specs.Steps.{Legal}
+use Rattle.known_state.specs.State.{Legal}
 use Rattle.known_state.specs.Known.{KnownState}
 
 -- The bytes spell messages that are legal from the known state, carry these updates, and lead to the known state

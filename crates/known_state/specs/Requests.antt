@@ -1,4 +1,4 @@
--- What a batch asks of the dictionary of server names (own).
+-- What a batch asks of the dictionary of server names (profile).
 use Rattle.std.specs.Prelude.{◌≡◌, ℕ, ◌+◌, ◌-◌, Bool, true, false, List, [], ◌∷◌, ◌++◌, fold, Option, Some, None}
 use Rattle.std.specs.List.{AllByRecursion}
 use Rattle.table_types.specs.declared.update.Update.{Update}
@@ -10,7 +10,7 @@ use Rattle.peers_msg.specs.declared.name_field.NameField.TheVariants as names
 use Rattle.peers_msg.specs.declared.message.Message.{Message}
 use Rattle.peers_msg.specs.declared.message.Message.TheVariants as messages
 use Rattle.peers_msg.specs.Spelling.{size_of}
-use Rattle.known_state.specs.Cost.{Knowledge, knowledge_after, told_as, written_cost}
+use Rattle.known_state.specs.Cost.{Knowledge, knowledge_after, sent_as, written_cost}
 
 -- a name that is asked for, and the sizes of the message that does with the name read and with it written
 pub record Asked : Type 0 where
@@ -20,7 +20,7 @@ pub record Asked : Type 0 where
 
 -- what an update costs with its name read; each slot is as long as the first
 abbrev pub held_cost : Knowledge → Update → ℕ
-held_cost k u = size_of (messages.Update (told_as (k.last u.table) (names.Held 1) u))
+held_cost k u = size_of (messages.Update (sent_as (k.last u.table) (names.Held 1) u))
 
 -- what an update asks for: its name, where it has one
 abbrev pub asked : List Definition → Knowledge → Update → Option (List ℕ) → List Asked
@@ -32,9 +32,9 @@ abbrev pub requests_of : List Definition → Knowledge → List Update → List 
 requests_of roster k [] = []
 requests_of roster k (u ∷ us) = asked roster k u u.name ++ requests_of roster (knowledge_after k u) us
 
--- what is known behind updates
-abbrev pub knowledge_behind : Knowledge → List Update → Knowledge
-knowledge_behind k us = fold knowledge_after k us
+-- what is known after updates
+abbrev pub knowledge_after_all : Knowledge → List Update → Knowledge
+knowledge_after_all k us = fold knowledge_after k us
 
 -- the update is one of a table of the roster
 abbrev pub IsTaught : List Definition → Update → Type 0

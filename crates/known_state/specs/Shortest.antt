@@ -1,9 +1,9 @@
--- Shortest lessons (own).
+-- Shortest lessons (profile).
 use Rattle.std.specs.Prelude.{◌≤◌, List}
 use Rattle.table_types.specs.declared.update.Update.{Update}
 use Rattle.peers_msg.specs.declared.message.Message.{Message}
 use Rattle.peers_msg.specs.Spelling.{size_of_all}
-use Rattle.peers_msg.specs.Steps.{State, Legal}
+use Rattle.known_state.specs.State.{State, Legal}
 use Rattle.known_state.specs.Known.{KnownState}
 
 -- The messages are legal from the known state and carry the updates, and every list of messages that is legal from

@@ -7,8 +7,8 @@ ghost use Rattle.peers_msg.specs.declared.name_field.NameField.TheVariants as na
 ghost use Rattle.peers_msg.specs.declared.message.Message.TheVariants as messages;
 ghost use Rattle.peers_msg.specs.Messages.{is_small};
 ghost use Rattle.peers_msg.specs.Spelling.{size_of};
-ghost use Rattle.known_state.specs.Cost.{knowledge_of, number_told, told_as};
-ghost use Rattle.known_state.specs.Requests.{IsTaught, asked, requests_of, knowledge_behind};
+ghost use Rattle.known_state.specs.Cost.{knowledge_of, number_sent, sent_as};
+ghost use Rattle.known_state.specs.Requests.{IsTaught, asked, requests_of, knowledge_after_all};
 
 use crate::known::Known;
 use crate::request::Request;
@@ -16,10 +16,10 @@ use peers_msg::named_sizes;
 use std::alloc::Global;
 use table_types::{Batch, Memory, Name, Update};
 
-/// The number that an update tells behind that last number of its table: none where it is one more, modulo 2^32,
+/// The number that an update tells after that last number of its table: none where it is one more, modulo 2^32,
 /// which the learner finds by itself.
-pub fn number_told(last: Option<u32>, number: u32) -> Option<u32>
-    ensures told { result ≡ number_told last number }
+pub fn number_sent(last: Option<u32>, number: u32) -> Option<u32>
+    ensures told { result ≡ number_sent last number }
     ensures word { is_optional_word result ≡ true }
 {
     match last {
@@ -32,15 +32,15 @@ pub fn number_told(last: Option<u32>, number: u32) -> Option<u32>
 fn last_known(known: &Known, table: u64) -> Option<u32>
     ensures { result ≡ (knowledge_of known.now.state).last table }
 {
-    match known.heard().table(table) {
-        Some(_) => known.lasts().last(table),
+    match known.received().table(table) {
+        Some(_) => known.last_numbers().last(table),
         None => None,
     }
 }
 
-/// The last number of a table behind these updates.
-fn last_behind(known: &Known, before: &[Update], table: u64) -> Option<u32>
-    ensures { result ≡ (knowledge_behind (knowledge_of known.now.state) before.now).last table }
+/// The last number of a table after these updates.
+fn last_after(known: &Known, before: &[Update], table: u64) -> Option<u32>
+    ensures { result ≡ (knowledge_after_all (knowledge_of known.now.state) before.now).last table }
 {
     let mut last = last_known(known, table);
     for update in before {
@@ -51,7 +51,7 @@ fn last_behind(known: &Known, before: &[Update], table: u64) -> Option<u32>
     last
 }
 
-/// The request of an update with that name, behind that last number of its table.
+/// The request of an update with that name, after that last number of its table.
 fn request(
     alloc: Global,
     last: Option<u32>,
@@ -61,11 +61,11 @@ fn request(
     requires { is_small update.now.key update.now.values ≡ true }
     ensures { IfOk result (λ request. request ≡ record {
       name = name.now;
-      read_cost = size_of (messages.Update (told_as last (names.Held 1) update.now));
-      write_cost = size_of (messages.Update (told_as last (names.Written 1 name.now) update.now));
+      read_cost = size_of (messages.Update (sent_as last (names.Held 1) update.now));
+      write_cost = size_of (messages.Update (sent_as last (names.Written 1 name.now) update.now));
     }) }
 {
-    let number = number_told(last, update.number);
+    let number = number_sent(last, update.number);
     let values = update.values.as_slice();
     let (read, written) = named_sizes(number, update.life, &update.key, values, name);
     match Request::new(name.copy(alloc)?, read as u32, written as u32) {
@@ -74,7 +74,7 @@ fn request(
     }
 }
 
-/// Adds what an update asks for behind these, if anything.
+/// Adds what an update asks for after these, if anything.
 fn add_request(
     alloc: Global,
     known: &Known,
@@ -84,7 +84,7 @@ fn add_request(
 ) -> Result<(), Memory>
     requires { IsTaught known.now.roster update.now }
     ensures { OnOk result (requests.new.items ≡ requests.old.items
-        ++ asked known.now.roster (knowledge_behind (knowledge_of known.now.state) before.now) update.now update.now.name) }
+        ++ asked known.now.roster (knowledge_after_all (knowledge_of known.now.state) before.now) update.now update.now.name) }
 {
     let Some(name) = &update.name else {
         return Ok(());
@@ -92,7 +92,7 @@ fn add_request(
     let Some(table) = known.roster().table(update.table) else {
         unreachable!();
     };
-    let last = last_behind(known, before, table.id());
+    let last = last_after(known, before, table.id());
     requests.push(request(alloc, last, update, name)?)?;
     Ok(())
 }

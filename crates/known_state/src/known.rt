@@ -3,19 +3,19 @@
 ghost use Rattle.std.specs.Prelude.{◌≡◌, ◌≢◌, Some, None, Err, IfOk, IfErr, OnOk, OnErr, List};
 ghost use Rattle.table_types.specs.declared.update.Update.{Update};
 ghost use Rattle.peers_msg.specs.declared.message.Message.TheVariants as messages;
-ghost use Rattle.peers_msg.specs.Steps.{Step, IsOwn};
-ghost use Rattle.known_state.specs.Told.{known_of, AreRising};
+ghost use Rattle.known_state.specs.State.{Step, IsOwn};
+ghost use Rattle.known_state.specs.Known.{known_of, KnownState, AreOwn, fresh_of, build_fault, built, Refuses};
+ghost use Rattle.known_state.specs.LastNumbers.{AreRising};
 ghost use Rattle.known_state.specs.declared.known.KnownError.{KnownError};
 ghost use Rattle.known_state.specs.declared.known.KnownError.TheVariants as build_errors;
 ghost use Rattle.known_state.specs.declared.known.StepError.{StepError};
 ghost use Rattle.known_state.specs.declared.known.StepError.TheVariants as step_errors;
-ghost use Rattle.known_state.specs.Known.{KnownState, AreOwn, fresh_of, build_fault, built, Refuses};
 
-use crate::lasts::Lasts;
+use crate::last_numbers::LastNumbers;
 use crate::parts::{are_defined, are_known, repeats, repeats_last};
 use crate::resolver::Resolver;
 use dict_slots::Slots;
-use peers_msg::{Heard, Message, UpdateMsg};
+use peers_msg::{Message, Received, UpdateMsg};
 use std::alloc::Global;
 use std::marker::Model;
 use table_types::{Memory, Roster, TableDef};
@@ -77,13 +77,13 @@ impl From<Memory> for StepError {
     }
 }
 
-/// What a teacher knows of its learner (own): the roster of the tables that are shared, those that were defined to it
+/// What a teacher knows of its learner (profile): the roster of the tables that are shared, those that were defined to it
 /// and the one selected, the last number of each, and the slots of the dictionary of server names.
 #[derive(Debug, Drop)]
 pub struct Known {
     alloc: Global,
     roster: Roster,
-    heard: Heard,
+    received: Received,
     resolver: Resolver,
 }
 
@@ -92,20 +92,20 @@ impl Model for Known {
 
     ghost Value = { KnownState };
 
-    ghost view = { λ k. record { roster = k.roster; state = record { heard = k.heard; lasts = k.resolver.lasts; slots = k.resolver.slots } } };
+    ghost view = { λ k. record { roster = k.roster; state = record { received = k.received; last_numbers = k.resolver.last_numbers; slots = k.resolver.slots } } };
 
-    ghost invariant = { λ k. AreOwn k.roster k.heard.tables };
+    ghost invariant = { λ k. AreOwn k.roster k.received.tables };
 }
 
 impl Known {
-    /// The state of a learner that heard nothing. Takes no memory.
+    /// The state of a learner that received nothing. Takes no memory.
     pub fn fresh(alloc: Global, roster: Roster) -> Known
         ensures { result ≡ fresh_of roster }
     {
         Known {
             alloc,
             roster,
-            heard: Heard::new(alloc),
+            received: Received::new(alloc),
             resolver: Resolver::new(alloc),
         }
     }
@@ -130,47 +130,47 @@ impl Known {
         ensures exactly { (e : KnownError) →
             build_fault roster selected defined.items last.items ≡ Some e → result ≡ Err e }
     {
-        let (ids, lasts) = (defined.as_slice(), last.as_slice());
-        if !are_known(&roster, selected, ids, lasts) {
+        let (ids, last_numbers) = (defined.as_slice(), last.as_slice());
+        if !are_known(&roster, selected, ids, last_numbers) {
             return Err(KnownError::NoTable);
         }
-        if !are_defined(selected, ids, lasts) {
+        if !are_defined(selected, ids, last_numbers) {
             return Err(KnownError::NotDefined);
         }
-        if repeats(ids) || repeats_last(lasts) {
+        if repeats(ids) || repeats_last(last_numbers) {
             return Err(KnownError::Repeated);
         }
-        let heard = Heard::resume(alloc, &roster, ids, selected)?;
-        let lasts = Lasts::of(alloc, lasts)?;
+        let received = Received::resume(alloc, &roster, ids, selected)?;
+        let last_numbers = LastNumbers::of(alloc, last_numbers)?;
         Ok(Known {
             alloc,
             roster,
-            heard,
-            resolver: Resolver::of(alloc, lasts, slots),
+            received,
+            resolver: Resolver::of(alloc, last_numbers, slots),
         })
     }
 
-    /// What a teacher of that roster knows of a learner that heard this and resolves updates by that: of the roster's
+    /// What a teacher of that roster knows of a learner that received this and resolves updates by that: of the roster's
     /// tables those are defined whose id stands for that very definition, with their last numbers; the slots are the
     /// learner's, and the table selected is named where it is one of them.
     pub fn of_learner(
         alloc: Global,
         roster: Roster,
-        heard: &Heard,
+        received: &Received,
         resolver: &Resolver,
     ) -> Result<Known, Memory>
         ensures known { IfOk result (λ known. known
-            ≡ known_of roster (record { heard = heard.now; lasts = resolver.now.lasts; slots = resolver.now.slots })) }
-        ensures rising { AreRising resolver.now.lasts }
+            ≡ known_of roster (record { received = received.now; last_numbers = resolver.now.last_numbers; slots = resolver.now.slots })) }
+        ensures rising { AreRising resolver.now.last_numbers }
     {
-        let lasts = resolver.lasts().own_part(alloc, heard, &roster)?;
+        let last_numbers = resolver.last_numbers().own_part(alloc, received, &roster)?;
         let slots = resolver.slots().copy(alloc)?;
-        let heard = heard.own_part(alloc, &roster)?;
-        let own = Resolver::of(alloc, lasts, slots);
+        let received = received.own_part(alloc, &roster)?;
+        let own = Resolver::of(alloc, last_numbers, slots);
         Ok(Known {
             alloc,
             roster,
-            heard,
+            received,
             resolver: own,
         })
     }
@@ -178,23 +178,23 @@ impl Known {
     /// The roster of the state.
     pub fn roster(&self) -> &Roster
         ensures roster { result.now ≡ self.now.roster }
-        ensures own { AreOwn self.now.roster self.now.state.heard.tables }
+        ensures own { AreOwn self.now.roster self.now.state.received.tables }
     {
         &self.roster
     }
 
-    /// What the learner heard: the tables defined, and the one selected.
-    pub fn heard(&self) -> &Heard
-        ensures { result.now ≡ self.now.state.heard }
+    /// What the learner received: the tables defined, and the one selected.
+    pub fn received(&self) -> &Received
+        ensures { result.now ≡ self.now.state.received }
     {
-        &self.heard
+        &self.received
     }
 
     /// The last number of each table.
-    pub fn lasts(&self) -> &Lasts
-        ensures { result.now ≡ self.now.state.lasts }
+    pub fn last_numbers(&self) -> &LastNumbers
+        ensures { result.now ≡ self.now.state.last_numbers }
     {
-        self.resolver.lasts()
+        self.resolver.last_numbers()
     }
 
     /// The slots of the dictionary of server names.
@@ -221,7 +221,7 @@ impl Known {
             Message::Switch(id) => self.select(*id),
             Message::Update(update) => self.take(update),
             Message::Control(_) | Message::Error(_) | Message::Ack { .. } | Message::Other(_) => {
-                let fits = message.fits(&self.heard);
+                let fits = message.fits(&self.received);
                 prove!(fits);
                 Ok(())
             }
@@ -242,7 +242,7 @@ impl Known {
             _ => return Err(StepError::Foreign),
         }
         let own = table.copy(self.alloc)?;
-        self.resolver.define(&mut self.heard, own)?;
+        self.resolver.define(&mut self.received, own)?;
         Ok(())
     }
 
@@ -257,10 +257,10 @@ impl Known {
         let Some(_) = self.roster.table(id) else {
             return Err(StepError::Foreign);
         };
-        let Some(_) = self.heard.table(id) else {
+        let Some(_) = self.received.table(id) else {
             return Err(StepError::NotDefined);
         };
-        self.heard.select(id);
+        self.received.select(id);
         Ok(())
     }
 
@@ -272,7 +272,7 @@ impl Known {
         ensures exactly { (e : StepError) → Refuses self.old (messages.Update update.now) e → result ≡ Err e }
         ensures stays { OnErr result (self.new ≡ self.old) }
     {
-        let Some(table) = self.heard.selected_table() else {
+        let Some(table) = self.received.selected_table() else {
             return Err(StepError::NoTable);
         };
         if !update.fits(table) {
@@ -292,12 +292,12 @@ impl Known {
     /// An equal state.
     pub fn copy(&self, alloc: Global) -> Result<Known, Memory>
         ensures copy { IfOk result (λ copy. copy ≡ self.now) }
-        ensures own { AreOwn self.now.roster self.now.state.heard.tables }
+        ensures own { AreOwn self.now.roster self.now.state.received.tables }
     {
         Ok(Known {
             alloc,
             roster: self.roster.copy(alloc)?,
-            heard: self.heard.copy(alloc)?,
+            received: self.received.copy(alloc)?,
             resolver: self.resolver.copy(alloc)?,
         })
     }

@@ -8,17 +8,27 @@ ghost use Rattle.table_types.specs.Tables.{Definition};
 ghost use Rattle.peers_msg.specs.declared.message.Message.{Message};
 ghost use Rattle.peers_msg.specs.Spelling.{stream_of, size_of_all};
 ghost use Rattle.peers_msg.specs.declared.name_field.NameField.{NameField};
-ghost use Rattle.peers_msg.specs.Steps.{State, Step, Teaches, Named, IsOwn, Legal, fresh, last_of};
+ghost use Rattle.known_state.specs.State.{State, Step, Teaches, Named, IsOwn, Legal, fresh};
+ghost use Rattle.known_state.specs.LastNumbers.{last_of, AreRising};
 ghost use Rattle.known_state.specs.declared.known.StepError.{StepError};
-ghost use Rattle.known_state.specs.Known.{KnownState, AreOwn, build_fault, built, holds, stores_no_name, Refuses};
+ghost use Rattle.known_state.specs.Known.{KnownState, AreOwn, build_fault, built, holds, stores_no_name, Refuses, known_of};
 ghost use Rattle.known_state.specs.Resolving.{reads_empty, name_of, slots_after};
 ghost use Rattle.known_state.specs.Requests.{AreNameless, read_savings, reads_of, requests_of};
 ghost use Rattle.known_state.specs.Cost.{IsOfRoster, Knowledge, Pays, Saves, cost, full, knowledge_of};
 ghost use Rattle.known_state.specs.Shortest.{Shortest};
-ghost use Rattle.known_state.specs.Told.{known_of, AreRising};
+
+/// From one state a message carries one thing and leads to one state.
+pub fn one_step()
+    ensures { (s a b : State) (m : Message) (us vs : List Update) → Step s m us a → Step s m vs b → (us ≡ vs) × (a ≡ b) }
+{}
+
+/// From one state messages carry one list of updates and lead to one state.
+pub fn one_lesson()
+    ensures { (s a b : State) (ms : List Message) (us vs : List Update) → Teaches s ms us a → Teaches s ms vs b → (us ≡ vs) × (a ≡ b) }
+{}
 
 /// A name field names an update exactly where it reads no empty slot, and then by one name and with one list of
-/// slots behind it.
+/// slots after it.
 pub fn one_name()
     ensures names { (slots : List (Option (List ℕ))) (field : NameField) → reads_empty slots field ≡ false →
         Named slots field (name_of slots field) (slots_after slots field) }
@@ -30,43 +40,43 @@ pub fn one_name()
 /// What a built state holds, where no part is wrong. An id is defined exactly where it was given, and then it stands for
 /// the roster's definition; the last number of an id, the table selected and the slots are those given.
 pub fn what_is_built()
-    ensures tables { (roster : List Definition) (selected : Option ℕ) (defined : List ℕ) (lasts : List (ℕ × ℕ)) (slots : List (Option (List ℕ))) (id : ℕ) →
-        roster_fault roster ≡ None → build_fault roster selected defined lasts ≡ None →
-        table_at (built roster selected defined lasts slots).state.heard.tables id ≡ (if holds id defined then table_at roster id else None) }
-    ensures lasts { (roster : List Definition) (selected : Option ℕ) (defined : List ℕ) (lasts : List (ℕ × ℕ)) (slots : List (Option (List ℕ))) (id : ℕ) →
-        build_fault roster selected defined lasts ≡ None →
-        last_of (built roster selected defined lasts slots).state.lasts id ≡ last_of lasts id }
-    ensures others { (roster : List Definition) (selected : Option ℕ) (defined : List ℕ) (lasts : List (ℕ × ℕ)) (slots : List (Option (List ℕ))) →
-        ((built roster selected defined lasts slots).state.heard.selected ≡ selected)
-        × ((built roster selected defined lasts slots).state.slots ≡ slots)
-        × ((built roster selected defined lasts slots).roster ≡ roster) }
+    ensures tables { (roster : List Definition) (selected : Option ℕ) (defined : List ℕ) (last_numbers : List (ℕ × ℕ)) (slots : List (Option (List ℕ))) (id : ℕ) →
+        roster_fault roster ≡ None → build_fault roster selected defined last_numbers ≡ None →
+        table_at (built roster selected defined last_numbers slots).state.received.tables id ≡ (if holds id defined then table_at roster id else None) }
+    ensures last_numbers { (roster : List Definition) (selected : Option ℕ) (defined : List ℕ) (last_numbers : List (ℕ × ℕ)) (slots : List (Option (List ℕ))) (id : ℕ) →
+        build_fault roster selected defined last_numbers ≡ None →
+        last_of (built roster selected defined last_numbers slots).state.last_numbers id ≡ last_of last_numbers id }
+    ensures others { (roster : List Definition) (selected : Option ℕ) (defined : List ℕ) (last_numbers : List (ℕ × ℕ)) (slots : List (Option (List ℕ))) →
+        ((built roster selected defined last_numbers slots).state.received.selected ≡ selected)
+        × ((built roster selected defined last_numbers slots).state.slots ≡ slots)
+        × ((built roster selected defined last_numbers slots).roster ≡ roster) }
 {}
 
 /// What is refused is no step: a message that a known state refuses for whatever cause but memory is not legal there.
 pub fn refused_is_no_step()
     ensures { (k : KnownState) (m : Message) (e : StepError) (us : List Update) (after : State) →
-        AreOwn k.roster k.state.heard.tables → Refuses k m e → IsOwn k.roster m → Step k.state m us after → ⊥ }
+        AreOwn k.roster k.state.received.tables → Refuses k m e → IsOwn k.roster m → Step k.state m us after → ⊥ }
 {}
 
-/// The size of the lesson with every name written is what its updates cost one after another, by what is known behind
+/// The size of the lesson with every name written is what its updates cost one after another, by what is known after
 /// those before: the selection of the table, and the update with its name written.
 pub fn full_adds_up()
     ensures { (roster : List Definition) (s : State) (us : List Update) → full roster s us ≡ cost roster s us }
 {}
 
 /// A step pays for what it saves: with every name written, what is to be told costs no more before a message than
-/// the message's size, the saving of its read, and what is left to tell behind it. So for every message: early
+/// the message's size, the saving of its read, and what is left to tell after it. So for every message: early
 /// definitions, second definitions, switches, reads and writes of names, acknowledgements and spare messages.
 pub fn a_step_pays()
     ensures { (roster : List Definition) (s mid : State) (m : Message) (one rest : List Update) →
-        AreOwn roster s.heard.tables → IsOwn roster m → AllByRecursion (IsOfRoster roster) rest →
+        AreOwn roster s.received.tables → IsOwn roster m → AllByRecursion (IsOfRoster roster) rest →
         Step s m one mid → Pays roster s m one rest mid }
 {}
 
 /// A legal list of messages has at least the size of the lesson with every name written, less what its reads save.
 pub fn a_list_pays()
     ensures { (roster : List Definition) (s e : State) (ms : List Message) (us : List Update) →
-        AreOwn roster s.heard.tables → AllByRecursion (IsOfRoster roster) us → Legal roster s ms us e →
+        AreOwn roster s.received.tables → AllByRecursion (IsOfRoster roster) us → Legal roster s ms us e →
         (saved : ℕ) × Saves roster s ms us saved × (full roster s us ≤ size_of_all ms + saved) }
 {}
 
@@ -74,7 +84,7 @@ pub fn a_list_pays()
 /// reads; it has one mark for each request.
 pub fn reads_pay()
     ensures pay { (roster : List Definition) (s e : State) (ms : List Message) (us : List Update) →
-        roster_fault roster ≡ None → AreOwn roster s.heard.tables → AllByRecursion (IsOfRoster roster) us →
+        roster_fault roster ≡ None → AreOwn roster s.received.tables → AllByRecursion (IsOfRoster roster) us →
         Legal roster s ms us e →
         full roster s us ≤ size_of_all ms + read_savings (requests_of roster (knowledge_of s) us) (reads_of ms) }
     ensures marks { (roster : List Definition) (k : Knowledge) (s e : State) (ms : List Message) (us : List Update) →
@@ -84,14 +94,14 @@ pub fn reads_pay()
 /// Where no update has a name, no legal list is shorter than the lesson.
 pub fn none_is_shorter()
     ensures { (roster : List Definition) (s e : State) (ms : List Message) (us : List Update) →
-        AreOwn roster s.heard.tables → AreNameless us → AllByRecursion (IsOfRoster roster) us →
+        AreOwn roster s.received.tables → AreNameless us → AllByRecursion (IsOfRoster roster) us →
         Legal roster s ms us e → full roster s us ≤ size_of_all ms }
 {}
 
 /// Where no table of the roster stores names, no legal list carries an update with a name.
 pub fn no_name_is_carried()
     ensures { (roster : List Definition) (s e : State) (ms : List Message) (us : List Update) →
-        AreOwn roster s.heard.tables → stores_no_name roster ≡ true → Legal roster s ms us e → AreNameless us }
+        AreOwn roster s.received.tables → stores_no_name roster ≡ true → Legal roster s ms us e → AreNameless us }
 {}
 
 /// Which list is the shortest goes by the bytes alone: a legal list with the bytes of a shortest one is a shortest one.
@@ -100,20 +110,20 @@ pub fn shortest_by_bytes()
         Legal k.roster k.state ms us e → Shortest k us ns → stream_of ms ≡ stream_of ns → Shortest k us ms }
 {}
 
-/// What a teacher knows of a learner is enough. Where all that the learner heard is the roster's own, and its last
+/// What a teacher knows of a learner is enough. Where all that the learner received is the roster's own, and its last
 /// numbers stand in rising id, messages that are legal from the known state are legal from the learner's own state,
 /// carry the same updates, and lead it where the teacher knows what it ends in. So it is although the learner's state
-/// may hold what no teacher knows of: last numbers of ids that it hears no more, and a selected id that stands for no
+/// may hold what no teacher knows of: last numbers of ids that it receives no more, and a selected id that stands for no
 /// table.
 pub fn what_is_known_is_enough()
     ensures { (roster : List Definition) (s after : State) (ms : List Message) (us : List Update) →
-        AreOwn roster s.heard.tables → AreRising s.lasts → Legal roster (known_of roster s).state ms us after →
-        (e : State) × Legal roster s ms us e × AreOwn roster e.heard.tables × AreRising e.lasts
+        AreOwn roster s.received.tables → AreRising s.last_numbers → Legal roster (known_of roster s).state ms us after →
+        (e : State) × Legal roster s ms us e × AreOwn roster e.received.tables × AreRising e.last_numbers
         × (known_of roster e ≡ record { roster = roster; state = after }) }
 {}
 
-/// Last numbers stand in rising id where nothing was heard, and each step keeps them so.
+/// Last numbers stand in rising id where nothing was received, and each step keeps them so.
 pub fn numbers_rise()
-    ensures fresh { AreRising fresh.lasts }
-    ensures step { (s e : State) (m : Message) (us : List Update) → AreRising s.lasts → Step s m us e → AreRising e.lasts }
+    ensures fresh { AreRising fresh.last_numbers }
+    ensures step { (s e : State) (m : Message) (us : List Update) → AreRising s.last_numbers → Step s m us e → AreRising e.last_numbers }
 {}

@@ -4,19 +4,19 @@
 
 mod costs;
 mod known;
-mod lasts;
+mod last_numbers;
 mod laws;
 mod parts;
 mod request;
 mod resolver;
 
-pub use costs::number_told;
+pub use costs::number_sent;
 pub use known::{Known, KnownError, StepError};
-pub use lasts::Lasts;
+pub use last_numbers::LastNumbers;
 pub use laws::{
     a_list_pays, a_step_pays, full_adds_up, no_name_is_carried, none_is_shorter, numbers_rise,
-    one_name, reads_pay, refused_is_no_step, shortest_by_bytes, what_is_built,
-    what_is_known_is_enough,
+    one_lesson, one_name, one_step, reads_pay, refused_is_no_step, shortest_by_bytes,
+    what_is_built, what_is_known_is_enough,
 };
 pub use parts::stores_no_name;
 pub use request::Request;

@@ -19,10 +19,10 @@ fn all_own(roster: &Roster, ids: &[u64]) -> bool
     true
 }
 
-fn all_lasts_own(roster: &Roster, lasts: &[(u64, u32)]) -> bool
-    ensures { result ≡ list_all (λ last. has_id last.0 roster.now) lasts.now }
+fn all_last_numbers_own(roster: &Roster, last_numbers: &[(u64, u32)]) -> bool
+    ensures { result ≡ list_all (λ last. has_id last.0 roster.now) last_numbers.now }
 {
-    for last in lasts {
+    for last in last_numbers {
         if !has_id(roster.tables(), last.0) {
             return false;
         }
@@ -36,10 +36,10 @@ fn holds(ids: &[u64], id: u64) -> bool
     ids.contains(&id)
 }
 
-fn all_lasts_held(defined: &[u64], lasts: &[(u64, u32)]) -> bool
-    ensures { result ≡ list_all (λ last. holds last.0 defined.now) lasts.now }
+fn all_last_numbers_held(defined: &[u64], last_numbers: &[(u64, u32)]) -> bool
+    ensures { result ≡ list_all (λ last. holds last.0 defined.now) last_numbers.now }
 {
-    for last in lasts {
+    for last in last_numbers {
         if !holds(defined, last.0) {
             return false;
         }
@@ -70,26 +70,26 @@ pub fn are_known(
     roster: &Roster,
     selected: Option<u64>,
     defined: &[u64],
-    lasts: &[(u64, u32)],
+    last_numbers: &[(u64, u32)],
 ) -> bool
-    ensures { result ≡ are_known roster.now selected defined.now lasts.now }
+    ensures { result ≡ are_known roster.now selected defined.now last_numbers.now }
 {
     let selects_own = match selected {
         Some(id) => has_id(roster.tables(), id),
         None => true,
     };
-    selects_own && all_own(roster, defined) && all_lasts_own(roster, lasts)
+    selects_own && all_own(roster, defined) && all_last_numbers_own(roster, last_numbers)
 }
 
 /// Whether what is selected and what has a last number is defined.
-pub fn are_defined(selected: Option<u64>, defined: &[u64], lasts: &[(u64, u32)]) -> bool
-    ensures { result ≡ are_defined selected defined.now lasts.now }
+pub fn are_defined(selected: Option<u64>, defined: &[u64], last_numbers: &[(u64, u32)]) -> bool
+    ensures { result ≡ are_defined selected defined.now last_numbers.now }
 {
     let selects_defined = match selected {
         Some(id) => holds(defined, id),
         None => true,
     };
-    selects_defined && all_lasts_held(defined, lasts)
+    selects_defined && all_last_numbers_held(defined, last_numbers)
 }
 
 /// Whether an id stands twice. Of 65 ids of a roster one does, so this compares at most 64 of them with the rest.
@@ -104,10 +104,10 @@ pub fn repeats(ids: &[u64]) -> bool
     false
 }
 
-fn has_last(lasts: &[(u64, u32)], id: u64) -> bool
-    ensures { result ≡ has_last id lasts.now }
+fn has_last(last_numbers: &[(u64, u32)], id: u64) -> bool
+    ensures { result ≡ has_last id last_numbers.now }
 {
-    for last in lasts {
+    for last in last_numbers {
         if last.0 == id {
             return true;
         }
@@ -116,11 +116,11 @@ fn has_last(lasts: &[(u64, u32)], id: u64) -> bool
 }
 
 /// Whether an id has two last numbers.
-pub fn repeats_last(lasts: &[(u64, u32)]) -> bool
-    ensures { result ≡ repeats_last lasts.now }
+pub fn repeats_last(last_numbers: &[(u64, u32)]) -> bool
+    ensures { result ≡ repeats_last last_numbers.now }
 {
-    for (place, last) in lasts.iter().enumerate() {
-        if has_last(&lasts[place + 1..], last.0) {
+    for (place, last) in last_numbers.iter().enumerate() {
+        if has_last(&last_numbers[place + 1..], last.0) {
             return true;
         }
     }

@@ -7,7 +7,7 @@ use std::alloc::Global;
 use std::marker::Model;
 use table_types::{Memory, Name};
 
-/// What a named update asks of the dictionary of server names (own): its name, and the whole size of its message with
+/// What a named update asks of the dictionary of server names (profile): its name, and the whole size of its message with
 /// the name read and with it written. The first is below the second, and that is at most 32,768.
 #[derive(Debug, Drop)]
 pub struct Request {

@@ -1,15 +1,16 @@
 //! What numbers and names of updates are resolved by.
 
 ghost use Rattle.std.specs.Prelude.{◌≡◌, ◌-◌, Some, IfOk, OnOk, OnErr, ◌↔◌, option_copied, slice_set, length};
-ghost use Rattle.table_types.specs.Slots.{slot_at};
+ghost use Rattle.dict_slots.specs.Slots.{slot_at};
 ghost use Rattle.peers_msg.specs.declared.message.Message.TheVariants as messages;
-ghost use Rattle.peers_msg.specs.Heard.{heard_after};
-ghost use Rattle.peers_msg.specs.Steps.{last_of, put_last, resolved_number, Named};
-ghost use Rattle.known_state.specs.Resolving.{nothing_resolved, reads_empty, name_of, slots_after, lasts_kept};
+ghost use Rattle.peers_msg.specs.Received.{received_after};
+ghost use Rattle.known_state.specs.LastNumbers.{last_of, set_last};
+ghost use Rattle.known_state.specs.State.{resolved_number, Named};
+ghost use Rattle.known_state.specs.Resolving.{nothing_resolved, reads_empty, name_of, slots_after, last_numbers_kept};
 
-use crate::lasts::Lasts;
+use crate::last_numbers::LastNumbers;
 use dict_slots::Slots;
-use peers_msg::{Heard, NameField};
+use peers_msg::{NameField, Received};
 use std::alloc::Global;
 use std::marker::Model;
 use table_types::{Memory, Name, TableDef};
@@ -19,7 +20,7 @@ use table_types::{Memory, Name, TableDef};
 #[derive(Debug, Drop)]
 pub struct Resolver {
     alloc: Global,
-    lasts: Lasts,
+    last_numbers: LastNumbers,
     slots: Slots,
 }
 
@@ -28,7 +29,7 @@ impl Model for Resolver {
 
     ghost Value = { Resolving };
 
-    ghost view = { λ r. record { lasts = r.lasts; slots = r.slots } };
+    ghost view = { λ r. record { last_numbers = r.last_numbers; slots = r.slots } };
 }
 
 /// The number of an update: its own, or one more than the last, modulo 2^32.
@@ -67,25 +68,25 @@ impl Resolver {
     pub fn new(alloc: Global) -> Resolver
         ensures { result ≡ nothing_resolved }
     {
-        Resolver::of(alloc, Lasts::new(alloc), Slots::new(alloc))
+        Resolver::of(alloc, LastNumbers::new(alloc), Slots::new(alloc))
     }
 
     /// These last numbers and slots.
-    pub fn of(alloc: Global, lasts: Lasts, slots: Slots) -> Resolver
-        ensures { result ≡ record { lasts = lasts; slots = slots } }
+    pub fn of(alloc: Global, last_numbers: LastNumbers, slots: Slots) -> Resolver
+        ensures { result ≡ record { last_numbers = last_numbers; slots = slots } }
     {
         Resolver {
             alloc,
-            lasts,
+            last_numbers,
             slots,
         }
     }
 
     /// The last number of each table.
-    pub fn lasts(&self) -> &Lasts
-        ensures { result.now ≡ self.now.lasts }
+    pub fn last_numbers(&self) -> &LastNumbers
+        ensures { result.now ≡ self.now.last_numbers }
     {
-        &self.lasts
+        &self.last_numbers
     }
 
     /// The slots.
@@ -98,9 +99,9 @@ impl Resolver {
     /// The number of an update of that table: its own, or one more than the table's last, modulo 2^32. `None` for
     /// an incremental update of a table that has no last number.
     pub fn number(&self, table: u64, number: Option<u32>) -> Option<u32>
-        ensures { result ≡ resolved_number number (last_of self.now.lasts table) }
+        ensures { result ≡ resolved_number number (last_of self.now.last_numbers table) }
     {
-        resolved_number(number, self.lasts.last(table))
+        resolved_number(number, self.last_numbers.last(table))
     }
 
     /// Whether the field reads a slot that holds no name.
@@ -128,49 +129,49 @@ impl Resolver {
     /// Takes an update: its number becomes the table's last, and a name that it writes stands in its slot.
     /// After `Memory` nothing has changed.
     pub fn take(&mut self, table: u64, number: u32, field: &NameField) -> Result<(), Memory>
-        ensures lasts { OnOk result (self.new.lasts ≡ put_last table number self.old.lasts) }
+        ensures last_numbers { OnOk result (self.new.last_numbers ≡ set_last table number self.old.last_numbers) }
         ensures slots { OnOk result (self.new.slots ≡ slots_after self.old.slots field.now) }
         ensures stays { OnErr result (self.new ≡ self.old) }
     {
         match field {
             NameField::Written(slot, name) => {
                 let name = name.copy(self.alloc)?;
-                self.lasts.put(table, number)?;
+                self.last_numbers.put(table, number)?;
                 write(&mut self.slots, *slot, name);
                 Ok(())
             }
-            _ => self.lasts.put(table, number),
+            _ => self.last_numbers.put(table, number),
         }
     }
 
-    /// Hears a definition, and drops the last numbers that it takes away, by what was heard before it.
+    /// Receives a definition, and drops the last numbers that it takes away, by what was received before it.
     /// After `Memory` neither has changed.
-    pub fn define(&mut self, heard: &mut Heard, table: TableDef) -> Result<(), Memory>
-        ensures heard { OnOk result (heard.new ≡ heard_after heard.old (messages.Define table)) }
-        ensures lasts { OnOk result (self.new.lasts ≡ lasts_kept heard.old.tables table self.old.lasts) }
+    pub fn define(&mut self, received: &mut Received, table: TableDef) -> Result<(), Memory>
+        ensures received { OnOk result (received.new ≡ received_after received.old (messages.Define table)) }
+        ensures last_numbers { OnOk result (self.new.last_numbers ≡ last_numbers_kept received.old.tables table self.old.last_numbers) }
         ensures slots { OnOk result (self.new.slots ≡ self.old.slots) }
         ensures stays { OnErr result (self.new ≡ self.old) }
-        ensures unheard { OnErr result (heard.new ≡ heard.old) }
+        ensures unreceived { OnErr result (received.new ≡ received.old) }
     {
-        let mut lasts = self.lasts.copy(self.alloc)?;
-        lasts.keep_at(&table, heard);
-        heard.define(table)?;
-        self.lasts = lasts;
+        let mut last_numbers = self.last_numbers.copy(self.alloc)?;
+        last_numbers.keep_at(&table, received);
+        received.define(table)?;
+        self.last_numbers = last_numbers;
         Ok(())
     }
 
     /// Puts these last numbers in place of those held.
-    pub fn keep(&mut self, kept: Lasts)
-        ensures { self.new ≡ record self.old { lasts = kept } }
+    pub fn keep(&mut self, kept: LastNumbers)
+        ensures { self.new ≡ record self.old { last_numbers = kept } }
     {
-        self.lasts = kept;
+        self.last_numbers = kept;
     }
 
     /// Equal last numbers and slots.
     pub fn copy(&self, alloc: Global) -> Result<Resolver, Memory>
         ensures { IfOk result (λ copy. copy ≡ self.now) }
     {
-        let lasts = self.lasts.copy(alloc)?;
-        Ok(Resolver::of(alloc, lasts, self.slots.copy(alloc)?))
+        let last_numbers = self.last_numbers.copy(alloc)?;
+        Ok(Resolver::of(alloc, last_numbers, self.slots.copy(alloc)?))
     }
 }

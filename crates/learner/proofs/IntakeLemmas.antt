@@ -10,19 +10,20 @@ use Rattle.peers_msg.specs.declared.message.Message.{Message}
 use Rattle.peers_msg.specs.declared.message.Message.TheVariants as messages
 use Rattle.peers_msg.specs.declared.name_field.NameField.{NameField}
 use Rattle.peers_msg.specs.Messages.{UpdateFields}
-use Rattle.peers_msg.specs.Heard.{Heard, heard_after, selected_table}
+use Rattle.peers_msg.specs.Received.{Received, received_after, selected_table}
 use Rattle.peers_msg.specs.Fitting.{fits}
 use Rattle.peers_msg.specs.Decoding.{Front}
-use Rattle.peers_msg.specs.Steps.{State, Step, lasts_after, last_of, put_last, resolved_number, resolved}
+use Rattle.known_state.specs.State.{State, Step, last_numbers_after, resolved_number, resolved}
+use Rattle.known_state.specs.LastNumbers.{last_of, set_last}
 use Rattle.known_state.specs.Resolving.{reads_empty, name_of, slots_after}
 use Rattle.known_state.proofs.StepLemmas.{selected-id}
 use Rattle.known_state.proofs.ResolvingLemmas.{named_by}
 use Rattle.learner.specs.declared.fault.Fault.TheVariants as faults
 use Rattle.learner.specs.Faults.{fault_like}
-use Rattle.learner.specs.OwnTables.{own_table, own_id, kept}
+use Rattle.learner.specs.LocalTables.{local_table, local_id, local_updates}
 use Rattle.learner.specs.Intake.{Taking, IsFront, Takes, Stops, Tells, with_due, due_after, rows_of, answer_of, remembered, shut}
 
--- what is left of t behind a message of so many bytes, with that state and these ids due
+-- what is left of t after a message of so many bytes, with that state and these ids due
 abbrev pub behind : Taking → ℕ → State → List ℕ → Taking
 behind t used s due = record { roster = t.roster; state = s; due = due; unread = drop used t.unread; closed = false }
 
@@ -54,29 +55,29 @@ spare_taken t e (messages.Switch id) used spare front is = absurd spare
 spare_taken t e (messages.Update u) used spare front is = absurd spare
 
 -- what a switch at the front leads to
-pub switch_taken : (t e : Taking) (id used : ℕ) → IsFront t (messages.Switch id) used → e ≡ behind t used (record { heard = heard_after t.state.heard (messages.Switch id); lasts = t.state.lasts; slots = t.state.slots }) t.due → Takes t (messages.Switch id) [] e
+pub switch_taken : (t e : Taking) (id used : ℕ) → IsFront t (messages.Switch id) used → e ≡ behind t used (record { received = received_after t.state.received (messages.Switch id); last_numbers = t.state.last_numbers; slots = t.state.slots }) t.due → Takes t (messages.Switch id) [] e
 switch_taken t e id used front is = carries_none t e (messages.Switch id) used _ front (front.2, refl, refl) is
 
 -- what a definition at the front leads to
-pub define_taken : (t e : Taking) (d : Definition) (used : ℕ) → IsFront t (messages.Define d) used → e ≡ behind t used (record { heard = heard_after t.state.heard (messages.Define d); lasts = lasts_after t.state (messages.Define d); slots = t.state.slots }) (due_after t.state (messages.Define d) t.due) → Takes t (messages.Define d) [] e
+pub define_taken : (t e : Taking) (d : Definition) (used : ℕ) → IsFront t (messages.Define d) used → e ≡ behind t used (record { received = received_after t.state.received (messages.Define d); last_numbers = last_numbers_after t.state (messages.Define d); slots = t.state.slots }) (due_after t.state (messages.Define d) t.due) → Takes t (messages.Define d) [] e
 define_taken t e d used front is = carries_none t e (messages.Define d) used _ front (front.2, refl, refl) is
 
 -- what an update at the front leads to whose number and name resolve
-pub update_taken : (t e : Taking) (u : UpdateFields) (used id number : ℕ) → IsFront t (messages.Update u) used → t.state.heard.selected ≡ Some id → resolved_number u.number (last_of t.state.lasts id) ≡ Some number → reads_empty t.state.slots u.name ≡ false
-    → e ≡ behind t used (record { heard = t.state.heard; lasts = put_last id number t.state.lasts; slots = slots_after t.state.slots u.name }) (with_due (Some id) t.due)
-    → Takes t (messages.Update u) (kept t.roster t.state.heard (resolved u id number (name_of t.state.slots u.name) ∷ [])) e
+pub update_taken : (t e : Taking) (u : UpdateFields) (used id number : ℕ) → IsFront t (messages.Update u) used → t.state.received.selected ≡ Some id → resolved_number u.number (last_of t.state.last_numbers id) ≡ Some number → reads_empty t.state.slots u.name ≡ false
+    → e ≡ behind t used (record { received = t.state.received; last_numbers = set_last id number t.state.last_numbers; slots = slots_after t.state.slots u.name }) (with_due (Some id) t.due)
+    → Takes t (messages.Update u) (local_updates t.roster t.state.received (resolved u id number (name_of t.state.slots u.name) ∷ [])) e
 update_taken t e u used id number front selected is_number reads is =
-    let s : State = record { heard = t.state.heard; lasts = put_last id number t.state.lasts; slots = slots_after t.state.slots u.name } in
+    let s : State = record { received = t.state.received; last_numbers = set_last id number t.state.last_numbers; slots = slots_after t.state.slots u.name } in
     let state : e.state ≡ s = ap (λ (x : Taking). x.state) is in
     let name : Option (List ℕ) = name_of t.state.slots u.name in
     let step : Step t.state (messages.Update u) (resolved u id number name ∷ []) s = (front.2, id, selected, number, is_number, name, named_by t.state.slots u.name reads, refl, refl, refl) in
     let whole : e ≡ behind t used e.state (with_due (Some id) t.due) = is ∙ ap (λ (x : State). behind t used x (with_due (Some id) t.due)) (sym state) in
     (front.0, drop used t.unread, front.1, resolved u id number name ∷ [], subst (λ (x : State). Step t.state (messages.Update u) (resolved u id number name ∷ []) x) (sym state) step, refl, whole ∙ ap (λ (o : Option ℕ). behind t used e.state (with_due o t.due)) (sym selected))
 
--- the answer gives what is kept of it
-pub answer_rows : (roster : List Definition) (heard : Heard) (u : UpdateFields) (id number : ℕ) (name : Option (List ℕ)) (own : Option ℕ) → own ≡ own_id roster heard id → rows_of (answer_of own number name u) ≡ kept roster heard (resolved u id number name ∷ [])
-answer_rows roster heard u id number name None is = rw (← is) refl
-answer_rows roster heard u id number name (Some table) is = rw (← is) refl
+-- the answer gives what is local_updates of it
+pub answer_rows : (roster : List Definition) (received : Received) (u : UpdateFields) (id number : ℕ) (name : Option (List ℕ)) (own : Option ℕ) → own ≡ local_id roster received id → rows_of (answer_of own number name u) ≡ local_updates roster received (resolved u id number name ∷ [])
+answer_rows roster received u id number name None is = rw (← is) refl
+answer_rows roster received u id number name (Some table) is = rw (← is) refl
 
 pub answer_tells : (u : UpdateFields) (own : Option ℕ) (number : ℕ) (name : Option (List ℕ)) → Tells (messages.Update u) (answer_of own number name u)
 answer_tells u None number name = refl
@@ -85,7 +86,7 @@ answer_tells u (Some table) number name = tt
 -- ---- faults
 
 -- what a decoder tells of its front, but want of memory, stops the intake
-pub stops_so : (t e : Taking) (fault : ReadFault) → Front (record { heard = t.state.heard; unread = t.unread; closed = t.closed }) (Err fault) → fault ≢ reads.Memory → e ≡ shut t → Stops t (fault_like fault) e
+pub stops_so : (t e : Taking) (fault : ReadFault) → Front (record { received = t.state.received; unread = t.unread; closed = t.closed }) (Err fault) → fault ≢ reads.Memory → e ≡ shut t → Stops t (fault_like fault) e
 stops_so t e reads.Memory front other is = absurd (other refl)
 stops_so t e reads.Closed front other is = (front, is ∙ ap (λ (b : Bool). record { roster = t.roster; state = t.state; due = t.due; unread = t.unread; closed = b }) (sym front))
 stops_so t e reads.BadInteger front other is = (front.0, front.1, front.2, ap fault_like front.3, is)
@@ -98,31 +99,31 @@ stops_so t e reads.BadValue front other is = (front.0, front.1, front.2, ap faul
 stops_so t e reads.Trailing front other is = (front.0, front.1, front.2, ap fault_like front.3, is)
 
 -- an update without a number stops it
-pub number_stops : (t e : Taking) (u : UpdateFields) (used id : ℕ) → IsFront t (messages.Update u) used → t.state.heard.selected ≡ Some id → resolved_number u.number (last_of t.state.lasts id) ≡ None → e ≡ shut t → Stops t faults.NoNumber e
+pub number_stops : (t e : Taking) (u : UpdateFields) (used id : ℕ) → IsFront t (messages.Update u) used → t.state.received.selected ≡ Some id → resolved_number u.number (last_of t.state.last_numbers id) ≡ None → e ≡ shut t → Stops t faults.NoNumber e
 number_stops t e u used id front selected none is = (front.0, u, (drop used t.unread, front.1), rw (selected, none) refl, is)
 
 -- and so does one that reads an empty slot
-pub slot_stops : (t e : Taking) (u : UpdateFields) (used id number : ℕ) → IsFront t (messages.Update u) used → t.state.heard.selected ≡ Some id → resolved_number u.number (last_of t.state.lasts id) ≡ Some number → reads_empty t.state.slots u.name ≡ true → e ≡ shut t → Stops t faults.EmptySlot e
+pub slot_stops : (t e : Taking) (u : UpdateFields) (used id number : ℕ) → IsFront t (messages.Update u) used → t.state.received.selected ≡ Some id → resolved_number u.number (last_of t.state.last_numbers id) ≡ Some number → reads_empty t.state.slots u.name ≡ true → e ≡ shut t → Stops t faults.EmptySlot e
 slot_stops t e u used id number front selected some reads is = (front.0, u, (drop used t.unread, front.1), rw (selected, some) refl, reads, is)
 
 -- ---- what is selected
 
 -- an update fits only where a table is selected
-pub fits_selected : (h : Heard) (u : UpdateFields) → fits h (messages.Update u) ≡ true → selected_table h ≡ None → ⊥
+pub fits_selected : (h : Received) (u : UpdateFields) → fits h (messages.Update u) ≡ true → selected_table h ≡ None → ⊥
 unfolding fits
 fits_selected h u fit none = let bad : false ≡ true = sym (rw none refl) ∙ fit in cc
 
 -- the own table that the selected table is
-pub own_so : (roster : List Definition) (h : Heard) (d : Definition) (id : ℕ) → selected_table h ≡ Some d → id ≡ d.id → option_map (λ t. t.id) (own_table roster d) ≡ own_id roster h id
+pub own_so : (roster : List Definition) (h : Received) (d : Definition) (id : ℕ) → selected_table h ≡ Some d → id ≡ d.id → option_map (λ t. t.id) (local_table roster d) ≡ local_id roster h id
 own_so roster h d id found is =
     let selected : h.selected ≡ Some id = selected-id h d found ∙ ap (λ (n : ℕ). Some n) (sym is) in
     let at : table_at h.tables id ≡ Some d = ap (λ (o : Option ℕ). option_and_then (table_at h.tables) o) (sym selected) ∙ found in
     rw at refl
 
--- what is left behind an update that is remembered
-pub remembered_behind : (t x e : Taking) (used id number : ℕ) (field : NameField) → t.closed ≡ false → x ≡ remembered t id number field → e ≡ record x { unread = drop used x.unread }
-    → e ≡ behind t used (record { heard = t.state.heard; lasts = put_last id number t.state.lasts; slots = slots_after t.state.slots field }) (with_due (Some id) t.due)
-remembered_behind t x e used id number field is_open is_x is_e =
+-- what is left after an update that is remembered
+pub remembered_after : (t x e : Taking) (used id number : ℕ) (field : NameField) → t.closed ≡ false → x ≡ remembered t id number field → e ≡ record x { unread = drop used x.unread }
+    → e ≡ behind t used (record { received = t.state.received; last_numbers = set_last id number t.state.last_numbers; slots = slots_after t.state.slots field }) (with_due (Some id) t.due)
+remembered_after t x e used id number field is_open is_x is_e =
     is_e
     ∙ ap (λ (y : Taking). record y { unread = drop used y.unread }) is_x
-    ∙ ap (λ (b : Bool). record { roster = t.roster; state = record { heard = t.state.heard; lasts = put_last id number t.state.lasts; slots = slots_after t.state.slots field }; due = with_due (Some id) t.due; unread = drop used t.unread; closed = b }) is_open
+    ∙ ap (λ (b : Bool). record { roster = t.roster; state = record { received = t.state.received; last_numbers = set_last id number t.state.last_numbers; slots = slots_after t.state.slots field }; due = with_due (Some id) t.due; unread = drop used t.unread; closed = b }) is_open

@@ -8,10 +8,10 @@ use Rattle.table_types.specs.Rosters.{roster_fault}
 use Rattle.peers_msg.specs.declared.message.Message.{Message}
 use Rattle.peers_msg.specs.Decoding.{together}
 use Rattle.peers_msg.specs.Spelling.{stream_of}
-use Rattle.peers_msg.specs.Steps.{State, Teaches, IsOwn, Legal}
-use Rattle.peers_msg.proofs.Lessons.{one_lesson}
-use Rattle.known_state.specs.Known.{KnownState, AreOwn}
-use Rattle.known_state.specs.Told.{known_of, AreRising}
+use Rattle.known_state.specs.State.{State, Teaches, IsOwn, Legal}
+use Rattle.known_state.proofs.StepIsDeterministic.{one_lesson}
+use Rattle.known_state.specs.Known.{KnownState, AreOwn, known_of}
+use Rattle.known_state.specs.LastNumbers.{AreRising}
 use Rattle.known_state.specs.Lessons.{IsLessonFor}
 use Rattle.known_state.proofs.InStepLaws.{known_enough}
 use Rattle.known_state.proofs.RisingLemmas.{rising-step}
@@ -25,8 +25,8 @@ use Rattle.learner.proofs.MomentLaws.{IsOnItsWay, some_bytes, taught_in_time, fe
 
 -- ---- last numbers stay in rising id
 
-learned_rise : (now : ℕ) (l e : Learning) (ms : List Message) (us : List Update) → AreRising l.intake.state.lasts → AreLearned now l ms us e → AreRising e.intake.state.lasts
-learned_rise now l e [] us rise (none, here) = subst (λ (x : Learning). AreRising x.intake.state.lasts) (sym here) rise
+learned_rise : (now : ℕ) (l e : Learning) (ms : List Message) (us : List Update) → AreRising l.intake.state.last_numbers → AreLearned now l ms us e → AreRising e.intake.state.last_numbers
+learned_rise now l e [] us rise (none, here) = subst (λ (x : Learning). AreRising x.intake.state.last_numbers) (sym here) rise
 learned_rise now l e (m ∷ ms) us rise (one, rest, next, all, begins, later) =
     learned_rise now next e ms rest (rising-step l.intake.state next.intake.state m begins.0.3 rise begins.0.4) later
 
@@ -45,25 +45,25 @@ stopped_state t e faults.BadKey (is_open, breach, at, named, is) = ap (λ (x : T
 stopped_state t e faults.BadValue (is_open, breach, at, named, is) = ap (λ (x : Taking). x.state) is
 stopped_state t e faults.Trailing (is_open, breach, at, named, is) = ap (λ (x : Taking). x.state) is
 
-cut_rise : (l e : Learning) → AreRising l.intake.state.lasts → IsCutShort l e → AreRising e.intake.state.lasts
+cut_rise : (l e : Learning) → AreRising l.intake.state.last_numbers → IsCutShort l e → AreRising e.intake.state.last_numbers
 cut_rise l e rise (rows, roster, behind) = elim behind [
-  | inl same ↦ subst (λ (x : State). AreRising x.lasts) (sym same) rise
-  | inr one ↦ subst (λ (x : State). AreRising x.lasts) (sym one.4) (rising-step l.intake.state one.2.state one.0 one.3.3 rise one.3.4)
+  | inl same ↦ subst (λ (x : State). AreRising x.last_numbers) (sym same) rise
+  | inr one ↦ subst (λ (x : State). AreRising x.last_numbers) (sym one.4) (rising-step l.intake.state one.2.state one.0 one.3.3 rise one.3.4)
 ]
 
 -- whatever a learner is fed, they do
-pub fed_rise : (now : ℕ) (l e : Learning) (piece : List ℕ) (result : Result ℕ Fault) → AreRising l.intake.state.lasts → Fed now l piece result e → AreRising e.intake.state.lasts
+pub fed_rise : (now : ℕ) (l e : Learning) (piece : List ℕ) (result : Result ℕ Fault) → AreRising l.intake.state.last_numbers → Fed now l piece result e → AreRising e.intake.state.last_numbers
 fed_rise now l e piece result rise = by result
   where
-    stopped : (fault : Fault) → ((ms : List Message) × (us : List Update) × (mid : Learning) × AreLearned now (with_piece l piece) ms us mid × Stops mid.intake fault e.intake × (e.rows ≡ mid.rows)) → AreRising e.intake.state.lasts
+    stopped : (fault : Fault) → ((ms : List Message) × (us : List Update) × (mid : Learning) × AreLearned now (with_piece l piece) ms us mid × Stops mid.intake fault e.intake × (e.rows ≡ mid.rows)) → AreRising e.intake.state.last_numbers
     stopped fault (ms, us, mid, learned, stops, rows) =
-        subst (λ (x : State). AreRising x.lasts) (sym (stopped_state mid.intake e.intake fault stops)) (learned_rise now (with_piece l piece) mid ms us rise learned)
+        subst (λ (x : State). AreRising x.last_numbers) (sym (stopped_state mid.intake e.intake fault stops)) (learned_rise now (with_piece l piece) mid ms us rise learned)
 
-    by : (result : Result ℕ Fault) → Fed now l piece result e → AreRising e.intake.state.lasts
+    by : (result : Result ℕ Fault) → Fed now l piece result e → AreRising e.intake.state.last_numbers
     by (Ok count) (is_open, (ms, us, learned, waits, is)) = learned_rise now (with_piece l piece) e ms us rise learned
-    by (Err faults.Closed) (shut, is) = subst (λ (x : Learning). AreRising x.intake.state.lasts) (sym is) rise
+    by (Err faults.Closed) (shut, is) = subst (λ (x : Learning). AreRising x.intake.state.last_numbers) (sym is) rise
     by (Err faults.Memory) (is_open, left, (ms, us, mid, learned, cut), is) =
-        subst (λ (x : Learning). AreRising x.intake.state.lasts) (sym is) (cut_rise mid left (learned_rise now (with_piece l piece) mid ms us rise learned) cut)
+        subst (λ (x : Learning). AreRising x.intake.state.last_numbers) (sym is) (cut_rise mid left (learned_rise now (with_piece l piece) mid ms us rise learned) cut)
     by (Err faults.NoNumber) (is_open, all) = stopped faults.NoNumber all
     by (Err faults.EmptySlot) (is_open, all) = stopped faults.EmptySlot all
     by (Err faults.BadInteger) (is_open, all) = stopped faults.BadInteger all
@@ -82,8 +82,8 @@ abbrev EndsKnown : Learning → List Message → List Update → KnownState → 
 EndsKnown l ms us after =
     (s : State)
     × Legal l.intake.roster l.intake.state ms us s
-    × AreOwn l.intake.roster s.heard.tables
-    × AreRising s.lasts
+    × AreOwn l.intake.roster s.received.tables
+    × AreRising s.last_numbers
     × (known_of l.intake.roster s ≡ after)
 
 ends_known : (k after : KnownState) (l : Learning) (ms : List Message) (us : List Update) → Legal k.roster k.state ms us after.state → after.roster ≡ k.roster → IsReadyIn k l → EndsKnown l ms us after
@@ -100,9 +100,9 @@ ready_then after us ms l e sound own roster state unread is_open =
     let sound_still : roster_fault e.intake.roster ≡ None = ap (λ (ds : List Definition). roster_fault ds) roster ∙ sound in
     let known : known_of e.intake.roster e.intake.state ≡ after =
     ap (λ (ds : List Definition). known_of ds e.intake.state) roster ∙ ap (λ (s : State). known_of l.intake.roster s) state ∙ own.4 in
-    let owns : AreOwn e.intake.roster e.intake.state.heard.tables =
-    subst (λ (s : State). AreOwn e.intake.roster s.heard.tables) (sym state) (subst (λ (ds : List Definition). AreOwn ds own.0.heard.tables) (sym roster) own.2) in
-    let rises : AreRising e.intake.state.lasts = subst (λ (s : State). AreRising s.lasts) (sym state) own.3 in
+    let owns : AreOwn e.intake.roster e.intake.state.received.tables =
+    subst (λ (s : State). AreOwn e.intake.roster s.received.tables) (sym state) (subst (λ (ds : List Definition). AreOwn ds own.0.received.tables) (sym roster) own.2) in
+    let rises : AreRising e.intake.state.last_numbers = subst (λ (s : State). AreRising s.last_numbers) (sym state) own.3 in
     ((sound_still, owns, is_open, unread), rises, known)
 
 -- what is taught so has learned it
@@ -139,7 +139,7 @@ all_split p [] ns all = (tt, all)
 all_split p (m ∷ ms) ns (is, all) = let rest = all_split p ms ns all in ((is, rest.0), rest.1)
 
 -- the parts of a lesson are what its messages carry from what is known of the learner
-fall_known : (pieces : List Piece) (roster : List Definition) (before : ℕ) (s t end last : State) (ms : List Message) (us : List Update) (parts : List (List Update)) → AreOwn roster s.heard.tables → AreRising s.lasts → AllByRecursion (IsOwn roster) ms → known_of roster s ≡ record { roster = roster; state = t } → Teaches t ms us last → FallInto before s ms pieces parts end → FallInto before t ms pieces parts last
+fall_known : (pieces : List Piece) (roster : List Definition) (before : ℕ) (s t end last : State) (ms : List Message) (us : List Update) (parts : List (List Update)) → AreOwn roster s.received.tables → AreRising s.last_numbers → AllByRecursion (IsOwn roster) ms → known_of roster s ≡ record { roster = roster; state = t } → Teaches t ms us last → FallInto before s ms pieces parts end → FallInto before t ms pieces parts last
 fall_known [] roster before s t end last ms us parts owns rise all is teaches (none, no_parts, here) =
     (none, no_parts, (subst (λ (xs : List Message). Teaches t xs us last) none teaches).1)
 fall_known (p ∷ ps) roster before s t end last ms us parts owns rise all is teaches (ended, later, part, others, mid, left, split, sum, few, carried, counted, rest) =
@@ -148,8 +148,8 @@ fall_known (p ∷ ps) roster before s t end last ms us parts owns rise all is te
     let from_there : Teaches (known_of roster s).state ended cut.0 cut.2 = subst (λ (x : KnownState). Teaches x.state ended cut.0 cut.2) (sym is) cut.4 in
     let own = known_enough roster s cut.2 ended cut.0 owns rise (alls.0, from_there) in
     let same = one_lesson s mid own.0 ended part cut.0 carried own.1.1 in
-    let owns_then : AreOwn roster mid.heard.tables = subst (λ (x : State). AreOwn roster x.heard.tables) (sym same.1) own.2 in
-    let rises_then : AreRising mid.lasts = subst (λ (x : State). AreRising x.lasts) (sym same.1) own.3 in
+    let owns_then : AreOwn roster mid.received.tables = subst (λ (x : State). AreOwn roster x.received.tables) (sym same.1) own.2 in
+    let rises_then : AreRising mid.last_numbers = subst (λ (x : State). AreRising x.last_numbers) (sym same.1) own.3 in
     let is_then : known_of roster mid ≡ record { roster = roster; state = cut.2 } = ap (λ (x : State). known_of roster x) same.1 ∙ own.4 in
     let carried_known : Teaches t ended part cut.2 = subst (λ (xs : List Update). Teaches t ended xs cut.2) (sym same.0) cut.4 in
     (ended, later, part, others, cut.2, left, split, sum, few, carried_known, counted, fall_known ps roster left mid cut.2 end last later cut.1 others owns_then rises_then alls.1 is_then cut.5 rest)

@@ -50,7 +50,7 @@ stops_one now l e faults.BadKey stops rows = (stops, rows)
 stops_one now l e faults.BadValue stops rows = (stops, rows)
 stops_one now l e faults.Trailing stops rows = (stops, rows)
 
--- a fault behind messages that are learned
+-- a fault after messages that are learned
 pub stops_all : (now : ℕ) (l mid e : Learning) (ms : List Message) (us : List Update) (fault : Fault) → AreLearned now l ms us mid → LearnsOne now mid (Err fault) e → LearnsAll now l (Err fault) e
 stops_all now l mid e ms us faults.Memory learned stops = (ms, us, mid, learned, stops)
 stops_all now l mid e ms us faults.Closed learned stops = (ms, us, mid, learned, stops.0, stops.1)

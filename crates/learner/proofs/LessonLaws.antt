@@ -16,13 +16,13 @@ use Rattle.peers_msg.specs.declared.fault.Breach.{Breach}
 use Rattle.peers_msg.specs.declared.message.Message.{Message}
 use Rattle.peers_msg.specs.declared.message.Message.TheVariants as messages
 use Rattle.peers_msg.specs.Messages.{UpdateFields}
-use Rattle.peers_msg.specs.Heard.{Heard, selected_table}
+use Rattle.peers_msg.specs.Received.{Received, selected_table}
 use Rattle.peers_msg.specs.Fitting.{fits}
 use Rattle.peers_msg.specs.Spelling.{spelled, stream_of}
 use Rattle.peers_msg.specs.Reading.{message_at, frame_at}
 use Rattle.peers_msg.specs.OwnTables.{is_shape_of}
 use Rattle.peers_msg.specs.Decoding.{together}
-use Rattle.peers_msg.specs.Steps.{State, Step, Teaches, IsOwn, Legal, resolved}
+use Rattle.known_state.specs.State.{State, Step, Teaches, IsOwn, Legal, resolved}
 use Rattle.peers_msg.proofs.Pieces.{found, found_is}
 use Rattle.peers_msg.proofs.MessagesAgain.{message_again}
 use Rattle.peers_msg.proofs.ShapeLaws.{means_shape, shape_means}
@@ -32,7 +32,7 @@ use Rattle.known_state.proofs.InStepLaws.{own_stays}
 use Rattle.known_state.proofs.ResolvingLemmas.{named_so}
 use Rattle.learner.specs.declared.fault.Fault.{Fault}
 use Rattle.learner.specs.declared.fault.Fault.TheVariants as faults
-use Rattle.learner.specs.OwnTables.{own_table, own_id, kept}
+use Rattle.learner.specs.LocalTables.{local_table, local_id, local_updates}
 use Rattle.learner.specs.Intake.{Taking, Takes, Stops, due_after, lacks_number}
 use Rattle.learner.specs.Rows.{put, put_all}
 use Rattle.learner.specs.Learning.{Learning, AreLearned, IsWaiting, Fed, AreFed, IsReady, IsTaught, with_piece}
@@ -70,7 +70,7 @@ found_name (x ∷ xs) id d h = elim (cases_eq x.id id) [
     either false b h = h
 
 -- the own table of a roster's own definition is that one
-pub own_found : (roster : List Definition) (d : Definition) → repeats_name roster ≡ false → table_at roster d.id ≡ Some d → own_table roster d ≡ Some d
+pub own_found : (roster : List Definition) (d : Definition) → repeats_name roster ≡ false → table_at roster d.id ≡ Some d → local_table roster d ≡ Some d
 own_found [] d once h = cc
 own_found (x ∷ xs) d once h = elim (cases_eq x.id d.id) [
   | inl same ↦
@@ -80,7 +80,7 @@ own_found (x ∷ xs) d once h = elim (cases_eq x.id d.id) [
   | inr other ↦
       let later : table_at xs d.id ≡ Some d = sym (rw (ne_eqb x.id d.id other) refl) ∙ h in
       let alone : has_name x.name xs ≡ false = or-left (has_name x.name xs) (repeats_name xs) once in
-      let rest : own_table xs d ≡ Some d = own_found xs d (or-right (has_name x.name xs) (repeats_name xs) once) later in
+      let rest : local_table xs d ≡ Some d = own_found xs d (or-right (has_name x.name xs) (repeats_name xs) once) later in
       elim (cases_Bool (is_shape_of x d)) [
         | inl shape ↦
             let name : x.name ≡ d.name = ap (λ (t : Definition). t.name) (shape_means x d shape) in
@@ -95,7 +95,7 @@ own_found (x ∷ xs) d once h = elim (cases_eq x.id d.id) [
 
 -- ---- steps of a legal stream
 
-pub step_fits : (s e : State) (m : Message) (us : List Update) → Step s m us e → fits s.heard m ≡ true
+pub step_fits : (s e : State) (m : Message) (us : List Update) → Step s m us e → fits s.received m ≡ true
 step_fits s e (messages.Update u) us step = step.0
 step_fits s e (messages.Control c) us step = step.0
 step_fits s e (messages.Error k) us step = step.0
@@ -104,7 +104,7 @@ step_fits s e (messages.Switch id) us step = step.0
 step_fits s e (messages.Ack table number) us step = step.0
 step_fits s e (messages.Other o) us step = step.0
 
-fits_found : (h : Heard) (u : UpdateFields) → fits h (messages.Update u) ≡ true → (d : Definition) × (selected_table h ≡ Some d)
+fits_found : (h : Received) (u : UpdateFields) → fits h (messages.Update u) ≡ true → (d : Definition) × (selected_table h ≡ Some d)
 unfolding fits
 fits_found h u fit = at (selected_table h) refl
   where
@@ -112,17 +112,17 @@ fits_found h u fit = at (selected_table h) refl
     at None e = let bad : false ≡ true = sym (rw e refl) ∙ fit in absurd cc
     at (Some d) e = (d, e)
 
--- what a legal message carries is kept as it is
-pub kept_own : (roster : List Definition) (s e : State) (m : Message) (us : List Update) → repeats_name roster ≡ false → AreOwn roster s.heard.tables → Step s m us e → kept roster s.heard us ≡ us
+-- what a legal message carries is local_updates as it is
+pub kept_own : (roster : List Definition) (s e : State) (m : Message) (us : List Update) → repeats_name roster ≡ false → AreOwn roster s.received.tables → Step s m us e → local_updates roster s.received us ≡ us
 kept_own roster s e (messages.Update u) us once own step =
-    let selected = fits_found s.heard u step.0 in
-    let table : table_at s.heard.tables step.1 ≡ Some selected.0 = ap (λ (o : Option ℕ). option_and_then (table_at s.heard.tables) o) (sym step.2) ∙ selected.1 in
-    let is_own : table_at roster selected.0.id ≡ Some selected.0 = table_at-passes (λ (t : Definition). table_at roster t.id ≡ Some t) s.heard.tables step.1 selected.0 own table in
-    let named : selected.0.id ≡ step.1 = table_at-id s.heard.tables step.1 selected.0 table in
-    let id : own_id roster s.heard step.1 ≡ Some step.1 = rw (table, own_found roster selected.0 once is_own) (ap (λ (n : ℕ). Some n) named) in
-    rw step.7 (one (own_id roster s.heard step.1) id)
+    let selected = fits_found s.received u step.0 in
+    let table : table_at s.received.tables step.1 ≡ Some selected.0 = ap (λ (o : Option ℕ). option_and_then (table_at s.received.tables) o) (sym step.2) ∙ selected.1 in
+    let is_own : table_at roster selected.0.id ≡ Some selected.0 = table_at-passes (λ (t : Definition). table_at roster t.id ≡ Some t) s.received.tables step.1 selected.0 own table in
+    let named : selected.0.id ≡ step.1 = table_at-id s.received.tables step.1 selected.0 table in
+    let id : local_id roster s.received step.1 ≡ Some step.1 = rw (table, own_found roster selected.0 once is_own) (ap (λ (n : ℕ). Some n) named) in
+    rw step.7 (one (local_id roster s.received step.1) id)
   where
-    one : (o : Option ℕ) → own_id roster s.heard step.1 ≡ Some step.1 → kept roster s.heard (resolved u step.1 step.3 step.5 ∷ []) ≡ resolved u step.1 step.3 step.5 ∷ []
+    one : (o : Option ℕ) → local_id roster s.received step.1 ≡ Some step.1 → local_updates roster s.received (resolved u step.1 step.3 step.5 ∷ []) ≡ resolved u step.1 step.3 step.5 ∷ []
     one o id = rw id refl
 kept_own roster s e (messages.Control c) us once own step = rw step.1 refl
 kept_own roster s e (messages.Error k) us once own step = rw step.1 refl
@@ -131,21 +131,21 @@ kept_own roster s e (messages.Switch id) us once own step = rw step.1 refl
 kept_own roster s e (messages.Ack table number) us once own step = rw step.1 refl
 kept_own roster s e (messages.Other o) us once own step = rw step.1 refl
 
--- a legal message that stands at the front is taken, and all that it carries is kept
-pub takes_legal : (t : Taking) (m : Message) (us : List Update) (s : State) (rest : List ℕ) → repeats_name t.roster ≡ false → AreOwn t.roster t.state.heard.tables → t.closed ≡ false → t.unread ≡ spelled m ++ rest → Step t.state m us s
+-- a legal message that stands at the front is taken, and all that it carries is local_updates
+pub takes_legal : (t : Taking) (m : Message) (us : List Update) (s : State) (rest : List ℕ) → repeats_name t.roster ≡ false → AreOwn t.roster t.state.received.tables → t.closed ≡ false → t.unread ≡ spelled m ++ rest → Step t.state m us s
     → Takes t m us (record { roster = t.roster; state = s; due = due_after t.state m t.due; unread = rest; closed = false })
 takes_legal t m us s rest once own going unread step =
-    (going, rest, ap (message_at t.state.heard) unread ∙ message_again t.state.heard m rest (step_fits t.state s m us step), us, step, sym (kept_own t.roster t.state s m us once own step), refl)
+    (going, rest, ap (message_at t.state.received) unread ∙ message_again t.state.received m rest (step_fits t.state s m us step), us, step, sym (kept_own t.roster t.state s m us once own step), refl)
 
 -- ---- whole streams
 
--- updates put behind others are all put
+-- updates put after others are all put
 pub put_all-append : (now : ℕ) (roster : List Definition) (us vs : List Update) (rows : List (List (Key × StoredRow))) → put_all now roster (us ++ vs) rows ≡ put_all now roster vs (put_all now roster us rows)
 put_all-append now roster [] vs rows = refl
 put_all-append now roster (u ∷ us) vs rows = put_all-append now roster us vs (put now roster rows u)
 
 -- a legal stream is learned message by message, and then it waits with nothing unread
-pub learned : (now : ℕ) (l : Learning) (ms : List Message) (us : List Update) (after : State) → repeats_name l.intake.roster ≡ false → AreOwn l.intake.roster l.intake.state.heard.tables → AllByRecursion (IsOwn l.intake.roster) ms → Teaches l.intake.state ms us after → l.intake.closed ≡ false → l.intake.unread ≡ stream_of ms
+pub learned : (now : ℕ) (l : Learning) (ms : List Message) (us : List Update) (after : State) → repeats_name l.intake.roster ≡ false → AreOwn l.intake.roster l.intake.state.received.tables → AllByRecursion (IsOwn l.intake.roster) ms → Teaches l.intake.state ms us after → l.intake.closed ≡ false → l.intake.unread ≡ stream_of ms
     → (e : Learning) × AreLearned now l ms us e × IsTaught now l us after e
 learned now l [] us after once own all (none, here) going unread =
     (l, (none, refl), (refl, sym here, unread, going, rw none refl))
@@ -159,7 +159,7 @@ learned now l (m ∷ ms) us after once own (is, all) (one, rest, mid, joined, st
       (taught.0, taught.1, taught.2, taught.3, taught.4 ∙ sym (put_all-append now l.intake.roster one rest l.rows) ∙ ap (λ (xs : List Update). put_all now l.intake.roster xs l.rows) (sym joined)),
     )
 
-pub waits_at_end : (h : Heard) → message_at h [] ≡ Ok None
+pub waits_at_end : (h : Received) → message_at h [] ≡ Ok None
 unfolding message_at frame_at
 waits_at_end h = refl
 
@@ -257,7 +257,7 @@ taught now l e ms us after result (sound, own, going, none) (all, teaches) fed w
     by result (learned now (with_piece l (stream_of ms)) ms us after (once_named l.intake.roster sound) own all teaches going (ap (λ (u : List ℕ). u ++ stream_of ms) none)) fed wanted
   where
     ends : (a : Learning) → IsTaught now (with_piece l (stream_of ms)) us after a → IsWaiting a.intake
-    ends a (roster, state, unread, is_open, rows) = (is_open, ap (λ (u : List ℕ). message_at a.intake.state.heard u) unread ∙ waits_at_end a.intake.state.heard)
+    ends a (roster, state, unread, is_open, rows) = (is_open, ap (λ (u : List ℕ). message_at a.intake.state.received u) unread ∙ waits_at_end a.intake.state.received)
 
     stopped : (fault : Fault) (a mid : Learning) (x : Taking) (ns : List Message) (vs : List Update) → is_memory fault ≡ false → AreLearned now (with_piece l (stream_of ms)) ms us a → IsTaught now (with_piece l (stream_of ms)) us after a → AreLearned now (with_piece l (stream_of ms)) ns vs mid → Stops mid.intake fault x → ⊥
     stopped fault a mid x ns vs other one done begun stops =

@@ -12,17 +12,17 @@ use Rattle.table_types.specs.Rosters.{repeats_name}
 use Rattle.table_types.specs.Rows.{StoredRow}
 use Rattle.peers_msg.specs.declared.fault.Breach.{Breach}
 use Rattle.peers_msg.specs.declared.message.Message.{Message}
-use Rattle.peers_msg.specs.Heard.{Heard}
+use Rattle.peers_msg.specs.Received.{Received}
 use Rattle.peers_msg.specs.Fitting.{fits}
 use Rattle.peers_msg.specs.Spelling.{spelled, stream_of}
 use Rattle.peers_msg.specs.Reading.{message_at, with_more}
-use Rattle.peers_msg.specs.Steps.{State, Step, Teaches, IsOwn}
+use Rattle.known_state.specs.State.{State, Step, Teaches, IsOwn}
 use Rattle.peers_msg.proofs.FieldsTake.{IsBytes-drop}
 use Rattle.peers_msg.proofs.Pieces.{found, found_is, front_good}
 use Rattle.peers_msg.proofs.ReadingStays.{message_stays}
 use Rattle.peers_msg.proofs.MessagesTake.{message_takes}
 use Rattle.peers_msg.proofs.MessagesAgain.{message_again}
-use Rattle.peers_msg.proofs.Lessons.{one_step}
+use Rattle.known_state.proofs.StepIsDeterministic.{one_step}
 use Rattle.known_state.specs.Known.{AreOwn}
 use Rattle.known_state.proofs.InStepLaws.{own_stays}
 use Rattle.learner.specs.declared.fault.Fault.{Fault}
@@ -36,7 +36,7 @@ use Rattle.learner.proofs.LessonLaws.{step_fits, kept_own, takes_legal, put_all-
 -- ---- streams that are cut
 
 -- what is unread of a legal stream shows its next message, whole, or none
-next_shown : (h : Heard) (m : Message) (unread more tail : List ℕ) → IsBytes unread → fits h m ≡ true → unread ++ more ≡ spelled m ++ tail
+next_shown : (h : Received) (m : Message) (unread more tail : List ℕ) → IsBytes unread → fits h m ≡ true → unread ++ more ≡ spelled m ++ tail
     → (message_at h unread ≡ Ok None) ⊎ ((rest : List ℕ) × (message_at h unread ≡ found m rest) × (unread ≡ spelled m ++ rest) × (rest ++ more ≡ tail))
 next_shown h m unread more tail good fit cut = at (message_at h unread) refl
   where
@@ -74,7 +74,7 @@ nothing_first (x ∷ a) b e = absurd cc
 abbrev pub IsOnItsWay : Learning → List ℕ → List Message → List Update → State → Type 0
 IsOnItsWay l more ms us after =
     (repeats_name l.intake.roster ≡ false)
-    × AreOwn l.intake.roster l.intake.state.heard.tables
+    × AreOwn l.intake.roster l.intake.state.received.tables
     × AllByRecursion (IsOwn l.intake.roster) ms
     × Teaches l.intake.state ms us after
     × (l.intake.closed ≡ false)
@@ -95,12 +95,12 @@ IsNextOf l more ms us after n own next =
 
 one_on_way : (now : ℕ) (l next : Learning) (more : List ℕ) (ms : List Message) (us own : List Update) (after : State) (n : Message) → IsOnItsWay l more ms us after → Learns now l n own next → IsNextOf l more ms us after n own next
 one_on_way now l next more [] us own after n (once, owns, all, teaches, going, cut, good) ((is_open, rest, at, carried, step, keeps, is), rows) =
-    let none : message_at l.intake.state.heard l.intake.unread ≡ Ok None =
-    ap (message_at l.intake.state.heard) (nothing_first l.intake.unread more cut) ∙ waits_at_end l.intake.state.heard in
+    let none : message_at l.intake.state.received l.intake.unread ≡ Ok None =
+    ap (message_at l.intake.state.received) (nothing_first l.intake.unread more cut) ∙ waits_at_end l.intake.state.received in
     let bad : Ok None ≡ found n rest = sym none ∙ at in
     absurd cc
 one_on_way now l next more (m ∷ ms) us own after n (once, owns, (is_own, all), (one, others, mid, joined, legal, later), going, cut, good) ((is_open, rest, at, carried, step, keeps, is), rows) =
-    elim (next_shown l.intake.state.heard m l.intake.unread more (stream_of ms) (front_good l.intake.unread more good) (step_fits l.intake.state mid m one legal) cut) [
+    elim (next_shown l.intake.state.received m l.intake.unread more (stream_of ms) (front_good l.intake.unread more good) (step_fits l.intake.state mid m one legal) cut) [
       | inl none ↦ let bad : Ok None ≡ found n rest = sym none ∙ at in absurd cc
       | inr shown ↦
           let both = found_is m n shown.0 rest (sym shown.1 ∙ at) in
@@ -112,11 +112,11 @@ one_on_way now l next more (m ∷ ms) us own after n (once, owns, (is_own, all),
           let rosters : next.intake.roster ≡ l.intake.roster = ap (λ (t : Taking). t.roster) is in
           let begins : l.intake.unread ≡ spelled n ++ next.intake.unread = shown.2 ∙ ap (λ (k : Message). spelled k ++ shown.0) (sym same) ∙ ap (λ (x : List ℕ). spelled n ++ x) (sym left) in
           let goes : Teaches next.intake.state ms others after = subst (λ (s : State). Teaches s ms others after) (sym unique.1) later in
-          let owns_then : AreOwn next.intake.roster next.intake.state.heard.tables = subst (λ (ds : List Definition). AreOwn ds next.intake.state.heard.tables) (sym rosters) (own_stays l.intake.roster l.intake.state next.intake.state m carried owns is_own steps) in
+          let owns_then : AreOwn next.intake.roster next.intake.state.received.tables = subst (λ (ds : List Definition). AreOwn ds next.intake.state.received.tables) (sym rosters) (own_stays l.intake.roster l.intake.state next.intake.state m carried owns is_own steps) in
           let all_then : AllByRecursion (IsOwn next.intake.roster) ms = subst (λ (ds : List Definition). AllByRecursion (IsOwn ds) ms) (sym rosters) all in
           let once_then : repeats_name next.intake.roster ≡ false = ap (λ (ds : List Definition). repeats_name ds) rosters ∙ once in
           let cut_then : next.intake.unread ++ more ≡ stream_of ms = ap (λ (x : List ℕ). x ++ more) left ∙ shown.3 in
-          let good_then : IsBytes (next.intake.unread ++ more) = behind_good (spelled m) (next.intake.unread ++ more) (subst IsBytes (cut ∙ ap (λ (x : List ℕ). spelled m ++ x) (sym cut_then)) good) in
+          let good_then : IsBytes (next.intake.unread ++ more) = after_good (spelled m) (next.intake.unread ++ more) (subst IsBytes (cut ∙ ap (λ (x : List ℕ). spelled m ++ x) (sym cut_then)) good) in
           let one_step_on : Step l.intake.state n own next.intake.state = subst (λ (vs : List Update). Step l.intake.state n vs next.intake.state) (unique.0 ∙ sym keeps_all) step in (
             ms,
             others,
@@ -129,8 +129,8 @@ one_on_way now l next more (m ∷ ms) us own after n (once, owns, (is_own, all),
           )
     ]
   where
-    behind_good : (a b : List ℕ) → IsBytes (a ++ b) → IsBytes b
-    behind_good a b good = subst IsBytes (drop_at a b (length a) refl) (IsBytes-drop (length a) (a ++ b) good)
+    after_good : (a b : List ℕ) → IsBytes (a ++ b) → IsBytes b
+    after_good a b good = subst IsBytes (drop_at a b (length a) refl) (IsBytes-drop (length a) (a ++ b) good)
 
 -- messages that are learned on the way are the next ones
 abbrev AreNextOf : ℕ → Learning → List ℕ → List Message → List Update → State → List Message → List Update → Learning → Type 0
@@ -189,8 +189,8 @@ too_few l more (m ∷ ms) us after (once, owns, all, (one, others, mid, joined, 
       | inl lt ↦ lt
       | inr le ↦
           let front = front_is l.intake.unread more (spelled m) (stream_of ms) cut le in
-          let read : message_at l.intake.state.heard l.intake.unread ≡ found m (drop (length (spelled m)) l.intake.unread) =
-          ap (message_at l.intake.state.heard) front ∙ message_again l.intake.state.heard m (drop (length (spelled m)) l.intake.unread) (step_fits l.intake.state mid m one legal) in
+          let read : message_at l.intake.state.received l.intake.unread ≡ found m (drop (length (spelled m)) l.intake.unread) =
+          ap (message_at l.intake.state.received) front ∙ message_again l.intake.state.received m (drop (length (spelled m)) l.intake.unread) (step_fits l.intake.state mid m one legal) in
           let bad : Ok None ≡ found m (drop (length (spelled m)) l.intake.unread) = sym waits.1 ∙ read in
           absurd cc
     ]
@@ -203,8 +203,8 @@ some_bytes s e (m ∷ ms) us (one, others, mid, joined, legal, later) =
       | inl lt ↦ lt
       | inr le ↦
           let none : spelled m ≡ [] = empty (spelled m) le in
-          let again : message_at s.heard (spelled m ++ []) ≡ found m [] = message_again s.heard m [] (step_fits s mid m one legal) in
-          let nothing : message_at s.heard (spelled m ++ []) ≡ Ok None = ap (λ (x : List ℕ). message_at s.heard (x ++ [])) none ∙ waits_at_end s.heard in
+          let again : message_at s.received (spelled m ++ []) ≡ found m [] = message_again s.received m [] (step_fits s mid m one legal) in
+          let nothing : message_at s.received (spelled m ++ []) ≡ Ok None = ap (λ (x : List ℕ). message_at s.received (x ++ [])) none ∙ waits_at_end s.received in
           let bad : Ok None ≡ found m [] = sym nothing ∙ again in
           absurd cc
     ]
@@ -228,7 +228,7 @@ AreTaughtInTime l ms pieces us counts after e =
     × (e.intake.unread ≡ [])
     × (e.intake.closed ≡ false)
 
--- feeding a piece goes on with what comes behind it
+-- feeding a piece goes on with what comes after it
 fed_on_way : (l : Learning) (piece more : List ℕ) (ms : List Message) (us : List Update) (after : State) → IsOnItsWay l (piece ++ more) ms us after → IsOnItsWay (with_piece l piece) more ms us after
 fed_on_way l piece more ms us after (once, owns, all, teaches, going, cut, good) =
     let grouped : (l.intake.unread ++ piece) ++ more ≡ l.intake.unread ++ (piece ++ more) = simp append_assoc in
@@ -286,11 +286,11 @@ fed_along (p ∷ ps) more l e ms us counts after way (one, rest, mid, counted, (
 -- nothing on the way stops it
 never_stops : (l : Learning) (x : Taking) (more : List ℕ) (ms : List Message) (us : List Update) (after : State) (fault : Fault) → IsOnItsWay l more ms us after → Stops l.intake fault x → fault ≢ faults.Memory → ⊥
 never_stops l x more [] us after fault (once, owns, all, teaches, going, cut, good) stops wanted =
-    let none : message_at l.intake.state.heard l.intake.unread ≡ Ok None =
-    ap (message_at l.intake.state.heard) (nothing_first l.intake.unread more cut) ∙ waits_at_end l.intake.state.heard in
+    let none : message_at l.intake.state.received l.intake.unread ≡ Ok None =
+    ap (message_at l.intake.state.received) (nothing_first l.intake.unread more cut) ∙ waits_at_end l.intake.state.received in
     waits_on l.intake x fault (going, none) stops wanted
 never_stops l x more (m ∷ ms) us after fault (once, owns, all, (one, others, mid, joined, legal, later), going, cut, good) stops wanted =
-    elim (next_shown l.intake.state.heard m l.intake.unread more (stream_of ms) (front_good l.intake.unread more good) (step_fits l.intake.state mid m one legal) cut) [
+    elim (next_shown l.intake.state.received m l.intake.unread more (stream_of ms) (front_good l.intake.unread more good) (step_fits l.intake.state mid m one legal) cut) [
       | inl none ↦ waits_on l.intake x fault (going, none) stops wanted
       | inr shown ↦ goes_on l.intake _ x m one fault (takes_legal l.intake m one mid shown.0 once owns going shown.2 legal) stops wanted
     ]

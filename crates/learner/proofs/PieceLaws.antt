@@ -5,28 +5,28 @@ use Rattle.peers_msg.specs.Integers.{IsBytes}
 use Rattle.table_types.specs.declared.update.Update.{Update}
 use Rattle.peers_msg.specs.declared.message.Message.{Message}
 use Rattle.peers_msg.specs.Decoding.{together}
-use Rattle.peers_msg.specs.Steps.{State}
+use Rattle.known_state.specs.State.{State}
 use Rattle.peers_msg.proofs.Pieces.{found, found_is, read_on, rest_good, front_good}
-use Rattle.peers_msg.proofs.Lessons.{one_step}
-use Rattle.learner.specs.OwnTables.{kept}
+use Rattle.known_state.proofs.StepIsDeterministic.{one_step}
+use Rattle.learner.specs.LocalTables.{local_updates}
 use Rattle.learner.specs.Intake.{Taking, Takes, due_after, fed}
 use Rattle.learner.specs.Rows.{put_all}
 use Rattle.learner.specs.Learning.{Learning, Learns, AreLearned, IsWaiting, Fed, AreFed, with_piece}
 
--- a message that is taken is taken with more bytes behind
+-- a message that is taken is taken with more bytes after
 takes_on : (t e : Taking) (m : Message) (own : List Update) (more : List ℕ) → IsBytes t.unread → Takes t m own e → Takes (fed t more) m own (fed e more)
 takes_on t e m own more good (is_open, rest, at, us, step, keeps, is) =
-    (is_open, rest ++ more, read_on t.state.heard m t.unread rest more good at, us, step, keeps, ap (λ (x : Taking). fed x more) is)
+    (is_open, rest ++ more, read_on t.state.received m t.unread rest more good at, us, step, keeps, ap (λ (x : Taking). fed x more) is)
 
 learns_on : (now : ℕ) (l e : Learning) (m : Message) (us : List Update) (more : List ℕ) → IsBytes l.intake.unread → Learns now l m us e → Learns now (with_piece l more) m us (with_piece e more)
 learns_on now l e m us more good (takes, rows) = (takes_on l.intake e.intake m us more good takes, rows)
 
--- what is left behind a message are bytes
+-- what is left after a message are bytes
 left_good : (t e : Taking) (m : Message) (own : List Update) → IsBytes t.unread → Takes t m own e → IsBytes e.unread
 left_good t e m own good (is_open, rest, at, us, step, keeps, is) =
-    subst IsBytes (sym (ap (λ (x : Taking). x.unread) is)) (rest_good t.state.heard m t.unread rest good at)
+    subst IsBytes (sym (ap (λ (x : Taking). x.unread) is)) (rest_good t.state.received m t.unread rest good at)
 
--- messages that are learned, and messages learned of what they leave with more bytes behind
+-- messages that are learned, and messages learned of what they leave with more bytes after
 pub joined : (now : ℕ) (l mid e : Learning) (more : List ℕ) (ms ns : List Message) (us vs : List Update) → IsBytes l.intake.unread → AreLearned now l ms us mid → AreLearned now (with_piece mid more) ns vs e → AreLearned now (with_piece l more) (ms ++ ns) (us ++ vs) e
 joined now l mid e more [] ns us vs good (none, here) later =
     rw none (subst (λ (x : Learning). AreLearned now (with_piece x more) ns vs e) here later)
@@ -53,7 +53,7 @@ one_taking t a b m own kin (is_open, rest, at, us, step, keeps, is) (is_open', r
     let left : record { roster = t.roster; state = a.state; due = due_after t.state m t.due; unread = rest; closed = false } ≡ record { roster = t.roster; state = b.state; due = due_after t.state m t.due; unread = rest'; closed = false } =
     ap (λ (s : State). record { roster = t.roster; state = s; due = due_after t.state m t.due; unread = rest; closed = false }) steps.1
     ∙ ap (λ (bytes : List ℕ). record { roster = t.roster; state = b.state; due = due_after t.state m t.due; unread = bytes; closed = false }) read.1 in
-    (keeps ∙ ap (λ (carried : List Update). kept t.roster t.state.heard carried) steps.0 ∙ sym keeps', is ∙ left ∙ sym is')
+    (keeps ∙ ap (λ (carried : List Update). local_updates t.roster t.state.received carried) steps.0 ∙ sym keeps', is ∙ left ∙ sym is')
 
 one_message : (t a b : Taking) (m n : Message) (own kin : List Update) → Takes t m own a → Takes t n kin b → m ≡ n
 one_message t a b m n own kin one other = (found_is m n one.1 other.1 (sym one.2 ∙ other.2)).0

@@ -14,7 +14,8 @@ use Rattle.table_types.specs.declared.update.Update.{Update}
 use Rattle.table_types.specs.Tables.{Definition}
 use Rattle.table_types.specs.Rosters.{table_at}
 use Rattle.table_types.specs.Rows.{StoredRow, row_of}
-use Rattle.learner.specs.Rows.{key_cmp, row_at, rows_at, put, put_all, AreOfOthers}
+use Rattle.table_types.specs.Keys.{key_cmp}
+use Rattle.learner.specs.Rows.{row_at, rows_at, put, put_all, AreOfOthers}
 
 -- keys that compare alike are one
 exact_keys : (a b : Key) → key_cmp a b ≡ Equal → a ≡ b
@@ -151,7 +152,7 @@ others_stay_all now roster (u ∷ us) id key tables others = others_stay_all now
     one (inl apart) = ap (row_at key) (other_tables now roster tables u id (λ e. apart (sym e)))
     one (inr apart) = other_keys now roster tables u id key (λ e. apart (sym e))
 
--- the row of an update behind which none is of its table and key is what it teaches
+-- the row of an update after which none is of its table and key is what it teaches
 pub last_stands : (now : ℕ) (roster : List Definition) (before behind : List Update) (u : Update) (d : Definition) (tables : List (List (Key × StoredRow))) → length tables ≡ length roster → table_at roster u.table ≡ Some d → AreOfOthers u.table u.key behind
     → row_at u.key (rows_at roster u.table (put_all now roster (before ++ (u ∷ behind)) tables)) ≡ Some (row_of now d.expire u)
 last_stands now roster [] behind u d tables size at others = others_stay_all now roster behind u.table u.key (put now roster tables u) others ∙ here now roster tables u d size at

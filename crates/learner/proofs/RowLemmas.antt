@@ -15,7 +15,8 @@ use Rattle.table_types.specs.declared.update.Update.{Update}
 use Rattle.table_types.specs.Tables.{Definition}
 use Rattle.table_types.specs.Rosters.{table_at}
 use Rattle.table_types.specs.Rows.{StoredRow, row_of}
-use Rattle.learner.specs.Rows.{key_cmp, put_row, put, rows_at, place_of}
+use Rattle.table_types.specs.Keys.{key_cmp}
+use Rattle.learner.specs.Rows.{put_row, put, rows_at, index_of}
 
 abbrev pub derived_cmp : Key → Key → Ordering
 derived_cmp = (key_ord.ghosts).cmp
@@ -60,15 +61,15 @@ insert_is (e ∷ es) key row = rw (derived_is key e.0, insert_is es key row) ref
 
 -- ---- the place of a table
 
-place_first : (d : Definition) (ds : List Definition) (id p : ℕ) → d.id ≡ id → place_of (d ∷ ds) id ≡ Some p → p ≡ 0
+place_first : (d : Definition) (ds : List Definition) (id p : ℕ) → d.id ≡ id → index_of (d ∷ ds) id ≡ Some p → p ≡ 0
 place_first d ds id p same at =
     let first : Some 0 ≡ Some p = sym (rw (eq-eqb d.id id same) refl) ∙ at in
     cc
 
-place_later : (d : Definition) (ds : List Definition) (id p : ℕ) → (d.id ≡ id → ⊥) → place_of (d ∷ ds) id ≡ Some p → (q : ℕ) × (p ≡ suc q) × (place_of ds id ≡ Some q)
-place_later d ds id p other at = found (place_of ds id) refl
+place_later : (d : Definition) (ds : List Definition) (id p : ℕ) → (d.id ≡ id → ⊥) → index_of (d ∷ ds) id ≡ Some p → (q : ℕ) × (p ≡ suc q) × (index_of ds id ≡ Some q)
+place_later d ds id p other at = found (index_of ds id) refl
   where
-    found : (o : Option ℕ) → place_of ds id ≡ o → (q : ℕ) × (p ≡ suc q) × (place_of ds id ≡ Some q)
+    found : (o : Option ℕ) → index_of ds id ≡ o → (q : ℕ) × (p ≡ suc q) × (index_of ds id ≡ Some q)
     found None e = let none : None ≡ Some p = sym (rw (ne_eqb d.id id other, e) refl) ∙ at in absurd cc
     found (Some q) e =
         let some : Some (q + 1) ≡ Some p = sym (rw (ne_eqb d.id id other, e) refl) ∙ at in
@@ -78,18 +79,18 @@ place_later d ds id p other at = found (place_of ds id) refl
 never : (p : ℕ) → ◌≡◌ {A = Option ℕ} (Some p) None → ⊥
 never p e = cc
 
-place_none : (d : Definition) (ds : List Definition) (id : ℕ) → place_of (d ∷ ds) id ≡ None → (d.id ≡ id → ⊥) × (place_of ds id ≡ None)
+place_none : (d : Definition) (ds : List Definition) (id : ℕ) → index_of (d ∷ ds) id ≡ None → (d.id ≡ id → ⊥) × (index_of ds id ≡ None)
 place_none d ds id none = elim (cases_eq d.id id) [
   | inl same ↦ absurd (never 0 (sym (rw (eq-eqb d.id id same) refl) ∙ none))
-  | inr other ↦ (other, rest other (place_of ds id) refl)
+  | inr other ↦ (other, rest other (index_of ds id) refl)
 ]
   where
-    rest : (d.id ≡ id → ⊥) → (o : Option ℕ) → place_of ds id ≡ o → place_of ds id ≡ None
+    rest : (d.id ≡ id → ⊥) → (o : Option ℕ) → index_of ds id ≡ o → index_of ds id ≡ None
     rest other None e = e
     rest other (Some q) e = absurd (never (q + 1) (sym (rw (ne_eqb d.id id other, e) refl) ∙ none))
 
 -- a table that is found has a place among the tables
-pub place_within : (ds : List Definition) (id p : ℕ) → place_of ds id ≡ Some p → p < length ds
+pub place_within : (ds : List Definition) (id p : ℕ) → index_of ds id ≡ Some p → p < length ds
 place_within [] id p at = absurd cc
 place_within (d ∷ ds) id p at = elim (cases_eq d.id id) [
   | inl same ↦ let first = place_first d ds id p same at in omega arith
@@ -100,7 +101,7 @@ place_within (d ∷ ds) id p at = elim (cases_eq d.id id) [
 ]
 
 -- the rows of a table are those at its place
-pub rows_placed : (ds : List Definition) (id p : ℕ) (tables : List (List (Key × StoredRow))) (rows : List (Key × StoredRow)) → length tables ≡ length ds → place_of ds id ≡ Some p → rows ≡ get_or tables p rows → rows_at ds id tables ≡ rows
+pub rows_placed : (ds : List Definition) (id p : ℕ) (tables : List (List (Key × StoredRow))) (rows : List (Key × StoredRow)) → length tables ≡ length ds → index_of ds id ≡ Some p → rows ≡ get_or tables p rows → rows_at ds id tables ≡ rows
 rows_placed [] id p tables rows size at is = absurd cc
 rows_placed (d ∷ ds) id p [] rows size at is = absurd cc
 rows_placed (d ∷ ds) id p (first ∷ others) rows size at is = elim (cases_eq d.id id) [
@@ -115,7 +116,7 @@ rows_placed (d ∷ ds) id p (first ∷ others) rows size at is = elim (cases_eq 
 ]
 
 -- and a table that isn't found has none
-pub rows_unplaced : (ds : List Definition) (id : ℕ) (tables : List (List (Key × StoredRow))) → place_of ds id ≡ None → rows_at ds id tables ≡ []
+pub rows_unplaced : (ds : List Definition) (id : ℕ) (tables : List (List (Key × StoredRow))) → index_of ds id ≡ None → rows_at ds id tables ≡ []
 rows_unplaced [] id tables none = refl
 rows_unplaced (d ∷ ds) id [] none = refl
 rows_unplaced (d ∷ ds) id (first ∷ others) none =
@@ -123,7 +124,7 @@ rows_unplaced (d ∷ ds) id (first ∷ others) none =
     rw (ne_eqb d.id id rest.0) (rows_unplaced ds id others rest.1)
 
 -- an update is put at the place of its table
-pub put_placed : (now : ℕ) (ds : List Definition) (p : ℕ) (tables : List (List (Key × StoredRow))) (u : Update) (d : Definition) (rows : List (Key × StoredRow)) → length tables ≡ length ds → place_of ds u.table ≡ Some p → table_at ds u.table ≡ Some d → rows ≡ get_or tables p rows → set tables p (put_row now d u rows) ≡ put now ds tables u
+pub put_placed : (now : ℕ) (ds : List Definition) (p : ℕ) (tables : List (List (Key × StoredRow))) (u : Update) (d : Definition) (rows : List (Key × StoredRow)) → length tables ≡ length ds → index_of ds u.table ≡ Some p → table_at ds u.table ≡ Some d → rows ≡ get_or tables p rows → set tables p (put_row now d u rows) ≡ put now ds tables u
 put_placed now [] p tables u d rows size at is_table is_rows = absurd cc
 put_placed now (x ∷ xs) p [] u d rows size at is_table is_rows = absurd cc
 put_placed now (x ∷ xs) p (first ∷ others) u d rows size at is_table is_rows = elim (cases_eq x.id u.table) [
@@ -142,7 +143,7 @@ put_placed now (x ∷ xs) p (first ∷ others) u d rows size at is_table is_rows
 ]
 
 -- and nowhere without one
-pub put_unplaced : (now : ℕ) (ds : List Definition) (tables : List (List (Key × StoredRow))) (u : Update) → place_of ds u.table ≡ None → put now ds tables u ≡ tables
+pub put_unplaced : (now : ℕ) (ds : List Definition) (tables : List (List (Key × StoredRow))) (u : Update) → index_of ds u.table ≡ None → put now ds tables u ≡ tables
 put_unplaced now [] tables u none = refl
 put_unplaced now (d ∷ ds) [] u none = refl
 put_unplaced now (d ∷ ds) (first ∷ others) u none =
@@ -163,7 +164,7 @@ put_unfound now (d ∷ ds) (first ∷ others) u none = elim (cases_eq d.id u.tab
     not_none : (t : Definition) → ◌≡◌ {A = Option Definition} (Some t) None → ⊥
     not_none t e = cc
 
--- as many tables have rows behind an update as before it
+-- as many tables have rows after an update as before it
 pub length-put : (now : ℕ) (ds : List Definition) (tables : List (List (Key × StoredRow))) (u : Update) → length (put now ds tables u) ≡ length tables
 length-put now [] tables u = refl
 length-put now (d ∷ ds) [] u = refl
@@ -186,7 +187,7 @@ pub length_shelved : (ds : List Definition) → length (no_rows ds) ≡ length d
 length_shelved [] = refl
 length_shelved (d ∷ ds) = ap suc (length_shelved ds)
 
-pub shelf_within : (roster inside : List Definition) (id p : ℕ) (tables : List (List (Key × StoredRow))) → place_of roster id ≡ Some p → inside ≡ roster → length tables ≡ length inside → p < length tables
+pub shelf_within : (roster inside : List Definition) (id p : ℕ) (tables : List (List (Key × StoredRow))) → index_of roster id ≡ Some p → inside ≡ roster → length tables ≡ length inside → p < length tables
 shelf_within roster inside id p tables at same size =
     let within = place_within roster id p at in
     let sizes : length inside ≡ length roster = ap (λ (ds : List Definition). length ds) same in
@@ -194,7 +195,7 @@ shelf_within roster inside id p tables at same size =
 
 -- an update is put at its table's place
 pub put_shelf : (now : ℕ) (ds : List Definition) (p expire : ℕ) (tables : List (List (Key × StoredRow))) (u : Update) (d : Definition) (shelf after : List (Key × StoredRow)) (key : Key) (row : StoredRow)
-    → length tables ≡ length ds → place_of ds u.table ≡ Some p → table_at ds u.table ≡ Some d → shelf ≡ get_or tables p shelf
+    → length tables ≡ length ds → index_of ds u.table ≡ Some p → table_at ds u.table ≡ Some d → shelf ≡ get_or tables p shelf
     → expire ≡ d.expire → key ≡ u.key → row ≡ row_of now expire u → after ≡ insert_entry key_cmp shelf key row
     → set tables p after ≡ put now ds tables u
 put_shelf now ds p expire tables u d shelf after key row size at is_table is_shelf is_expire is_key is_row is_after =

@@ -1,4 +1,4 @@
--- A learner's faults: those of a decoder and two more (own).
+-- A learner's faults: those of a decoder and two more (profile).
 use Rattle.std.specs.Prelude.{ℕ, List, codes}
 use Rattle.peers_msg.specs.declared.fault.Fault.{Fault as ReadFault}
 use Rattle.peers_msg.specs.declared.fault.Fault.TheVariants as reads

@@ -1,4 +1,4 @@
--- What an intake holds, and what it makes of the bytes that it is fed (own).
+-- What an intake holds, and what it makes of the bytes that it is fed (profile).
 use Rattle.std.specs.Prelude.{◌≡◌, ◌≤◌, ℕ, Bool, true, false, ◌==◌, ◌&&◌, is_none, is_some, List, [], ◌∷◌, ◌++◌, length, drop, filter, filter_map, Option, Some, None, option_map, option_and_then, Result, Ok, Err, if◌then◌else◌}
 use Rattle.std.specs.List.{list_any}
 use Rattle.table_types.specs.declared.update.Update.{Update}
@@ -11,14 +11,15 @@ use Rattle.peers_msg.specs.Messages.{UpdateFields}
 use Rattle.peers_msg.specs.Reading.{message_at}
 use Rattle.peers_msg.specs.Decoding.{fault_of}
 use Rattle.peers_msg.specs.Fitting.{fits}
-use Rattle.peers_msg.specs.Steps.{State, Step, fresh, last_of, put_last, lasts_after, resolved_number, resolved}
+use Rattle.known_state.specs.State.{State, Step, fresh, last_numbers_after, resolved_number, resolved}
+use Rattle.known_state.specs.LastNumbers.{last_of, set_last}
 use Rattle.known_state.specs.Resolving.{reads_empty, slots_after}
 use Rattle.learner.specs.declared.fault.Fault.{Fault}
 use Rattle.learner.specs.declared.fault.Fault.TheVariants as faults
 use Rattle.learner.specs.declared.intake.Taken.{Taken}
 use Rattle.learner.specs.declared.intake.Taken.TheVariants as taken
 use Rattle.learner.specs.Faults.{fault_like}
-use Rattle.learner.specs.OwnTables.{own_table, kept}
+use Rattle.learner.specs.LocalTables.{local_table, local_updates}
 
 -- the own tables; the state in which the messages read leave it; the ids of which an update came since the last
 -- acknowledgements; the bytes that weren't read yet; and whether there was a fault
@@ -52,39 +53,39 @@ with_due (Some id) due = if holds id due then due else due ++ (id ∷ [])
 
 -- an update makes its table due, and an id that loses its last number at a definition is due no more
 abbrev pub due_after : State → Message → List ℕ → List ℕ
-due_after s (messages.Update u) due = with_due s.heard.selected due
-due_after s (messages.Define d) due = filter (λ id. is_some (last_of (lasts_after s (messages.Define d)) id)) due
+due_after s (messages.Update u) due = with_due s.received.selected due
+due_after s (messages.Define d) due = filter (λ id. is_some (last_of (last_numbers_after s (messages.Define d)) id)) due
 due_after s m due = due
 
 -- the number of an update of that table and the name that it writes are remembered, and the table is due
 abbrev pub remembered : Taking → ℕ → ℕ → NameField → Taking
 remembered t table number field = record {
   roster = t.roster;
-  state = record { heard = t.state.heard; lasts = put_last table number t.state.lasts; slots = slots_after t.state.slots field };
+  state = record { received = t.state.received; last_numbers = set_last table number t.state.last_numbers; slots = slots_after t.state.slots field };
   due = with_due (Some table) t.due;
   unread = t.unread;
   closed = t.closed;
 }
 
 -- The message m stands at the front and makes its step, which leads to e; of what it carries the updates of own tables
--- are kept.
+-- are local_updates.
 abbrev pub Takes : Taking → Message → List Update → Taking → Type 0
 Takes t m own e =
     (t.closed ≡ false)
     × (rest : List ℕ)
-    × (message_at t.state.heard t.unread ≡ Ok (Some (m, rest)))
+    × (message_at t.state.received t.unread ≡ Ok (Some (m, rest)))
     × (us : List Update)
     × Step t.state m us e.state
-    × (own ≡ kept t.roster t.state.heard us)
+    × (own ≡ local_updates t.roster t.state.received us)
     × (e ≡ record { roster = t.roster; state = e.state; due = due_after t.state m t.due; unread = rest; closed = false })
 
 -- an update that is incremental, of a table without a last number
 abbrev pub lacks_number : State → UpdateFields → Bool
-lacks_number s u = is_none (option_and_then (λ table. resolved_number u.number (last_of s.lasts table)) s.heard.selected)
+lacks_number s u = is_none (option_and_then (λ table. resolved_number u.number (last_of s.last_numbers table)) s.received.selected)
 
 -- the update u stands at the front
 abbrev pub IsNext : Taking → UpdateFields → Type 0
-IsNext t u = (rest : List ℕ) × (message_at t.state.heard t.unread ≡ Ok (Some (messages.Update u, rest)))
+IsNext t u = (rest : List ℕ) × (message_at t.state.received t.unread ≡ Ok (Some (messages.Update u, rest)))
 
 -- Why no message is taken. What stands at the front is an update without a number, or else one that reads an empty
 -- slot, or no message: it closes. Want of memory changes nothing, and what is closed stays so.
@@ -107,7 +108,7 @@ Stops t faults.Closed e = (t.closed ≡ true) × (e ≡ t)
 Stops t fault e =
     (t.closed ≡ false)
     × (breach : Breach)
-    × (message_at t.state.heard t.unread ≡ Err breach)
+    × (message_at t.state.received t.unread ≡ Err breach)
     × (fault ≡ fault_like (fault_of breach))
     × (e ≡ shut t)
 
@@ -141,7 +142,7 @@ Gives t (Err fault) e = Stops t fault e
 
 -- what asking for a message does
 abbrev pub Next : Taking → Result (Option Taken) Fault → Taking → Type 0
-Next t (Ok None) e = (t.closed ≡ false) × (message_at t.state.heard t.unread ≡ Ok None) × (e ≡ t)
+Next t (Ok None) e = (t.closed ≡ false) × (message_at t.state.received t.unread ≡ Ok None) × (e ≡ t)
 Next t (Ok (Some answer)) e = Gives t (Ok answer) e
 Next t (Err fault) e = Gives t (Err fault) e
 
@@ -156,19 +157,19 @@ Feeds t piece (Err fault) e = ⊥
 abbrev pub IsFront : Taking → Message → ℕ → Type 0
 IsFront t m used =
     (t.closed ≡ false)
-    × (message_at t.state.heard t.unread ≡ Ok (Some (m, drop used t.unread)))
-    × (fits t.state.heard m ≡ true)
+    × (message_at t.state.received t.unread ≡ Ok (Some (m, drop used t.unread)))
+    × (fits t.state.received m ≡ true)
     × (1 ≤ used)
     × (used ≤ length t.unread)
 
 -- ---- acknowledgements
 
--- the acknowledgement of a table heard: of its last number, where it is an own table and is due
+-- the acknowledgement of a table received: of its last number, where it is an own table and is due
 abbrev pub ack_of : Taking → Definition → Option Message
 ack_of t d =
-    if is_some (own_table t.roster d) && holds d.id t.due then option_map (λ n. messages.Ack d.id n) (last_of t.state.lasts d.id)
+    if is_some (local_table t.roster d) && holds d.id t.due then option_map (λ n. messages.Ack d.id n) (last_of t.state.last_numbers d.id)
     else None
 
 -- one for each table that it is of, in rising id
 abbrev pub acks_of : Taking → List Message
-acks_of t = filter_map (ack_of t) t.state.heard.tables
+acks_of t = filter_map (ack_of t) t.state.received.tables

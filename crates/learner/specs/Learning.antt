@@ -1,4 +1,4 @@
--- What a learner holds, and what it learns of the bytes that it is fed (own).
+-- What a learner holds, and what it learns of the bytes that it is fed (profile).
 use Rattle.std.specs.Prelude.{◌≡◌, ◌⊎◌, ℕ, ◌+◌, true, false, List, [], ◌∷◌, ◌++◌, length, map, Option, Some, None, Result, Ok, Err}
 use Rattle.table_types.specs.declared.key.Key.{Key}
 use Rattle.table_types.specs.declared.update.Update.{Update}
@@ -7,9 +7,9 @@ use Rattle.table_types.specs.Rosters.{roster_fault}
 use Rattle.table_types.specs.Rows.{StoredRow}
 use Rattle.peers_msg.specs.declared.message.Message.{Message}
 use Rattle.peers_msg.specs.Reading.{message_at}
-use Rattle.peers_msg.specs.Steps.{State}
-use Rattle.known_state.specs.Known.{KnownState, AreOwn}
-use Rattle.known_state.specs.Told.{known_of, AreRising}
+use Rattle.known_state.specs.State.{State}
+use Rattle.known_state.specs.Known.{KnownState, AreOwn, known_of}
+use Rattle.known_state.specs.LastNumbers.{AreRising}
 use Rattle.learner.specs.declared.fault.Fault.{Fault}
 use Rattle.learner.specs.declared.fault.Fault.TheVariants as faults
 use Rattle.learner.specs.Intake.{Taking, Takes, Stops, begun, fed, shut}
@@ -28,7 +28,7 @@ unlearned roster = record { intake = begun roster; rows = map (λ _. []) roster 
 abbrev pub with_piece : Learning → List ℕ → Learning
 with_piece l piece = record { intake = fed l.intake piece; rows = l.rows }
 
--- The message m is taken at the moment now, and the updates us that are kept of it are put among the rows.
+-- The message m is taken at the moment now, and the updates us that are local_updates of it are put among the rows.
 abbrev pub Learns : ℕ → Learning → Message → List Update → Learning → Type 0
 Learns now l m us e = Takes l.intake m us e.intake × (e.rows ≡ put_all now l.intake.roster us l.rows)
 
@@ -45,15 +45,15 @@ AreLearned now l (m ∷ ms) us e =
 
 -- no message is whole at the front, and there is no fault
 abbrev pub IsWaiting : Taking → Type 0
-IsWaiting t = (t.closed ≡ false) × (message_at t.state.heard t.unread ≡ Ok None)
+IsWaiting t = (t.closed ≡ false) × (message_at t.state.received t.unread ≡ Ok None)
 
 -- the state in which these messages leave it, or one more
-abbrev pub IsStateBehind : Taking → State → Type 0
-IsStateBehind t s = (s ≡ t.state) ⊎ ((m : Message) × (us : List Update) × (next : Taking) × Takes t m us next × (s ≡ next.state))
+abbrev pub IsStateAfter : Taking → State → Type 0
+IsStateAfter t s = (s ≡ t.state) ⊎ ((m : Message) × (us : List Update) × (next : Taking) × Takes t m us next × (s ≡ next.state))
 
 -- What is left where memory is wanted: the rows are those of whole messages, none in part.
 abbrev pub IsCutShort : Learning → Learning → Type 0
-IsCutShort l e = (e.rows ≡ l.rows) × (e.intake.roster ≡ l.intake.roster) × IsStateBehind l.intake e.intake.state
+IsCutShort l e = (e.rows ≡ l.rows) × (e.intake.roster ≡ l.intake.roster) × IsStateAfter l.intake e.intake.state
 
 -- what learning one message does, where the answer is how many rows were put
 abbrev pub LearnsOne : ℕ → Learning → Result (Option ℕ) Fault → Learning → Type 0
@@ -120,11 +120,11 @@ AreFed now l (piece ∷ pieces) count e =
 
 -- ---- what it comes to
 
--- each id heard stands for the learner's own definition, there was no fault, and nothing is unread
+-- each id received stands for the learner's own definition, there was no fault, and nothing is unread
 abbrev pub IsReady : Learning → Type 0
 IsReady l =
     (roster_fault l.intake.roster ≡ None)
-    × AreOwn l.intake.roster l.intake.state.heard.tables
+    × AreOwn l.intake.roster l.intake.state.received.tables
     × (l.intake.closed ≡ false)
     × (l.intake.unread ≡ [])
 
@@ -139,7 +139,7 @@ IsTaught now l us after e =
 
 -- the learner is ready, its last numbers stand in rising id, and what a teacher of its roster knows of it is k
 abbrev pub IsReadyIn : KnownState → Learning → Type 0
-IsReadyIn k l = IsReady l × AreRising l.intake.state.lasts × (known_of l.intake.roster l.intake.state ≡ k)
+IsReadyIn k l = IsReady l × AreRising l.intake.state.last_numbers × (known_of l.intake.roster l.intake.state ≡ k)
 
 -- these updates are put among the rows of l, all of them, and the learner is ready for a lesson from the known state
 -- after

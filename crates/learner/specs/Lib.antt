@@ -1,5 +1,5 @@
 pub mod Faults
-pub mod OwnTables
+pub mod LocalTables
 pub mod Intake
 pub mod Rows
 pub mod Learning

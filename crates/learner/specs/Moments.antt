@@ -1,4 +1,4 @@
--- Streams that come in pieces at several moments, and what is put of each piece (own).
+-- Streams that come in pieces at several moments, and what is put of each piece (profile).
 use Rattle.std.specs.Prelude.{◌≡◌, ℕ, ◌+◌, ◌<◌, List, [], ◌∷◌, ◌++◌, length, map, flat_map, Ok}
 use Rattle.table_types.specs.declared.key.Key.{Key}
 use Rattle.table_types.specs.declared.update.Update.{Update}
@@ -6,7 +6,7 @@ use Rattle.table_types.specs.Tables.{Definition}
 use Rattle.table_types.specs.Rows.{StoredRow}
 use Rattle.peers_msg.specs.declared.message.Message.{Message}
 use Rattle.peers_msg.specs.Spelling.{spelled, stream_of}
-use Rattle.peers_msg.specs.Steps.{State, Teaches}
+use Rattle.known_state.specs.State.{State, Teaches}
 use Rattle.known_state.specs.Known.{KnownState}
 use Rattle.learner.specs.Rows.{put_all}
 use Rattle.learner.specs.Learning.{Learning, Fed, IsReadyIn}
@@ -62,7 +62,7 @@ put_parts roster (p ∷ ps) (part ∷ parts) tables = put_parts roster ps parts 
 put_parts roster ps parts tables = tables
 
 -- The updates us that the pieces carry from the known state k fall into parts, one for each piece, and each is put among
--- the rows of l at the moment of its piece, and counted by the answer to it. Behind them the learner is ready for a
+-- the rows of l at the moment of its piece, and counted by the answer to it. After them the learner is ready for a
 -- lesson from the known state after.
 abbrev pub HasLearnedInTime : KnownState → Learning → List Piece → List Update → List ℕ → KnownState → Learning → Type 0
 HasLearnedInTime k l pieces us counts after e =

@@ -1,33 +1,14 @@
--- The rows of the own tables by their keys, and how an update is put among them (own).
+-- The rows of the own tables by their keys, and how an update is put among them (profile).
 use Rattle.std.specs.Prelude.{ℕ, ◌≢◌, ◌⊎◌, ◌+◌, ◌==◌, List, [], ◌∷◌, fold, Option, Some, None, option_map, if◌then◌else◌}
 use Rattle.std.specs.List.{AllByRecursion}
-use Rattle.std.specs.declared.cmp.Ordering.{Ordering}
-use Rattle.std.specs.Ordering.{nat_cmp, is_eq}
-use Rattle.std.specs.Cmp.Lexicographic.{slice_cmp}
+use Rattle.std.specs.Ordering.{is_eq}
 use Rattle.std.specs.Map.{lookup}
 use Rattle.std.specs.BTreeMap.{insert_entry}
 use Rattle.table_types.specs.declared.key.Key.{Key}
-use Rattle.table_types.specs.declared.key.Key.TheVariants as keys
+use Rattle.table_types.specs.Keys.{key_cmp}
 use Rattle.table_types.specs.declared.update.Update.{Update}
 use Rattle.table_types.specs.Tables.{Definition}
 use Rattle.table_types.specs.Rows.{StoredRow, row_of}
-
--- the kinds of keys in their order
-abbrev pub kind_place : Key → ℕ
-kind_place (keys.Int n) = 0
-kind_place (keys.Ip4 bytes) = 1
-kind_place (keys.Ip6 bytes) = 2
-kind_place (keys.Str bytes) = 3
-kind_place (keys.Bin bytes) = 4
-
--- the order of keys: numbers by number, others byte by byte, and keys of two kinds by their kinds
-abbrev pub key_cmp : Key → Key → Ordering
-key_cmp (keys.Int a) (keys.Int b) = nat_cmp a b
-key_cmp (keys.Ip4 a) (keys.Ip4 b) = slice_cmp nat_cmp a b
-key_cmp (keys.Ip6 a) (keys.Ip6 b) = slice_cmp nat_cmp a b
-key_cmp (keys.Str a) (keys.Str b) = slice_cmp nat_cmp a b
-key_cmp (keys.Bin a) (keys.Bin b) = slice_cmp nat_cmp a b
-key_cmp a b = nat_cmp (kind_place a) (kind_place b)
 
 -- what a table's rows have at a key
 abbrev pub row_at : Key → List (Key × StoredRow) → Option StoredRow
@@ -56,6 +37,6 @@ abbrev pub AreOfOthers : ℕ → Key → List Update → Type 0
 AreOfOthers id key us = AllByRecursion (λ u. (u.table ≢ id) ⊎ (u.key ≢ key)) us
 
 -- the place of the table of that id, from 0
-abbrev pub place_of : List Definition → ℕ → Option ℕ
-place_of [] id = None
-place_of (d ∷ ds) id = if d.id == id then Some 0 else option_map (λ place. place + 1) (place_of ds id)
+abbrev pub index_of : List Definition → ℕ → Option ℕ
+index_of [] id = None
+index_of (d ∷ ds) id = if d.id == id then Some 0 else option_map (λ place. place + 1) (index_of ds id)

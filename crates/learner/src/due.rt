@@ -1,10 +1,10 @@
 //! Which tables are due for an acknowledgement.
 
 ghost use Rattle.std.specs.Prelude.{◌≡◌, ◌<◌, Some, filter, is_some, vec_len, vec_capacity};
-ghost use Rattle.peers_msg.specs.Steps.{last_of};
+ghost use Rattle.known_state.specs.LastNumbers.{last_of};
 ghost use Rattle.learner.specs.Intake.{holds, with_due};
 
-use known_state::Lasts;
+use known_state::LastNumbers;
 
 /// Whether an id is among those.
 pub fn holds(ids: &[u64], id: u64) -> bool
@@ -24,12 +24,12 @@ pub fn add_due(due: &mut Vec<u64>, id: u64)
 }
 
 /// Leaves those ids due that have a last number.
-pub fn keep_due(due: &mut Vec<u64>, lasts: &Lasts)
-    ensures { due.new.items ≡ filter (λ id. is_some (last_of lasts.now id)) due.old.items }
+pub fn still_due(due: &mut Vec<u64>, last_numbers: &LastNumbers)
+    ensures { due.new.items ≡ filter (λ id. is_some (last_of last_numbers.now id)) due.old.items }
 {
     let mut place = 0;
     while place < due.len() {
-        if lasts.last(due[place]).is_some() {
+        if last_numbers.last(due[place]).is_some() {
             place += 1;
         } else {
             due.remove(place);

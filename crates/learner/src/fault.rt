@@ -9,7 +9,7 @@ use table_types::Memory;
 use thiserror::Error;
 
 /// Why a learner stops. What is wrong with the bytes is the first breach from left to right; where a name field reads
-/// an empty slot and there is no number either, it is `NoNumber` (own).
+/// an empty slot and there is no number either, it is `NoNumber` (profile).
 ///
 /// After each of them but `Memory`, and after that too where a learner's `feed` answers it, every later call that
 /// takes bytes answers `Closed`.

@@ -4,17 +4,18 @@ ghost use Rattle.std.specs.Prelude.{◌≡◌, ◌<◌, [], Some, false, IfOk, O
 ghost use Rattle.std.specs.Option.{option_to_list};
 ghost use Rattle.table_types.specs.declared.update.Update.{Update};
 ghost use Rattle.peers_msg.specs.declared.message.Message.TheVariants as messages;
-ghost use Rattle.peers_msg.specs.Steps.{last_of, resolved_number};
+ghost use Rattle.known_state.specs.LastNumbers.{last_of};
+ghost use Rattle.known_state.specs.State.{resolved_number};
 ghost use Rattle.known_state.specs.Resolving.{reads_empty};
-ghost use Rattle.learner.specs.OwnTables.{own_table, own_id};
+ghost use Rattle.learner.specs.LocalTables.{local_table, local_id};
 ghost use Rattle.learner.specs.Intake.{begun, shut, Feeds, Next, Gives, IsFront, answer_of, remembered, rows_of, ack_of, acks_of};
 
-use crate::due::{add_due, holds, keep_due};
+use crate::due::{add_due, holds, still_due};
 use crate::fault::Fault;
-use crate::own_tables::own_table;
+use crate::local_tables::local_table;
 use known_state::Resolver;
 use peers_msg::{
-    Control, Decoder, ErrorKind, Fault as ReadFault, Heard, Message, NameField, UpdateMsg,
+    Control, Decoder, ErrorKind, Fault as ReadFault, Message, NameField, Received, UpdateMsg,
 };
 use std::alloc::Global;
 use std::marker::Model;
@@ -56,14 +57,14 @@ impl Model for Intake {
 
     ghost Value = { Taking };
 
-    ghost view = { λ i. record { roster = i.roster; state = record { heard = i.decoder.heard; lasts = i.resolver.lasts; slots = i.resolver.slots }; due = i.due.items; unread = i.decoder.unread; closed = i.decoder.closed } };
+    ghost view = { λ i. record { roster = i.roster; state = record { received = i.decoder.received; last_numbers = i.resolver.last_numbers; slots = i.resolver.slots }; due = i.due.items; unread = i.decoder.unread; closed = i.decoder.closed } };
 }
 
-/// The id of the own table that a table heard is.
-fn own_id(roster: &Roster, heard: &TableDef) -> Option<u64>
-    ensures { result ≡ option_map (λ d. d.id) (own_table roster.now heard.now) }
+/// The id of the own table that a table received is.
+fn local_id(roster: &Roster, received: &TableDef) -> Option<u64>
+    ensures { result ≡ option_map (λ d. d.id) (local_table roster.now received.now) }
 {
-    match own_table(roster.tables(), heard) {
+    match local_table(roster.tables(), received) {
         Some(table) => Some(table.id()),
         None => None,
     }
@@ -136,16 +137,16 @@ impl Intake {
         &self.roster
     }
 
-    /// What was heard of the tables.
-    pub fn heard(&self) -> &Heard
-        ensures { result.now ≡ self.now.state.heard }
+    /// What was received of the tables.
+    pub fn received(&self) -> &Received
+        ensures { result.now ≡ self.now.state.received }
     {
-        self.decoder.heard()
+        self.decoder.received()
     }
 
     /// The last numbers and the slots.
     pub fn resolver(&self) -> &Resolver
-        ensures lasts { result.now.lasts ≡ self.now.state.lasts }
+        ensures last_numbers { result.now.last_numbers ≡ self.now.state.last_numbers }
         ensures slots { result.now.slots ≡ self.now.state.slots }
     {
         &self.resolver
@@ -229,11 +230,11 @@ impl Intake {
         ensures gives { Gives self.old result self.new }
         ensures fewer { OnOk result (self.new.unread ≡ drop used self.old.unread) }
     {
-        let mut lasts = self.resolver.lasts().copy(self.alloc)?;
-        lasts.keep_at(&table, self.decoder.heard());
+        let mut last_numbers = self.resolver.last_numbers().copy(self.alloc)?;
+        last_numbers.keep_at(&table, self.decoder.received());
         self.decoder.pass(&Message::Define(table), used)?;
-        keep_due(&mut self.due, &lasts);
-        self.resolver.keep(lasts);
+        still_due(&mut self.due, &last_numbers);
+        self.resolver.keep(last_numbers);
         Ok(Taken::Passed)
     }
 
@@ -242,11 +243,11 @@ impl Intake {
         ensures gives { Gives self.old result self.new }
         ensures fewer { OnOk result (self.new.unread ≡ drop used self.old.unread) }
     {
-        let Some(table) = self.decoder.heard().selected_table() else {
+        let Some(table) = self.decoder.received().selected_table() else {
             unreachable!();
         };
         let id = table.id();
-        let own = own_id(&self.roster, table);
+        let own = local_id(&self.roster, table);
         let Some(number) = self.resolver.number(id, update.number()) else {
             self.decoder.close();
             return Err(Fault::NoNumber);
@@ -268,9 +269,9 @@ impl Intake {
         number: u32,
     ) -> Result<Taken, Fault>
         requires front { IsFront self.old (messages.Update update) used }
-        requires selected { self.old.state.heard.selected ≡ Some id }
-        requires own { own ≡ own_id self.old.roster self.old.state.heard id }
-        requires number { resolved_number update.number (last_of self.old.state.lasts id) ≡ Some number }
+        requires selected { self.old.state.received.selected ≡ Some id }
+        requires own { own ≡ local_id self.old.roster self.old.state.received id }
+        requires number { resolved_number update.number (last_of self.old.state.last_numbers id) ≡ Some number }
         requires named { reads_empty self.old.state.slots update.name ≡ false }
         ensures gives { Gives self.old result self.new }
         ensures fewer { OnOk result (self.new.unread ≡ drop used self.old.unread) }
@@ -296,12 +297,12 @@ impl Intake {
     fn ack(&self, table: &TableDef) -> Option<Message>
         ensures { result ≡ ack_of self.now table.now }
     {
-        if own_table(self.roster.tables(), table).is_none()
+        if local_table(self.roster.tables(), table).is_none()
             || !holds(self.due.as_slice(), table.id())
         {
             return None;
         }
-        match self.resolver.lasts().last(table.id()) {
+        match self.resolver.last_numbers().last(table.id()) {
             Some(number) => Some(Message::Ack {
                 table: table.id(),
                 number,
@@ -318,7 +319,7 @@ impl Intake {
         ensures stays { OnErr result (self.new ≡ self.old) }
     {
         let mut acks = Vec::new(self.alloc);
-        for table in self.decoder.heard().tables() {
+        for table in self.decoder.received().tables() {
             if let Some(ack) = self.ack(table) {
                 acks.push(ack)?;
             }

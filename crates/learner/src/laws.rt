@@ -10,9 +10,9 @@ ghost use Rattle.table_types.specs.Rows.{StoredRow, row_of};
 ghost use Rattle.peers_msg.specs.declared.message.Message.{Message};
 ghost use Rattle.peers_msg.specs.Decoding.{together};
 ghost use Rattle.peers_msg.specs.Spelling.{stream_of};
-ghost use Rattle.peers_msg.specs.Steps.{State, Legal};
+ghost use Rattle.known_state.specs.State.{State, Legal};
 ghost use Rattle.known_state.specs.Known.{KnownState, fresh_of};
-ghost use Rattle.known_state.specs.Told.{AreRising};
+ghost use Rattle.known_state.specs.LastNumbers.{AreRising};
 ghost use Rattle.known_state.specs.Lessons.{IsLessonFor};
 ghost use Rattle.learner.specs.declared.fault.Fault.{Fault};
 ghost use Rattle.learner.specs.declared.fault.Fault.TheVariants as faults;
@@ -56,7 +56,7 @@ pub fn the_last_stands()
         row_at key (rows_at roster id (put_all now roster us tables)) ≡ row_at key (rows_at roster id tables) }
 {}
 
-/// What a legal stream teaches. Where each id that a learner heard stands for its own definition, and nothing is
+/// What a legal stream teaches. Where each id that a learner received stands for its own definition, and nothing is
 /// unread, it is fed a stream that is legal from its state: then every update that the stream carries is put among its
 /// rows, and nothing else; it reaches the state in which the stream ends; nothing is left unread; and no fault comes,
 /// but want of memory. So it is however the stream is cut, all at one moment.
@@ -76,7 +76,7 @@ pub fn a_legal_stream()
 /// then in the known state in which the lesson ends, and ready for the next one from there; nothing is left unread; and
 /// no fault comes, but want of memory. So it is however the lesson is cut. With pieces at several moments a row takes
 /// the moment of the piece that ended its message: the updates fall into parts, one for each piece. A learner that was
-/// fed nothing is ready for a lesson to a learner that heard nothing.
+/// fed nothing is ready for a lesson to a learner that received nothing.
 pub fn a_lesson()
     ensures fresh { (roster : List Definition) → roster_fault roster ≡ None → IsReadyIn (fresh_of roster) (unlearned roster) }
     ensures whole { (now : ℕ) (k after : KnownState) (us : List Update) (bytes : List ℕ) (l e : Learning) (result : Result ℕ Fault) →
@@ -95,7 +95,7 @@ pub fn a_lesson()
 
 /// The last numbers of a learner that was fed nothing stand in rising id, and whatever it is fed they stay so.
 pub fn numbers_stay_rising()
-    ensures begun { (roster : List Definition) → AreRising (unlearned roster).intake.state.lasts }
+    ensures begun { (roster : List Definition) → AreRising (unlearned roster).intake.state.last_numbers }
     ensures fed { (now : ℕ) (l e : Learning) (piece : List ℕ) (result : Result ℕ Fault) →
-        AreRising l.intake.state.lasts → Fed now l piece result e → AreRising e.intake.state.lasts }
+        AreRising l.intake.state.last_numbers → Fed now l piece result e → AreRising e.intake.state.last_numbers }
 {}

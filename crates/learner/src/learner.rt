@@ -3,10 +3,12 @@
 ghost use Rattle.std.specs.Prelude.{◌≡◌, ◌≢◌, ◌<◌, ◌≤◌, [], false, IfOk, IfErr, OnOk, OnErr, IsSome, IfSome, length, option_copied};
 ghost use Rattle.std.specs.Map.{keys_of};
 ghost use Rattle.std.specs.List.Sorted.{IsStrictlySortedBy};
-ghost use Rattle.known_state.specs.Told.{known_of, AreRising};
+ghost use Rattle.known_state.specs.Known.{known_of};
+ghost use Rattle.known_state.specs.LastNumbers.{AreRising};
 ghost use Rattle.learner.specs.declared.fault.Fault.TheVariants as faults;
 ghost use Rattle.learner.specs.Intake.{acks_of};
-ghost use Rattle.learner.specs.Rows.{key_cmp, row_at, rows_at, place_of, put};
+ghost use Rattle.table_types.specs.Keys.{key_cmp};
+ghost use Rattle.learner.specs.Rows.{row_at, rows_at, index_of, put};
 ghost use Rattle.learner.specs.Learning.{unlearned, LearnsOne, LearnsAll, FedAndOpen, Fed};
 
 use crate::fault::Fault;
@@ -22,7 +24,7 @@ use table_types::{Key, Memory, Moment, Roster, Row, TableDef, Update, table_at};
 /// doc/peers-v2.0.txt, "Update Messages").
 ///
 /// A table that the sender defines is an own one where it has its name, and the same kind of keys, key length, data
-/// types and periods; the updates of any other are read and passed over (own).
+/// types and periods; the updates of any other are read and passed over (profile).
 #[derive(Drop)]
 pub struct Learner {
     alloc: Global,
@@ -43,8 +45,8 @@ impl Model for Learner {
 }
 
 /// The place of the table of that id, from 0.
-fn place_of(tables: &[TableDef], id: u64) -> Option<usize>
-    ensures { result ≡ place_of tables.now id }
+fn index_of(tables: &[TableDef], id: u64) -> Option<usize>
+    ensures { result ≡ index_of tables.now id }
 {
     for (place, table) in tables.iter().enumerate() {
         if table.id() == id {
@@ -70,7 +72,7 @@ fn put(
     let Some(table) = table_at(tables, update.table) else {
         return Ok(());
     };
-    let Some(place) = place_of(tables, update.table) else {
+    let Some(place) = index_of(tables, update.table) else {
         return Ok(());
     };
     let (key, row) = Row::learned(alloc, update, table.expire(), now)?;
@@ -192,7 +194,7 @@ impl Learner {
     pub fn row(&self, table: u64, key: &Key) -> Option<&Row>
         ensures { option_copied result ≡ row_at key.now (rows_at self.now.intake.roster table self.now.rows) }
     {
-        match place_of(self.roster().tables(), table) {
+        match index_of(self.roster().tables(), table) {
             Some(place) => self.shelves[place].row(key),
             None => None,
         }
@@ -203,7 +205,7 @@ impl Learner {
         ensures rows { IfOk result (λ rows. rows.items ≡ rows_at self.now.intake.roster table self.now.rows) }
         ensures rising { IfOk result (λ rows. IsStrictlySortedBy key_cmp (keys_of rows.items)) }
     {
-        match place_of(self.roster().tables(), table) {
+        match index_of(self.roster().tables(), table) {
             Some(place) => self.shelves[place].rows(self.alloc),
             None => Ok(Vec::new(self.alloc)),
         }
@@ -214,13 +216,13 @@ impl Learner {
     /// is one of them. All last numbers that are held stand in rising id.
     pub fn known(&self, roster: &Roster) -> Result<Known, Memory>
         ensures known { IfOk result (λ known. known ≡ known_of roster.now self.now.intake.state) }
-        ensures rising { IfOk result (λ _. AreRising self.now.intake.state.lasts) }
+        ensures rising { IfOk result (λ _. AreRising self.now.intake.state.last_numbers) }
     {
         let roster = roster.copy(self.alloc)?;
         Known::of_learner(
             self.alloc,
             roster,
-            self.intake.heard(),
+            self.intake.received(),
             self.intake.resolver(),
         )
     }

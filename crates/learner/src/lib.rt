@@ -6,7 +6,7 @@ mod fault;
 mod intake;
 mod laws;
 mod learner;
-mod own_tables;
+mod local_tables;
 mod shelf;
 
 pub use fault::Fault;

@@ -4,7 +4,8 @@ ghost use Rattle.std.specs.Prelude.{◌≡◌, [], IfOk, OnOk, OnErr, option_cop
 ghost use Rattle.std.specs.Map.{keys_of};
 ghost use Rattle.std.specs.List.Sorted.{IsStrictlySortedBy};
 ghost use Rattle.std.specs.BTreeMap.{insert_entry};
-ghost use Rattle.learner.specs.Rows.{key_cmp, row_at};
+ghost use Rattle.table_types.specs.Keys.{key_cmp};
+ghost use Rattle.learner.specs.Rows.{row_at};
 
 use std::alloc::Global;
 use std::collections::BTreeMap;

@@ -60,7 +60,7 @@ same_front (f ∷ c ∷ a) (g ∷ d ∷ b) x y m n p q e =
     let tail : ◌≡◌ {A = List ℕ} (c ∷ a) (d ∷ b) = apart_tail (c ∷ a) (d ∷ b) x y p.2 q.2 rest in
     cc
 
--- what stands behind the same front is the same
+-- what stands after the same front is the same
 behind : (a x y : List ℕ) → a ++ x ≡ a ++ y → x ≡ y
 behind [] x y e = e
 behind (c ∷ a) x y e = let rest : a ++ x ≡ a ++ y = cc in behind a x y rest

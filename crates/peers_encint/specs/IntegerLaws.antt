@@ -13,7 +13,7 @@ HasOneSpelling = (a b : List ℕ) (n : ℕ) → SpellsInteger a n → SpellsInte
 abbrev pub MeansOneNumber : Type 0
 MeansOneNumber = (a : List ℕ) (m n : ℕ) → SpellsInteger a m → SpellsInteger a n → m ≡ n
 
--- no spelling begins another, so what comes behind is the same too
+-- no spelling begins another, so what comes after is the same too
 abbrev pub BeginsNoOther : Type 0
 BeginsNoOther = (a b x y : List ℕ) (m n : ℕ) → SpellsInteger a m → SpellsInteger b n → a ++ x ≡ b ++ y → (a ≡ b) × (m ≡ n) × (x ≡ y)
 
@@ -48,6 +48,6 @@ IsSpelledAsRead =
     → read_of bytes ≡ Value n used
     → (bytes ≡ spelling n ++ drop used bytes) × (used ≤ length bytes) × (n < 2 ^ 64) × (used ≡ length (spelling n))
 
--- more bytes behind change only the answer that there are too few
+-- more bytes after change only the answer that there are too few
 abbrev pub StaysRead : Type 0
 StaysRead = (bytes more : List ℕ) → read_of bytes ≢ Short → read_of (bytes ++ more) ≡ read_of bytes

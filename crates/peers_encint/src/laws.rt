@@ -16,7 +16,7 @@ pub fn lengths()
     ensures table { FitsTheTable }
 {}
 
-/// What is spelled is read, what is read is so spelled, and more bytes behind it change no answer but `Short`.
+/// What is spelled is read, what is read is so spelled, and more bytes after it change no answer but `Short`.
 pub fn reading_of_spellings()
     ensures again { IsReadAgain }
     ensures takes { IsSpelledAsRead }

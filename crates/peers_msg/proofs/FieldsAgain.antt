@@ -26,7 +26,7 @@ use Rattle.peers_msg.specs.declared.name_field.NameField.TheVariants as names
 use Rattle.peers_msg.specs.declared.fault.Breach.{Breach}
 use Rattle.peers_msg.specs.declared.fault.Breach.TheVariants.{BadKey, BadValue}
 use Rattle.peers_msg.specs.Spelling.{word, optional_word, counted, key_text, value_text, name_text}
-use Rattle.table_types.specs.Slots.{is_slot}
+use Rattle.table_types.specs.SlotIds.{is_slot}
 use Rattle.peers_msg.specs.Reading.{◌>>=◌, wanted, integer_from, integer_at, word_at, bytes_at, optional_at, key_at, count_at, value_at, values_at, slot_holds, field_of, name_at}
 
 -- the next step, after one that did not fail

@@ -29,7 +29,7 @@ use Rattle.peers_msg.specs.declared.name_field.NameField.TheVariants as names
 use Rattle.peers_msg.specs.declared.fault.Breach.{Breach}
 use Rattle.peers_msg.specs.declared.fault.Breach.TheVariants.{BadKey, BadValue}
 use Rattle.peers_msg.specs.Spelling.{word, optional_word, counted, key_text, value_text, name_text}
-use Rattle.table_types.specs.Slots.{is_slot}
+use Rattle.table_types.specs.SlotIds.{is_slot}
 use Rattle.peers_msg.specs.Fitting.{name_fits}
 use Rattle.peers_msg.specs.Reading.{◌>>=◌, wanted, integer_from, integer_at, word_at, bytes_at, optional_at, key_at, count_at, value_at, values_at, slot_holds, field_of, name_at}
 use Rattle.peers_msg.proofs.FieldsAgain.{is_there}
@@ -39,7 +39,7 @@ pub bind_ok : {A B : Type 0} (r : Result A Breach) (f : A → Result B Breach) (
 bind_ok (Ok x) f y e = (x, refl, e)
 bind_ok (Err d) f y e = absurd cc
 
--- a test that did not fail, and what was read behind it
+-- a test that did not fail, and what was read after it
 pub wanted_ok : {B : Type 0} (b : Bool) (breach : Breach) (f : Bool → Result B Breach) (y : B) → (wanted b breach >>= f) ≡ Ok y → (b ≡ true) × (f true ≡ Ok y)
 wanted_ok true breach f y e = (refl, e)
 wanted_ok false breach f y e = absurd cc

@@ -57,7 +57,7 @@ is_frame (messages.Ack table number) = inr (omega arith, (spelling table ++ word
 is_frame (messages.Update u) = inr (update_above u u.number u.life refl refl, (update_text u, refl))
 is_frame (messages.Other o) = other_frame o (nat_lt o.kind 128) refl
 
--- what is read of an encoded length with that many bytes, whatever comes behind
+-- what is read of an encoded length with that many bytes, whatever comes after
 read_counted : (front rest : List ℕ) → (is : IsCounted front) → length (front ++ rest) < 2 ^ 64
     → read_of (front ++ rest) ≡ Value (length is.0) (length (spelling (length is.0)))
 read_counted front rest (body, is) small =
@@ -93,7 +93,7 @@ never_unread bytes front rest is same fits r read none =
     let found : r ≡ Value (length is.0) (length (spelling (length is.0))) = sym read ∙ ap read_of same ∙ read_counted front rest is small in
     elim none [ inl short ↦ absurd (cc) | inr over ↦ absurd (cc) ]
 
--- a length that is read, and that many bytes behind it
+-- a length that is read, and that many bytes after it
 pub counted_front : (bytes : List ℕ) (n used : ℕ) → n < 2 ^ 64 → Reads bytes (Value n used) → n ≤ length bytes - used → IsCounted (take (used + n) bytes)
 counted_front bytes n used below (long, spells) within =
     let front : take used bytes ≡ spelling n = one_spelling (take used bytes) (spelling n) n spells (spelled_integer n below) in

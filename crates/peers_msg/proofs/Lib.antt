@@ -1,6 +1,5 @@
 pub mod SizeLaws
 pub mod DataLaws
-pub mod Lessons
 pub mod FieldsAgain
 pub mod TypesAgain
 pub mod MessagesAgain

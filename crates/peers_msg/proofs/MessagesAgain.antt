@@ -28,9 +28,9 @@ use Rattle.peers_msg.specs.declared.meaning.Meaning.{Meaning}
 use Rattle.peers_msg.specs.declared.meaning.Meaning.TheVariants as meanings
 use Rattle.peers_msg.specs.declared.fault.Breach.TheVariants.{BadInteger, BadDefinition}
 use Rattle.peers_msg.specs.Messages.{UpdateFields, OtherFields, is_known_pair, is_other}
-use Rattle.peers_msg.specs.Heard.{Heard, selected_table}
+use Rattle.peers_msg.specs.Received.{Received, selected_table}
 use Rattle.peers_msg.specs.Spelling.{word, optional_word, counted, framed, key_text, value_text, name_text, update_text, update_kind, bits_of, period_text, definition_text, control_kind, error_kind, data_of, spelled}
-use Rattle.table_types.specs.Slots.{is_slot}
+use Rattle.table_types.specs.SlotIds.{is_slot}
 use Rattle.peers_msg.specs.Fitting.{name_fits, update_fits, fits_table, has_shape, fits}
 use Rattle.peers_msg.specs.Reading.{integer_at, word_at, name_at, update_at, kind_of, named_at, keyed_at, stored_at, definition_at, switch_at, ack_at, update_of, control_meant, error_meant, table_meant, meant, message_of, body_at, Frame, data_at, frame_at, message_at}
 use Rattle.peers_msg.proofs.FieldsAgain.{then, integer_again, word_again, bytes_again, is_there, optional_again, key_again, values_again, not_stored_again, no_name_again, held_field_again, written_field_again, name_below}
@@ -146,7 +146,7 @@ definition_again d h =
     let stored : stored_at r4 ≡ Ok ((d.expire, d.types), []) = ap (λ (t : List ℕ). stored_at (spelling (bits_of d.types) ++ (spelling d.expire ++ t))) whole ∙ stored_again d.expire d.types [] x.1 p.1 e.1 in
     rw (named_again d.id d.name r2 i.0 i.1, keyed_again d.kind d.key_length r4 l.1, stored) refl
 
-pub switch_again : (h : Heard) (id : ℕ) → id < 2 ^ 64 → is_some (table_at h.tables id) ≡ true → switch_at h (spelling id) ≡ Ok (messages.Switch id)
+pub switch_again : (h : Received) (id : ℕ) → id < 2 ^ 64 → is_some (table_at h.tables id) ≡ true → switch_at h (spelling id) ≡ Ok (messages.Switch id)
 unfolding switch_at
 switch_again h id less is =
     let read : integer_at BadInteger (spelling id) ≡ Ok (id, []) = ap (integer_at BadInteger) (sym (append-nil (spelling id))) ∙ integer_again BadInteger id [] less in
@@ -246,7 +246,7 @@ other_parts o h =
     let a = and_parts (ltb o.class 256 && ltb o.kind 256 && not (is_known_pair o.class o.kind)) (cond (ltb o.kind 128) (eqb (length o.body) 0) (leb (length o.body) 16384)) h in
     (not-true (is_known_pair o.class o.kind) (and_parts (ltb o.class 256 && ltb o.kind 256) (not (is_known_pair o.class o.kind)) a.0).1, a.1)
 
-pub meaning_again : (h : Heard) (m : Message) → has_shape h m ≡ true → meant (frame_of m).class (frame_of m).kind ≡ meaning_of m
+pub meaning_again : (h : Received) (m : Message) → has_shape h m ≡ true → meant (frame_of m).class (frame_of m).kind ≡ meaning_of m
 unfolding meant
 meaning_again h (messages.Control c) is = control_means c
 meaning_again h (messages.Error e) is = error_means e
@@ -295,7 +295,7 @@ other_frame_again o rest short is =
       | inr high ↦ rw high (long_frame_again o.class o.kind o.body rest high short)
     ]
 
-pub frame_again : (h : Heard) (m : Message) (rest : List ℕ) → fits h m ≡ true → frame_at (spelled m ++ rest) ≡ Ok (Some (frame_of m, rest))
+pub frame_again : (h : Received) (m : Message) (rest : List ℕ) → fits h m ≡ true → frame_at (spelled m ++ rest) ≡ Ok (Some (frame_of m, rest))
 unfolding fits spelled data_of
 frame_again h (messages.Control c) rest is = short_frame_again 0 (control_kind c) rest (control_below c)
 frame_again h (messages.Error e) rest is = short_frame_again 1 (error_kind e) rest (error_below e)
@@ -311,7 +311,7 @@ update_of_again : (table : Option Definition) (u : UpdateFields) → length (upd
 update_of_again None u short is = absurd cc
 update_of_again (Some d) u short is = then _ _ _ (update_again d u short is)
 
-pub data_again : (h : Heard) (m : Message) → fits h m ≡ true → message_of h (meaning_of m) (frame_of m).class (frame_of m).kind (frame_of m).body ≡ Ok m
+pub data_again : (h : Received) (m : Message) → fits h m ≡ true → message_of h (meaning_of m) (frame_of m).class (frame_of m).kind (frame_of m).body ≡ Ok m
 unfolding fits data_of
 data_again h (messages.Control c) is = refl
 data_again h (messages.Error e) is = refl
@@ -325,15 +325,15 @@ data_again h (messages.Ack table number) is =
 data_again h (messages.Update u) is = update_of_again (selected_table h) u (leb-true _ _ (and_parts _ _ is).1) (and_parts _ _ is).0
 data_again h (messages.Other o) is = refl
 
-pub shape : (h : Heard) (m : Message) → fits h m ≡ true → has_shape h m ≡ true
+pub shape : (h : Received) (m : Message) → fits h m ≡ true → has_shape h m ≡ true
 unfolding fits
 shape h m is = (and_parts _ _ is).0
 
-pub body_again : (h : Heard) (m : Message) → fits h m ≡ true → body_at h (frame_of m).class (frame_of m).kind (frame_of m).body ≡ Ok m
+pub body_again : (h : Received) (m : Message) → fits h m ≡ true → body_at h (frame_of m).class (frame_of m).kind (frame_of m).body ≡ Ok m
 unfolding body_at
 body_again h m is = rw (meaning_again h m (shape h m is)) (data_again h m is)
 
 -- what is spelled is read, whatever follows it
-pub message_again : (h : Heard) (m : Message) (rest : List ℕ) → fits h m ≡ true → message_at h (spelled m ++ rest) ≡ Ok (Some (m, rest))
+pub message_again : (h : Received) (m : Message) (rest : List ℕ) → fits h m ≡ true → message_at h (spelled m ++ rest) ≡ Ok (Some (m, rest))
 unfolding message_at
 message_again h m rest is = rw (frame_again h m rest is, body_again h m is) refl

@@ -1,4 +1,4 @@
--- A message that is read is spelled so, and fits what was heard.
+-- A message that is read is spelled so, and fits what was received.
 use Rattle.std.proofs.Common.{◌≡◌, ℕ, suc, ◌+◌, ◌-◌, ◌*◌, ◌^◌, ◌<◌, ◌≤◌, Bool, true, false, not, cond, ltb, leb, eqb, List, [], ◌∷◌, ◌++◌, length, take, drop, Option, Some, None, Result, Ok, Err, refl, sym, ap, subst, ◌∙◌, append_assoc, arith, inl, inr}
 use Rattle.std.specs.Prelude.{is_some}
 use Rattle.std.specs.List.{flat_map, list_all}
@@ -26,7 +26,7 @@ use Rattle.peers_msg.specs.declared.meaning.Meaning.TheVariants as meanings
 use Rattle.peers_msg.specs.declared.fault.Breach.{Breach}
 use Rattle.peers_msg.specs.declared.fault.Breach.TheVariants.{BadInteger, BadDefinition, NoTable, UnknownDataType, SizeLimit, Trailing}
 use Rattle.peers_msg.specs.Messages.{UpdateFields, OtherFields, is_known_pair}
-use Rattle.peers_msg.specs.Heard.{Heard, selected_table}
+use Rattle.peers_msg.specs.Received.{Received, selected_table}
 use Rattle.peers_msg.specs.Spelling.{word, optional_word, counted, key_text, value_text, name_text, update_text, update_kind, bits_of, period_text, definition_text, control_kind, error_kind, data_of, spelled}
 use Rattle.peers_msg.specs.Fitting.{update_fits, has_shape, fits}
 use Rattle.peers_msg.specs.Reading.{integer_at, word_at, bytes_at, ended, optional_at, key_at, values_at, name_at, update_at, kind_of, types_at, named_at, keyed_at, stored_at, definition_at, switch_at, ack_at, update_of, control_meant, error_meant, table_meant, meant, message_of, body_at, Frame, whole_data, data_from, data_at, frame_with, frame_at, message_in, message_at}
@@ -198,7 +198,7 @@ definition_takes bytes d good e =
     let whole : is_definition made ≡ true = and_from _ _ (and_from _ _ (and_from _ _ (and_from _ _ (and_from _ _ t0.1 t0.2) t1.1) t2.1) t2.2) t2.3 in
     subst (IsDefinition bytes) end.1 (all, whole)
 
-pub switch_takes : (h : Heard) (bytes : List ℕ) (m : Message) → IsBytes bytes → switch_at h bytes ≡ Ok m → (id : ℕ) × (m ≡ messages.Switch id) × (bytes ≡ spelling id) × (has_shape h (messages.Switch id) ≡ true)
+pub switch_takes : (h : Received) (bytes : List ℕ) (m : Message) → IsBytes bytes → switch_at h bytes ≡ Ok m → (id : ℕ) × (m ≡ messages.Switch id) × (bytes ≡ spelling id) × (has_shape h (messages.Switch id) ≡ true)
 unfolding switch_at
 switch_takes h bytes m fits e =
     let id = bind_ok (integer_at BadInteger bytes) _ _ e in
@@ -333,7 +333,7 @@ update_kind_is u None (Some life) p q = rw (p, q) refl
 
 -- ---- frames
 
--- what stands behind class and type
+-- what stands after class and type
 abbrev pub data_text : ℕ → List ℕ → List ℕ
 data_text kind body = cond (ltb kind 128) [] (counted body)
 
@@ -427,10 +427,10 @@ no_body kind body low h =
     nil_from_length body (eqb-true _ _ none)
 
 -- the message has that class, type and data, and the shape and ranges
-abbrev pub IsMessage : Heard → Frame → Message → Type 0
+abbrev pub IsMessage : Received → Frame → Message → Type 0
 IsMessage h f m = (frame_of m ≡ f) × (has_shape h m ≡ true)
 
-update_of_takes : (h : Heard) (f : Frame) (table : Option Definition) (numbered timed : Bool) (m : Message) → selected_table h ≡ table → f.class ≡ 10 → f.kind ≡ kind_of_update numbered timed → IsBytes f.body → update_of table numbered timed f.body ≡ Ok m → IsMessage h f m
+update_of_takes : (h : Received) (f : Frame) (table : Option Definition) (numbered timed : Bool) (m : Message) → selected_table h ≡ table → f.class ≡ 10 → f.kind ≡ kind_of_update numbered timed → IsBytes f.body → update_of table numbered timed f.body ≡ Ok m → IsMessage h f m
 update_of_takes h f None numbered timed m at p q good e = absurd cc
 update_of_takes h f (Some d) numbered timed m at p q good e =
     let u = bind_ok (update_at d numbered timed f.body) _ _ e in
@@ -439,7 +439,7 @@ update_of_takes h f (Some d) numbered timed m at p q good e =
     let shape : has_shape h (messages.Update u.0) ≡ true = rw at t.1 in
     subst (IsMessage h f) (ok_is (messages.Update u.0) m u.2) (same_frame (frame_of (messages.Update u.0)) f (sym p) kind (sym t.0), shape)
 
-data_takes_message : (h : Heard) (f : Frame) (mean : Meaning) (m : Message) → IsPair mean f.class f.kind → IsBytes f.body → has_size f.kind f.body ≡ true → f.class < 256 → f.kind < 256 → message_of h mean f.class f.kind f.body ≡ Ok m → IsMessage h f m
+data_takes_message : (h : Received) (f : Frame) (mean : Meaning) (m : Message) → IsPair mean f.class f.kind → IsBytes f.body → has_size f.kind f.body ≡ true → f.class < 256 → f.kind < 256 → message_of h mean f.class f.kind f.body ≡ Ok m → IsMessage h f m
 data_takes_message h f (meanings.Control c) m pair good size cl kl e =
     let empty : f.body ≡ [] = no_body f.kind f.body (omega (arith, pair.1, control_below c)) size in
     subst (IsMessage h f) (ok_is (messages.Control c) m e) (same_frame (frame_of (messages.Control c)) f (sym pair.0) (sym pair.1) (sym empty), refl)
@@ -463,7 +463,7 @@ data_takes_message h f meanings.Other m pair good size cl kl e =
     let shape : has_shape h (messages.Other o) ≡ true = and_from _ _ (and_from _ _ (and_from _ _ (lt-ltb _ _ cl) (lt-ltb _ _ kl)) (ap not pair)) size in
     subst (IsMessage h f) (ok_is (messages.Other o) m e) (refl, shape)
 
-pub body_takes : (h : Heard) (f : Frame) (m : Message) → IsBytes f.body → has_size f.kind f.body ≡ true → f.class < 256 → f.kind < 256 → body_at h f.class f.kind f.body ≡ Ok m → IsMessage h f m
+pub body_takes : (h : Received) (f : Frame) (m : Message) → IsBytes f.body → has_size f.kind f.body ≡ true → f.class < 256 → f.kind < 256 → body_at h f.class f.kind f.body ≡ Ok m → IsMessage h f m
 unfolding body_at
 body_takes h f m good size cl kl e = data_takes_message h f (meant f.class f.kind) m (meant_pair f.class f.kind (meant f.class f.kind) refl) good size cl kl e
 
@@ -492,13 +492,13 @@ data_of_frame (messages.Ack table number) = refl
 data_of_frame (messages.Update u) = refl
 data_of_frame (messages.Other o) = refl
 
-pub fits_from : (h : Heard) (m : Message) (f : Frame) → IsMessage h f m → length f.body ≤ 16384 → fits h m ≡ true
+pub fits_from : (h : Received) (m : Message) (f : Frame) → IsMessage h f m → length f.body ≤ 16384 → fits h m ≡ true
 unfolding fits
 fits_from h m f is short =
     let size : length (data_of m) ≡ length f.body = ap length (data_of_frame m) ∙ ap (λ (g : Frame). length g.body) is.0 in
     and_from _ _ is.1 (le-leb _ _ (omega arith))
 
-message_in_takes : (h : Heard) (bytes rest : List ℕ) (m : Message) (found : Option (Frame × List ℕ)) → IsBytes bytes → frame_at bytes ≡ Ok found → message_in h found ≡ Ok (Some (m, rest)) → (bytes ≡ spelled m ++ rest) × (fits h m ≡ true)
+message_in_takes : (h : Received) (bytes rest : List ℕ) (m : Message) (found : Option (Frame × List ℕ)) → IsBytes bytes → frame_at bytes ≡ Ok found → message_in h found ≡ Ok (Some (m, rest)) → (bytes ≡ spelled m ++ rest) × (fits h m ≡ true)
 message_in_takes h bytes rest m None good read e = absurd cc
 message_in_takes h bytes rest m (Some x) good read e =
     let frame = frame_takes bytes x good read in
@@ -511,14 +511,14 @@ message_in_takes h bytes rest m (Some x) good read e =
     subst (λ (y : Message × List ℕ). (bytes ≡ spelled y.0 ++ y.1) × (fits h y.0 ≡ true)) same (whole, fits_from h made.0 x.0 is frame.3)
 
 -- what is read is spelled so, and fits
-pub message_takes : (h : Heard) (m : Message) (bytes rest : List ℕ) → IsBytes bytes → message_at h bytes ≡ Ok (Some (m, rest)) → (bytes ≡ spelled m ++ rest) × (fits h m ≡ true)
+pub message_takes : (h : Received) (m : Message) (bytes rest : List ℕ) → IsBytes bytes → message_at h bytes ≡ Ok (Some (m, rest)) → (bytes ≡ spelled m ++ rest) × (fits h m ≡ true)
 unfolding message_at
 message_takes h m bytes rest good e =
     let found = bind_ok (frame_at bytes) _ _ e in
     message_in_takes h bytes rest m found.0 good found.1 found.2
 
 -- what is left after a message is an end of the bytes, and shorter
-pub rest_is_end : (h : Heard) (m : Message) (bytes rest : List ℕ) → IsBytes bytes → message_at h bytes ≡ Ok (Some (m, rest)) → (drop (length bytes - length rest) bytes ≡ rest) × (length rest < length bytes)
+pub rest_is_end : (h : Received) (m : Message) (bytes rest : List ℕ) → IsBytes bytes → message_at h bytes ≡ Ok (Some (m, rest)) → (drop (length bytes - length rest) bytes ≡ rest) × (length rest < length bytes)
 rest_is_end h m bytes rest good e =
     let t = message_takes h m bytes rest good e in
     let sizes : length bytes ≡ length (spelled m) + length rest = ap length t.0 ∙ length-append (spelled m) rest in

@@ -1,4 +1,4 @@
--- More bytes behind change only the answer that a message isn't whole.
+-- More bytes after change only the answer that a message isn't whole.
 use Rattle.std.proofs.Common.{◌≡◌, ◌≢◌, ℕ, suc, ◌≤◌, true, ltb, List, [], ◌∷◌, ◌++◌, length, drop, Option, Some, None, Result, Ok, Err, refl, sym, ap, ◌∙◌, arith, inl, inr}
 use Rattle.std.proofs.lemmas.Bool.{cases_lt, cases_Bool, lt-ltb, le-ltb}
 use Rattle.std.proofs.lemmas.List.{take-append-le, drop-append-le, length-append, append-nil}
@@ -8,7 +8,7 @@ use Rattle.peers_encint.specs.Integers.{IsBytes, read_of}
 use Rattle.peers_encint.proofs.ReadingLaws.{takes, stays}
 use Rattle.peers_msg.specs.declared.fault.Breach.{Breach}
 use Rattle.peers_msg.specs.declared.message.Message.{Message}
-use Rattle.peers_msg.specs.Heard.{Heard}
+use Rattle.peers_msg.specs.Received.{Received}
 use Rattle.peers_msg.specs.Spelling.{spelled}
 use Rattle.peers_msg.specs.Fitting.{fits}
 use Rattle.peers_msg.specs.Reading.{◌>>=◌, Frame, whole_data, data_from, data_at, frame_with, frame_at, body_at, message_in, message_at, with_more}
@@ -61,7 +61,7 @@ frame_stays (class ∷ (kind ∷ bytes)) more good some =
     let found : data_at kind bytes ≢ Ok None = λ e. some (ap (framed_with class kind) e) in
     ap (framed_with class kind) (data_stays kind bytes more (λ i. good (suc (suc i))) found) ∙ framed_more class kind more (data_at kind bytes)
 
-message_more : (h : Heard) (more : List ℕ) (read : Result (Option (Frame × List ℕ)) Breach) → (with_more more read >>= message_in h) ≡ with_more more (read >>= message_in h)
+message_more : (h : Received) (more : List ℕ) (read : Result (Option (Frame × List ℕ)) Breach) → (with_more more read >>= message_in h) ≡ with_more more (read >>= message_in h)
 message_more h more (Ok None) = refl
 message_more h more (Ok (Some found)) = body_more (body_at h found.0.class found.0.kind found.0.body)
   where
@@ -70,14 +70,14 @@ message_more h more (Ok (Some found)) = body_more (body_at h found.0.class found
     body_more (Err breach) = refl
 message_more h more (Err breach) = refl
 
--- a message that was read, and a breach, stay so with more bytes behind
-pub message_stays : (h : Heard) (bytes more : List ℕ) → IsBytes bytes → message_at h bytes ≢ Ok None → message_at h (bytes ++ more) ≡ with_more more (message_at h bytes)
+-- a message that was read, and a breach, stay so with more bytes after
+pub message_stays : (h : Received) (bytes more : List ℕ) → IsBytes bytes → message_at h bytes ≢ Ok None → message_at h (bytes ++ more) ≡ with_more more (message_at h bytes)
 unfolding message_at
 message_stays h bytes more good some =
     let found : frame_at bytes ≢ Ok None = λ e. some (ap (λ r. r >>= message_in h) e) in
     ap (λ r. r >>= message_in h) (frame_stays bytes more good found) ∙ message_more h more (frame_at bytes)
 
-whole_or_not : (h : Heard) (m : Message) (more : List ℕ) (read : Result (Option (Message × List ℕ)) Breach) → more ≢ [] → (read ≢ Ok None → Ok (Some (m, [])) ≡ with_more more read) → read ≡ Ok None
+whole_or_not : (h : Received) (m : Message) (more : List ℕ) (read : Result (Option (Message × List ℕ)) Breach) → more ≢ [] → (read ≢ Ok None → Ok (Some (m, [])) ≡ with_more more read) → read ≡ Ok None
 whole_or_not h m more (Ok None) some e = refl
 whole_or_not h m more (Ok (Some found)) some e =
     let same : ◌≡◌ {A = Result (Option (Message × List ℕ)) Breach} (Ok (Some (m, []))) (Ok (Some (found.0, found.1 ++ more))) = e (λ none. absurd cc) in
@@ -93,7 +93,7 @@ whole_or_not h m more (Err breach) some e =
     absurd cc
 
 -- a message of which some bytes are still to come isn't whole, and shows no breach
-pub cut_is_not_whole : (h : Heard) (m : Message) (bytes more : List ℕ) → IsBytes bytes → fits h m ≡ true → bytes ++ more ≡ spelled m → more ≢ [] → message_at h bytes ≡ Ok None
+pub cut_is_not_whole : (h : Received) (m : Message) (bytes more : List ℕ) → IsBytes bytes → fits h m ≡ true → bytes ++ more ≡ spelled m → more ≢ [] → message_at h bytes ≡ Ok None
 cut_is_not_whole h m bytes more good is e some =
     let all : message_at h (bytes ++ more) ≡ Ok (Some (m, [])) = ap (message_at h) (e ∙ sym (append-nil (spelled m))) ∙ message_again h m [] is in
     whole_or_not h m more (message_at h bytes) some (λ found. sym all ∙ message_stays h bytes more good found)

@@ -104,42 +104,42 @@ same_types : (ts : List (DataType × Option ℕ)) → are_same_types ts ts ≡ t
 same_types [] = refl
 same_types (a ∷ ts) = rw (eq-eqb (id_of a.0) (id_of a.0) refl, same_period a.1) (same_types ts)
 
-pub shape_means : (own heard : Definition) → is_shape_of own heard ≡ true → own ≡ record heard { id = own.id; expire = own.expire }
-shape_means own heard h =
-    let three : Bool = is_same_name own.name heard.name && eqb (number_of own.kind) (number_of heard.kind) && eqb own.key_length heard.key_length in
-    let two : Bool = is_same_name own.name heard.name && eqb (number_of own.kind) (number_of heard.kind) in
-    let first = and-left three (are_same_types own.types heard.types) h in
-    let before = and-left two (eqb own.key_length heard.key_length) first in
-    let name = one_name own.name heard.name (and-left (is_same_name own.name heard.name) (eqb (number_of own.kind) (number_of heard.kind)) before) in
-    let kind = one_kind own.kind heard.kind (and-right (is_same_name own.name heard.name) (eqb (number_of own.kind) (number_of heard.kind)) before) in
-    let size = eqb-is own.key_length heard.key_length (and-right two (eqb own.key_length heard.key_length) first) in
-    let types = one_types own.types heard.types (and-right three (are_same_types own.types heard.types) h) in
+pub shape_means : (own received : Definition) → is_shape_of own received ≡ true → own ≡ record received { id = own.id; expire = own.expire }
+shape_means own received h =
+    let three : Bool = is_same_name own.name received.name && eqb (number_of own.kind) (number_of received.kind) && eqb own.key_length received.key_length in
+    let two : Bool = is_same_name own.name received.name && eqb (number_of own.kind) (number_of received.kind) in
+    let first = and-left three (are_same_types own.types received.types) h in
+    let before = and-left two (eqb own.key_length received.key_length) first in
+    let name = one_name own.name received.name (and-left (is_same_name own.name received.name) (eqb (number_of own.kind) (number_of received.kind)) before) in
+    let kind = one_kind own.kind received.kind (and-right (is_same_name own.name received.name) (eqb (number_of own.kind) (number_of received.kind)) before) in
+    let size = eqb-is own.key_length received.key_length (and-right two (eqb own.key_length received.key_length) first) in
+    let types = one_types own.types received.types (and-right three (are_same_types own.types received.types) h) in
     ap (λ (n : List ℕ). record own { name = n }) name
-    ∙ ap (λ (k : KeyKind). record own { name = heard.name; kind = k }) kind
-    ∙ ap (λ (l : ℕ). record own { name = heard.name; kind = heard.kind; key_length = l }) size
-    ∙ ap (λ (ts : List (DataType × Option ℕ)). record own { name = heard.name; kind = heard.kind; key_length = heard.key_length; types = ts }) types
+    ∙ ap (λ (k : KeyKind). record own { name = received.name; kind = k }) kind
+    ∙ ap (λ (l : ℕ). record own { name = received.name; kind = received.kind; key_length = l }) size
+    ∙ ap (λ (ts : List (DataType × Option ℕ)). record own { name = received.name; kind = received.kind; key_length = received.key_length; types = ts }) types
 
-pub means_shape : (own heard : Definition) → own ≡ record heard { id = own.id; expire = own.expire } → is_shape_of own heard ≡ true
-means_shape own heard is =
-    let name : own.name ≡ heard.name = ap (λ (d : Definition). d.name) is in
-    let kind : own.kind ≡ heard.kind = ap (λ (d : Definition). d.kind) is in
-    let size : own.key_length ≡ heard.key_length = ap (λ (d : Definition). d.key_length) is in
-    let types : own.types ≡ heard.types = ap (λ (d : Definition). d.types) is in
-    subst (λ (d : List ℕ). (is_same_name d heard.name && eqb (number_of own.kind) (number_of heard.kind) && eqb own.key_length heard.key_length && are_same_types own.types heard.types) ≡ true) (sym name)
-    (subst (λ (k : KeyKind). (is_same_name heard.name heard.name && eqb (number_of k) (number_of heard.kind) && eqb own.key_length heard.key_length && are_same_types own.types heard.types) ≡ true) (sym kind)
-    (subst (λ (l : ℕ). (is_same_name heard.name heard.name && eqb (number_of heard.kind) (number_of heard.kind) && eqb l heard.key_length && are_same_types own.types heard.types) ≡ true) (sym size)
-    (subst (λ (ts : List (DataType × Option ℕ)). (is_same_name heard.name heard.name && eqb (number_of heard.kind) (number_of heard.kind) && eqb heard.key_length heard.key_length && are_same_types ts heard.types) ≡ true) (sym types)
-    (rw (same_name heard.name, eq-eqb (number_of heard.kind) (number_of heard.kind) refl, eq-eqb heard.key_length heard.key_length refl, same_types heard.types) refl))))
+pub means_shape : (own received : Definition) → own ≡ record received { id = own.id; expire = own.expire } → is_shape_of own received ≡ true
+means_shape own received is =
+    let name : own.name ≡ received.name = ap (λ (d : Definition). d.name) is in
+    let kind : own.kind ≡ received.kind = ap (λ (d : Definition). d.kind) is in
+    let size : own.key_length ≡ received.key_length = ap (λ (d : Definition). d.key_length) is in
+    let types : own.types ≡ received.types = ap (λ (d : Definition). d.types) is in
+    subst (λ (d : List ℕ). (is_same_name d received.name && eqb (number_of own.kind) (number_of received.kind) && eqb own.key_length received.key_length && are_same_types own.types received.types) ≡ true) (sym name)
+    (subst (λ (k : KeyKind). (is_same_name received.name received.name && eqb (number_of k) (number_of received.kind) && eqb own.key_length received.key_length && are_same_types own.types received.types) ≡ true) (sym kind)
+    (subst (λ (l : ℕ). (is_same_name received.name received.name && eqb (number_of received.kind) (number_of received.kind) && eqb l received.key_length && are_same_types own.types received.types) ≡ true) (sym size)
+    (subst (λ (ts : List (DataType × Option ℕ)). (is_same_name received.name received.name && eqb (number_of received.kind) (number_of received.kind) && eqb received.key_length received.key_length && are_same_types ts received.types) ≡ true) (sym types)
+    (rw (same_name received.name, eq-eqb (number_of received.kind) (number_of received.kind) refl, eq-eqb received.key_length received.key_length refl, same_types received.types) refl))))
 
 -- the same definition is one
-pub same_definition : (own heard : Definition) → is_same_definition own heard ≡ true → own ≡ heard
-same_definition own heard h =
-    let ids : Bool = eqb own.id heard.id && eqb own.expire heard.expire in
-    let shape = shape_means own heard (and-right ids (is_shape_of own heard) (grouped (eqb own.id heard.id) (eqb own.expire heard.expire) (is_shape_of own heard) h)) in
-    let both = and-left ids (is_shape_of own heard) (grouped (eqb own.id heard.id) (eqb own.expire heard.expire) (is_shape_of own heard) h) in
-    let id = eqb-is own.id heard.id (and-left (eqb own.id heard.id) (eqb own.expire heard.expire) both) in
-    let expire = eqb-is own.expire heard.expire (and-right (eqb own.id heard.id) (eqb own.expire heard.expire) both) in
-    shape ∙ ap (λ (n : ℕ). record heard { id = n; expire = own.expire }) id ∙ ap (λ (n : ℕ). record heard { expire = n }) expire
+pub same_definition : (own received : Definition) → is_same_definition own received ≡ true → own ≡ received
+same_definition own received h =
+    let ids : Bool = eqb own.id received.id && eqb own.expire received.expire in
+    let shape = shape_means own received (and-right ids (is_shape_of own received) (grouped (eqb own.id received.id) (eqb own.expire received.expire) (is_shape_of own received) h)) in
+    let both = and-left ids (is_shape_of own received) (grouped (eqb own.id received.id) (eqb own.expire received.expire) (is_shape_of own received) h) in
+    let id = eqb-is own.id received.id (and-left (eqb own.id received.id) (eqb own.expire received.expire) both) in
+    let expire = eqb-is own.expire received.expire (and-right (eqb own.id received.id) (eqb own.expire received.expire) both) in
+    shape ∙ ap (λ (n : ℕ). record received { id = n; expire = own.expire }) id ∙ ap (λ (n : ℕ). record received { expire = n }) expire
   where
     grouped : (a b c : Bool) → (a && b && c) ≡ true → ((a && b) && c) ≡ true
     grouped a b c h = h

@@ -34,7 +34,7 @@ id_most Gpc1 = omega arith
 id_most Gpc1Rate = omega arith
 id_most ServerKey = omega arith
 
--- the first of types in rising id, and those behind it
+-- the first of types in rising id, and those after it
 pub rise_first : (k : ℕ) (t : DataType × Option ℕ) (ts : List (DataType × Option ℕ)) → rise_from k (t ∷ ts) ≡ true → k ≤ id_of t.0
 rise_first k t ts h = grind (arith, nat_tests)
 

@@ -8,7 +8,7 @@ use Rattle.peers_msg.specs.declared.fault.Fault.{Fault}
 use Rattle.peers_msg.specs.declared.fault.Fault.TheVariants as faults
 use Rattle.peers_msg.specs.declared.message.Message.{Message}
 use Rattle.peers_msg.specs.declared.message.Message.TheVariants as messages
-use Rattle.peers_msg.specs.Heard.{Heard, heard_after}
+use Rattle.peers_msg.specs.Received.{Received, received_after}
 use Rattle.peers_msg.specs.Reading.{message_at}
 
 abbrev pub Fails : {Y : Type 0} → ReadError → Result Y Breach → Type 0
@@ -20,15 +20,15 @@ abbrev pub Gives : {X Y : Type 0} → (X → Y) → Result X ReadError → Resul
 Gives view (Ok x) read = read ≡ Ok (view x)
 Gives view (Err e) read = Fails e read
 
--- what was heard, the bytes that weren't read yet, and whether there was a fault
+-- what was received, the bytes that weren't read yet, and whether there was a fault
 pub record Decoding : Type 0 where
-  pub heard : Heard
+  pub received : Received
   pub unread : List ℕ
   pub closed : Bool
 
 -- nothing was fed yet
-abbrev pub begun : Heard → Decoding
-begun heard = record { heard = heard; unread = []; closed = false }
+abbrev pub begun : Received → Decoding
+begun received = record { received = received; unread = []; closed = false }
 
 abbrev pub fault_of : Breach → Fault
 fault_of breaches.BadInteger = faults.BadInteger
@@ -42,44 +42,44 @@ fault_of breaches.Trailing = faults.Trailing
 
 -- What feeding bytes does. After a fault nothing is fed.
 abbrev pub Fed : Decoding → List ℕ → Result (Unit {0}) Fault → Decoding → Type 0
-Fed d piece (Ok _) e = (d.closed ≡ false) × (e ≡ record { heard = d.heard; unread = d.unread ++ piece; closed = false })
+Fed d piece (Ok _) e = (d.closed ≡ false) × (e ≡ record { received = d.received; unread = d.unread ++ piece; closed = false })
 Fed d piece (Err faults.Memory) e = (d.closed ≡ false) × (e ≡ d)
 Fed d piece (Err faults.Closed) e = (d.closed ≡ true) × (e ≡ d)
 Fed d piece (Err fault) e = ⊥
 
--- What asking for a message does. A message is taken off the bytes and heard, a breach closes, and nothing else changes
+-- What asking for a message does. A message is taken off the bytes and received, a breach closes, and nothing else changes
 -- anything.
 abbrev pub Next : Decoding → Result (Option Message) Fault → Decoding → Type 0
-Next d (Ok None) e = (d.closed ≡ false) × (message_at d.heard d.unread ≡ Ok None) × (e ≡ d)
+Next d (Ok None) e = (d.closed ≡ false) × (message_at d.received d.unread ≡ Ok None) × (e ≡ d)
 Next d (Ok (Some m)) e =
     (d.closed ≡ false)
     × (rest : List ℕ)
-    × (message_at d.heard d.unread ≡ Ok (Some (m, rest)))
-    × (e ≡ record { heard = heard_after d.heard m; unread = rest; closed = false })
+    × (message_at d.received d.unread ≡ Ok (Some (m, rest)))
+    × (e ≡ record { received = received_after d.received m; unread = rest; closed = false })
 Next d (Err faults.Memory) e = (d.closed ≡ false) × (e ≡ d)
 Next d (Err faults.Closed) e = (d.closed ≡ true) × (e ≡ d)
 Next d (Err fault) e =
     (d.closed ≡ false)
     × (breach : Breach)
-    × (message_at d.heard d.unread ≡ Err breach)
+    × (message_at d.received d.unread ≡ Err breach)
     × (fault ≡ fault_of breach)
-    × (e ≡ record { heard = d.heard; unread = d.unread; closed = true })
+    × (e ≡ record { received = d.received; unread = d.unread; closed = true })
 
 -- What looking at the front tells: the message there and how many bytes it has, none, or what is wrong with it.
 abbrev pub Front : Decoding → Result (Option (Message × ℕ)) Fault → Type 0
-Front d (Ok None) = (d.closed ≡ false) × (message_at d.heard d.unread ≡ Ok None)
-Front d (Ok (Some found)) = (d.closed ≡ false) × (message_at d.heard d.unread ≡ Ok (Some (found.0, drop found.1 d.unread)))
+Front d (Ok None) = (d.closed ≡ false) × (message_at d.received d.unread ≡ Ok None)
+Front d (Ok (Some found)) = (d.closed ≡ false) × (message_at d.received d.unread ≡ Ok (Some (found.0, drop found.1 d.unread)))
 Front d (Err faults.Memory) = d.closed ≡ false
 Front d (Err faults.Closed) = d.closed ≡ true
 Front d (Err fault) =
     (d.closed ≡ false)
     × (breach : Breach)
-    × (message_at d.heard d.unread ≡ Err breach)
+    × (message_at d.received d.unread ≡ Err breach)
     × (fault ≡ fault_of breach)
 
--- a message of so many bytes is heard, and its bytes are dropped
+-- a message of so many bytes is received, and its bytes are dropped
 abbrev pub passed : Decoding → Message → ℕ → Decoding
-passed d m used = record { heard = heard_after d.heard m; unread = drop used d.unread; closed = d.closed }
+passed d m used = record { received = received_after d.received m; unread = drop used d.unread; closed = d.closed }
 
 abbrev pub IsDefinition : Message → Type 0
 IsDefinition (messages.Define d) = Unit {0}
@@ -87,24 +87,24 @@ IsDefinition m = ⊥
 
 -- ---- streams in pieces
 
--- these messages are read one after another, which leads from what was heard before to what was heard then, and these
+-- these messages are read one after another, which leads from what was received before to what was received then, and these
 -- bytes are left
-abbrev pub AreRead : Heard → List ℕ → List Message → Heard → List ℕ → Type 0
-AreRead before bytes [] heard rest = (heard ≡ before) × (rest ≡ bytes)
-AreRead before bytes (m ∷ ms) heard rest =
-    (after : List ℕ) × (message_at before bytes ≡ Ok (Some (m, after))) × AreRead (heard_after before m) after ms heard rest
+abbrev pub AreRead : Received → List ℕ → List Message → Received → List ℕ → Type 0
+AreRead before bytes [] received rest = (received ≡ before) × (rest ≡ bytes)
+AreRead before bytes (m ∷ ms) received rest =
+    (after : List ℕ) × (message_at before bytes ≡ Ok (Some (m, after))) × AreRead (received_after before m) after ms received rest
 
 -- the same where the bytes come in pieces, and after each of them some messages are read, or none
-abbrev pub AreReadInPieces : Heard → List ℕ → List (List ℕ) → List Message → Heard → List ℕ → Type 0
-AreReadInPieces before unread [] ms heard rest = AreRead before unread ms heard rest
-AreReadInPieces before unread (piece ∷ pieces) ms heard rest =
+abbrev pub AreReadInPieces : Received → List ℕ → List (List ℕ) → List Message → Received → List ℕ → Type 0
+AreReadInPieces before unread [] ms received rest = AreRead before unread ms received rest
+AreReadInPieces before unread (piece ∷ pieces) ms received rest =
     (first : List Message)
     × (others : List Message)
-    × (between : Heard)
+    × (between : Received)
     × (left : List ℕ)
     × (ms ≡ first ++ others)
     × AreRead before (unread ++ piece) first between left
-    × AreReadInPieces between left pieces others heard rest
+    × AreReadInPieces between left pieces others received rest
 
 -- the pieces as one stream
 abbrev pub together : List (List ℕ) → List ℕ
@@ -112,5 +112,5 @@ together [] = []
 together (piece ∷ pieces) = piece ++ together pieces
 
 -- no message is whole at the front: it isn't yet, or there is a breach
-abbrev pub IsEnd : Heard → List ℕ → Type 0
-IsEnd heard rest = (m : Message) (after : List ℕ) → message_at heard rest ≢ Ok (Some (m, after))
+abbrev pub IsEnd : Received → List ℕ → Type 0
+IsEnd received rest = (m : Message) (after : List ℕ) → message_at received rest ≢ Ok (Some (m, after))

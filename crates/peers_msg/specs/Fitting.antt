@@ -1,17 +1,17 @@
--- Which messages fit what was heard (HAProxy, doc/peers-v2.0.txt, "Messages"; the ranges and the greatest length
--- of the data are own).
+-- Which messages fit what was received (HAProxy, doc/peers-v2.0.txt, "Messages"; the ranges and the greatest length
+-- of the data are the profile's choices).
 use Rattle.std.specs.Prelude.{◌^◌, Bool, true, false, not, ◌&&◌, nat_lt, nat_le, length, is_some, Option, Some, None}
 use Rattle.table_types.specs.Names.{is_name}
 use Rattle.table_types.specs.Tables.{Definition, is_definition}
 use Rattle.table_types.specs.Updates.{is_word, is_optional_word, row_fits, stores_name}
 use Rattle.table_types.specs.Rosters.{table_at}
-use Rattle.table_types.specs.Slots.{is_slot}
+use Rattle.table_types.specs.SlotIds.{is_slot}
 use Rattle.peers_msg.specs.declared.name_field.NameField.{NameField}
 use Rattle.peers_msg.specs.declared.name_field.NameField.TheVariants as names
 use Rattle.peers_msg.specs.declared.message.Message.{Message}
 use Rattle.peers_msg.specs.declared.message.Message.TheVariants as messages
 use Rattle.peers_msg.specs.Messages.{UpdateFields, is_other}
-use Rattle.peers_msg.specs.Heard.{Heard, selected_table}
+use Rattle.peers_msg.specs.Received.{Received, selected_table}
 use Rattle.peers_msg.specs.Spelling.{data_of}
 
 -- a name field stands exactly in the updates of a table that stores the server's name
@@ -31,7 +31,7 @@ fits_table (Some d) u = update_fits d u
 
 -- an update fits the selected table, a switch names an id that stands for a table, a definition is one,
 -- and the pair of any other message has no meaning
-abbrev pub has_shape : Heard → Message → Bool
+abbrev pub has_shape : Received → Message → Bool
 has_shape h (messages.Control c) = true
 has_shape h (messages.Error e) = true
 has_shape h (messages.Define d) = is_definition d
@@ -40,8 +40,8 @@ has_shape h (messages.Ack table number) = nat_lt table (2 ^ 64) && is_word numbe
 has_shape h (messages.Update u) = fits_table (selected_table h) u
 has_shape h (messages.Other o) = is_other o
 
--- a message fits what was heard: it has the shape and ranges, and its data has at most 16,384 bytes
-unfoldable pub fits : Heard → Message → Bool
+-- a message fits what was received: it has the shape and ranges, and its data has at most 16,384 bytes
+unfoldable pub fits : Received → Message → Bool
 fits h m = has_shape h m && nat_le (length (data_of m)) 16384
 
 -- messages that fit wherever they stand

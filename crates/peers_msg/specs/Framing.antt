@@ -6,7 +6,7 @@ use Rattle.peers_msg.specs.Spelling.{counted}
 abbrev pub IsCounted : List ℕ → Type 0
 IsCounted bytes = (body : List ℕ) × (bytes ≡ counted body)
 
--- class and type, and behind a type of 128 or more an encoded length and that many bytes
+-- class and type, and after a type of 128 or more an encoded length and that many bytes
 abbrev pub IsFrame : List ℕ → Type 0
 IsFrame [] = ⊥
 IsFrame (class ∷ []) = ⊥

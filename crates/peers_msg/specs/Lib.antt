@@ -1,10 +1,9 @@
 pub use Rattle.peers_encint.specs.Integers
 pub mod Messages
-pub mod Heard
+pub mod Received
 pub mod OwnTables
 pub mod Spelling
 pub mod Fitting
-pub mod Steps
 pub mod Reading
 pub mod Stream
 pub mod Decoding

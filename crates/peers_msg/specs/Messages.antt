@@ -6,7 +6,7 @@ use Rattle.table_types.specs.declared.update.Value.{Value}
 use Rattle.peers_msg.specs.declared.name_field.NameField.{NameField}
 
 -- an update of the selected table: its number (none: one more than the table's last), the remaining life of the
--- row in ms (none: untold), the key, the values, and what stands where the server's name goes
+-- row in ms (none: not given), the key, the values, and what stands where the server's name goes
 pub record UpdateFields : Type 0 where
   pub number : Option ℕ
   pub life : Option ℕ

@@ -1,11 +1,11 @@
--- Which of the tables heard are a roster's (own).
+-- Which of the tables received are a roster's (profile).
 use Rattle.std.specs.Prelude.{ℕ, Bool, true, false, ◌&&◌, ◌==◌, List, [], ◌∷◌, filter, Option, Some, None, if◌then◌else◌}
 use Rattle.table_types.specs.declared.data_type.DataType.{DataType}
 use Rattle.table_types.specs.Keys.{number_of}
 use Rattle.table_types.specs.DataTypes.{is_same_type}
 use Rattle.table_types.specs.Tables.{Definition}
 use Rattle.table_types.specs.Rosters.{is_same_name, table_at}
-use Rattle.peers_msg.specs.Heard.{Heard, selected_table}
+use Rattle.peers_msg.specs.Received.{Received, selected_table}
 
 abbrev pub is_same_period : Option ℕ → Option ℕ → Bool
 is_same_period (Some a) (Some b) = a == b
@@ -21,30 +21,30 @@ are_same_types ts hs = false
 -- a table of another's shape: it has its name, and the same kind of keys, key length, data types and periods; id and
 -- expire may differ
 abbrev pub is_shape_of : Definition → Definition → Bool
-is_shape_of own heard =
-    is_same_name own.name heard.name
-    && number_of own.kind == number_of heard.kind
-    && own.key_length == heard.key_length
-    && are_same_types own.types heard.types
+is_shape_of own received =
+    is_same_name own.name received.name
+    && number_of own.kind == number_of received.kind
+    && own.key_length == received.key_length
+    && are_same_types own.types received.types
 
 -- the very definition
 abbrev pub is_same_definition : Definition → Definition → Bool
-is_same_definition own heard = own.id == heard.id && own.expire == heard.expire && is_shape_of own heard
+is_same_definition own received = own.id == received.id && own.expire == received.expire && is_shape_of own received
 
 abbrev pub is_found : Option Definition → Definition → Bool
-is_found None heard = false
-is_found (Some own) heard = is_same_definition own heard
+is_found None received = false
+is_found (Some own) received = is_same_definition own received
 
--- a table heard is the roster's own: its id stands for that very definition
+-- a table received is the roster's own: its id stands for that very definition
 abbrev pub is_own : List Definition → Definition → Bool
-is_own roster heard = is_found (table_at roster heard.id) heard
+is_own roster received = is_found (table_at roster received.id) received
 
 abbrev pub is_own_one : List Definition → Option Definition → Bool
 is_own_one roster None = false
-is_own_one roster (Some heard) = is_own roster heard
+is_own_one roster (Some received) = is_own roster received
 
--- what was heard of a roster's own tables: these, and the id selected where it stands for one of them
-abbrev pub own_part : List Definition → Heard → Heard
+-- what was received of a roster's own tables: these, and the id selected where it stands for one of them
+abbrev pub own_part : List Definition → Received → Received
 own_part roster h = record {
   tables = filter (is_own roster) h.tables;
   selected = if is_own_one roster (selected_table h) then h.selected else None;

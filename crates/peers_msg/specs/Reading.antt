@@ -1,5 +1,5 @@
 -- Reading messages from left to right, with the first breach that is met (HAProxy, doc/peers-v2.0.txt, "Messages";
--- which breach it is, is own). A field is its value and the bytes after it.
+-- which breach it is, is the profile's choice). A field is its value and the bytes after it.
 use Rattle.std.specs.Prelude.{ℕ, ◌/◌, ◌%◌, ◌^◌, Bool, true, false, ◌&&◌, ◌==◌, nat_lt, List, [], ◌∷◌, ◌++◌, length, take, drop, Option, Some, None, is_some, Result, Ok, Err, if◌then◌else◌}
 use Rattle.std.specs.Int.{w32, from_be_bytes}
 use Rattle.peers_encint.specs.declared.reading.Read.{Read}
@@ -31,8 +31,8 @@ use Rattle.peers_msg.specs.declared.meaning.Meaning.TheVariants as meanings
 use Rattle.peers_msg.specs.declared.fault.Breach.{Breach}
 use Rattle.peers_msg.specs.declared.fault.Breach.TheVariants.{BadInteger, SizeLimit, BadDefinition, UnknownDataType, NoTable, BadKey, BadValue, Trailing}
 use Rattle.peers_msg.specs.Messages.{UpdateFields}
-use Rattle.peers_msg.specs.Heard.{Heard, selected_table}
-use Rattle.table_types.specs.Slots.{is_slot}
+use Rattle.peers_msg.specs.Received.{Received, selected_table}
+use Rattle.table_types.specs.SlotIds.{is_slot}
 
 infixl 10 ◌>>=◌
 abbrev pub ◌>>=◌ : {A B : Type 0} → Result A Breach → (A → Result B Breach) → Result B Breach
@@ -124,7 +124,7 @@ values_at (t ∷ ts) bytes = if is_name_type t.0 then values_at ts bytes else (d
   others ← values_at ts value.1
   Ok (value.0 ∷ others.0, others.1))
 
--- behind the slot, within the length of a name field: nothing, or an encoded length and a name of that length
+-- after the slot, within the length of a name field: nothing, or an encoded length and a name of that length
 unfoldable pub slot_holds : ℕ → List ℕ → Result NameField Breach
 slot_holds slot [] = Ok (names.Held slot)
 slot_holds slot (b ∷ bs) = do
@@ -132,7 +132,7 @@ slot_holds slot (b ∷ bs) = do
   _ ← wanted (n.0 == length n.1 && is_name n.1) BadValue
   Ok (names.Written slot n.1)
 
--- within the length of a name field: nothing, or an encoded slot and what stands behind it
+-- within the length of a name field: nothing, or an encoded slot and what stands after it
 unfoldable pub field_of : List ℕ → Result NameField Breach
 field_of [] = Ok names.NoName
 field_of (b ∷ bs) = do
@@ -170,7 +170,7 @@ kind_of n =
     else (if n == 7 then Ok kinds.Binary
     else Err BadDefinition))))
 
--- the period of a rate behind its id; nothing for any other type
+-- the period of a rate after its id; nothing for any other type
 unfoldable pub period_at : DataType → List ℕ → Result (Option ℕ × List ℕ) Breach
 period_at t bytes = if is_rate t then (do
   id ← integer_at BadDefinition bytes
@@ -206,7 +206,7 @@ keyed_at bytes = do
   _ ← wanted (fits_length kind key_length.0) BadDefinition
   Ok ((kind, key_length.0), key_length.1)
 
--- its expire, and what it stores; the bits of what it stores stand before the expire, and the periods behind it
+-- its expire, and what it stores; the bits of what it stores stand before the expire, and the periods after it
 unfoldable pub stored_at : List ℕ → Result ((ℕ × List (DataType × Option ℕ)) × List ℕ) Breach
 stored_at bytes = do
   bits ← integer_at BadDefinition bytes
@@ -225,7 +225,7 @@ definition_at bytes = do
 
 -- ---- messages
 
-unfoldable pub switch_at : Heard → List ℕ → Result Message Breach
+unfoldable pub switch_at : Received → List ℕ → Result Message Breach
 switch_at h bytes = do
   id ← integer_at BadInteger bytes
   _ ← wanted (is_some (table_at h.tables id.0)) NoTable
@@ -278,7 +278,7 @@ meant class kind =
     else meanings.Other))
 
 -- the message whose data are these bytes
-abbrev pub message_of : Heard → Meaning → ℕ → ℕ → List ℕ → Result Message Breach
+abbrev pub message_of : Received → Meaning → ℕ → ℕ → List ℕ → Result Message Breach
 message_of h (meanings.Control c) class kind body = Ok (messages.Control c)
 message_of h (meanings.Error e) class kind body = Ok (messages.Error e)
 message_of h meanings.Define class kind body = do
@@ -289,7 +289,7 @@ message_of h meanings.Ack class kind body = ack_at body
 message_of h (meanings.Update numbered timed) class kind body = update_of (selected_table h) numbered timed body
 message_of h meanings.Other class kind body = Ok (messages.Other (record { class = class; kind = kind; body = body }))
 
-unfoldable pub body_at : Heard → ℕ → ℕ → List ℕ → Result Message Breach
+unfoldable pub body_at : Received → ℕ → ℕ → List ℕ → Result Message Breach
 body_at h class kind body = message_of h (meant class kind) class kind body
 
 -- ---- the bytes of a message, of which some may still be to come
@@ -312,7 +312,7 @@ data_from bytes (Value n used) = whole_data n (drop used bytes)
 data_from bytes Short = Ok None
 data_from bytes Over = Err BadInteger
 
--- the data behind a type: none below 128, else so many bytes as an encoded length says
+-- the data after a type: none below 128, else so many bytes as an encoded length says
 unfoldable pub data_at : ℕ → List ℕ → Result (Option (List ℕ × List ℕ)) Breach
 data_at kind bytes = if nat_lt kind 128 then Ok (Some ([], bytes)) else data_from bytes (read_of bytes)
 
@@ -328,19 +328,19 @@ frame_at (class ∷ (kind ∷ bytes)) = do
   found ← data_at kind bytes
   Ok (frame_with class kind found)
 
-abbrev pub message_in : Heard → Option (Frame × List ℕ) → Result (Option (Message × List ℕ)) Breach
+abbrev pub message_in : Received → Option (Frame × List ℕ) → Result (Option (Message × List ℕ)) Breach
 message_in h None = Ok None
 message_in h (Some found) = do
   m ← body_at h found.0.class found.0.kind found.0.body
   Ok (Some (m, found.1))
 
 -- the message at the front, and the bytes after it; None while it isn't whole
-unfoldable pub message_at : Heard → List ℕ → Result (Option (Message × List ℕ)) Breach
+unfoldable pub message_at : Received → List ℕ → Result (Option (Message × List ℕ)) Breach
 message_at h bytes = do
   found ← frame_at bytes
   message_in h found
 
--- what was read, with more bytes behind it
+-- what was read, with more bytes after it
 abbrev pub with_more : {A : Type 0} → List ℕ → Result (Option (A × List ℕ)) Breach → Result (Option (A × List ℕ)) Breach
 with_more more (Ok None) = Ok None
 with_more more (Ok (Some found)) = Ok (Some (found.0, found.1 ++ more))

@@ -3,13 +3,13 @@
 ghost use Rattle.std.specs.Prelude.{◌≡◌, ◌≤◌, IfOk, IfSome, OnOk, OnErr, true, length, drop, option_map};
 ghost use Rattle.peers_msg.specs.Decoding.{Gives, begun, Fed, Next, Front, passed, IsDefinition};
 ghost use Rattle.peers_msg.specs.Fitting.{fits};
-ghost use Rattle.peers_msg.specs.Heard.{silence, heard_after, resumed};
+ghost use Rattle.peers_msg.specs.Received.{nothing_received, received_after, resumed};
 ghost use Rattle.peers_msg.specs.Reading.{message_at};
 
 use crate::fault::{Fault, ReadError};
-use crate::heard::Heard;
 use crate::message::Message;
 use crate::reading::message_at;
+use crate::received::Received;
 use bytes::BytesMut;
 use std::alloc::Global;
 use std::marker::Model;
@@ -22,7 +22,7 @@ use table_types::{Memory, Roster};
 #[derive(Drop)]
 pub struct Decoder {
     alloc: Global,
-    heard: Heard,
+    received: Received,
     unread: BytesMut<Global>,
     closed: bool,
 }
@@ -32,32 +32,36 @@ impl Model for Decoder {
 
     ghost Value = { Decoding };
 
-    ghost view = { λ d. record { heard = d.heard; unread = d.unread.items; closed = d.closed } };
+    ghost view = { λ d. record { received = d.received; unread = d.unread.items; closed = d.closed } };
 }
 
 /// The message at the front, and how many bytes it has.
-fn front(alloc: Global, heard: &Heard, unread: &[u8]) -> Result<Option<(Message, usize)>, ReadError>
-    ensures read { Gives (option_map (λ x. (x.0, drop x.1 unread.now))) result (message_at heard.now unread.now) }
+fn front(
+    alloc: Global,
+    received: &Received,
+    unread: &[u8],
+) -> Result<Option<(Message, usize)>, ReadError>
+    ensures read { Gives (option_map (λ x. (x.0, drop x.1 unread.now))) result (message_at received.now unread.now) }
     ensures within { IfOk result (λ found. IfSome found (λ x. (1 ≤ x.1) × (x.1 ≤ length unread.now))) }
-    ensures fits { IfOk result (λ found. IfSome found (λ x. fits heard.now x.0 ≡ true)) }
+    ensures fits { IfOk result (λ found. IfSome found (λ x. fits received.now x.0 ≡ true)) }
 {
-    let Some((message, rest)) = message_at(alloc, heard, unread)? else {
+    let Some((message, rest)) = message_at(alloc, received, unread)? else {
         return Ok(None);
     };
     let used = unread.len() - rest.len();
     Ok(Some((message, used)))
 }
 
-/// Hears a message. After `Memory` nothing has changed.
-fn hear(alloc: Global, heard: &mut Heard, message: &Message) -> Result<(), Memory>
-    ensures heard { OnOk result (heard.new ≡ heard_after heard.old message.now) }
-    ensures stays { OnErr result (heard.new ≡ heard.old) }
+/// Receives a message. After `Memory` nothing has changed.
+fn receive(alloc: Global, received: &mut Received, message: &Message) -> Result<(), Memory>
+    ensures received { OnOk result (received.new ≡ received_after received.old message.now) }
+    ensures stays { OnErr result (received.new ≡ received.old) }
     ensures defines { OnErr result (IsDefinition message.now) }
 {
     match message {
-        Message::Define(table) => heard.define(table.copy(alloc)?),
+        Message::Define(table) => received.define(table.copy(alloc)?),
         Message::Switch(id) => {
-            heard.select(*id);
+            received.select(*id);
             Ok(())
         }
         _ => Ok(()),
@@ -65,19 +69,19 @@ fn hear(alloc: Global, heard: &mut Heard, message: &Message) -> Result<(), Memor
 }
 
 impl Decoder {
-    /// A decoder that has heard nothing. Takes no memory.
+    /// A decoder that has received nothing. Takes no memory.
     pub fn new(alloc: Global) -> Decoder
-        ensures { result ≡ begun silence }
+        ensures { result ≡ begun nothing_received }
     {
         Decoder {
             alloc,
-            heard: Heard::new(alloc),
+            received: Received::new(alloc),
             unread: BytesMut::new(alloc),
             closed: false,
         }
     }
 
-    /// A decoder of what is said to one who heard the roster's definitions of these ids, in this order, and that id
+    /// A decoder of what is said to one who received the roster's definitions of these ids, in this order, and that id
     /// selected last. An id that the roster lacks is passed over.
     pub fn resume(
         alloc: Global,
@@ -89,17 +93,17 @@ impl Decoder {
     {
         Ok(Decoder {
             alloc,
-            heard: Heard::resume(alloc, roster, defined, selected)?,
+            received: Received::resume(alloc, roster, defined, selected)?,
             unread: BytesMut::new(alloc),
             closed: false,
         })
     }
 
-    /// What was heard of the tables.
-    pub fn heard(&self) -> &Heard
-        ensures { result.now ≡ self.now.heard }
+    /// What was received of the tables.
+    pub fn received(&self) -> &Received
+        ensures { result.now ≡ self.now.received }
     {
-        &self.heard
+        &self.received
     }
 
     /// How many bytes were fed and not read. Where `next` answers `None` they are those of an unfinished message.
@@ -123,23 +127,23 @@ impl Decoder {
     }
 
     /// The message at the front and how many bytes it has, and `None` while it isn't whole. It stays where it is: nothing
-    /// is heard, and bytes that begin no message don't close.
+    /// is received, and bytes that begin no message don't close.
     pub fn front(&self) -> Result<Option<(Message, usize)>, Fault>
         ensures front { Front self.now result }
-        ensures fits { IfOk result (λ found. IfSome found (λ x. fits self.now.heard x.0 ≡ true)) }
+        ensures fits { IfOk result (λ found. IfSome found (λ x. fits self.now.received x.0 ≡ true)) }
         ensures within { IfOk result (λ found. IfSome found (λ x. (1 ≤ x.1) × (x.1 ≤ length self.now.unread))) }
     {
         if self.closed {
             return Err(Fault::Closed);
         }
-        match front(self.alloc, &self.heard, self.unread.as_slice()) {
+        match front(self.alloc, &self.received, self.unread.as_slice()) {
             Ok(found) => Ok(found),
             Err(ReadError::Memory) => Err(Fault::Memory),
             Err(ReadError::Breach(breach)) => Err(breach.fault()),
         }
     }
 
-    /// Hears a message and drops its bytes, as many as `front` told. Only a definition takes memory; after `Memory`
+    /// Receives a message and drops its bytes, as many as `front` told. Only a definition takes memory; after `Memory`
     /// nothing has changed.
     pub fn pass(&mut self, message: &Message, used: usize) -> Result<(), Memory>
         requires { used ≤ length self.old.unread }
@@ -147,7 +151,7 @@ impl Decoder {
         ensures stays { OnErr result (self.new ≡ self.old) }
         ensures defines { OnErr result (IsDefinition message.now) }
     {
-        hear(self.alloc, &mut self.heard, message)?;
+        receive(self.alloc, &mut self.received, message)?;
         self.skip(used);
         Ok(())
     }
@@ -175,7 +179,7 @@ impl Decoder {
         if self.closed {
             return Err(Fault::Closed);
         }
-        match front(self.alloc, &self.heard, self.unread.as_slice()) {
+        match front(self.alloc, &self.received, self.unread.as_slice()) {
             Ok(Some((message, used))) => match self.pass(&message, used) {
                 Ok(()) => Ok(Some(message)),
                 Err(Memory) => Err(Fault::Memory),

@@ -45,7 +45,7 @@ fn append_optional(out: &mut Vec<u8>, n: Option<u32>) -> Result<(), Memory>
     }
 }
 
-/// Appends bytes behind their encoded length.
+/// Appends bytes after their encoded length.
 fn append_counted(out: &mut Vec<u8>, bytes: &[u8]) -> Result<(), Memory>
     ensures { OnOk result (out.new.items ≡ out.old.items ++ counted bytes.now) }
 {

@@ -8,7 +8,7 @@ use std::alloc::{AllocError, AllocFailed};
 use table_types::Memory;
 use thiserror::Error;
 
-/// The first thing that is wrong with the bytes where a message is to stand (own).
+/// The first thing that is wrong with the bytes where a message is to stand (profile).
 #[derive(Clone, Copy, Debug, PartialEq, Eq)]
 pub enum Breach {
     /// An encoded integer is 2^64 or more, or the data of a switch or an acknowledgement end inside a field.
@@ -62,7 +62,7 @@ impl<T: Drop> From<AllocFailed<T>> for ReadError {
     }
 }
 
-/// Why a decoder answered no message. What is wrong with the bytes is the first breach from left to right (own).
+/// Why a decoder answered no message. What is wrong with the bytes is the first breach from left to right (profile).
 #[derive(Clone, Copy, Debug, PartialEq, Eq, Error)]
 pub enum Fault {
     /// An encoded integer is 2^64 or more, or the data of a switch or an acknowledgement end inside a field.

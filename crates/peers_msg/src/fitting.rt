@@ -1,13 +1,13 @@
-//! Which messages fit what was heard.
+//! Which messages fit what was received.
 
 ghost use Rattle.std.specs.Prelude.{◌≡◌, ◌^◌, ◌&&◌, nat_lt, IsTrue};
 ghost use Rattle.table_types.specs.Updates.{is_optional_word, is_word};
-ghost use Rattle.table_types.specs.Slots.{is_slot};
+ghost use Rattle.table_types.specs.SlotIds.{is_slot};
 ghost use Rattle.peers_msg.specs.Fitting.{name_fits, update_fits, IsPlain, has_shape, fits};
 
-use crate::heard::Heard;
 use crate::message::{Message, UpdateMsg};
 use crate::name_field::NameField;
+use crate::received::Received;
 use crate::sizes::{definition_size, update_size};
 use peers_encint::len;
 use table_types::TableDef;
@@ -61,20 +61,20 @@ fn is_acknowledgement(table: u64, number: u32) -> bool
 }
 
 impl Message {
-    /// Whether the message fits what was heard: an update fits the selected table, a switch names an id that stands
+    /// Whether the message fits what was received: an update fits the selected table, a switch names an id that stands
     /// for a table, and any other message fits as it is.
     #[tactic(auto, unfolding(crate::specs::Fitting::fits, crate::specs::Spelling::data_of))]
-    pub fn fits(&self, heard: &Heard) -> bool
-        ensures exact { result ≡ fits heard.now self.now }
+    pub fn fits(&self, received: &Received) -> bool
+        ensures exact { result ≡ fits received.now self.now }
         ensures plain { IsPlain self.now → IsTrue result }
     {
         match self {
             Message::Control(_) | Message::Error(_) => true,
             Message::Define(table) => definition_size(table) <= 16_384,
-            Message::Switch(id) => heard.table(*id).is_some() && len(*id) <= 16_384,
+            Message::Switch(id) => received.table(*id).is_some() && len(*id) <= 16_384,
             Message::Ack { table, number } => is_acknowledgement(*table, *number)
                 && len(*table) <= 10,
-            Message::Update(update) => match heard.selected_table() {
+            Message::Update(update) => match received.selected_table() {
                 Some(table) => update.fits(table) && update_size(update) <= 16_384,
                 None => false,
             },

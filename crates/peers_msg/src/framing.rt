@@ -9,7 +9,7 @@ use peers_encint::{Read, get};
 
 /// The first message of a stream and the bytes after it; `None` while the bytes hold no whole message.
 ///
-/// Only class, type and length are looked at, not what the message means: behind a type of 128 or more stand an encoded
+/// Only class, type and length are looked at, not what the message means: after a type of 128 or more stand an encoded
 /// length and that many bytes (doc/peers-v2.0.txt, "Messages").
 pub fn split_message(bytes: &[u8]) -> Option<(&[u8], &[u8])>
     ensures found { (frame rest : List ℕ) → IsFrame frame → bytes.now ≡ frame ++ rest → IsSomeAnd result (λ parts. (parts.0.now ≡ frame) × (parts.1.now ≡ rest)) }

@@ -5,69 +5,57 @@ ghost use Rattle.peers_encint.specs.Integers.{IsBytes};
 ghost use Rattle.peers_msg.specs.Reading.{message_at, with_more};
 ghost use Rattle.peers_msg.specs.Decoding.{AreRead, AreReadInPieces, IsEnd, together};
 ghost use Rattle.peers_msg.specs.Stream.{AllFit};
-ghost use Rattle.peers_msg.specs.Heard.{Heard};
+ghost use Rattle.peers_msg.specs.Received.{Received};
 ghost use Rattle.peers_msg.specs.OwnTables.{is_shape_of};
 ghost use Rattle.peers_msg.specs.Fitting.{update_fits, fits};
 ghost use Rattle.peers_msg.specs.Messages.{UpdateFields, is_small};
 ghost use Rattle.peers_msg.specs.Spelling.{update_text, definition_text, spelled, stream_of};
-ghost use Rattle.peers_msg.specs.Steps.{State, Step, Teaches};
 ghost use Rattle.peers_msg.specs.declared.message.Message.{Message};
 ghost use Rattle.table_types.specs.Tables.{Definition, is_definition};
 ghost use Rattle.table_types.specs.Updates.{row_fits};
 ghost use Rattle.table_types.specs.declared.key.Key.{Key};
-ghost use Rattle.table_types.specs.declared.update.Update.{Update};
 ghost use Rattle.table_types.specs.declared.update.Value.{Value};
 
-/// From one state a message carries one thing and leads to one state.
-pub fn one_step()
-    ensures { (s a b : State) (m : Message) (us vs : List Update) → Step s m us a → Step s m vs b → (us ≡ vs) × (a ≡ b) }
-{}
-
-/// From one state messages carry one list of updates and lead to one state.
-pub fn one_lesson()
-    ensures { (s a b : State) (ms : List Message) (us vs : List Update) → Teaches s ms us a → Teaches s ms vs b → (us ≡ vs) × (a ≡ b) }
-{}
-
-/// Two messages that fit what was heard and have one spelling are one message. Where each of two begins the same
-/// bytes, they are one message too, and what comes behind is the same.
+/// Two messages that fit what was received and have one spelling are one message. Where each of two begins the same
+/// bytes, they are one message too, and what comes after is the same.
 pub fn one_message()
-    ensures same { (h : Heard) (m n : Message) → fits h m ≡ true → fits h n ≡ true → spelled m ≡ spelled n → m ≡ n }
-    ensures apart { (h : Heard) (m n : Message) (x y : List ℕ) → fits h m ≡ true → fits h n ≡ true → spelled m ++ x ≡ spelled n ++ y → (m ≡ n) × (x ≡ y) }
+    ensures same { (h : Received) (m n : Message) → fits h m ≡ true → fits h n ≡ true → spelled m ≡ spelled n → m ≡ n }
+    ensures apart { (h : Received) (m n : Message) (x y : List ℕ) → fits h m ≡ true → fits h n ≡ true → spelled m ++ x ≡ spelled n ++ y → (m ≡ n) × (x ≡ y) }
 {}
 
-/// No message's spelling begins another's, whatever was heard before each of them.
+/// No message's spelling begins another's, whatever was received before each of them.
 pub fn no_prefix()
-    ensures { (g h : Heard) (m n : Message) (rest : List ℕ) → fits g m ≡ true → fits h n ≡ true → spelled m ++ rest ≡ spelled n → rest ≡ [] }
+    ensures { (g h : Received) (m n : Message) (rest : List ℕ) → fits g m ≡ true → fits h n ≡ true → spelled m ++ rest ≡ spelled n → rest ≡ [] }
 {}
 
-/// Two lists of messages that fit what was heard and have one spelling are one list.
+/// Two lists of messages that fit what was received and have one spelling are one list.
 pub fn one_list()
-    ensures { (h : Heard) (ms ns : List Message) → AllFit h ms → AllFit h ns → stream_of ms ≡ stream_of ns → ms ≡ ns }
+    ensures { (h : Received) (ms ns : List Message) → AllFit h ms → AllFit h ns → stream_of ms ≡ stream_of ns → ms ≡ ns }
 {}
 
 /// What is read is spelled so, and fits.
 pub fn read_is_spelled()
-    ensures { (h : Heard) (m : Message) (bytes rest : List ℕ) → IsBytes bytes → message_at h bytes ≡ Ok (Some (m, rest)) → (bytes ≡ spelled m ++ rest) × (fits h m ≡ true) }
+    ensures { (h : Received) (m : Message) (bytes rest : List ℕ) → IsBytes bytes → message_at h bytes ≡ Ok (Some (m, rest)) → (bytes ≡ spelled m ++ rest) × (fits h m ≡ true) }
 {}
 
 /// What fits and is spelled is read, whatever follows it. While some of its bytes are still to come it isn't whole, and
 /// shows no breach.
 pub fn spelled_is_read()
-    ensures whole { (h : Heard) (m : Message) (rest : List ℕ) → fits h m ≡ true → message_at h (spelled m ++ rest) ≡ Ok (Some (m, rest)) }
-    ensures cut { (h : Heard) (m : Message) (bytes more : List ℕ) → IsBytes bytes → fits h m ≡ true → bytes ++ more ≡ spelled m → more ≢ [] → message_at h bytes ≡ Ok None }
+    ensures whole { (h : Received) (m : Message) (rest : List ℕ) → fits h m ≡ true → message_at h (spelled m ++ rest) ≡ Ok (Some (m, rest)) }
+    ensures cut { (h : Received) (m : Message) (bytes more : List ℕ) → IsBytes bytes → fits h m ≡ true → bytes ++ more ≡ spelled m → more ≢ [] → message_at h bytes ≡ Ok None }
 {}
 
-/// More bytes behind change only the answer that a message isn't whole.
+/// More bytes after change only the answer that a message isn't whole.
 pub fn reading_stays()
-    ensures { (h : Heard) (bytes more : List ℕ) → IsBytes bytes → message_at h bytes ≢ Ok None → message_at h (bytes ++ more) ≡ with_more more (message_at h bytes) }
+    ensures { (h : Received) (bytes more : List ℕ) → IsBytes bytes → message_at h bytes ≢ Ok None → message_at h (bytes ++ more) ≡ with_more more (message_at h bytes) }
 {}
 
 /// However a stream is cut into pieces, and however many messages are read after each of them, the messages are those
-/// of the whole. Where two ways to cut one stream both end, the same messages were read, the same was heard, and the
+/// of the whole. Where two ways to cut one stream both end, the same messages were read, the same was received, and the
 /// same bytes are left.
 pub fn any_cutting()
-    ensures whole { (h : Heard) (unread : List ℕ) (pieces : List (List ℕ)) (ms : List Message) (g : Heard) (rest : List ℕ) → IsBytes (unread ++ together pieces) → AreReadInPieces h unread pieces ms g rest → AreRead h (unread ++ together pieces) ms g rest }
-    ensures same { (h : Heard) (one other : List (List ℕ)) (ms ns : List Message) (g k : Heard) (x y : List ℕ) → IsBytes (together one) → together one ≡ together other → AreReadInPieces h [] one ms g x → AreReadInPieces h [] other ns k y → IsEnd g x → IsEnd k y → (ms ≡ ns) × (g ≡ k) × (x ≡ y) }
+    ensures whole { (h : Received) (unread : List ℕ) (pieces : List (List ℕ)) (ms : List Message) (g : Received) (rest : List ℕ) → IsBytes (unread ++ together pieces) → AreReadInPieces h unread pieces ms g rest → AreRead h (unread ++ together pieces) ms g rest }
+    ensures same { (h : Received) (one other : List (List ℕ)) (ms ns : List Message) (g k : Received) (x y : List ℕ) → IsBytes (together one) → together one ≡ together other → AreReadInPieces h [] one ms g x → AreReadInPieces h [] other ns k y → IsEnd g x → IsEnd k y → (ms ≡ ns) × (g ≡ k) × (x ≡ y) }
 {}
 
 /// The data of an update that fits a table, and of a definition, have at most 16,384 bytes; and key and values that
@@ -78,7 +66,7 @@ pub fn data_is_small()
     ensures rows { (d : Definition) (key : Key) (values : List Value) → is_definition d ≡ true → row_fits d key values ≡ true → is_small key values ≡ true }
 {}
 
-/// A table heard has the shape of an own one exactly where both are the same definition but for id and expire.
+/// A table received has the shape of an own one exactly where both are the same definition but for id and expire.
 pub fn same_shape()
-    ensures { (own heard : Definition) → (is_shape_of own heard ≡ true) ↔ (own ≡ record heard { id = own.id; expire = own.expire }) }
+    ensures { (own received : Definition) → (is_shape_of own received ≡ true) ↔ (own ≡ record received { id = own.id; expire = own.expire }) }
 {}

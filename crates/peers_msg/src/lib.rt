@@ -1,4 +1,4 @@
-//! The messages of HAProxy's peers protocol: what they are, what is heard of them, and their bytes.
+//! The messages of HAProxy's peers protocol: what they are, what is received of them, and their bytes.
 #![tactic(auto)]
 
 mod control;
@@ -7,13 +7,13 @@ mod encoding;
 mod fault;
 mod fitting;
 mod framing;
-mod heard;
 mod laws;
 mod meaning;
 mod message;
 mod name_field;
 mod own_tables;
 mod reading;
+mod received;
 mod sizes;
 
 pub use control::{Control, ErrorKind};
@@ -21,12 +21,12 @@ pub use decoder::Decoder;
 pub use encoding::encode;
 pub use fault::Fault;
 pub use framing::split_message;
-pub use heard::Heard;
 pub use laws::{
-    any_cutting, data_is_small, no_prefix, one_lesson, one_list, one_message, one_step,
-    read_is_spelled, reading_stays, same_shape, spelled_is_read,
+    any_cutting, data_is_small, no_prefix, one_list, one_message, read_is_spelled, reading_stays,
+    same_shape, spelled_is_read,
 };
 pub use message::{Message, Other, UpdateMsg};
 pub use name_field::NameField;
 pub use own_tables::{is_own, is_shape_of};
+pub use received::Received;
 pub use sizes::{named_sizes, size};

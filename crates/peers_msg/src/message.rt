@@ -35,7 +35,7 @@ impl UpdateMsg {
     /// The update with these fields.
     ///
     /// * `number`: the sender's number of the update; `None` is incremental, one more than the table's last;
-    /// * `life`: the remaining life of the row in milliseconds; `None` leaves it untold;
+    /// * `life`: the remaining life of the row in milliseconds; `None` leaves it not given;
     /// * `key`: at most 8,192 bytes;
     /// * `values`: at most 20, in rising id, without the server's name.
     pub fn new(
@@ -65,7 +65,7 @@ impl UpdateMsg {
         self.number
     }
 
-    /// The remaining life of the row in milliseconds; `None` where it is untold.
+    /// The remaining life of the row in milliseconds; `None` where it is not given.
     pub fn life(&self) -> Option<u32>
         ensures { result ≡ self.now.life }
     {
@@ -122,7 +122,7 @@ fn is_known_pair(class: u8, kind: u8) -> bool
     }
 }
 
-/// A message of a pair of class and type that has no meaning here. A learner passes it over (own).
+/// A message of a pair of class and type that has no meaning here. A learner passes it over (profile).
 ///
 /// Its body is empty where `kind` is below 128, and has at most 16,384 bytes.
 #[derive(Debug, Drop)]
@@ -145,7 +145,7 @@ impl Model for Other {
 
 impl Other {
     /// The message of that class and type with these data. `None` where the pair has a meaning of its own, where
-    /// data stand behind a type below 128, and above 16,384 bytes.
+    /// data stand after a type below 128, and above 16,384 bytes.
     pub fn new(class: u8, kind: u8, body: Vec<u8>) -> Option<Other>
         ensures made { IfSome result (λ o. o ≡ record { class = class; kind = kind; body = body.items }) }
         ensures exactly { IsSome result ↔ (is_other (record { class = class; kind = kind; body = body.items }) ≡ true) }
@@ -187,7 +187,7 @@ impl Other {
 
 /// A message of the peers protocol, version 2.1 (HAProxy, doc/peers-v2.0.txt, "Messages").
 ///
-/// On the wire: a class byte and a type byte; behind a type of 128 or more an encoded data length and the data.
+/// On the wire: a class byte and a type byte; after a type of 128 or more an encoded data length and the data.
 #[derive(Debug, Drop)]
 pub enum Message {
     /// Class 0. No data.

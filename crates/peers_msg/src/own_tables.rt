@@ -1,4 +1,4 @@
-//! Which of the tables heard are a roster's.
+//! Which of the tables received are a roster's.
 
 ghost use Rattle.std.specs.Prelude.{◌≡◌, ◌&&◌};
 ghost use Rattle.table_types.specs.DataTypes.{is_same_type};
@@ -22,10 +22,10 @@ fn is_same_entry(one: &(DataType, Option<u32>), other: &(DataType, Option<u32>))
     one.0.id() == other.0.id() && is_same_period(one.1, other.1)
 }
 
-fn are_same_types(own: &[(DataType, Option<u32>)], heard: &[(DataType, Option<u32>)]) -> bool
-    ensures { result ≡ are_same_types own.now heard.now }
+fn are_same_types(own: &[(DataType, Option<u32>)], received: &[(DataType, Option<u32>)]) -> bool
+    ensures { result ≡ are_same_types own.now received.now }
 {
-    let mut rest = heard;
+    let mut rest = received;
     for entry in own {
         let Some((first, others)) = rest.split_first() else {
             return false;
@@ -40,23 +40,23 @@ fn are_same_types(own: &[(DataType, Option<u32>)], heard: &[(DataType, Option<u3
 
 /// Whether a table has the shape of another: its name, kind of keys, key length, data types and periods. Id and expire
 /// may differ.
-pub fn is_shape_of(own: &TableDef, heard: &TableDef) -> bool
-    ensures { result ≡ is_shape_of own.now heard.now }
+pub fn is_shape_of(own: &TableDef, received: &TableDef) -> bool
+    ensures { result ≡ is_shape_of own.now received.now }
 {
-    is_same_name(own.name(), heard.name())
-        && own.kind().number() == heard.kind().number()
-        && own.key_length() == heard.key_length()
-        && are_same_types(own.types(), heard.types())
+    is_same_name(own.name(), received.name())
+        && own.kind().number() == received.kind().number()
+        && own.key_length() == received.key_length()
+        && are_same_types(own.types(), received.types())
 }
 
-/// Whether a table heard is the roster's own: its id stands there for that very definition.
-pub fn is_own(roster: &Roster, heard: &TableDef) -> bool
-    ensures { result ≡ is_own roster.now heard.now }
+/// Whether a table received is the roster's own: its id stands there for that very definition.
+pub fn is_own(roster: &Roster, received: &TableDef) -> bool
+    ensures { result ≡ is_own roster.now received.now }
 {
-    match roster.table(heard.id()) {
-        Some(own) => own.id() == heard.id()
-            && own.expire() == heard.expire()
-            && is_shape_of(own, heard),
+    match roster.table(received.id()) {
+        Some(own) => own.id() == received.id()
+            && own.expire() == received.expire()
+            && is_shape_of(own, received),
         None => false,
     }
 }

@@ -4,12 +4,12 @@ use Rattle.std.specs.Prelude.{Result, Ok, Err, Some}
 use Rattle.table_types.specs.Tables.{Definition}
 use Rattle.table_types.specs.declared.update.Update.{Update}
 use Rattle.peers_msg.specs.Spelling.{stream_of}
-use Rattle.peers_msg.specs.Steps.{State, Legal}
+use Rattle.known_state.specs.State.{State, Legal}
 use Rattle.peers_msg.specs.declared.message.Message.{Message}
 use Rattle.known_state.specs.Known.{KnownState, built}
 use Rattle.known_state.specs.Requests.{AreNameless}
 use Rattle.known_state.specs.Shortest.{Shortest}
-use Rattle.teach_writer.specs.Telling.{GoesThrough}
+use Rattle.teach_writer.specs.Sending.{GoesThrough}
 use Rattle.learner.specs.declared.fault.Fault.{Fault}
 use Rattle.learner.specs.declared.fault.Fault.TheVariants as faults
 use Rattle.learner.specs.Learning.{Fed, Learning, unlearned}

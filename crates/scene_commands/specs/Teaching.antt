@@ -2,11 +2,11 @@
 use Rattle.std.specs.Prelude.{Bool, List}
 use Rattle.peers_msg.specs.declared.message.Message.{Message}
 use Rattle.peers_msg.specs.Spelling.{stream_of}
-use Rattle.peers_msg.specs.Steps.{State, Legal}
+use Rattle.known_state.specs.State.{State, Legal}
 use Rattle.known_state.specs.Known.{KnownState, built}
 use Rattle.known_state.specs.Requests.{AreNameless}
 use Rattle.known_state.specs.Shortest.{Shortest}
-use Rattle.teach_writer.specs.Telling.{GoesThrough}
+use Rattle.teach_writer.specs.Sending.{GoesThrough}
 use Rattle.scene_text.specs.declared.scene.Scene.{Scene}
 
 -- what the learner of a scene knows at the start

@@ -12,7 +12,7 @@ use Rattle.scene_text.specs.Words.{is_text}
 
 -- ---- printed
 
--- a text behind `=` (61), any other string as `~` (126) and its bytes in hexadecimal
+-- a text after `=` (61), any other string as `~` (126) and its bytes in hexadecimal
 abbrev pub string_text : List ℕ → List ℕ
 string_text string = if is_text string then 61 ∷ string else 126 ∷ flat_map digits_of string
 
@@ -29,7 +29,7 @@ key_text (keys.Bin bytes) = flat_map digits_of bytes
 abbrev pub address_of : ℕ → List ℕ → Option (List ℕ)
 address_of n word = option_and_then (λ bytes. if length bytes == n then Some bytes else None) (bytes_of word)
 
--- a text behind `=`
+-- a text after `=`
 abbrev pub string_of : List ℕ → Option (List ℕ)
 string_of [] = None
 string_of (mark ∷ string) = if mark == 61 && is_text string then Some string else None

@@ -7,7 +7,7 @@ use Rattle.scene_text.specs.Bytes.{digits_of}
 abbrev pub line_of : List ℕ → List ℕ
 line_of message = flat_map digits_of message ++ 10 ∷ []
 
--- a price, behind a space
+-- a price, after a space
 abbrev pub price_text : ℕ → List ℕ
 price_text price = 32 ∷ decimal price
 

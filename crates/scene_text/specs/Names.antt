@@ -22,7 +22,7 @@ is_plain name = not (is_dash name) && (not (begins_with_tilde name) && is_text n
 abbrev pub name_text : List ℕ → List ℕ
 name_text name = if is_plain name then name else 126 ∷ flat_map digits_of name
 
--- the name, or `-` for none, behind a space, where the table stores one
+-- the name, or `-` for none, after a space, where the table stores one
 abbrev pub stored_text : Bool → Option (List ℕ) → List ℕ
 stored_text false name = []
 stored_text true None = codes " -"

@@ -15,7 +15,7 @@ abbrev pub end_text : Option ℕ → List ℕ
 end_text None = codes "-"
 end_text (Some moment) = decimal moment
 
--- a count, or a rate as start/current/previous, behind a space
+-- a count, or a rate as start/current/previous, after a space
 abbrev pub cell_text : Cell → List ℕ
 cell_text (cells.Count count) = 32 ∷ decimal count
 cell_text (cells.Rate start current previous) = 32 ∷ (decimal start ++ (47 ∷ (decimal current ++ (47 ∷ decimal previous))))

@@ -64,7 +64,7 @@ fn push_sums(
     Ok(())
 }
 
-/// Adds a price, behind a space.
+/// Adds a price, after a space.
 fn push_price(alloc: Global, text: &mut Vec<u8>, price: u64) -> Result<(), AllocError>
     ensures { OnOk result (text.new.items ≡ text.old.items ++ price_text price) }
 {

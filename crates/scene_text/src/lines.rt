@@ -1,6 +1,6 @@
 //! The kinds of lines of a scene.
 ghost use Rattle.std.specs.Prelude.{◌≡◌, ◌∷◌, ◌++◌, ◌-◌, ◌^◌, ◌≤◌, ℕ, [], None, Some, Err, true, Contains, IfOk, IfSome, IsSome, OnOk, OnErr, vec_len};
-ghost use Rattle.table_types.specs.Slots.{is_slot};
+ghost use Rattle.table_types.specs.SlotIds.{is_slot};
 ghost use Rattle.scene_text.specs.Numbers.{from_one, number_of};
 
 use crate::bytes::hexadecimal;

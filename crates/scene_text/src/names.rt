@@ -29,7 +29,7 @@ pub(crate) fn name_or_none(alloc: Global, word: &[u8]) -> Result<Option<Name>, L
     Ok(Some(name(alloc, word)?))
 }
 
-/// Adds a name where the table stores one, or `-` for none, behind a space.
+/// Adds a name where the table stores one, or `-` for none, after a space.
 pub(crate) fn push_stored_name(
     text: &mut Vec<u8>,
     stored: bool,

@@ -42,7 +42,7 @@ fn value_of(shape: Shape, word: &[u8]) -> Option<Value> {
     }
 }
 
-/// Adds the values of a row, each behind a space.
+/// Adds the values of a row, each after a space.
 pub(crate) fn push_cells(
     alloc: Global,
     text: &mut Vec<u8>,
@@ -56,7 +56,7 @@ pub(crate) fn push_cells(
     Ok(())
 }
 
-/// Adds a count, or a rate as `start/current/previous`, behind a space.
+/// Adds a count, or a rate as `start/current/previous`, after a space.
 fn push_cell(alloc: Global, text: &mut Vec<u8>, cell: Cell) -> Result<(), AllocError>
     ensures { OnOk result (text.new.items ≡ text.old.items ++ cell_text cell) }
 {

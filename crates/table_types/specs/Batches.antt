@@ -1,4 +1,4 @@
--- Batches: updates that fit the tables of a roster (own).
+-- Batches: updates that fit the tables of a roster (profile).
 use Rattle.std.specs.Prelude.{◌≡◌, ◌≤◌, ℕ, ◌+◌, true, not, nat_lt, List, [], ◌∷◌, length, Option, Some, None, is_none, if◌then◌else◌}
 use Rattle.std.specs.List.{AllByRecursion}
 use Rattle.table_types.specs.declared.update.Update.{Update}

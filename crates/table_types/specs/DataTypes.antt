@@ -1,5 +1,5 @@
 -- The data types of stick tables (HAProxy Configuration Manual, stick-table `store`; ids: doc/peers-v2.0.txt,
--- "Table Definition Message"; the ranges of the values are own).
+-- "Table Definition Message"; the ranges of the values are the profile's choices).
 use Rattle.std.specs.Prelude.{ℕ, Bool, true, false, ◌==◌, List, [], ◌∷◌, codes}
 use Rattle.table_types.specs.declared.data_type.DataType.{DataType}
 use Rattle.table_types.specs.declared.data_type.DataType.TheVariants.{ServerId, Gpt0, Gpc0, Gpc0Rate, ConnCnt, ConnRate, ConnCur, SessCnt, SessRate, HttpReqCnt, HttpReqRate, HttpErrCnt, HttpErrRate, BytesInCnt, BytesInRate, BytesOutCnt, BytesOutRate, Gpc1, Gpc1Rate, ServerKey}

@@ -1,6 +1,9 @@
 -- Kinds of keys, and the keys of each (HAProxy, doc/peers-v2.0.txt, "Table Definition Message", and the
--- Configuration Manual, stick-table `type` and `len`; the bound 8192 and "below L" for a text are own).
+-- Configuration Manual, stick-table `type` and `len`; the bound 8192 and "below L" for a text are the profile's choices).
 use Rattle.std.specs.Prelude.{ℕ, ◌^◌, Bool, false, ◌&&◌, ◌==◌, nat_lt, nat_le, List, length, codes}
+use Rattle.std.specs.declared.cmp.Ordering.{Ordering}
+use Rattle.std.specs.Ordering.{nat_cmp}
+use Rattle.std.specs.Cmp.Lexicographic.{slice_cmp}
 use Rattle.table_types.specs.declared.key.KeyKind.{KeyKind}
 use Rattle.table_types.specs.declared.key.KeyKind.TheVariants as kinds
 use Rattle.table_types.specs.declared.key.Key.{Key}
@@ -14,7 +17,7 @@ number_of kinds.Ip6 = 5
 number_of kinds.String = 6
 number_of kinds.Binary = 7
 
--- the word for a kind (own)
+-- the word for a kind (profile)
 abbrev pub kind_name : KeyKind → List ℕ
 kind_name kinds.Integer = codes "integer"
 kind_name kinds.Ip4 = codes "ipv4"
@@ -39,3 +42,20 @@ key_fits kinds.Ip6 l (keys.Ip6 bytes) = length bytes == 16
 key_fits kinds.String l (keys.Str bytes) = nat_lt (length bytes) l
 key_fits kinds.Binary l (keys.Bin bytes) = length bytes == l
 key_fits kind l key = false
+
+-- the kinds of keys in their order
+abbrev pub kind_rank : Key → ℕ
+kind_rank (keys.Int n) = 0
+kind_rank (keys.Ip4 bytes) = 1
+kind_rank (keys.Ip6 bytes) = 2
+kind_rank (keys.Str bytes) = 3
+kind_rank (keys.Bin bytes) = 4
+
+-- the order of keys: numbers by number, others byte by byte, and keys of two kinds by their kinds
+abbrev pub key_cmp : Key → Key → Ordering
+key_cmp (keys.Int a) (keys.Int b) = nat_cmp a b
+key_cmp (keys.Ip4 a) (keys.Ip4 b) = slice_cmp nat_cmp a b
+key_cmp (keys.Ip6 a) (keys.Ip6 b) = slice_cmp nat_cmp a b
+key_cmp (keys.Str a) (keys.Str b) = slice_cmp nat_cmp a b
+key_cmp (keys.Bin a) (keys.Bin b) = slice_cmp nat_cmp a b
+key_cmp a b = nat_cmp (kind_rank a) (kind_rank b)

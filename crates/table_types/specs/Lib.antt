@@ -5,5 +5,5 @@ pub mod Tables
 pub mod Updates
 pub mod Rosters
 pub mod Batches
-pub mod Slots
+pub mod SlotIds
 pub mod Rows

@@ -1,4 +1,4 @@
--- Names: of tables, of servers and of peers (the bounds are own).
+-- Names: of tables, of servers and of peers (the bounds are the profile's choices).
 use Rattle.std.specs.Prelude.{ℕ, Bool, not, ◌&&◌, ◌==◌, nat_le, List, length}
 use Rattle.std.specs.List.{list_any}
 

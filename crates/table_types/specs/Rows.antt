@@ -1,6 +1,6 @@
 -- Rows of stick tables, and what a row is made of when it is taught (HAProxy, doc/peers-v2.0.txt, "Update Messages";
 -- that a row ends after the smaller of the remaining life and the table's expire, and that a rate is kept with the
--- moment at which its current period began, are own).
+-- moment at which its current period began, are the profile's choices).
 use Rattle.std.specs.Prelude.{ℕ, ◌+◌, ◌-◌, ◌^◌, Bool, true, ◌==◌, nat_lt, List, map, Option, Some, None, if◌then◌else◌}
 use Rattle.table_types.specs.declared.row.Cell.{Cell}
 use Rattle.table_types.specs.declared.row.Cell.TheVariants as cells

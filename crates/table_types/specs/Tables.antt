@@ -1,5 +1,5 @@
 -- Definitions of tables (HAProxy, doc/peers-v2.0.txt, "Table Definition Message", and the Configuration Manual,
--- stick-table; the bounds of ids, names, lengths and periods are own).
+-- stick-table; the bounds of ids, names, lengths and periods are the profile's choices).
 use Rattle.std.specs.Prelude.{ℕ, ◌+◌, ◌^◌, Bool, true, false, not, ◌&&◌, ◌||◌, nat_lt, nat_le, List, [], ◌∷◌, Option, Some, None, if◌then◌else◌, filter_map}
 use Rattle.std.specs.List.{list_all, list_any}
 use Rattle.table_types.specs.declared.key.KeyKind.{KeyKind}

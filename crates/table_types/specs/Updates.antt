@@ -1,5 +1,5 @@
 -- Updates, and which of them fit a table (HAProxy, doc/peers-v2.0.txt, "Update Messages"; the ranges of the values
--- and of the life are own).
+-- and of the life are the profile's choices).
 use Rattle.std.specs.Prelude.{ℕ, ◌^◌, Bool, true, false, ◌&&◌, ◌==◌, nat_lt, nat_le, List, [], ◌∷◌, Option, Some, None, if◌then◌else◌}
 use Rattle.std.specs.List.{list_any}
 use Rattle.table_types.specs.declared.data_type.DataType.{DataType}

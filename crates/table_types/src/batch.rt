@@ -12,7 +12,7 @@ use std::alloc::Global;
 use std::marker::Model;
 use thiserror::Error;
 
-/// What a batch was refused for. Behind `TooMany` the least index with a fault counts, and at one index
+/// What a batch was refused for. After `TooMany` the least index with a fault counts, and at one index
 /// the first of `NoTable`, `Misfit` and `Untimed`. Indexes count from 0.
 #[derive(Clone, Copy, Debug, PartialEq, Eq, Error)]
 pub enum BatchError {

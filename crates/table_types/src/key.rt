@@ -61,7 +61,7 @@ impl KeyKind {
         }
     }
 
-    /// The word for the kind (own): `integer`, `ipv4`, `ipv6`, `string` or `binary`.
+    /// The word for the kind (profile): `integer`, `ipv4`, `ipv6`, `string` or `binary`.
     pub fn name(self) -> &'static str
         ensures { result.now ≡ kind_name self }
     {
@@ -90,7 +90,7 @@ impl KeyKind {
     }
 
     /// Whether a table of this kind may have that key length: 4 for integers and IPv4, 16 for IPv6,
-    /// 1 to 8,192 for texts and bytes (the greatest is own).
+    /// 1 to 8,192 for texts and bytes (the greatest is the profile's choice).
     pub fn fits_length(self, key_length: u64) -> bool
         ensures { result ≡ fits_length self key_length }
     {

@@ -5,7 +5,7 @@ ghost use Rattle.table_types.specs.Rows.{later_by};
 
 use std::marker::Model;
 
-/// A point in time in milliseconds, from 2^32 to 2^63 - 1 (own): so a rate's period that began up to 2^32 - 1 ms
+/// A point in time in milliseconds, from 2^32 to 2^63 - 1 (profile): so a rate's period that began up to 2^32 - 1 ms
 /// ago has a start of 0 or more, and an end in 2^32 - 1 ms is still a number of 64 bits.
 #[derive(Clone, Copy, Debug, PartialEq, Eq, PartialOrd, Ord)]
 pub struct Moment {

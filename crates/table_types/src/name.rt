@@ -8,7 +8,7 @@ use crate::memory::Memory;
 use std::alloc::Global;
 use std::marker::Model;
 
-/// A name of 1 to 255 bytes, none of them NUL (the bounds are own).
+/// A name of 1 to 255 bytes, none of them NUL (the bounds are the profile's choices).
 #[derive(Debug, Drop, PartialEq, Eq, PartialOrd, Ord)]
 pub struct Name {
     bytes: Items<u8>,

@@ -49,7 +49,7 @@ pub struct Update {
     pub table: u64,
     /// The number that the sender gave the update.
     pub number: u32,
-    /// Milliseconds that the row still lives, 0 in a table whose rows live for ever; `None` leaves it untold.
+    /// Milliseconds that the row still lives, 0 in a table whose rows live for ever; `None` leaves it not given.
     pub life: Option<u32>,
     /// The row's key.
     pub key: Key,

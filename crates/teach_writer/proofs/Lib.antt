@@ -1,4 +1,4 @@
-pub mod TellingLaws
+pub mod SendingLaws
 pub mod ShortLaws
 pub mod NamingLaws
 pub mod OrderLaws

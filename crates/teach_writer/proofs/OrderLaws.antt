@@ -5,32 +5,32 @@ use Rattle.table_types.specs.declared.update.Update.{Update}
 use Rattle.table_types.specs.Tables.{Definition}
 use Rattle.peers_msg.specs.declared.name_field.NameField.{NameField}
 use Rattle.peers_msg.specs.declared.message.Message.{Message}
-use Rattle.peers_msg.specs.Steps.{State}
-use Rattle.teach_writer.specs.Kept.{IsNameField, IsSettled}
-use Rattle.teach_writer.specs.Telling.{slot_of, is_stored, IsTold}
+use Rattle.known_state.specs.State.{State}
+use Rattle.teach_writer.specs.Retained.{IsNameField, IsSettled}
+use Rattle.teach_writer.specs.Sending.{slot_of, is_stored, IsSent}
 
--- the updates are told one after another, as these slots keep their names
-abbrev pub AreToldBy : List Definition → State → List Bool → List Update → List Message → State → Type 0
-AreToldBy roster s kept [] ms e = (ms ≡ []) × (e ≡ s)
-AreToldBy roster s kept (u ∷ us) ms e =
+-- the updates are told one after another, as these slots retain their names
+abbrev pub AreSentBy : List Definition → State → List Bool → List Update → List Message → State → Type 0
+AreSentBy roster s retained [] ms e = (ms ≡ []) × (e ≡ s)
+AreSentBy roster s retained (u ∷ us) ms e =
     (field : NameField) × (first : List Message) × (mid : State) × (next : List Bool) × (rest : List Message)
-    × IsTold roster s u field first mid
-    × IsNameField kept s.slots (is_stored roster u) u.name field
-    × IsSettled kept (slot_of field) u.name us next
-    × AreToldBy roster mid next us rest e
+    × IsSent roster s u field first mid
+    × IsNameField retained s.slots (is_stored roster u) u.name field
+    × IsSettled retained (slot_of field) u.name us next
+    × AreSentBy roster mid next us rest e
     × (ms ≡ first ++ rest)
 
--- Whatever tells the updates that are left, from the state mid and what is kept there, tells them all from the start
+-- Whatever tells the updates that are left, from the state mid and what is retained there, tells them all from the start
 -- with these messages before it.
 abbrev pub Leads : List Definition → State → List Bool → List Update → List Message → State → List Bool → List Update → Type 0
-Leads roster s start us ms mid kept left = (rest : List Message) → (e : State) → AreToldBy roster mid kept left rest e → AreToldBy roster s start us (ms ++ rest) e
+Leads roster s start us ms mid retained left = (rest : List Message) → (e : State) → AreSentBy roster mid retained left rest e → AreSentBy roster s start us (ms ++ rest) e
 
 pub leads_first : (roster : List Definition) (s : State) (start : List Bool) (us : List Update) → Leads roster s start us [] s start us
 leads_first roster s start us = λ rest e told. told
 
-pub leads_next : (roster : List Definition) (s mid after : State) (start kept next : List Bool) (us left : List Update) (u : Update) (ms first : List Message) (field : NameField) → Leads roster s start us ms mid kept (u ∷ left) → IsTold roster mid u field first after → IsNameField kept mid.slots (is_stored roster u) u.name field → IsSettled kept (slot_of field) u.name left next → Leads roster s start us (ms ++ first) after next left
-leads_next roster s mid after start kept next us left u ms first field leads told named settled = λ rest e more.
-    subst (λ (l : List Message). AreToldBy roster s start us l e) (sym (append_assoc ms first rest)) (leads (first ++ rest) e (field, first, after, next, rest, told, named, settled, more, refl))
+pub leads_next : (roster : List Definition) (s mid after : State) (start retained next : List Bool) (us left : List Update) (u : Update) (ms first : List Message) (field : NameField) → Leads roster s start us ms mid retained (u ∷ left) → IsSent roster mid u field first after → IsNameField retained mid.slots (is_stored roster u) u.name field → IsSettled retained (slot_of field) u.name left next → Leads roster s start us (ms ++ first) after next left
+leads_next roster s mid after start retained next us left u ms first field leads told named settled = λ rest e more.
+    subst (λ (l : List Message). AreSentBy roster s start us l e) (sym (append_assoc ms first rest)) (leads (first ++ rest) e (field, first, after, next, rest, told, named, settled, more, refl))
 
-pub leads_last : (roster : List Definition) (s e : State) (start kept : List Bool) (us : List Update) (ms : List Message) → Leads roster s start us ms e kept [] → AreToldBy roster s start us ms e
-leads_last roster s e start kept us ms leads = subst (λ (l : List Message). AreToldBy roster s start us l e) (append-nil ms) (leads [] e (refl, refl))
+pub leads_last : (roster : List Definition) (s e : State) (start retained : List Bool) (us : List Update) (ms : List Message) → Leads roster s start us ms e retained [] → AreSentBy roster s start us ms e
+leads_last roster s e start retained us ms leads = subst (λ (l : List Message). AreSentBy roster s start us l e) (append-nil ms) (leads [] e (refl, refl))

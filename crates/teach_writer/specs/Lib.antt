@@ -1,3 +1,3 @@
 pub mod Naming
-pub mod Kept
-pub mod Telling
+pub mod Retained
+pub mod Sending

@@ -1,9 +1,9 @@
--- Through which slots the names of a lesson go (own). A request is an update with a name; each has a mark, whether it is
--- kept. A request has a link where its name was requested before, or stands in a slot at the start.
+-- Through which slots the names of a lesson go (profile). A request is an update with a name; each has a mark, whether it is
+-- retained. A request has a link where its name was requested before, or stands in a slot at the start.
 use Rattle.std.specs.Prelude.{◌≡◌, ◌≤◌, ℕ, ◌+◌, Bool, true, false, List, [], ◌∷◌, is_some, Option, Some, None, if◌then◌else◌}
 use Rattle.table_types.specs.declared.update.Update.{Update}
 use Rattle.table_types.specs.Rosters.{is_same_name}
-use Rattle.table_types.specs.Slots.{is_slot}
+use Rattle.table_types.specs.SlotIds.{is_slot}
 use Rattle.peers_msg.specs.declared.name_field.NameField.{NameField}
 use Rattle.peers_msg.specs.declared.name_field.NameField.TheVariants as names
 use Rattle.known_state.specs.Cost.{written_field}
@@ -21,36 +21,36 @@ lowest_from slot (held ∷ slots) name = if is_that_name name held then Some slo
 abbrev pub starts_at_first : List (Option (List ℕ)) → List ℕ → Option ℕ
 starts_at_first slots = λ name. lowest_from 1 slots name
 
-abbrev pub starts_behind : (List ℕ → Option ℕ) → Option (List ℕ) → Option ℕ → List ℕ → Option ℕ
-starts_behind starts (Some name) (Some slot) = λ other. if is_same_name name other then Some slot else starts other
-starts_behind starts name slot = starts
+abbrev pub starts_after : (List ℕ → Option ℕ) → Option (List ℕ) → Option ℕ → List ℕ → Option ℕ
+starts_after starts (Some name) (Some slot) = λ other. if is_same_name name other then Some slot else starts other
+starts_after starts name slot = starts
 
--- the mark of the first request, and those of the requests behind an update
+-- the mark of the first request, and those of the requests after an update
 abbrev pub first_mark : List Bool → Bool
 first_mark [] = false
 first_mark (mark ∷ marks) = mark
 
-abbrev pub marks_behind : Option (List ℕ) → List Bool → List Bool
-marks_behind None marks = marks
-marks_behind (Some name) [] = []
-marks_behind (Some name) (mark ∷ marks) = marks
+abbrev pub marks_after : Option (List ℕ) → List Bool → List Bool
+marks_after None marks = marks
+marks_after (Some name) [] = []
+marks_after (Some name) (mark ∷ marks) = marks
 
--- whether the next request for a name is kept
-abbrev pub keeps_next : List ℕ → List Update → List Bool → Bool
-keeps_next name [] marks = false
-keeps_next name (u ∷ us) marks = if is_that_name name u.name then first_mark marks else keeps_next name us (marks_behind u.name marks)
+-- whether the next request for a name is retained
+abbrev pub retains_next : List ℕ → List Update → List Bool → Bool
+retains_next name [] marks = false
+retains_next name (u ∷ us) marks = if is_that_name name u.name then first_mark marks else retains_next name us (marks_after u.name marks)
 
--- A name is kept over the place of the first of these updates in that slot: it is the very slot that a kept link will
--- read, which began before and ends behind.
-abbrev pub IsKeptOver : (List ℕ → Option ℕ) → List Update → List Bool → ℕ → Type 0
-IsKeptOver starts us marks slot = (name : List ℕ) × (starts name ≡ Some slot) × (keeps_next name us marks ≡ true)
+-- A name is retained over the place of the first of these updates in that slot: it is the very slot that a retained link will
+-- read, which began before and ends after.
+abbrev pub IsRetainedOver : (List ℕ → Option ℕ) → List Update → List Bool → ℕ → Type 0
+IsRetainedOver starts us marks slot = (name : List ℕ) × (starts name ≡ Some slot) × (retains_next name us marks ≡ true)
 
--- that slot may be written there: no name is kept in it
+-- that slot may be written there: no name is retained in it
 abbrev pub IsOpen : (List ℕ → Option ℕ) → List Update → List Bool → ℕ → Type 0
-IsOpen starts us marks slot = (is_slot slot ≡ true) × (IsKeptOver starts us marks slot → ⊥)
+IsOpen starts us marks slot = (is_slot slot ≡ true) × (IsRetainedOver starts us marks slot → ⊥)
 
--- How the name of the first of these updates is told. A kept request reads the slot in which its link began; any other name
--- is written, to the lowest slot in which no name is kept over this place. An update without a name has an empty field where
+-- How the name of the first of these updates is told. A retained request reads the slot in which its link began; any other name
+-- is written, to the lowest slot in which no name is retained over this place. An update without a name has an empty field where
 -- its table stores names, and else no field.
 abbrev pub IsNamed : (List ℕ → Option ℕ) → List Update → List Bool → Bool → Option (List ℕ) → NameField → Type 0
 IsNamed starts us (true ∷ marks) stored (Some name) (names.Held slot) = starts name ≡ Some slot

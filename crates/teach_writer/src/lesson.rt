@@ -2,18 +2,18 @@
 
 ghost use Rattle.std.specs.Prelude.{◌≡◌, true, IsTrue, ◌↔◌, IfOk, IfSome, Bool, List, length, option_copied};
 ghost use Rattle.table_types.specs.Batches.{IsBatchFor};
-ghost use Rattle.table_types.specs.Slots.{is_slot};
+ghost use Rattle.table_types.specs.SlotIds.{is_slot};
 ghost use Rattle.peers_msg.specs.declared.message.Message.{Message};
 ghost use Rattle.peers_msg.specs.Spelling.{stream_of};
 ghost use Rattle.known_state.specs.Lessons.{IsLessonFor};
 ghost use Rattle.known_state.specs.Requests.{AreNameless};
 ghost use Rattle.known_state.specs.Shortest.{Shortest};
 ghost use Rattle.teach_writer.specs.Naming.{is_that_name, no_prices};
-ghost use Rattle.teach_writer.specs.Kept.{is_asked, MayKeep, IsKeptAtStart, IsSettled};
-ghost use Rattle.teach_writer.specs.Telling.{GoesThrough};
+ghost use Rattle.teach_writer.specs.Retained.{is_asked, MayRetain, IsRetainedAtStart, IsSettled};
+ghost use Rattle.teach_writer.specs.Sending.{GoesThrough};
 
-use crate::kept::Kept;
-use crate::telling::tell;
+use crate::retained::Retained;
+use crate::sending::send;
 use dict_slots::Slots;
 use known_state::Known;
 use std::alloc::Global;
@@ -42,7 +42,7 @@ pub struct Lesson {
     /// One price for each update of the batch that has a name. All are 0: which names are read is a simple choice yet,
     /// and no prices show that it is the best.
     pub prices: Items<u64>,
-    /// What the learner knows behind it.
+    /// What the learner knows after it.
     pub known: Known,
 }
 
@@ -68,10 +68,10 @@ fn is_asked(updates: &[Update], name: &Name) -> bool
     false
 }
 
-/// Whether the slot may keep its name from the start: it is the lowest that holds that name, and an update asks for it.
-fn may_keep(slots: &Slots, updates: &[Update], slot: u8) -> bool
+/// Whether the slot may retain its name from the start: it is the lowest that holds that name, and an update asks for it.
+fn may_retain(slots: &Slots, updates: &[Update], slot: u8) -> bool
     requires { is_slot slot ≡ true }
-    ensures { IsTrue result ↔ MayKeep slots.now updates.now slot }
+    ensures { IsTrue result ↔ MayRetain slots.now updates.now slot }
 {
     match slots.name(slot) {
         Some(name) => slots.find(name) == Some(slot) && is_asked(updates, name),
@@ -79,34 +79,34 @@ fn may_keep(slots: &Slots, updates: &[Update], slot: u8) -> bool
     }
 }
 
-/// What is kept at the start: each name that the slots hold and an update asks for, in the lowest slot that holds it,
+/// What is retained at the start: each name that the slots hold and an update asks for, in the lowest slot that holds it,
 /// where another slot stays free.
-fn kept_at_start(slots: &Slots, updates: &[Update]) -> Kept
-    ensures kept { IsKeptAtStart slots.now updates.now result }
+fn retained_at_start(slots: &Slots, updates: &[Update]) -> Retained
+    ensures retained { IsRetainedAtStart slots.now updates.now result }
     ensures count { length slots.now ≡ 128 }
 {
-    let mut kept = Kept::none();
+    let mut retained = Retained::none();
     for slot in 1..=slots.len() as u8 {
-        if may_keep(slots, updates, slot) {
-            kept.keep(slot);
+        if may_retain(slots, updates, slot) {
+            retained.retain(slot);
         }
     }
-    kept
+    retained
 }
 
-/// Behind an update with that name, which went through that slot: it is kept where a later update asks for it and
+/// After an update with that name, which went through that slot: it is retained where a later update asks for it and
 /// another slot stays free.
-fn settle(kept: &mut Kept, slot: Option<u8>, name: Option<&Name>, later: &[Update])
+fn settle(retained: &mut Retained, slot: Option<u8>, name: Option<&Name>, later: &[Update])
     requires { IfSome slot (λ id. is_slot id ≡ true) }
-    ensures { IsSettled kept.old slot (option_copied name.entry) later.now kept.new }
+    ensures { IsSettled retained.old slot (option_copied name.entry) later.now retained.new }
 {
     let (Some(slot), Some(name)) = (slot, name) else {
         return;
     };
     if is_asked(later, name) {
-        kept.keep(slot);
+        retained.retain(slot);
     } else {
-        kept.release(slot);
+        retained.release(slot);
     }
 }
 
@@ -126,7 +126,7 @@ fn no_prices(alloc: Global, updates: &[Update]) -> Result<Vec<u64>, Memory>
 /// The lesson that teaches the batch to a learner in the known state. It goes through the batch in order. Where an
 /// update's table isn't selected, its definition comes first if it isn't defined yet, and else a switch. An update
 /// comes without its number exactly where that is one more than its table's last, modulo 2^32, and with its life. Its
-/// name is read where a slot keeps it, and else written to the lowest slot that keeps none. A slot keeps its name, from
+/// name is read where a slot retains it, and else written to the lowest slot that retains none. A slot retains its name, from
 /// the start or from an update that had it, until the next update that asks for it, where another slot stays free when
 /// that begins.
 ///
@@ -142,11 +142,16 @@ pub fn teach(alloc: Global, known: &Known, batch: &Batch) -> Result<Lesson, Teac
 {
     let updates = batch.updates();
     let mut after = known.copy(alloc)?;
-    let mut kept = kept_at_start(after.slots(), updates);
+    let mut retained = retained_at_start(after.slots(), updates);
     let mut bytes = Vec::new(alloc);
     for (place, update) in updates.iter().enumerate() {
-        let slot = tell(alloc, &mut after, &kept, update, &mut bytes)?;
-        settle(&mut kept, slot, update.name.as_ref(), &updates[place + 1..]);
+        let slot = send(alloc, &mut after, &retained, update, &mut bytes)?;
+        settle(
+            &mut retained,
+            slot,
+            update.name.as_ref(),
+            &updates[place + 1..],
+        );
     }
     Ok(Lesson {
         bytes: Items::new(bytes),

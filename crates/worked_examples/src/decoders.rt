@@ -181,7 +181,7 @@ static STREAMS: [Stream; 16] = [
         ],
         waiting: 0,
     },
-    // A byte behind the value.
+    // A byte after the value.
     Stream {
         resumed: true,
         parts: &[(

@@ -117,7 +117,7 @@ fn message(alloc: Global, told: &Told) -> Option<Message> {
     }
 }
 
-/// A message, why it is refused if it is, and behind it the selected table and the last number of the roster's.
+/// A message, why it is refused if it is, and after it the selected table and the last number of the roster's.
 type Step = (Told, Option<StepError>, Option<u64>, Option<u32>);
 
 /// The parts of a state, messages that come to it one after another, and the slots that hold `s1` in the end.
@@ -210,10 +210,10 @@ fn refusal(known: &mut Known, message: &Message) -> Option<StepError> {
 }
 
 fn stands_at(known: &Known, id: u64, selected: Option<u64>, last: Option<u32>) -> bool {
-    known.heard().selected() == selected && known.lasts().last(id) == last
+    known.received().selected() == selected && known.last_numbers().last(id) == last
 }
 
-/// Whether the message is answered so, and the state behind it is so.
+/// Whether the message is answered so, and the state after it is so.
 fn is_step(alloc: Global, known: &mut Known, id: u64, step: &Step) -> Option<bool> {
     let message = message(alloc, &step.0)?;
     Some(refusal(known, &message) == step.1 && stands_at(known, id, step.2, step.3))

@@ -251,8 +251,8 @@ fn is_known(learner: &Learner, stream: &Stream) -> Option<bool> {
     let known = learner.known(learner.roster()).ok()?;
     Some(
         (
-            known.heard().selected(),
-            known.lasts().last(stream.table.id),
+            known.received().selected(),
+            known.last_numbers().last(stream.table.id),
         ) == stream.known,
     )
 }

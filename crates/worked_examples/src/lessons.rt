@@ -11,7 +11,7 @@ use teach_writer::{Lesson, teach};
 const LIFE: Option<u32> = Some(30_000);
 
 /// The parts of a known state, the updates that are taught from there, the bytes of their lesson, and what is known
-/// behind it: the last number of the table, which is defined and selected, and the slots that hold `s1`.
+/// after it: the last number of the table, which is defined and selected, and the slots that hold `s1`.
 struct Taught {
     from: KnownParts,
     updates: &'static [UpdateParts],
@@ -156,10 +156,10 @@ fn lesson_of(alloc: Global, taught: &Taught) -> Option<Lesson> {
 
 /// Whether table `id` is the one that is defined, is selected, and has that last number, and these slots hold `s1`.
 fn stands_at(known: &Known, id: u64, last: u32, held: &[u8]) -> bool {
-    let heard = known.heard();
-    heard.tables().len() == 1
-        && heard.selected() == Some(id)
-        && known.lasts().last(id) == Some(last)
+    let received = known.received();
+    received.tables().len() == 1
+        && received.selected() == Some(id)
+        && known.last_numbers().last(id) == Some(last)
         && are_held(known.slots(), held)
 }
 

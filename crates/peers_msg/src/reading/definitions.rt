@@ -25,7 +25,7 @@ fn kind_of(number: u64) -> Result<KeyKind, ReadError>
     }
 }
 
-/// The period of a rate behind its id; nothing for any other type.
+/// The period of a rate after its id; nothing for any other type.
 #[tactic(auto, unfolding(crate::specs::Reading::period_at))]
 fn period_at(data_type: DataType, bytes: &[u8]) -> Result<(Option<u32>, &[u8]), ReadError>
     ensures { Gives (λ x. (x.0, x.1.now)) result (period_at data_type bytes.now) }

@@ -5,25 +5,25 @@ ghost use Rattle.peers_msg.specs.declared.meaning.Meaning.TheVariants as meaning
 ghost use Rattle.peers_msg.specs.Messages.{is_other};
 ghost use Rattle.peers_msg.specs.Decoding.{Gives};
 ghost use Rattle.peers_msg.specs.Reading.{switch_at, ack_at, update_of, control_meant, error_meant, table_meant, meant, message_of, data_at, frame_at, message_at};
-ghost use Rattle.peers_msg.specs.Heard.{selected_table};
+ghost use Rattle.peers_msg.specs.Received.{selected_table};
 
 use super::definitions::definition_at;
 use super::fields::{integer_at, wanted, word_at};
 use super::updates::update_at;
 use crate::control::{Control, ErrorKind};
 use crate::fault::{Breach, ReadError};
-use crate::heard::Heard;
 use crate::meaning::Meaning;
 use crate::message::{Message, Other};
+use crate::received::Received;
 use peers_encint::{Read, get};
 use std::alloc::Global;
 
 #[tactic(auto, unfolding(crate::specs::Reading::switch_at))]
-fn switch_at(heard: &Heard, bytes: &[u8]) -> Result<Message, ReadError>
-    ensures { Gives (λ message. message) result (switch_at heard.now bytes.now) }
+fn switch_at(received: &Received, bytes: &[u8]) -> Result<Message, ReadError>
+    ensures { Gives (λ message. message) result (switch_at received.now bytes.now) }
 {
     let (id, rest) = integer_at(Breach::BadInteger, bytes)?;
-    wanted(heard.table(id).is_some(), Breach::NoTable)?;
+    wanted(received.table(id).is_some(), Breach::NoTable)?;
     wanted(rest.is_empty(), Breach::Trailing)?;
     Ok(Message::Switch(id))
 }
@@ -40,14 +40,14 @@ fn ack_at(bytes: &[u8]) -> Result<Message, ReadError>
 
 fn update_of(
     alloc: Global,
-    heard: &Heard,
+    received: &Received,
     numbered: bool,
     timed: bool,
     bytes: &[u8],
 ) -> Result<Message, ReadError>
-    ensures { Gives (λ message. message) result (update_of (selected_table heard.now) numbered timed bytes.now) }
+    ensures { Gives (λ message. message) result (update_of (selected_table received.now) numbered timed bytes.now) }
 {
-    match heard.selected_table() {
+    match received.selected_table() {
         Some(table) => {
             let update = update_at(alloc, table, numbered, timed, bytes)?;
             Ok(Message::Update(update))
@@ -122,22 +122,22 @@ struct Frame<'a> {
 
 fn message_of(
     alloc: Global,
-    heard: &Heard,
+    received: &Received,
     meaning: Meaning,
     class: u8,
     kind: u8,
     body: &[u8],
 ) -> Result<Message, ReadError>
     requires { meaning ≡ meanings.Other → is_other (record { class = class; kind = kind; body = body.now }) ≡ true }
-    ensures { Gives (λ message. message) result (message_of heard.now meaning class kind body.now) }
+    ensures { Gives (λ message. message) result (message_of received.now meaning class kind body.now) }
 {
     match meaning {
         Meaning::Control(control) => Ok(Message::Control(control)),
         Meaning::Error(error) => Ok(Message::Error(error)),
         Meaning::Define => Ok(Message::Define(definition_at(alloc, body)?)),
-        Meaning::Switch => switch_at(heard, body),
+        Meaning::Switch => switch_at(received, body),
         Meaning::Ack => ack_at(body),
-        Meaning::Update { numbered, timed } => update_of(alloc, heard, numbered, timed, body),
+        Meaning::Update { numbered, timed } => update_of(alloc, received, numbered, timed, body),
         Meaning::Other => match Other::new(class, kind, Vec::from_slice(alloc, body)?) {
             Some(other) => Ok(Message::Other(other)),
             None => unreachable!(),
@@ -145,7 +145,7 @@ fn message_of(
     }
 }
 
-/// The data behind a type, once they all stand.
+/// The data after a type, once they all stand.
 #[tactic(auto, unfolding(crate::specs::Reading::data_at))]
 fn data_at(kind: u8, bytes: &[u8]) -> Result<Option<(&[u8], &[u8])>, ReadError>
     ensures { Gives (option_map (λ x. (x.0.now, x.1.now))) result (data_at kind bytes.now) }
@@ -192,15 +192,22 @@ fn frame_at(bytes: &[u8]) -> Result<Option<(Frame<'_>, &[u8])>, ReadError>
 #[tactic(auto, unfolding(crate::specs::Reading::message_at, crate::specs::Reading::body_at))]
 pub(crate) fn message_at<'a>(
     alloc: Global,
-    heard: &Heard,
+    received: &Received,
     bytes: &'a [u8],
 ) -> Result<Option<(Message, &'a [u8])>, ReadError>
-    ensures { Gives (option_map (λ x. (x.0, x.1.now))) result (message_at heard.now bytes.now) }
+    ensures { Gives (option_map (λ x. (x.0, x.1.now))) result (message_at received.now bytes.now) }
 {
     let Some((frame, rest)) = frame_at(bytes)? else {
         return Ok(None);
     };
     let meaning = meant(frame.class, frame.kind);
-    let message = message_of(alloc, heard, meaning, frame.class, frame.kind, frame.body)?;
+    let message = message_of(
+        alloc,
+        received,
+        meaning,
+        frame.class,
+        frame.kind,
+        frame.body,
+    )?;
     Ok(Some((message, rest)))
 }

@@ -124,7 +124,7 @@ fn values_at<'a>(
     Ok((values, rest))
 }
 
-/// What stands behind the slot of a name field.
+/// What stands after the slot of a name field.
 #[tactic(auto, unfolding(crate::specs::Reading::slot_holds))]
 fn slot_holds(alloc: Global, slot: u8, bytes: &[u8]) -> Result<NameField, ReadError>
     ensures { Gives (λ field. field) result (slot_holds slot bytes.now) }

@@ -3,4 +3,4 @@ use Rattle.known_state.specs.Known.{repeats_last}
 use Rattle.known_state.proofs.parts.repeats_last.Given as goal
 
 abbrev pub invariant-loop-place : goal.invariant-loop-place
-invariant-loop-place l = repeats_last (drop l.place l.lasts) ≡ repeats_last l.lasts
+invariant-loop-place l = repeats_last (drop l.place l.last_numbers) ≡ repeats_last l.last_numbers

@@ -2,7 +2,7 @@ use Rattle.std.proofs.Common.{◌∙◌, ℕ, Bool, List, subst, sym}
 use Rattle.known_state.specs.Requests.{AreNameless}
 use Rattle.known_state.specs.Shortest.{Shortest}
 use Rattle.known_state.proofs.ShortestLaws.{same_bytes}
-use Rattle.teach_writer.specs.Telling.{GoesThrough}
+use Rattle.teach_writer.specs.Sending.{GoesThrough}
 use Rattle.scene_commands.proofs.SceneLaws.{lesson_of_scene}
 use Rattle.scene_commands.proofs.teaching.lesson_of.Goals as goal
 

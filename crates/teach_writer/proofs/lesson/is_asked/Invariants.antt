@@ -1,5 +1,5 @@
 use Rattle.std.proofs.Common.{◌≡◌, drop}
-use Rattle.teach_writer.specs.Kept.{is_asked}
+use Rattle.teach_writer.specs.Retained.{is_asked}
 use Rattle.teach_writer.proofs.lesson.is_asked.Given as goal
 
 abbrev pub invariant-loop-update : goal.invariant-loop-update

@@ -1,16 +1,16 @@
 use Rattle.std.proofs.Common.{◌≡◌, true, Some, option_copied, rules}
-use Rattle.teach_writer.specs.Kept.{is_asked}
-use Rattle.teach_writer.proofs.NamingLaws.{settled_kept}
+use Rattle.teach_writer.specs.Retained.{is_asked}
+use Rattle.teach_writer.proofs.NamingLaws.{settled_retained}
 use Rattle.teach_writer.proofs.lesson.settle.Goals as goal
 
 pub returns-then-is_asked : goal.returns-then-is_asked
 returns-then-is_asked c =
-    let kept = c.args.kept.now in
-    let next = c.keep.new.self in
+    let retained = c.args.retained.now in
+    let next = c.retain.new.self in
     let slot = c.in-Some-Some.slot in
     let name = c.in-Some-Some.name.now in
     let later = c.args.later.now in
     let asked : is_asked name later ≡ true = search rules in
     let slot_is : c.args.slot ≡ Some slot = search rules in
     let name_is : option_copied c.args.name ≡ Some name = search rules in
-    rw (slot_is, name_is) (settled_kept kept next slot name later asked c.keep.ensures.either)
+    rw (slot_is, name_is) (settled_retained retained next slot name later asked c.retain.ensures.either)

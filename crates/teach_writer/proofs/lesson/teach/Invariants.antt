@@ -1,10 +1,10 @@
 use Rattle.std.proofs.Common.{◌≡◌, ◌+◌, ◌≤◌, Bool, List, take, drop}
 use Rattle.peers_msg.specs.declared.message.Message.{Message}
 use Rattle.peers_msg.specs.Spelling.{stream_of, size_of_all}
-use Rattle.peers_msg.specs.Steps.{Legal}
+use Rattle.known_state.specs.State.{Legal}
 use Rattle.known_state.specs.Requests.{AreNameless}
 use Rattle.known_state.specs.Cost.{cost}
-use Rattle.teach_writer.specs.Kept.{IsKeptAtStart}
+use Rattle.teach_writer.specs.Retained.{IsRetainedAtStart}
 use Rattle.teach_writer.proofs.OrderLaws.{Leads}
 use Rattle.teach_writer.proofs.lesson.teach.Given as goal
 
@@ -12,5 +12,5 @@ abbrev pub invariant-loop-place : goal.invariant-loop-place
 invariant-loop-place l = record {
   roster : l.after.roster ≡ l.known.roster;
   told : (ms : List Message) × (l.bytes.items ≡ stream_of ms) × Legal l.known.roster l.known.state ms (take l.place l.updates) l.after.state × (AreNameless l.updates → size_of_all ms + cost l.known.roster l.after.state (drop l.place l.updates) ≤ cost l.known.roster l.known.state l.updates);
-  order : (start : List Bool) × (ms : List Message) × (l.bytes.items ≡ stream_of ms) × IsKeptAtStart l.known.state.slots l.updates start × Leads l.known.roster l.known.state start l.updates ms l.after.state l.kept (drop l.place l.updates);
+  order : (start : List Bool) × (ms : List Message) × (l.bytes.items ≡ stream_of ms) × IsRetainedAtStart l.known.state.slots l.updates start × Leads l.known.roster l.known.state start l.updates ms l.after.state l.retained (drop l.place l.updates);
 }

@@ -3,7 +3,7 @@ use Rattle.std.proofs.lemmas.List.{take_more}
 use Rattle.table_types.specs.declared.update.Update.{Update}
 use Rattle.table_types.specs.Batches.{IsBatchFor}
 use Rattle.known_state.specs.Cost.{knowledge_of}
-use Rattle.known_state.specs.Requests.{Asked, asked, requests_of, knowledge_behind}
+use Rattle.known_state.specs.Requests.{Asked, asked, requests_of, knowledge_after_all}
 use Rattle.known_state.proofs.BatchLemmas.{batch_taught}
 use Rattle.known_state.proofs.RequestLemmas.{requests-more}
 use Rattle.known_state.proofs.known.Known.costs.Goals as goal
@@ -22,7 +22,7 @@ loop-place-preserved c =
     let us = c.updates-updates.result.now in
     let i = c.loop-place.place in
     let u = c.index-updates-place.result in
-    let added : c.add_request.new.requests.items ≡ c.loop-place.requests.items ++ asked roster (knowledge_behind k (take i us)) u u.name = search rules in
+    let added : c.add_request.new.requests.items ≡ c.loop-place.requests.items ++ asked roster (knowledge_after_all k (take i us)) u u.name = search rules in
     let more : take (i + 1) us ≡ take i us ++ u ∷ [] = take_more us i u c.loop-place-test.true ∙ ap (λ (x : Update). take i us ++ x ∷ []) (sym c.index-updates-place.is) in
-    added ∙ ap (λ (l : List Asked). l ++ asked roster (knowledge_behind k (take i us)) u u.name) c.loop-place.invariant
+    added ∙ ap (λ (l : List Asked). l ++ asked roster (knowledge_after_all k (take i us)) u u.name) c.loop-place.invariant
     ∙ sym (requests-more roster k (take i us) u) ∙ ap (λ (l : List Update). requests_of roster k l) (sym more)

@@ -18,7 +18,7 @@ returns-then-reads_empty-clause-refused c =
 
 pub returns-clause-step : goal.returns-clause-step
 returns-clause-step c =
-    taken c.args.self.now c.self.inside.roster c.self.inside.heard c.self.inside.resolver c.take.new.self c.args.update.now c.in-Some.table.now c.id-id.result c.in-Some-number.number
+    taken c.args.self.now c.self.inside.roster c.self.inside.received c.self.inside.resolver c.take.new.self c.args.update.now c.in-Some.table.now c.id-id.result c.in-Some-number.number
     c.self.view_is (search rules) (search rules) c.id-id.ensures.defined c.id-id.ensures.value (search rules) (search rules) (search rules) (search rules)
 
 pub returns-then-not-fits-clause-exactly : goal.returns-then-not-fits-clause-exactly
@@ -38,10 +38,10 @@ returns-then-reads_empty-clause-exactly c = λ e refuses.
 
 pub returns-in_err-take-clause-exactly : goal.returns-in_err-take-clause-exactly
 returns-in_err-take-clause-exactly c = λ e refuses.
-    absurd (update_unrefused c.args.self.now c.self.inside.roster c.self.inside.heard c.self.inside.resolver c.args.update.now c.in-Some.table.now c.id-id.result c.in-Some-number.number e
+    absurd (update_unrefused c.args.self.now c.self.inside.roster c.self.inside.received c.self.inside.resolver c.args.update.now c.in-Some.table.now c.id-id.result c.in-Some-number.number e
     c.self.view_is c.self.invariant (search rules) (search rules) c.id-id.ensures.defined c.id-id.ensures.value (search rules) (search rules) refuses)
 
 pub returns-clause-exactly : goal.returns-clause-exactly
 returns-clause-exactly c = λ e refuses.
-    absurd (update_unrefused c.args.self.now c.self.inside.roster c.self.inside.heard c.self.inside.resolver c.args.update.now c.in-Some.table.now c.id-id.result c.in-Some-number.number e
+    absurd (update_unrefused c.args.self.now c.self.inside.roster c.self.inside.received c.self.inside.resolver c.args.update.now c.in-Some.table.now c.id-id.result c.in-Some-number.number e
     c.self.view_is c.self.invariant (search rules) (search rules) c.id-id.ensures.defined c.id-id.ensures.value (search rules) (search rules) refuses)

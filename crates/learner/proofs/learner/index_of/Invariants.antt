@@ -1,0 +1,7 @@
+use Rattle.std.proofs.Common.{◌≡◌, ◌+◌, drop}
+use Rattle.std.specs.Prelude.{option_map}
+use Rattle.learner.specs.Rows.{index_of}
+use Rattle.learner.proofs.learner.index_of.Given as goal
+
+abbrev pub invariant-loop-place : goal.invariant-loop-place
+invariant-loop-place l = option_map (λ n. n + l.place) (index_of (drop l.place l.tables) l.id) ≡ index_of l.tables l.id

@@ -1,7 +1,0 @@
-use Rattle.std.proofs.Common.{◌≡◌, ◌+◌, drop}
-use Rattle.std.specs.Prelude.{option_map}
-use Rattle.learner.specs.Rows.{place_of}
-use Rattle.learner.proofs.learner.place_of.Given as goal
-
-abbrev pub invariant-loop-place : goal.invariant-loop-place
-invariant-loop-place l = option_map (λ n. n + l.place) (place_of (drop l.place l.tables) l.id) ≡ place_of l.tables l.id

@@ -1,0 +1,24 @@
+-- Which tables that are received a learner keeps (profile).
+use Rattle.std.specs.Prelude.{ℕ, List, [], ◌∷◌, filter_map, Option, Some, None, option_and_then, option_map, if◌then◌else◌}
+use Rattle.table_types.specs.declared.update.Update.{Update}
+use Rattle.table_types.specs.Tables.{Definition}
+use Rattle.table_types.specs.Rosters.{table_at}
+use Rattle.peers_msg.specs.Received.{Received}
+use Rattle.peers_msg.specs.OwnTables.{is_shape_of}
+
+-- the own table that a table received is: the one of its shape
+abbrev pub local_table : List Definition → Definition → Option Definition
+local_table [] received = None
+local_table (d ∷ ds) received = if is_shape_of d received then Some d else local_table ds received
+
+-- the id of the own table that an id received stands for
+abbrev pub local_id : List Definition → Received → ℕ → Option ℕ
+local_id roster received id = option_map (λ d. d.id) (option_and_then (local_table roster) (table_at received.tables id))
+
+-- an update under its own table's id
+abbrev pub local_update : List Definition → Received → Update → Option Update
+local_update roster received u = option_map (λ id. record { table = id; number = u.number; life = u.life; key = u.key; values = u.values; name = u.name }) (local_id roster received u.table)
+
+-- the updates of own tables, each under its own table's id
+abbrev pub local_updates : List Definition → Received → List Update → List Update
+local_updates roster received us = filter_map (local_update roster received) us

@@ -1,0 +1,52 @@
+-- What of the tables was received on a stream: which definition each id stands for, and which id is selected
+-- (HAProxy, doc/peers-v2.0.txt, "Table Definition Message" and "Table Switch Message"; what a definition under
+-- another id or with another name takes away is the profile's choice).
+use Rattle.std.specs.Prelude.{ℕ, Bool, not, ◌&&◌, ◌==◌, nat_lt, List, [], ◌∷◌, filter, fold, Option, Some, None, option_and_then, if◌then◌else◌}
+use Rattle.table_types.specs.Tables.{Definition}
+use Rattle.table_types.specs.Rosters.{is_same_name, table_at}
+use Rattle.peers_msg.specs.declared.message.Message.{Message}
+use Rattle.peers_msg.specs.declared.message.Message.TheVariants as messages
+
+-- the tables received stand in rising id
+pub record Received : Type 0 where
+  pub tables : List Definition
+  pub selected : Option ℕ
+
+-- nothing is received yet
+abbrev pub nothing_received : Received
+nothing_received = record { tables = []; selected = None }
+
+-- a table in its place among tables in rising id
+abbrev pub put_table : Definition → List Definition → List Definition
+put_table new [] = new ∷ []
+put_table new (d ∷ ds) = if nat_lt new.id d.id then new ∷ (d ∷ ds) else d ∷ put_table new ds
+
+-- a table outlives a definition that has neither its id nor its name
+abbrev pub outlives : Definition → Definition → Bool
+outlives new d = not (d.id == new.id) && not (is_same_name d.name new.name)
+
+-- a definition replaces the table of its id, and takes its name from another id
+abbrev pub defined : Definition → List Definition → List Definition
+defined new ds = put_table new (filter (outlives new) ds)
+
+-- a definition also selects its table, a switch selects a table, and nothing else changes what is received
+abbrev pub received_after : Received → Message → Received
+received_after h (messages.Define d) = record { tables = defined d h.tables; selected = Some d.id }
+received_after h (messages.Switch id) = record { tables = h.tables; selected = Some id }
+received_after h m = h
+
+-- the table that is selected
+abbrev pub selected_table : Received → Option Definition
+selected_table h = option_and_then (table_at h.tables) h.selected
+
+-- what is received after the roster's own definition of an id
+abbrev pub with_own : List Definition → List Definition → ℕ → List Definition
+with_own roster ds id = with_found (table_at roster id) ds
+  where
+    with_found : Option Definition → List Definition → List Definition
+    with_found None ds = ds
+    with_found (Some d) ds = defined d ds
+
+-- what is received where the roster's tables of these ids were defined, in this order, and that id was selected last
+abbrev pub resumed : List Definition → List ℕ → Option ℕ → Received
+resumed roster ids selected = record { tables = fold (with_own roster) [] ids; selected = selected }

@@ -1,0 +1,190 @@
+//! What is received of the tables on a stream.
+
+ghost use Rattle.std.specs.Prelude.{◌≡◌, ◌≤◌, ◌<◌, ◌+◌, IfOk, OnOk, OnErr, Some, option_copied, length, filter, insert, vec_len, vec_capacity};
+ghost use Rattle.table_types.specs.Tables.{Definition};
+ghost use Rattle.table_types.specs.Rosters.{is_same_name, table_at};
+ghost use Rattle.peers_msg.specs.declared.message.Message.TheVariants as messages;
+ghost use Rattle.peers_msg.specs.Received.{nothing_received, received_after, put_table, outlives, selected_table, resumed};
+ghost use Rattle.peers_msg.specs.OwnTables.{own_part};
+
+use crate::own_tables::is_own;
+use std::alloc::Global;
+use std::marker::Model;
+use table_types::{Memory, Roster, TableDef, is_same_name, table_at};
+
+/// Which definition each id received stands for, and which id is selected: all that a decoder needs to know of the
+/// messages before (HAProxy, doc/peers-v2.0.txt, "Table Definition Message", "Table Switch Message").
+#[derive(Debug, Drop)]
+pub struct Received {
+    /// In rising id.
+    tables: Vec<TableDef>,
+    selected: Option<u64>,
+}
+
+impl Model for Received {
+    ghost use Rattle.peers_msg.specs.Received.{Received};
+
+    ghost Value = { Received };
+
+    ghost view = { λ h. record { tables = h.tables.items; selected = h.selected } };
+}
+
+fn outlives(new: &TableDef, table: &TableDef) -> bool
+    ensures { result ≡ outlives new.now table.now }
+{
+    table.id() != new.id() && !is_same_name(table.name(), new.name())
+}
+
+/// Takes out the tables that don't outlive the definition. There are two at most: so many times the rest moves up.
+fn keep_outliving(tables: &mut Vec<TableDef>, new: &TableDef)
+    ensures kept { tables.new.items ≡ filter (outlives new.now) tables.old.items }
+    ensures fewer { vec_len tables.new ≤ vec_len tables.old }
+    ensures room { vec_capacity tables.new ≡ vec_capacity tables.old }
+{
+    let mut place = 0;
+    while place < tables.len() {
+        if outlives(new, &tables[place]) {
+            place += 1;
+        } else {
+            tables.remove(place);
+        }
+    }
+}
+
+/// Where a table of that id goes among tables in rising id.
+fn index_of(tables: &[TableDef], id: u64) -> usize
+    ensures within { result ≤ length tables.now }
+    ensures place { (new : Definition) → new.id ≡ id → insert tables.now result new ≡ put_table new tables.now }
+{
+    for (place, table) in tables.iter().enumerate() {
+        if id < table.id() {
+            return place;
+        }
+    }
+    tables.len()
+}
+
+impl Received {
+    /// Nothing is received yet. Takes no memory.
+    pub fn new(alloc: Global) -> Received
+        ensures { result ≡ nothing_received }
+    {
+        Received {
+            tables: Vec::new(alloc),
+            selected: None,
+        }
+    }
+
+    /// What is received where the roster's tables of these ids were defined, in this order, and that id was
+    /// selected last. An id that the roster lacks is passed over.
+    pub fn resume(
+        alloc: Global,
+        roster: &Roster,
+        defined: &[u64],
+        selected: Option<u64>,
+    ) -> Result<Received, Memory>
+        ensures { IfOk result (λ received. received ≡ resumed roster.now defined.now selected) }
+    {
+        let mut received = Received::new(alloc);
+        for id in defined {
+            if let Some(table) = roster.table(*id) {
+                received.define(table.copy(alloc)?)?;
+            }
+        }
+        received.selected = selected;
+        Ok(received)
+    }
+
+    /// The tables received, in rising id.
+    pub fn tables(&self) -> &[TableDef]
+        ensures { result.now ≡ self.now.tables }
+    {
+        self.tables.as_slice()
+    }
+
+    /// The id that is selected.
+    pub fn selected(&self) -> Option<u64>
+        ensures { result ≡ self.now.selected }
+    {
+        self.selected
+    }
+
+    /// The table that an id stands for.
+    pub fn table(&self, id: u64) -> Option<&TableDef>
+        ensures { option_copied result ≡ table_at self.now.tables id }
+    {
+        table_at(self.tables.as_slice(), id)
+    }
+
+    /// The table that is selected.
+    pub fn selected_table(&self) -> Option<&TableDef>
+        ensures { option_copied result ≡ selected_table self.now }
+    {
+        match self.selected {
+            Some(id) => table_at(self.tables.as_slice(), id),
+            None => None,
+        }
+    }
+
+    /// Receives a definition: its id stands for it and is selected, and a table of its name loses its id.
+    /// After `Memory` nothing has changed.
+    pub fn define(&mut self, table: TableDef) -> Result<(), Memory>
+        ensures received { OnOk result (self.new ≡ received_after self.old (messages.Define table)) }
+        ensures stays { OnErr result (self.new ≡ self.old) }
+    {
+        self.tables.reserve(1)?;
+        let id = table.id();
+        keep_outliving(&mut self.tables, &table);
+        let place = index_of(self.tables.as_slice(), id);
+        self.tables.insert(place, table).unwrap();
+        self.selected = Some(id);
+        Ok(())
+    }
+
+    /// Receives a switch: that id is selected.
+    pub fn select(&mut self, id: u64)
+        ensures { self.new ≡ received_after self.old (messages.Switch id) }
+    {
+        self.selected = Some(id);
+    }
+
+    /// What was received of a roster's own tables: those whose id stands there for that very definition, and the id
+    /// selected where it is one of theirs.
+    pub fn own_part(&self, alloc: Global, roster: &Roster) -> Result<Received, Memory>
+        ensures { IfOk result (λ part. part ≡ own_part roster.now self.now) }
+    {
+        let mut tables = Vec::new(alloc);
+        for table in self.tables.as_slice() {
+            if is_own(roster, table) {
+                tables.push(table.copy(alloc)?)?;
+            }
+        }
+        Ok(Received {
+            tables,
+            selected: self.own_selected(roster),
+        })
+    }
+
+    fn own_selected(&self, roster: &Roster) -> Option<u64>
+        ensures { result ≡ (own_part roster.now self.now).selected }
+    {
+        match self.selected_table() {
+            Some(table) if is_own(roster, table) => self.selected,
+            _ => None,
+        }
+    }
+
+    /// An equal memory of what was received.
+    pub fn copy(&self, alloc: Global) -> Result<Received, Memory>
+        ensures { IfOk result (λ copy. copy ≡ self.now) }
+    {
+        let mut tables = Vec::with_capacity(alloc, self.tables.len())?;
+        for table in self.tables.as_slice() {
+            tables.push(table.copy(alloc)?)?;
+        }
+        Ok(Received {
+            tables,
+            selected: self.selected,
+        })
+    }
+}

@@ -1,0 +1,7 @@
+-- The ids of the slots of the dictionary of server names (HAProxy, doc/peers-v2.0.txt, "Stick Table Messages"; that they
+-- are 1 to 128 is the profile's choice).
+use Rattle.std.specs.Prelude.{ℕ, Bool, ◌&&◌, nat_le}
+
+-- the slots of the dictionary are 1 to 128
+abbrev pub is_slot : ℕ → Bool
+is_slot slot = nat_le 1 slot && nat_le slot 128

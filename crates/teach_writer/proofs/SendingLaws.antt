@@ -1,0 +1,199 @@
+-- What is selected for an update, that it is told as it is, and that both are legal.
+use Rattle.std.proofs.Common.{◌≡◌, ℕ, ◌+◌, ◌%◌, ◌^◌, ◌<◌, Bool, true, false, eqb, List, [], ◌∷◌, ◌++◌, Option, Some, None, refl, sym, ap, ◌∙◌, subst, inl, inr, arith, append_assoc}
+use Rattle.std.specs.Prelude.{is_some, is_none}
+use Rattle.std.specs.List.{AllByRecursion}
+use Rattle.std.proofs.lemmas.Bool.{cases_eq, eq-eqb, ne_eqb}
+use Rattle.std.proofs.lemmas.Bool.Decides.{nat_tests}
+use Rattle.std.proofs.lemmas.Grind.{flat_map-append}
+use Rattle.table_types.specs.declared.update.Update.{Update}
+use Rattle.table_types.specs.Tables.{Definition, is_definition}
+use Rattle.table_types.specs.Updates.{fits, is_optional_word, life_fits}
+use Rattle.table_types.specs.Rosters.{table_at}
+use Rattle.peers_msg.specs.declared.name_field.NameField.{NameField}
+use Rattle.peers_msg.specs.declared.message.Message.{Message}
+use Rattle.peers_msg.specs.declared.message.Message.TheVariants as messages
+use Rattle.peers_msg.specs.Received.{Received, selected_table, received_after}
+use Rattle.peers_msg.specs.Spelling.{spelled, stream_of}
+use Rattle.peers_msg.specs.Fitting.{update_fits, name_fits}
+use Rattle.known_state.specs.State.{State, Step, Teaches, IsOwn, Legal, resolved_number}
+use Rattle.known_state.specs.LastNumbers.{last_of}
+use Rattle.known_state.specs.Known.{KnownState, AreOwn, switch_refusal, update_refusal}
+use Rattle.known_state.proofs.KnownLemmas.{table_at-id, table_at-passes, define_selects}
+use Rattle.known_state.proofs.StepLemmas.{has_id-table_at, selected-id, selected-found, update_fits_received}
+use Rattle.known_state.specs.Resolving.{name_of, reads_empty}
+use Rattle.known_state.proofs.ResolvingLemmas.{named_so}
+use Rattle.known_state.specs.Cost.{number_sent, sent_as}
+use Rattle.known_state.proofs.BatchLemmas.{row_of_fits, life_of_fits}
+use Rattle.teach_writer.specs.Sending.{is_table, selection, IsTaken}
+
+-- a table that is received is the roster's of its id
+pub found_is_own : (roster ds : List Definition) (id : ℕ) (t d : Definition) → AreOwn roster ds → table_at ds id ≡ Some t → table_at roster id ≡ Some d → t ≡ d
+found_is_own roster ds id t d own found listed =
+    let own_t : table_at roster t.id ≡ Some t = table_at-passes (λ (x : Definition). table_at roster x.id ≡ Some x) ds id t own found in
+    let here : table_at roster id ≡ Some t = subst (λ (n : ℕ). table_at roster n ≡ Some t) (table_at-id ds id t found) own_t in
+    let same : Some t ≡ Some d = sym here ∙ listed in
+    cc
+
+-- the table selected is the roster's of its id
+pub selected_is_own : (k : KnownState) (t d : Definition) → AreOwn k.roster k.state.received.tables → selected_table k.state.received ≡ Some t → table_at k.roster t.id ≡ Some d → t ≡ d
+selected_is_own k t d own sel listed =
+    let found = selected-found k.state.received t sel in
+    let own_t : table_at k.roster t.id ≡ Some t = table_at-passes (λ (x : Definition). table_at k.roster x.id ≡ Some x) k.state.received.tables found.0 t own found.1 in
+    let same : Some t ≡ Some d = sym own_t ∙ listed in
+    cc
+
+-- where the table of an id is selected, it is the roster's
+pub retained_selected : (k : KnownState) (d : Definition) → AreOwn k.roster k.state.received.tables → table_at k.roster d.id ≡ Some d → is_table (selected_table k.state.received) d.id ≡ true → selected_table k.state.received ≡ Some d
+retained_selected k d own listed is = at (selected_table k.state.received) refl
+  where
+    at : (o : Option Definition) → selected_table k.state.received ≡ o → selected_table k.state.received ≡ Some d
+    at None e = let bad : false ≡ true = sym (rw e refl) ∙ is in cc
+    at (Some t) e =
+        let same_id : eqb t.id d.id ≡ true = sym (rw e refl) ∙ is in
+        let ids : t.id ≡ d.id = grind (arith, nat_tests) in
+        let listed_t : table_at k.roster t.id ≡ Some d = subst (λ (n : ℕ). table_at k.roster n ≡ Some d) (sym ids) listed in
+        e ∙ ap (λ (x : Definition). Some x) (selected_is_own k t d own e listed_t)
+
+-- a switch to a table of the roster that is received is taken
+pub switch_taken : (k : KnownState) (d : Definition) → table_at k.roster d.id ≡ Some d → is_some (table_at k.state.received.tables d.id) ≡ true → IsTaken k (messages.Switch d.id)
+switch_taken k d listed found = λ e refuses.
+    let none : switch_refusal k d.id ≡ None = rw (has_id-table_at k.roster d.id, listed, some-not-none (table_at k.state.received.tables d.id) found) refl in
+    let bad : None ≡ Some e = sym none ∙ refuses in
+    cc
+  where
+    some-not-none : (o : Option Definition) → is_some o ≡ true → is_none o ≡ false
+    some-not-none None h = cc
+    some-not-none (Some x) h = refl
+
+-- after it that table is selected
+pub switch_selects : (roster : List Definition) (h : Received) (d : Definition) → AreOwn roster h.tables → table_at roster d.id ≡ Some d → is_some (table_at h.tables d.id) ≡ true → selected_table (received_after h (messages.Switch d.id)) ≡ Some d
+switch_selects roster h d own listed found = at (table_at h.tables d.id) refl
+  where
+    at : (o : Option Definition) → table_at h.tables d.id ≡ o → table_at h.tables d.id ≡ Some d
+    at None e = let bad : false ≡ true = sym (rw e refl) ∙ found in cc
+    at (Some t) e = e ∙ ap (λ (x : Definition). Some x) (found_is_own roster h.tables d.id t d own e listed)
+
+-- the roster's own definition is taken
+pub define_taken : (k : KnownState) (d : Definition) → table_at k.roster d.id ≡ Some d → IsTaken k (messages.Define d)
+define_taken k d listed = λ e refuses. refuses.0 listed
+
+-- the number told is resolved to the update's
+told_resolved : (last : Option ℕ) (number : ℕ) → resolved_number (number_sent last number) last ≡ Some number
+told_resolved None number = refl
+told_resolved (Some last) number = elim (cases_eq ((last + 1) % 2 ^ 32) number) [
+  | inl same ↦ rw (eq-eqb ((last + 1) % 2 ^ 32) number same) (ap (λ (n : ℕ). Some n) same)
+  | inr other ↦ rw (ne_eqb ((last + 1) % 2 ^ 32) number other) refl
+]
+
+-- a life that fits a table is below 2^32
+life_word : (d : Definition) (life : Option ℕ) → d.expire < 2 ^ 32 → life_fits d life ≡ true → is_optional_word life ≡ true
+life_word d None small fit = refl
+life_word d (Some n) small fit = grind (arith, nat_tests)
+
+expire_small : (d : Definition) → is_definition d ≡ true → d.expire < 2 ^ 32
+expire_small d is = grind (arith, nat_tests)
+
+-- an update fits as it is told where its name field does
+told_fits : (last : Option ℕ) (field : NameField) (d : Definition) (u : Update) → is_definition d ≡ true → name_fits d field ≡ true → fits d u ≡ true → is_optional_word (number_sent last u.number) ≡ true → update_fits d (sent_as last field u) ≡ true
+told_fits last field d u is field_fits fit word = rw (word, life_word d u.life (expire_small d is) (life_of_fits d u fit), row_of_fits d u fit, field_fits) refl
+
+-- it is taken where its table is selected, and it reads no empty slot
+pub told_taken : (k : KnownState) (d : Definition) (u : Update) (last : Option ℕ) (field : NameField) → last ≡ last_of k.state.last_numbers d.id → selected_table k.state.received ≡ Some d → is_definition d ≡ true → name_fits d field ≡ true → reads_empty k.state.slots field ≡ false → fits d u ≡ true → is_optional_word (number_sent last u.number) ≡ true → IsTaken k (messages.Update (sent_as last field u))
+told_taken k d u last field is_last sel is field_fits reads fit word = λ e refuses.
+    let resolved_here : resolved_number (number_sent last u.number) (last_of k.state.last_numbers d.id) ≡ Some u.number = subst (λ (l : Option ℕ). resolved_number (number_sent last u.number) l ≡ Some u.number) is_last (told_resolved last u.number) in
+    let none : update_refusal k (sent_as last field u) (selected_table k.state.received) ≡ None = rw (sel, update_fits_received k.state.received (sent_as last field u) d sel (told_fits last field d u is field_fits fit word) is, resolved_here, reads) refl in
+    let bad : None ≡ Some e = sym none ∙ refuses in
+    cc
+
+-- and carries exactly the update
+pub told_carries : (s : State) (d : Definition) (u : Update) (last : Option ℕ) (field : NameField) (us : List Update) (e : State) → last ≡ last_of s.last_numbers d.id → selected_table s.received ≡ Some d → u.table ≡ d.id → name_of s.slots field ≡ u.name → Step s (messages.Update (sent_as last field u)) us e → us ≡ u ∷ []
+told_carries s d u last field us e is_last sel table_of is_name (fit, table, on_table, number, is_number, name, named, carried, received, last_numbers) =
+    let same_table : Some d.id ≡ Some table = sym (selected-id s.received d sel) ∙ on_table in
+    let id_is : d.id ≡ table = cc in
+    let last_is : last_of s.last_numbers table ≡ last = sym (subst (λ (n : ℕ). last ≡ last_of s.last_numbers n) id_is is_last) in
+    let numbers : Some u.number ≡ Some number = sym (told_resolved last u.number) ∙ ap (λ (l : Option ℕ). resolved_number (number_sent last u.number) l) (sym last_is) ∙ is_number in
+    let number_is : u.number ≡ number = cc in
+    let table_is : table ≡ u.table = sym id_is ∙ sym table_of in
+    let name_is : name ≡ u.name = (named_so s.slots field name e.slots named).1 ∙ is_name in
+    carried ∙ rw (table_is, ← number_is, name_is) refl
+
+-- legal messages one after another are legal, and carry what each part carries
+teaches-append : (a b : List Message) (s m e : State) (us vs : List Update) → Teaches s a us m → Teaches m b vs e → Teaches s (a ++ b) (us ++ vs) e
+teaches-append [] b s m e us vs (none, same) second =
+    let moved : Teaches s b vs e = subst (λ (x : State). Teaches x b vs e) same second in
+    subst (λ (x : List Update). Teaches s b (x ++ vs) e) (sym none) moved
+teaches-append (x ∷ xs) b s m e us vs (one, rest, mid, is, step, later) second =
+    (one, rest ++ vs, mid, ap (λ (l : List Update). l ++ vs) is ∙ append_assoc one rest vs, step, teaches-append xs b mid m e rest vs later second)
+
+own-append : (roster : List Definition) (a b : List Message) → AllByRecursion (IsOwn roster) a → AllByRecursion (IsOwn roster) b → AllByRecursion (IsOwn roster) (a ++ b)
+own-append roster [] b first second = second
+own-append roster (x ∷ xs) b first second = (first.0, own-append roster xs b first.1 second)
+
+pub legal-append : (roster : List Definition) (a b : List Message) (s m e : State) (us vs : List Update) → Legal roster s a us m → Legal roster m b vs e → Legal roster s (a ++ b) (us ++ vs) e
+legal-append roster a b s m e us vs first second = (own-append roster a b first.0 second.0, teaches-append a b s m e us vs first.1 second.1)
+
+-- one message
+pub legal-one : (roster : List Definition) (m : Message) (s e : State) (us : List Update) → IsOwn roster m → Step s m us e → Legal roster s (m ∷ []) us e
+legal-one roster m s e us own step = ((own, tt), (us, [], e, sym (append-none us), step, (refl, refl)))
+  where
+    append-none : (xs : List Update) → xs ++ [] ≡ xs
+    append-none [] = refl
+    append-none (x ∷ xs) = ap (λ (l : List Update). x ∷ l) (append-none xs)
+
+-- no message
+pub legal-none : (roster : List Definition) (s : State) → Legal roster s [] [] s
+legal-none roster s = (tt, (refl, refl))
+
+-- what selects a table of the roster is taken
+pub selection_taken : (k : KnownState) (d : Definition) (m : Message) → AreOwn k.roster k.state.received.tables → table_at k.roster d.id ≡ Some d → m ∷ [] ≡ selection k.state.received d → IsTaken k m
+selection_taken k d m own listed is = at (is_table (selected_table k.state.received) d.id) refl (is_some (table_at k.state.received.tables d.id)) refl
+  where
+    at : (a : Bool) → is_table (selected_table k.state.received) d.id ≡ a → (b : Bool) → is_some (table_at k.state.received.tables d.id) ≡ b → IsTaken k m
+    at true e b f = let bad : m ∷ [] ≡ [] = is ∙ rw e refl in cc
+    at false e true f = let same : m ∷ [] ≡ messages.Switch d.id ∷ [] = is ∙ rw (e, f) refl in let one : messages.Switch d.id ≡ m = cc in subst (λ (x : Message). IsTaken k x) one (switch_taken k d listed f)
+    at false e false f = let same : m ∷ [] ≡ messages.Define d ∷ [] = is ∙ rw (e, f) refl in let one : messages.Define d ≡ m = cc in subst (λ (x : Message). IsTaken k x) one (define_taken k d listed)
+
+-- it carries nothing, and after it the table is selected
+pub selection_selects : (k : KnownState) (d : Definition) (m : Message) (us : List Update) (e : State) → AreOwn k.roster k.state.received.tables → table_at k.roster d.id ≡ Some d → m ∷ [] ≡ selection k.state.received d → Step k.state m us e → (us ≡ []) × (selected_table e.received ≡ Some d)
+selection_selects k d m us e own listed is step = at (is_table (selected_table k.state.received) d.id) refl (is_some (table_at k.state.received.tables d.id)) refl
+  where
+    switched : is_some (table_at k.state.received.tables d.id) ≡ true → Step k.state (messages.Switch d.id) us e → (us ≡ []) × (selected_table e.received ≡ Some d)
+    switched f (fit, none, after) = (none, subst (λ (s : State). selected_table s.received ≡ Some d) (sym after) (switch_selects k.roster k.state.received d own listed f))
+
+    defined_so : Step k.state (messages.Define d) us e → (us ≡ []) × (selected_table e.received ≡ Some d)
+    defined_so (fit, none, after) = (none, subst (λ (s : State). selected_table s.received ≡ Some d) (sym after) (define_selects k.state.received d))
+
+    at : (a : Bool) → is_table (selected_table k.state.received) d.id ≡ a → (b : Bool) → is_some (table_at k.state.received.tables d.id) ≡ b → (us ≡ []) × (selected_table e.received ≡ Some d)
+    at true h b f = let bad : m ∷ [] ≡ [] = is ∙ rw h refl in absurd (cc)
+    at false h true f = let same : m ∷ [] ≡ messages.Switch d.id ∷ [] = is ∙ rw (h, f) refl in let one : m ≡ messages.Switch d.id = cc in switched f (subst (λ (x : Message). Step k.state x us e) one step)
+    at false h false f = let same : m ∷ [] ≡ messages.Define d ∷ [] = is ∙ rw (h, f) refl in let one : m ≡ messages.Define d = cc in defined_so (subst (λ (x : Message). Step k.state x us e) one step)
+
+-- where nothing has to select it, it is selected
+pub selection_none : (k : KnownState) (d : Definition) → AreOwn k.roster k.state.received.tables → table_at k.roster d.id ≡ Some d → [] ≡ selection k.state.received d → selected_table k.state.received ≡ Some d
+selection_none k d own listed is = at (is_table (selected_table k.state.received) d.id) refl (is_some (table_at k.state.received.tables d.id)) refl
+  where
+    at : (a : Bool) → is_table (selected_table k.state.received) d.id ≡ a → (b : Bool) → is_some (table_at k.state.received.tables d.id) ≡ b → selected_table k.state.received ≡ Some d
+    at true e b f = retained_selected k d own listed e
+    at false e true f = let bad : [] ≡ messages.Switch d.id ∷ [] = is ∙ rw (e, f) refl in cc
+    at false e false f = let bad : [] ≡ messages.Define d ∷ [] = is ∙ rw (e, f) refl in cc
+
+-- the bytes of one message
+pub stream-one : (m : Message) → stream_of (m ∷ []) ≡ spelled m
+stream-one m = append-nothing (spelled m)
+  where
+    append-nothing : (xs : List ℕ) → xs ++ [] ≡ xs
+    append-nothing [] = refl
+    append-nothing (x ∷ xs) = ap (λ (l : List ℕ). x ∷ l) (append-nothing xs)
+
+-- a selection and an update told after it are legal, and carry the update
+pub told_legal : (roster : List Definition) (s mid e : State) (ms : List Message) (m : Message) (u : Update) (us : List Update) → Legal roster s ms [] mid → IsOwn roster m → us ≡ u ∷ [] → Step mid m us e → Legal roster s (ms ++ m ∷ []) (u ∷ []) e
+told_legal roster s mid e ms m u us first own is step =
+    legal-append roster ms (m ∷ []) s mid e [] (u ∷ []) first (legal-one roster m mid e (u ∷ []) own (subst (λ (x : List Update). Step mid m x e) is step))
+
+-- a table of the roster stands there under its own id
+pub listed_by_id : (roster : List Definition) (id : ℕ) (d : Definition) → table_at roster id ≡ Some d → table_at roster d.id ≡ Some d
+listed_by_id roster id d listed = subst (λ (n : ℕ). table_at roster n ≡ Some d) (sym (table_at-id roster id d listed)) listed
+
+-- the bytes of messages one after another
+pub stream-append : (a b : List Message) → stream_of (a ++ b) ≡ stream_of a ++ stream_of b
+stream-append a b = flat_map-append spelled a b

@@ -1,5 +1,0 @@
-use Rattle.teach_writer.proofs.NamingLaws.{start_none}
-use Rattle.teach_writer.proofs.lesson.kept_at_start.Goals as goal
-
-pub loop-slot-init : goal.loop-slot-init
-loop-slot-init c = start_none c.args.slots.now c.args.updates.now c.none-kept.result c.none-kept.ensures

@@ -1,0 +1,130 @@
+use Rattle.std.specs.List.{AllByRecursion}
+use Rattle.std.proofs.Common.{◌≡◌, ℕ, Bool, ◌+◌, ◌≤◌, Option, Some, None, true, false, [], ◌∷◌, ◌++◌, rules, refl, sym, ap, ◌∙◌, subst, List, append_assoc}
+use Rattle.table_types.specs.declared.update.Update.{Update}
+use Rattle.table_types.specs.Tables.{Definition, is_definition}
+use Rattle.table_types.specs.Updates.{is_optional_word, stores_name}
+use Rattle.table_types.specs.Rosters.{table_at}
+use Rattle.peers_msg.specs.declared.message.Message.{Message}
+use Rattle.peers_msg.specs.declared.message.Message.TheVariants as messages
+use Rattle.peers_msg.specs.Messages.{UpdateFields}
+use Rattle.peers_msg.specs.declared.name_field.NameField.{NameField}
+use Rattle.peers_msg.specs.Fitting.{name_fits}
+use Rattle.peers_msg.specs.Received.{selected_table}
+use Rattle.peers_msg.specs.Spelling.{spelled, stream_of, size_of, size_of_all}
+use Rattle.known_state.specs.State.{Step, Teaches, IsOwn, Legal}
+use Rattle.known_state.specs.LastNumbers.{last_of}
+use Rattle.peers_msg.proofs.DataLaws.{row_small}
+use Rattle.known_state.specs.Resolving.{name_of, reads_empty}
+use Rattle.known_state.specs.Cost.{number_sent, sent_as, KnowsLess, with_selected, knowledge_of, knowledge_after, selection_cost, written_cost, written_field, is_named_table, cost, cost_from, IsOfRoster}
+use Rattle.teach_writer.specs.Retained.{IsNameField}
+use Rattle.teach_writer.specs.Sending.{IsTaken, IsSent, is_stored, selection, update_sent}
+use Rattle.teach_writer.proofs.MarkLaws.{selection_slots}
+use Rattle.teach_writer.proofs.SendingLaws.{told_taken, told_carries, told_legal, stream-one, stream-append}
+use Rattle.known_state.proofs.KnownLemmas.{table_at-id}
+use Rattle.teach_writer.proofs.ShortLaws.{told_cheap, send_cheap}
+use Rattle.known_state.proofs.BatchLemmas.{row_of_fits}
+use Rattle.teach_writer.proofs.sending.send.Goals as goal
+
+pub update_sent-requires : goal.update_sent-requires
+update_sent-requires c =
+    let d = c.requires.0 in
+    let defined : (d : Definition) → table_at c.args.known.now.roster c.args.update.now.table ≡ Some d → is_definition d ≡ true = search rules in
+    row_small d c.args.update.now.key c.args.update.now.values (defined d c.requires.1) (row_of_fits d c.args.update.now c.requires.2)
+
+pub say_owned-requires : goal.say_owned-requires
+say_owned-requires c =
+    let k = c.select.new.known in
+    let u = c.args.update.now in
+    let d = c.requires.0 in
+    let field = c.in_ok-field.field in
+    let listed : table_at c.args.known.now.roster u.table ≡ Some d = c.requires.1 in
+    let each : (d : Definition) → table_at c.args.known.now.roster u.table ≡ Some d → is_definition d ≡ true = search rules in
+    let selected : selected_table k.state.received ≡ table_at c.args.known.now.roster u.table = search rules in
+    let told_is : c.in_ok-told.told ≡ sent_as c.last.result field u = search rules in
+    let here : c.last.result ≡ last_of k.state.last_numbers u.table = search rules in
+    let last_is : c.last.result ≡ last_of k.state.last_numbers d.id = subst (λ (n : ℕ). c.last.result ≡ last_of k.state.last_numbers n) (sym (table_at-id c.args.known.now.roster u.table d listed)) here in
+    let same_roster : k.roster ≡ c.args.known.now.roster = search rules in
+    let each_fits : (d : Definition) → table_at k.roster u.table ≡ Some d → name_fits d field ≡ true = search rules in
+    let field_fits : name_fits d field ≡ true = each_fits d (ap (λ (r : List Definition). table_at r u.table) same_roster ∙ listed) in
+    let reads : reads_empty k.state.slots field ≡ false = search rules in
+    let word : is_optional_word (number_sent c.last.result u.number) ≡ true = c.update_sent.ensures.word in
+    subst (λ (t : UpdateFields). IsTaken k (messages.Update t)) (sym told_is) (told_taken k d u c.last.result field last_is (selected ∙ listed) (each d listed) field_fits reads c.requires.2 word)
+
+pub returns-clause-told : goal.returns-clause-told
+returns-clause-told c =
+    let k = c.select.new.known in
+    let u = c.args.update.now in
+    let d = c.requires.0 in
+    let field = c.in_ok-field.field in
+    let listed : table_at c.args.known.now.roster u.table ≡ Some d = c.requires.1 in
+    let selected : selected_table k.state.received ≡ table_at c.args.known.now.roster u.table = search rules in
+    let told_is : c.in_ok-told.told ≡ sent_as c.last.result field u = search rules in
+    let here : c.last.result ≡ last_of k.state.last_numbers u.table = search rules in
+    let last_is : c.last.result ≡ last_of k.state.last_numbers d.id = subst (λ (n : ℕ). c.last.result ≡ last_of k.state.last_numbers n) (sym (table_at-id c.args.known.now.roster u.table d listed)) here in
+    let same_roster : k.roster ≡ c.args.known.now.roster = search rules in
+    let named : name_of k.state.slots field ≡ u.name = search rules in
+    let e = c.say_owned.new.known.state in
+    let m : Message = messages.Update c.in_ok-told.told in
+    let roster = c.args.known.now.roster in
+    let s = c.args.known.now.state in
+    let chosen : (ms : List Message) × (c.select.new.bytes.items ≡ c.args.bytes.now.items ++ stream_of ms) × Legal roster s ms [] k.state × (size_of_all ms ≤ selection_cost roster (knowledge_of s) u.table) = search rules in
+    let knows : KnowsLess (with_selected (knowledge_of s) u.table) (knowledge_of k.state) = search rules in
+    let said : c.say_owned.new.bytes.items ≡ c.select.new.bytes.items ++ spelled m = search rules in
+    let step : (us : List Update) × Step k.state m us e × IsOwn k.roster m = search rules in
+    let as_told : Step k.state (messages.Update (sent_as c.last.result field u)) step.0 e = subst (λ (t : UpdateFields). Step k.state (messages.Update t) step.0 e) told_is step.1 in
+    let carried : step.0 ≡ u ∷ [] = told_carries k.state d u c.last.result field step.0 e last_is (selected ∙ listed) (sym (table_at-id c.args.known.now.roster u.table d listed)) named as_told in
+    let bytes : c.say_owned.new.bytes.items ≡ c.args.bytes.now.items ++ stream_of (chosen.0 ++ m ∷ []) =
+    said ∙ ap (λ x. x ++ spelled m) chosen.1 ∙ append_assoc c.args.bytes.now.items (stream_of chosen.0) (spelled m)
+    ∙ ap (λ x. c.args.bytes.now.items ++ x) (ap (λ x. stream_of chosen.0 ++ x) (sym (stream-one m)) ∙ sym (stream-append chosen.0 (m ∷ []))) in
+    let by_roster : table_at k.roster u.table ≡ Some d = ap (λ (r : List Definition). table_at r u.table) same_roster ∙ listed in
+    let each_field : (d : Definition) → table_at k.roster u.table ≡ Some d → IsNameField c.args.retained.now k.state.slots (stores_name d) u.name field = search rules in
+    let cheap : u.name ≡ None → (rest : List Update) → AllByRecursion (IsOfRoster roster) rest → size_of_all (chosen.0 ++ m ∷ []) + cost roster e rest ≤ cost roster s (u ∷ rest) =
+    λ unnamed rest all.
+    let bare : NameField = written_field (stores_name d) None in
+    let field_is : field ≡ bare = subst (λ (n : Option (List ℕ)). IsNameField c.args.retained.now k.state.slots (stores_name d) n field) unnamed (each_field d by_roster) in
+    let plain : Step k.state (messages.Update (sent_as c.last.result bare u)) step.0 e = subst (λ (f : NameField). Step k.state (messages.Update (sent_as c.last.result f u)) step.0 e) field_is as_told in
+    let plainly : c.in_ok-told.told ≡ sent_as c.last.result bare u = told_is ∙ ap (λ (f : NameField). sent_as c.last.result f u) field_is in
+    send_cheap roster s e u m chosen.0 rest chosen.3
+    (subst (λ (t : UpdateFields). size_of (messages.Update t) + cost roster e rest ≤ written_cost roster (knowledge_of s) u + cost_from roster (knowledge_after (knowledge_of s) u) rest) (sym plainly)
+    (told_cheap roster s k.state e d u c.last.result step.0 rest knows (selected ∙ listed) (table_at-id roster u.table d listed) listed unnamed here plain carried all)) in
+    (chosen.0 ++ m ∷ [], bytes, told_legal roster s k.state e chosen.0 m u step.0 chosen.2 tt carried step.1, cheap)
+
+pub returns-clause-order : goal.returns-clause-order
+returns-clause-order c =
+    let k = c.select.new.known in
+    let u = c.args.update.now in
+    let d = c.requires.0 in
+    let field = c.in_ok-field.field in
+    let roster = c.args.known.now.roster in
+    let s = c.args.known.now.state in
+    let e = c.say_owned.new.known.state in
+    let start = c.args.bytes.now.items in
+    let sent : Message = messages.Update c.in_ok-told.told in
+    let m : Message = update_sent k.state field u in
+    let listed : table_at roster u.table ≡ Some d = c.requires.1 in
+    let selected : selected_table k.state.received ≡ table_at roster u.table = search rules in
+    let told_is : c.in_ok-told.told ≡ sent_as c.last.result field u = search rules in
+    let here : c.last.result ≡ last_of k.state.last_numbers u.table = search rules in
+    let last_is : c.last.result ≡ last_of k.state.last_numbers d.id = subst (λ (n : ℕ). c.last.result ≡ last_of k.state.last_numbers n) (sym (table_at-id roster u.table d listed)) here in
+    let same_roster : k.roster ≡ roster = search rules in
+    let by_roster : table_at k.roster u.table ≡ Some d = ap (λ (r : List Definition). table_at r u.table) same_roster ∙ listed in
+    let each_field : (d : Definition) → table_at k.roster u.table ≡ Some d → IsNameField c.args.retained.now k.state.slots (stores_name d) u.name field = search rules in
+    let named : name_of k.state.slots field ≡ u.name = search rules in
+    let each_chosen : (d : Definition) → table_at roster u.table ≡ Some d → (c.select.new.bytes.items ≡ start ++ stream_of (selection s.received d)) × Teaches s (selection s.received d) [] k.state = search rules in
+    let chosen = each_chosen d listed in
+    let said : c.say_owned.new.bytes.items ≡ c.select.new.bytes.items ++ spelled sent = search rules in
+    let step : (us : List Update) × Step k.state sent us e × IsOwn k.roster sent = search rules in
+    let as_told : Step k.state (messages.Update (sent_as c.last.result field u)) step.0 e = subst (λ (t : UpdateFields). Step k.state (messages.Update t) step.0 e) told_is step.1 in
+    let carried : step.0 ≡ u ∷ [] = told_carries k.state d u c.last.result field step.0 e last_is (selected ∙ listed) (sym (table_at-id roster u.table d listed)) named as_told in
+    let is : sent ≡ m = ap (λ (t : UpdateFields). messages.Update t) told_is ∙ ap (λ (l : Option ℕ). messages.Update (sent_as l field u)) here in
+    let moved : Step k.state m (u ∷ []) e = subst (λ (x : Message). Step k.state x (u ∷ []) e) is (subst (λ (us : List Update). Step k.state sent us e) carried step.1) in
+    let ms : List Message = selection s.received d ++ m ∷ [] in
+    let bytes : c.say_owned.new.bytes.items ≡ start ++ stream_of ms =
+    said ∙ ap (λ (x : Message). c.select.new.bytes.items ++ spelled x) is ∙ ap (λ x. x ++ spelled m) chosen.0 ∙ append_assoc start (stream_of (selection s.received d)) (spelled m)
+    ∙ ap (λ x. start ++ x) (ap (λ x. stream_of (selection s.received d) ++ x) (sym (stream-one m)) ∙ sym (stream-append (selection s.received d) (m ∷ []))) in
+    let told : IsSent roster s u field ms e = (d, k.state, listed, chosen.1, moved, refl) in
+    let slots : k.state.slots ≡ s.slots = selection_slots s k.state d chosen.1 in
+    let stored : stores_name d ≡ is_stored roster u = ap is_named_table (sym listed) in
+    let field_is : IsNameField c.args.retained.now s.slots (is_stored roster u) u.name field =
+    subst (λ (b : Bool). IsNameField c.args.retained.now s.slots b u.name field) stored (subst (λ (ss : List (Option (List ℕ))). IsNameField c.args.retained.now ss (stores_name d) u.name field) slots (each_field d by_roster)) in
+    (field, ms, search rules, bytes, told, field_is)

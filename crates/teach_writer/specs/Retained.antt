@@ -1,0 +1,61 @@
+-- Which slots of the dictionary retain their names, as lessons are made (profile).
+use Rattle.std.specs.Prelude.{◌≡◌, ◌≤◌, ℕ, ◌-◌, Bool, true, false, ◌||◌, List, [], ◌∷◌, replicate, slice_index_or, slice_set, Option, Some, None}
+use Rattle.table_types.specs.declared.update.Update.{Update}
+use Rattle.table_types.specs.SlotIds.{is_slot}
+use Rattle.dict_slots.specs.Slots.{Holds}
+use Rattle.peers_msg.specs.declared.name_field.NameField.{NameField}
+use Rattle.peers_msg.specs.declared.name_field.NameField.TheVariants as names
+use Rattle.known_state.specs.Cost.{written_field}
+use Rattle.teach_writer.specs.Naming.{is_that_name}
+
+-- no slot's name is retained
+abbrev pub none_retained : List Bool
+none_retained = replicate 128 false
+
+-- whether the name that a slot, 1 to 128, holds is retained for a later update that asks for it
+abbrev pub retained_at : List Bool → ℕ → Bool
+retained_at retained slot = slice_index_or retained (slot - 1) false
+
+-- the name is retained in that slot
+abbrev pub Retains : List Bool → List (Option (List ℕ)) → ℕ → List ℕ → Type 0
+Retains retained slots slot name = (retained_at retained slot ≡ true) × Holds slots slot name
+
+-- that slot may be written: no name is retained there
+abbrev pub IsFree : List Bool → ℕ → Type 0
+IsFree retained slot = (is_slot slot ≡ true) × (retained_at retained slot ≡ false)
+
+-- How an update's name is told. One that is retained is read, in the lowest slot that retains it; any other is written, to the
+-- lowest slot that is free. An update without a name has an empty field where its table stores names, and else no field.
+abbrev pub IsNameField : List Bool → List (Option (List ℕ)) → Bool → Option (List ℕ) → NameField → Type 0
+IsNameField retained slots stored (Some name) (names.Held slot) =
+    Retains retained slots slot name × ((other : ℕ) → Retains retained slots other name → slot ≤ other)
+IsNameField retained slots stored (Some name) (names.Written slot written) =
+    (written ≡ name)
+    × ((other : ℕ) → Retains retained slots other name → ⊥)
+    × IsFree retained slot
+    × ((other : ℕ) → IsFree retained other → slot ≤ other)
+IsNameField retained slots stored (Some name) field = ⊥
+IsNameField retained slots stored None field = field ≡ written_field stored None
+
+-- whether an update asks for the name
+abbrev pub is_asked : List ℕ → List Update → Bool
+is_asked name [] = false
+is_asked name (u ∷ us) = is_that_name name u.name || is_asked name us
+
+-- a slot may retain its name from the start: it is the lowest that holds that name, and an update asks for it
+abbrev pub MayRetain : List (Option (List ℕ)) → List Update → ℕ → Type 0
+MayRetain slots us slot =
+    (name : List ℕ) × Holds slots slot name
+    × ((other : ℕ) → Holds slots other name → slot ≤ other)
+    × (is_asked name us ≡ true)
+
+-- before the first of the updates only such slots retain their names; not all of them have to
+abbrev pub IsRetainedAtStart : List (Option (List ℕ)) → List Update → List Bool → Type 0
+IsRetainedAtStart slots us retained = (slot : ℕ) → is_slot slot ≡ true → retained_at retained slot ≡ true → MayRetain slots us slot
+
+-- After an update whose name went through that slot, the slot may retain the name where a later update asks for it, and
+-- else retains nothing; every other slot stays as it was. After an update without a name nothing changes.
+abbrev pub IsSettled : List Bool → Option ℕ → Option (List ℕ) → List Update → List Bool → Type 0
+IsSettled retained (Some slot) (Some name) later next =
+    (retains : Bool) × (retains ≡ true → is_asked name later ≡ true) × (next ≡ slice_set retained (slot - 1) retains)
+IsSettled retained slot name later next = next ≡ retained

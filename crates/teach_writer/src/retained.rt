@@ -1,0 +1,110 @@
+//! Which slots hold a name that is retained.
+
+ghost use Rattle.std.specs.Prelude.{◌≡◌, ◌≤◌, ◌-◌, ℕ, true, false, ◌⊎◌, IsTrue, ◌↔◌, Some, IfSome, IsNone, option_copied, slice_set};
+ghost use Rattle.dict_slots.specs.Slots.{slot_at};
+ghost use Rattle.table_types.specs.SlotIds.{is_slot};
+ghost use Rattle.teach_writer.specs.Retained.{none_retained, Retains, IsFree};
+
+use dict_slots::Slots;
+use std::marker::Model;
+use table_types::Name;
+
+/// Which slots of the dictionary hold a name that is retained for a later update that asks for it. One slot at the least
+/// is always free, so that a name can be written.
+#[derive(Debug, Drop)]
+pub struct Retained {
+    flags: [bool; 128],
+}
+
+impl Model for Retained {
+    ghost use Rattle.std.specs.Prelude.{◌≡◌, ℕ, Bool, List, length};
+    ghost use Rattle.teach_writer.specs.Retained.{IsFree};
+
+    ghost Value = { List Bool };
+
+    ghost view = { λ k. k.flags };
+
+    ghost invariant = { λ k. (length k.flags ≡ 128) × ((slot : ℕ) × IsFree k.flags slot) };
+}
+
+/// The lowest slot that is free, if one is.
+fn lowest_free(flags: &[bool; 128]) -> Option<u8>
+    ensures found { IfSome result (λ slot. IsFree flags.now slot) }
+    ensures lowest { IfSome result (λ slot. (other : ℕ) → IsFree flags.now other → slot ≤ other) }
+    ensures absent { IsNone result → (slot : ℕ) → IsFree flags.now slot → ⊥ }
+{
+    for (place, retained) in flags.iter().enumerate() {
+        if !*retained {
+            return Some(place as u8 + 1);
+        }
+    }
+    None
+}
+
+fn holds(place: Option<&Name>, name: &Name) -> bool
+    ensures { IsTrue result ↔ (option_copied place.entry ≡ Some name.now) }
+{
+    match place {
+        Some(held) => held.is_same(name),
+        None => false,
+    }
+}
+
+impl Retained {
+    /// No slot's name is retained.
+    pub fn none() -> Retained
+        ensures { result ≡ none_retained }
+    {
+        Retained {
+            flags: [false; 128],
+        }
+    }
+
+    /// The lowest slot in which this name is retained, by what the slots hold.
+    pub fn find(&self, slots: &Slots, name: &Name) -> Option<u8>
+        ensures found { IfSome result (λ slot. Retains self.now slots.now slot name.now) }
+        ensures lowest { IfSome result (λ slot. (other : ℕ) → Retains self.now slots.now other name.now → slot ≤ other) }
+        ensures absent { IsNone result → (slot : ℕ) → Retains self.now slots.now slot name.now → ⊥ }
+    {
+        for (place, retained) in self.flags.iter().enumerate() {
+            let slot = place as u8 + 1;
+            if *retained && holds(slots.name(slot), name) {
+                return Some(slot);
+            }
+        }
+        None
+    }
+
+    /// The lowest slot that is free.
+    pub fn free(&self) -> u8
+        ensures free { IsFree self.now result }
+        ensures lowest { (other : ℕ) → IsFree self.now other → result ≤ other }
+    {
+        match lowest_free(&self.flags) {
+            Some(slot) => slot,
+            None => unreachable!(),
+        }
+    }
+
+    /// What the slot holds is retained no longer.
+    pub fn release(&mut self, slot: u8)
+        requires { is_slot slot ≡ true }
+        ensures { self.new ≡ slice_set self.old (slot - 1) false }
+    {
+        self.flags[usize::from(slot) - 1] = false;
+    }
+
+    /// What the slot holds is retained, where another slot stays free.
+    pub fn retain(&mut self, slot: u8)
+        requires { is_slot slot ≡ true }
+        ensures retained { ((other : ℕ) × IsFree (slice_set self.old (slot - 1) true) other) → self.new ≡ slice_set self.old (slot - 1) true }
+        ensures full { (((other : ℕ) × IsFree (slice_set self.old (slot - 1) true) other) → ⊥) → self.new ≡ self.old }
+        ensures either { (self.new ≡ slice_set self.old (slot - 1) true) ⊎ (self.new ≡ self.old) }
+    {
+        let mut flags = self.flags;
+        flags[usize::from(slot) - 1] = true;
+        if lowest_free(&flags).is_some() {
+            self.flags = flags;
+        }
+    }
+}

@@ -1,0 +1,222 @@
+//! How one update is told.
+
+ghost use Rattle.std.specs.Prelude.{◌≡◌, ◌≤◌, ◌+◌, ◌^◌, ◌<◌, ◌∷◌, [], ◌++◌, true, false, List, Some, None, IfOk, OnOk, IfSome, option_to_list};
+ghost use Rattle.std.specs.List.{AllByRecursion};
+ghost use Rattle.table_types.specs.declared.update.Update.{Update};
+ghost use Rattle.table_types.specs.Tables.{Definition, is_definition};
+ghost use Rattle.table_types.specs.Updates.{fits, is_optional_word, stores_name};
+ghost use Rattle.table_types.specs.Rosters.{table_at};
+ghost use Rattle.table_types.specs.SlotIds.{is_slot};
+ghost use Rattle.peers_msg.specs.declared.message.Message.{Message};
+ghost use Rattle.peers_msg.specs.Messages.{is_small};
+ghost use Rattle.peers_msg.specs.Fitting.{name_fits};
+ghost use Rattle.peers_msg.specs.Received.{selected_table};
+ghost use Rattle.known_state.specs.Resolving.{name_of, reads_empty};
+ghost use Rattle.peers_msg.specs.Spelling.{spelled, stream_of, size_of_all};
+ghost use Rattle.known_state.specs.State.{Step, Teaches, IsOwn, Legal};
+ghost use Rattle.known_state.specs.Cost.{number_sent, sent_as, knowledge_of, with_selected, selection_cost, KnowsLess, IsOfRoster, cost};
+ghost use Rattle.known_state.specs.Requests.{IsTaught};
+ghost use Rattle.teach_writer.specs.Retained.{IsNameField};
+ghost use Rattle.teach_writer.specs.Sending.{selection, slot_of, is_stored, IsTaken, IsSent};
+
+use crate::retained::Retained;
+use dict_slots::Slots;
+use known_state::{Known, StepError, number_sent};
+use peers_msg::{Message, NameField, Received, UpdateMsg, encode};
+use std::alloc::Global;
+use table_types::{Memory, TableDef, Update};
+
+/// What selects a table of the roster, if anything has to.
+fn selection(
+    alloc: Global,
+    received: &Received,
+    table: &TableDef,
+) -> Result<Option<Message>, Memory>
+    ensures chosen { IfOk result (λ chosen. option_to_list chosen ≡ selection received.now table.now) }
+    ensures defined { is_definition table.now ≡ true }
+{
+    let id = table.id();
+    match received.selected_table() {
+        Some(selected) if selected.id() == id => Ok(None),
+        _ => match received.table(id) {
+            Some(_) => Ok(Some(Message::Switch(id))),
+            None => Ok(Some(Message::Define(table.copy(alloc)?))),
+        },
+    }
+}
+
+/// How the name of an update of that table is told: read where it is retained, and else written where a slot is free.
+fn name_field(
+    alloc: Global,
+    retained: &Retained,
+    slots: &Slots,
+    table: &TableDef,
+    update: &Update,
+) -> Result<NameField, Memory>
+    requires { fits table.now update.now ≡ true }
+    ensures field { IfOk result (λ field. IsNameField retained.now slots.now (stores_name table.now) update.now.name field) }
+    ensures fits { IfOk result (λ field. name_fits table.now field ≡ true) }
+    ensures reads { IfOk result (λ field. reads_empty slots.now field ≡ false) }
+    ensures named { IfOk result (λ field. name_of slots.now field ≡ update.now.name) }
+    ensures slot { IfOk result (λ field. IfSome (slot_of field) (λ id. is_slot id ≡ true)) }
+{
+    let Some(name) = &update.name else {
+        return Ok(if table.stores_name() {
+            NameField::NoName
+        } else {
+            NameField::NotStored
+        });
+    };
+    match retained.find(slots, name) {
+        Some(slot) => Ok(NameField::Held(slot)),
+        None => Ok(NameField::Written(retained.free(), name.copy(alloc)?)),
+    }
+}
+
+/// The update as its message tells it, after that last number of its table, with that name field.
+fn update_sent(
+    alloc: Global,
+    last: Option<u32>,
+    field: NameField,
+    update: &Update,
+) -> Result<UpdateMsg, Memory>
+    requires { is_small update.now.key update.now.values ≡ true }
+    ensures told { IfOk result (λ told. told ≡ sent_as last field update.now) }
+    ensures word { is_optional_word (number_sent last update.now.number) ≡ true }
+{
+    Ok(UpdateMsg::new(
+        number_sent(last, update.number),
+        update.life,
+        update.key.copy(alloc)?,
+        update.values.copy(alloc)?,
+        field,
+    ))
+}
+
+/// Says a message: its bytes go out, and the learner's state moves by it.
+fn say(
+    alloc: Global,
+    known: &mut Known,
+    message: &Message,
+    bytes: &mut Vec<u8>,
+) -> Result<(), Memory>
+    requires { IsTaken known.old message.now }
+    ensures said { OnOk result (bytes.new.items ≡ bytes.old.items ++ spelled message.now) }
+    ensures step { OnOk result ((us : List Update) × Step known.old.state message.now us known.new.state
+        × IsOwn known.old.roster message.now) }
+    ensures roster { known.new.roster ≡ known.old.roster }
+{
+    let text = encode(alloc, message)?;
+    match known.after(message) {
+        Ok(()) => {}
+        Err(StepError::Memory) => return Err(Memory),
+        Err(_) => unreachable!(),
+    }
+    bytes.extend_from_slice(text.as_slice())?;
+    Ok(())
+}
+
+/// Says a message that is needed no more.
+fn say_owned(
+    alloc: Global,
+    known: &mut Known,
+    message: Message,
+    bytes: &mut Vec<u8>,
+) -> Result<(), Memory>
+    requires { IsTaken known.old message }
+    ensures said { OnOk result (bytes.new.items ≡ bytes.old.items ++ spelled message) }
+    ensures step { OnOk result ((us : List Update) × Step known.old.state message us known.new.state
+        × IsOwn known.old.roster message) }
+    ensures roster { known.new.roster ≡ known.old.roster }
+{
+    say(alloc, known, &message, bytes)
+}
+
+/// Selects a table of the roster, by a definition or a switch where it isn't selected.
+fn select(alloc: Global, known: &mut Known, id: u64, bytes: &mut Vec<u8>) -> Result<(), Memory>
+    requires { (d : Definition) × (table_at known.old.roster id ≡ Some d) }
+    ensures legal { OnOk result ((ms : List Message) × (bytes.new.items ≡ bytes.old.items ++ stream_of ms)
+        × Legal known.old.roster known.old.state ms [] known.new.state
+        × (size_of_all ms ≤ selection_cost known.old.roster (knowledge_of known.old.state) id)) }
+    ensures chosen { OnOk result ((d : Definition) → table_at known.old.roster id ≡ Some d →
+        (bytes.new.items ≡ bytes.old.items ++ stream_of (selection known.old.state.received d))
+        × Teaches known.old.state (selection known.old.state.received d) [] known.new.state) }
+    ensures knows { OnOk result (KnowsLess (with_selected (knowledge_of known.old.state) id) (knowledge_of known.new.state)) }
+    ensures selected { OnOk result (selected_table known.new.state.received ≡ table_at known.old.roster id) }
+    ensures defined { OnOk result ((d : Definition) → table_at known.old.roster id ≡ Some d → is_definition d ≡ true) }
+    ensures roster { known.new.roster ≡ known.old.roster }
+{
+    let chosen = match known.roster().table(id) {
+        Some(table) => selection(alloc, known.received(), table)?,
+        None => unreachable!(),
+    };
+    if let Some(message) = chosen {
+        say_owned(alloc, known, message, bytes)?;
+    }
+    Ok(())
+}
+
+/// How the name of an update is told, once its table is found in the roster.
+fn named(
+    alloc: Global,
+    known: &Known,
+    retained: &Retained,
+    update: &Update,
+) -> Result<NameField, Memory>
+    requires { IsTaught known.now.roster update.now }
+    ensures field { IfOk result (λ field. (d : Definition) → table_at known.now.roster update.now.table ≡ Some d →
+        IsNameField retained.now known.now.state.slots (stores_name d) update.now.name field) }
+    ensures fits { IfOk result (λ field. (d : Definition) → table_at known.now.roster update.now.table ≡ Some d → name_fits d field ≡ true) }
+    ensures reads { IfOk result (λ field. reads_empty known.now.state.slots field ≡ false) }
+    ensures named { IfOk result (λ field. name_of known.now.state.slots field ≡ update.now.name) }
+    ensures slot { IfOk result (λ field. IfSome (slot_of field) (λ id. is_slot id ≡ true)) }
+{
+    match known.roster().table(update.table) {
+        Some(table) => name_field(alloc, retained, known.slots(), table, update),
+        None => unreachable!(),
+    }
+}
+
+/// The slot that a name field reads or writes, if it does.
+fn slot_of(field: &NameField) -> Option<u8>
+    ensures { result ≡ slot_of field.now }
+{
+    match field {
+        NameField::Held(slot) | NameField::Written(slot, _) => Some(*slot),
+        NameField::NotStored | NameField::NoName => None,
+    }
+}
+
+/// Tells one update of a table of the roster: selects its table where it isn't selected, and says the update. The answer
+/// is the slot through which its name went, if it has one.
+pub fn send(
+    alloc: Global,
+    known: &mut Known,
+    retained: &Retained,
+    update: &Update,
+    bytes: &mut Vec<u8>,
+) -> Result<Option<u8>, Memory>
+    requires { IsTaught known.old.roster update.now }
+    ensures told { OnOk result ((ms : List Message) × (bytes.new.items ≡ bytes.old.items ++ stream_of ms)
+        × Legal known.old.roster known.old.state ms (update.now ∷ []) known.new.state
+        × (update.now.name ≡ None → (rest : List Update) → AllByRecursion (IsOfRoster known.old.roster) rest →
+        size_of_all ms + cost known.old.roster known.new.state rest ≤ cost known.old.roster known.old.state (update.now ∷ rest))) }
+    ensures order { IfOk result (λ slot. (field : NameField) × (ms : List Message) × (slot ≡ slot_of field)
+        × (bytes.new.items ≡ bytes.old.items ++ stream_of ms)
+        × IsSent known.old.roster known.old.state update.now field ms known.new.state
+        × IsNameField retained.now known.old.state.slots (is_stored known.old.roster update.now) update.now.name field) }
+    ensures slot { IfOk result (λ slot. IfSome slot (λ id. is_slot id ≡ true)) }
+    ensures roster { known.new.roster ≡ known.old.roster }
+{
+    select(alloc, known, update.table, bytes)?;
+    let field = named(alloc, known, retained, update)?;
+    let slot = slot_of(&field);
+    let told = update_sent(
+        alloc,
+        known.last_numbers().last(update.table),
+        field,
+        update,
+    )?;
+    say_owned(alloc, known, Message::Update(told), bytes)?;
+    Ok(slot)
+}
