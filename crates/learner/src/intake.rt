@@ -14,9 +14,7 @@ use crate::due::{add_due, holds, still_due};
 use crate::fault::Fault;
 use crate::local_tables::local_table;
 use known_state::Resolver;
-use peers_msg::{
-    Control, Decoder, ErrorKind, Fault as ReadFault, Message, NameField, Received, UpdateMsg,
-};
+use peers_msg::{Control, Decoder, ErrorKind, Message, NameField, Received, UpdateMsg};
 use std::alloc::Global;
 use std::marker::Model;
 use table_types::{Memory, Name, Roster, TableDef, Update};
@@ -183,9 +181,11 @@ impl Intake {
         ensures fewer { IfOk result (λ found. IsSome found → length self.new.unread < length self.old.unread) }
     {
         match self.decoder.front() {
-            Ok(Some((message, used))) => Ok(Some(self.take(message, used)?)),
+            Ok(Some((found, used))) => {
+                let message = found.to_owned(self.alloc)?;
+                Ok(Some(self.take(message, used)?))
+            }
             Ok(None) => Ok(None),
-            Err(ReadFault::Memory) => Err(Fault::Memory),
             Err(fault) => {
                 self.decoder.close();
                 Err(Fault::from(fault))

@@ -8,9 +8,7 @@ use Rattle.table_types.specs.declared.update.Value.{Value}
 use Rattle.table_types.specs.DataTypes.{shape_of}
 use Rattle.table_types.specs.Updates.{is_name_shape}
 use Rattle.peers_msg.specs.declared.fault.Breach.{Breach}
-use Rattle.peers_msg.specs.declared.fault.ReadError.{ReadError}
-use Rattle.peers_msg.specs.declared.fault.ReadError.TheVariants as errors
-use Rattle.peers_msg.specs.Decoding.{Fails}
+use Rattle.peers_msg.specs.Borrowed.{is_read, list_read}
 use Rattle.peers_msg.specs.Reading.{◌>>=◌, value_at, values_at, period_at, types_at}
 
 -- what was read before, and what is still read
@@ -27,6 +25,18 @@ regroup front a (Err f) = refl
 pub begins : {A : Type 0} (read : Result (List A × List ℕ) Breach) → with_front [] read ≡ read
 begins (Ok x) = refl
 begins (Err f) = refl
+
+-- what is read to its end
+pub all_read : {A : Type 0} (read : Result (List A × List ℕ) Breach) (front : List A) (rest : List ℕ) → read ≡ Ok (front, rest) → read ≡ Ok (list_read read, rest)
+all_read read front rest e = rw e refl
+
+pub list_found : {A : Type 0} (read : Result (List A × List ℕ) Breach) (front : List A) (rest : List ℕ) → read ≡ Ok (front, rest) → front ≡ list_read read
+list_found read front rest e = rw e refl
+
+-- what is read meets no breach
+pub never_fails : {A : Type 0} (read : Result A Breach) (f : Breach) → read ≡ Err f → is_read read ≡ true → ⊥
+never_fails (Ok x) f e is = absurd cc
+never_fails (Err g) f e is = absurd cc
 
 -- ---- values
 
@@ -52,11 +62,10 @@ value_read front ts i d bytes shape value after total lt shaped isnt read so_far
     let one : with_front front (values_at (t ∷ drop (i + 1) ts) bytes) ≡ with_front (front ++ value ∷ []) (values_at (drop (i + 1) ts) after) = rw (none, found) (regroup front value (values_at (drop (i + 1) ts) after)) in
     sym one ∙ at_value front ts i d bytes total lt so_far
 
-pub value_fails : (e : ReadError) (front : List Value) (ts : List (DataType × Option ℕ)) (i : ℕ) (d : DataType × Option ℕ) (bytes : List ℕ) (shape : Shape) (total : Result (List Value × List ℕ) Breach) → i < length ts → shape ≡ shape_of (get_or ts i d).0 → is_name_shape shape ≡ false
-    → Fails e (value_at shape bytes) → with_front front (values_at (drop i ts) bytes) ≡ total → Fails e total
+pub value_fails : (f : Breach) (front : List Value) (ts : List (DataType × Option ℕ)) (i : ℕ) (d : DataType × Option ℕ) (bytes : List ℕ) (shape : Shape) (total : Result (List Value × List ℕ) Breach) → i < length ts → shape ≡ shape_of (get_or ts i d).0 → is_name_shape shape ≡ false
+    → value_at shape bytes ≡ Err f → with_front front (values_at (drop i ts) bytes) ≡ total → total ≡ Err f
 unfolding values_at
-value_fails errors.Memory front ts i d bytes shape total lt shaped isnt read so_far = tt
-value_fails (errors.Breach f) front ts i d bytes shape total lt shaped isnt read so_far =
+value_fails f front ts i d bytes shape total lt shaped isnt read so_far =
     let t = get_or ts i d in
     let none : is_name_shape (shape_of t.0) ≡ false = ap is_name_shape (sym shaped) ∙ isnt in
     let found : value_at (shape_of t.0) bytes ≡ Err f = ap (λ (s : Shape). value_at s bytes) (sym shaped) ∙ read in
@@ -92,11 +101,10 @@ type_read front ts i d bits bytes period after total lt odd read so_far =
     let one : with_front front (types_at (t ∷ drop (i + 1) ts) bits bytes) ≡ with_front (front ++ entry ∷ []) (types_at (drop (i + 1) ts) (bits / 2) after) = rw (one_bit, read) (regroup front entry (types_at (drop (i + 1) ts) (bits / 2) after)) in
     sym one ∙ at_type front ts i d bits bytes total lt so_far
 
-pub type_fails : (e : ReadError) (front : List (DataType × Option ℕ)) (ts : List DataType) (i : ℕ) (d : DataType) (bits : ℕ) (bytes : List ℕ) (total : Result (List (DataType × Option ℕ) × List ℕ) Breach) → i < length ts → bits % 2 ≢ 0
-    → Fails e (period_at (get_or ts i d) bytes) → with_front front (types_at (drop i ts) bits bytes) ≡ total → Fails e total
+pub type_fails : (f : Breach) (front : List (DataType × Option ℕ)) (ts : List DataType) (i : ℕ) (d : DataType) (bits : ℕ) (bytes : List ℕ) (total : Result (List (DataType × Option ℕ) × List ℕ) Breach) → i < length ts → bits % 2 ≢ 0
+    → period_at (get_or ts i d) bytes ≡ Err f → with_front front (types_at (drop i ts) bits bytes) ≡ total → total ≡ Err f
 unfolding types_at
-type_fails errors.Memory front ts i d bits bytes total lt odd read so_far = tt
-type_fails (errors.Breach f) front ts i d bits bytes total lt odd read so_far =
+type_fails f front ts i d bits bytes total lt odd read so_far =
     let t = get_or ts i d in
     let one_bit : bits % 2 ≡ 1 = omega (arith, odd) in
     let one : with_front front (types_at (t ∷ drop (i + 1) ts) bits bytes) ≡ Err f = rw (one_bit, read) refl in

@@ -2,23 +2,14 @@
 use Rattle.std.specs.Prelude.{◌≡◌, ◌≢◌, ℕ, Bool, true, false, List, [], ◌∷◌, ◌++◌, drop, Option, Some, None, Result, Ok, Err}
 use Rattle.peers_msg.specs.declared.fault.Breach.{Breach}
 use Rattle.peers_msg.specs.declared.fault.Breach.TheVariants as breaches
-use Rattle.peers_msg.specs.declared.fault.ReadError.{ReadError}
-use Rattle.peers_msg.specs.declared.fault.ReadError.TheVariants as errors
 use Rattle.peers_msg.specs.declared.fault.Fault.{Fault}
 use Rattle.peers_msg.specs.declared.fault.Fault.TheVariants as faults
 use Rattle.peers_msg.specs.declared.message.Message.{Message}
 use Rattle.peers_msg.specs.declared.message.Message.TheVariants as messages
+use Rattle.peers_msg.specs.declared.borrowed.message_ref.MessageRef.{MessageRef}
+use Rattle.peers_msg.specs.BorrowedMessages.{owned_message}
 use Rattle.peers_msg.specs.Received.{Received, received_after}
 use Rattle.peers_msg.specs.Reading.{message_at}
-
-abbrev pub Fails : {Y : Type 0} → ReadError → Result Y Breach → Type 0
-Fails errors.Memory read = Unit {0}
-Fails (errors.Breach breach) read = read ≡ Err breach
-
--- what was returned, seen so, is what reading gives, unless memory ran out
-abbrev pub Gives : {X Y : Type 0} → (X → Y) → Result X ReadError → Result Y Breach → Type 0
-Gives view (Ok x) read = read ≡ Ok (view x)
-Gives view (Err e) read = Fails e read
 
 -- what was received, the bytes that weren't read yet, and whether there was a fault
 pub record Decoding : Type 0 where
@@ -47,8 +38,12 @@ Fed d piece (Err faults.Memory) e = (d.closed ≡ false) × (e ≡ d)
 Fed d piece (Err faults.Closed) e = (d.closed ≡ true) × (e ≡ d)
 Fed d piece (Err fault) e = ⊥
 
+-- a whole message without a breach stands at the front
+abbrev pub IsWhole : Decoding → Type 0
+IsWhole d = (m : Message) × (rest : List ℕ) × (message_at d.received d.unread ≡ Ok (Some (m, rest)))
+
 -- What asking for a message does. A message is taken off the bytes and received, a breach closes, and nothing else changes
--- anything.
+-- anything. Memory runs out only for a whole message.
 abbrev pub Next : Decoding → Result (Option Message) Fault → Decoding → Type 0
 Next d (Ok None) e = (d.closed ≡ false) × (message_at d.received d.unread ≡ Ok None) × (e ≡ d)
 Next d (Ok (Some m)) e =
@@ -56,7 +51,7 @@ Next d (Ok (Some m)) e =
     × (rest : List ℕ)
     × (message_at d.received d.unread ≡ Ok (Some (m, rest)))
     × (e ≡ record { received = received_after d.received m; unread = rest; closed = false })
-Next d (Err faults.Memory) e = (d.closed ≡ false) × (e ≡ d)
+Next d (Err faults.Memory) e = (d.closed ≡ false) × IsWhole d × (e ≡ d)
 Next d (Err faults.Closed) e = (d.closed ≡ true) × (e ≡ d)
 Next d (Err fault) e =
     (d.closed ≡ false)
@@ -65,11 +60,12 @@ Next d (Err fault) e =
     × (fault ≡ fault_of breach)
     × (e ≡ record { received = d.received; unread = d.unread; closed = true })
 
--- What looking at the front tells: the message there and how many bytes it has, none, or what is wrong with it.
-abbrev pub Front : Decoding → Result (Option (Message × ℕ)) Fault → Type 0
+-- What looking at the front tells: the message there and how many bytes it has, none, or what is wrong with it. It takes no
+-- memory.
+abbrev pub Front : Decoding → Result (Option (MessageRef × ℕ)) Fault → Type 0
 Front d (Ok None) = (d.closed ≡ false) × (message_at d.received d.unread ≡ Ok None)
-Front d (Ok (Some found)) = (d.closed ≡ false) × (message_at d.received d.unread ≡ Ok (Some (found.0, drop found.1 d.unread)))
-Front d (Err faults.Memory) = d.closed ≡ false
+Front d (Ok (Some found)) = (d.closed ≡ false) × (message_at d.received d.unread ≡ Ok (Some (owned_message found.0, drop found.1 d.unread)))
+Front d (Err faults.Memory) = ⊥
 Front d (Err faults.Closed) = d.closed ≡ true
 Front d (Err fault) =
     (d.closed ≡ false)

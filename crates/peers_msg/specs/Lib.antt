@@ -5,6 +5,8 @@ pub mod OwnTables
 pub mod Spelling
 pub mod Fitting
 pub mod Reading
+pub mod Borrowed
+pub mod BorrowedMessages
 pub mod Stream
 pub mod Decoding
 pub mod Framing

@@ -1,12 +1,15 @@
 //! The decoder of a stream of messages.
 
-ghost use Rattle.std.specs.Prelude.{◌≡◌, ◌≤◌, IfOk, IfSome, OnOk, OnErr, true, length, drop, option_map};
-ghost use Rattle.peers_msg.specs.Decoding.{Gives, begun, Fed, Next, Front, passed, IsDefinition};
+ghost use Rattle.std.specs.Prelude.{◌≡◌, ◌≤◌, IfOk, IfSome, OnOk, OnErr, true, false, Ok, Some, length, drop, option_map};
+ghost use Rattle.peers_msg.specs.Borrowed.{Reads};
+ghost use Rattle.peers_msg.specs.BorrowedMessages.{owned_message};
+ghost use Rattle.peers_msg.specs.Decoding.{begun, Fed, Next, Front, passed, IsDefinition};
 ghost use Rattle.peers_msg.specs.Fitting.{fits};
 ghost use Rattle.peers_msg.specs.Received.{nothing_received, received_after, resumed};
 ghost use Rattle.peers_msg.specs.Reading.{message_at};
 
-use crate::fault::{Fault, ReadError};
+use crate::borrowed::MessageRef;
+use crate::fault::{Breach, Fault};
 use crate::message::Message;
 use crate::reading::message_at;
 use crate::received::Received;
@@ -36,16 +39,15 @@ impl Model for Decoder {
 }
 
 /// The message at the front, and how many bytes it has.
-fn front(
-    alloc: Global,
-    received: &Received,
-    unread: &[u8],
-) -> Result<Option<(Message, usize)>, ReadError>
-    ensures read { Gives (option_map (λ x. (x.0, drop x.1 unread.now))) result (message_at received.now unread.now) }
+fn front<'a>(
+    received: &'a Received,
+    unread: &'a [u8],
+) -> Result<Option<(MessageRef<'a>, usize)>, Breach>
+    ensures read { Reads (option_map (λ x. (owned_message x.0, drop x.1 unread.now))) result (message_at received.now unread.now) }
     ensures within { IfOk result (λ found. IfSome found (λ x. (1 ≤ x.1) × (x.1 ≤ length unread.now))) }
-    ensures fits { IfOk result (λ found. IfSome found (λ x. fits received.now x.0 ≡ true)) }
+    ensures fits { IfOk result (λ found. IfSome found (λ x. fits received.now (owned_message x.0) ≡ true)) }
 {
-    let Some((message, rest)) = message_at(alloc, received, unread)? else {
+    let Some((message, rest)) = message_at(received, unread)? else {
         return Ok(None);
     };
     let used = unread.len() - rest.len();
@@ -127,19 +129,18 @@ impl Decoder {
     }
 
     /// The message at the front and how many bytes it has, and `None` while it isn't whole. It stays where it is: nothing
-    /// is received, and bytes that begin no message don't close.
-    pub fn front(&self) -> Result<Option<(Message, usize)>, Fault>
+    /// is received, no memory is taken, and bytes that begin no message don't close.
+    pub fn front(&self) -> Result<Option<(MessageRef<'_>, usize)>, Fault>
         ensures front { Front self.now result }
-        ensures fits { IfOk result (λ found. IfSome found (λ x. fits self.now.received x.0 ≡ true)) }
+        ensures fits { IfOk result (λ found. IfSome found (λ x. fits self.now.received (owned_message x.0) ≡ true)) }
         ensures within { IfOk result (λ found. IfSome found (λ x. (1 ≤ x.1) × (x.1 ≤ length self.now.unread))) }
     {
         if self.closed {
             return Err(Fault::Closed);
         }
-        match front(self.alloc, &self.received, self.unread.as_slice()) {
+        match front(&self.received, self.unread.as_slice()) {
             Ok(found) => Ok(found),
-            Err(ReadError::Memory) => Err(Fault::Memory),
-            Err(ReadError::Breach(breach)) => Err(breach.fault()),
+            Err(breach) => Err(breach.fault()),
         }
     }
 
@@ -171,22 +172,35 @@ impl Decoder {
         self.closed = true;
     }
 
+    /// Gives a message that stands at the front and has so many bytes.
+    fn given(&mut self, message: Message, used: usize) -> Result<Option<Message>, Fault>
+        requires within { used ≤ length self.old.unread }
+        requires opened { self.old.closed ≡ false }
+        requires stands { message_at self.old.received self.old.unread ≡ Ok (Some (message, drop used self.old.unread)) }
+        ensures { Next self.old result self.new }
+    {
+        match self.pass(&message, used) {
+            Ok(()) => Ok(Some(message)),
+            Err(Memory) => Err(Fault::Memory),
+        }
+    }
+
     /// The next message, and `None` while it isn't whole. Bytes that begin no message are a fault, and after it the
-    /// decoder answers `Closed`; after `Memory` nothing has changed.
+    /// decoder answers `Closed`. It answers `Memory` only where a whole message without a fault stands at the front, and
+    /// then nothing has changed.
     pub fn next(&mut self) -> Result<Option<Message>, Fault>
         ensures { Next self.old result self.new }
     {
         if self.closed {
             return Err(Fault::Closed);
         }
-        match front(self.alloc, &self.received, self.unread.as_slice()) {
-            Ok(Some((message, used))) => match self.pass(&message, used) {
-                Ok(()) => Ok(Some(message)),
+        match front(&self.received, self.unread.as_slice()) {
+            Ok(Some((found, used))) => match found.to_owned(self.alloc) {
+                Ok(message) => self.given(message, used),
                 Err(Memory) => Err(Fault::Memory),
             },
             Ok(None) => Ok(None),
-            Err(ReadError::Memory) => Err(Fault::Memory),
-            Err(ReadError::Breach(breach)) => {
+            Err(breach) => {
                 self.close();
                 Err(breach.fault())
             }

@@ -2,10 +2,7 @@
 
 ghost use Rattle.std.specs.Prelude.{◌≡◌};
 ghost use Rattle.peers_msg.specs.Decoding.{fault_of};
-ghost use Rattle.peers_msg.specs.declared.fault.ReadError.TheVariants.{Memory as NoMemory};
 
-use std::alloc::{AllocError, AllocFailed};
-use table_types::Memory;
 use thiserror::Error;
 
 /// The first thing that is wrong with the bytes where a message is to stand (profile).
@@ -27,39 +24,6 @@ pub enum Breach {
     BadValue,
     /// Bytes are left after the last field of the data.
     Trailing,
-}
-
-/// Why nothing was read.
-#[derive(Clone, Copy, Debug, PartialEq, Eq)]
-pub enum ReadError {
-    /// Memory was wanted, and the growth was refused.
-    Memory,
-    /// The bytes are no message.
-    Breach(Breach),
-}
-
-impl From<Memory> for ReadError {
-    ghost from_gives = { λ _ e. e ≡ NoMemory };
-
-    fn from(_refused: Memory) -> ReadError {
-        ReadError::Memory
-    }
-}
-
-impl From<AllocError> for ReadError {
-    ghost from_gives = { λ _ e. e ≡ NoMemory };
-
-    fn from(_refused: AllocError) -> ReadError {
-        ReadError::Memory
-    }
-}
-
-impl<T: Drop> From<AllocFailed<T>> for ReadError {
-    ghost from_gives = { λ _ e. e ≡ NoMemory };
-
-    fn from(_refused: AllocFailed<T>) -> ReadError {
-        ReadError::Memory
-    }
 }
 
 /// Why a decoder answered no message. What is wrong with the bytes is the first breach from left to right (profile).

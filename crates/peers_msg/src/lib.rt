@@ -1,6 +1,7 @@
 //! The messages of HAProxy's peers protocol: what they are, what is received of them, and their bytes.
 #![tactic(auto)]
 
+mod borrowed;
 mod control;
 mod decoder;
 mod encoding;
@@ -11,11 +12,13 @@ mod laws;
 mod meaning;
 mod message;
 mod name_field;
+mod name_field_ref;
 mod own_tables;
 mod reading;
 mod received;
 mod sizes;
 
+pub use borrowed::{DefinitionRef, KeyRef, MessageRef, OtherRef, UpdateRef, ValuesRef};
 pub use control::{Control, ErrorKind};
 pub use decoder::Decoder;
 pub use encoding::encode;
@@ -27,6 +30,7 @@ pub use laws::{
 };
 pub use message::{Message, Other, UpdateMsg};
 pub use name_field::NameField;
+pub use name_field_ref::NameFieldRef;
 pub use own_tables::{is_own, is_shape_of};
 pub use received::Received;
 pub use sizes::{named_sizes, size};

@@ -2,53 +2,56 @@
 
 ghost use Rattle.std.specs.Prelude.{◌≡◌, ◌==◌, true, length};
 ghost use Rattle.table_types.specs.Names.{is_name};
-ghost use Rattle.peers_msg.specs.Decoding.{Gives};
-ghost use Rattle.peers_msg.specs.Reading.{wanted, integer_at, word_at, bytes_at};
+ghost use Rattle.peers_msg.specs.Borrowed.{Reads};
+ghost use Rattle.peers_msg.specs.Reading.{wanted, ended, integer_at, word_at, bytes_at};
 
-use crate::fault::{Breach, ReadError};
+use crate::fault::Breach;
 use peers_encint::{Read, get};
 
 /// A test in its place among the fields.
-pub(crate) fn wanted(holds: bool, breach: Breach) -> Result<(), ReadError>
-    ensures { Gives (λ _. true) result (wanted holds breach) }
+pub(crate) fn wanted(holds: bool, breach: Breach) -> Result<(), Breach>
+    ensures { Reads (λ _. true) result (wanted holds breach) }
 {
-    if holds {
-        Ok(())
-    } else {
-        Err(ReadError::Breach(breach))
-    }
+    if holds { Ok(()) } else { Err(breach) }
+}
+
+/// The data end with their last field.
+pub(crate) fn ended(rest: &[u8]) -> Result<(), Breach>
+    ensures { Reads (λ _. true) result (ended true rest.now) }
+{
+    wanted(rest.is_empty(), Breach::Trailing)
 }
 
 /// An encoded integer, with what it is when the bytes end before it does.
 #[tactic(auto, unfolding(crate::specs::Reading::integer_at))]
-pub(crate) fn integer_at(short: Breach, bytes: &[u8]) -> Result<(u64, &[u8]), ReadError>
-    ensures { Gives (λ x. (x.0, x.1.now)) result (integer_at short bytes.now) }
+pub(crate) fn integer_at(short: Breach, bytes: &[u8]) -> Result<(u64, &[u8]), Breach>
+    ensures { Reads (λ x. (x.0, x.1.now)) result (integer_at short bytes.now) }
 {
     match get(bytes) {
         Read::Value(number, used) => Ok((number, &bytes[used..])),
-        Read::Short => Err(ReadError::Breach(short)),
-        Read::Over => Err(ReadError::Breach(Breach::BadInteger)),
+        Read::Short => Err(short),
+        Read::Over => Err(Breach::BadInteger),
     }
 }
 
 /// Four bytes, the big end first.
 #[tactic(auto, unfolding(crate::specs::Reading::word_at))]
-pub(crate) fn word_at(short: Breach, bytes: &[u8]) -> Result<(u32, &[u8]), ReadError>
-    ensures { Gives (λ x. (x.0, x.1.now)) result (word_at short bytes.now) }
+pub(crate) fn word_at(short: Breach, bytes: &[u8]) -> Result<(u32, &[u8]), Breach>
+    ensures { Reads (λ x. (x.0, x.1.now)) result (word_at short bytes.now) }
 {
     match bytes.split_first_chunk::<4>() {
         Some((word, rest)) => Ok((u32::from_be_bytes(*word), rest)),
-        None => Err(ReadError::Breach(short)),
+        None => Err(short),
     }
 }
 
 /// So many bytes.
 #[tactic(auto, unfolding(crate::specs::Reading::bytes_at))]
-pub(crate) fn bytes_at(short: Breach, count: u64, bytes: &[u8]) -> Result<(&[u8], &[u8]), ReadError>
-    ensures { Gives (λ x. (x.0.now, x.1.now)) result (bytes_at short count bytes.now) }
+pub(crate) fn bytes_at(short: Breach, count: u64, bytes: &[u8]) -> Result<(&[u8], &[u8]), Breach>
+    ensures { Reads (λ x. (x.0.now, x.1.now)) result (bytes_at short count bytes.now) }
 {
     if (bytes.len() as u64) < count {
-        return Err(ReadError::Breach(short));
+        return Err(short);
     }
     Ok(bytes.split_at(count as usize))
 }

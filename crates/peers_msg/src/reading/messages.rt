@@ -3,56 +3,55 @@
 ghost use Rattle.std.specs.Prelude.{◌≡◌, true, option_map};
 ghost use Rattle.peers_msg.specs.declared.meaning.Meaning.TheVariants as meanings;
 ghost use Rattle.peers_msg.specs.Messages.{is_other};
-ghost use Rattle.peers_msg.specs.Decoding.{Gives};
+ghost use Rattle.peers_msg.specs.Borrowed.{Reads};
+ghost use Rattle.peers_msg.specs.BorrowedMessages.{owned_message};
 ghost use Rattle.peers_msg.specs.Reading.{switch_at, ack_at, update_of, control_meant, error_meant, table_meant, meant, message_of, data_at, frame_at, message_at};
 ghost use Rattle.peers_msg.specs.Received.{selected_table};
 
 use super::definitions::definition_at;
-use super::fields::{integer_at, wanted, word_at};
+use super::fields::{ended, integer_at, wanted, word_at};
 use super::updates::update_at;
+use crate::borrowed::{MessageRef, OtherRef};
 use crate::control::{Control, ErrorKind};
-use crate::fault::{Breach, ReadError};
+use crate::fault::Breach;
 use crate::meaning::Meaning;
-use crate::message::{Message, Other};
 use crate::received::Received;
 use peers_encint::{Read, get};
-use std::alloc::Global;
 
 #[tactic(auto, unfolding(crate::specs::Reading::switch_at))]
-fn switch_at(received: &Received, bytes: &[u8]) -> Result<Message, ReadError>
-    ensures { Gives (λ message. message) result (switch_at received.now bytes.now) }
+fn switch_at<'a>(received: &Received, bytes: &[u8]) -> Result<MessageRef<'a>, Breach>
+    ensures { Reads (λ message. owned_message message) result (switch_at received.now bytes.now) }
 {
     let (id, rest) = integer_at(Breach::BadInteger, bytes)?;
     wanted(received.table(id).is_some(), Breach::NoTable)?;
-    wanted(rest.is_empty(), Breach::Trailing)?;
-    Ok(Message::Switch(id))
+    ended(rest)?;
+    Ok(MessageRef::Switch(id))
 }
 
 #[tactic(auto, unfolding(crate::specs::Reading::ack_at))]
-fn ack_at(bytes: &[u8]) -> Result<Message, ReadError>
-    ensures { Gives (λ message. message) result (ack_at bytes.now) }
+fn ack_at<'a>(bytes: &[u8]) -> Result<MessageRef<'a>, Breach>
+    ensures { Reads (λ message. owned_message message) result (ack_at bytes.now) }
 {
     let (table, rest) = integer_at(Breach::BadInteger, bytes)?;
     let (number, rest) = word_at(Breach::BadInteger, rest)?;
-    wanted(rest.is_empty(), Breach::Trailing)?;
-    Ok(Message::Ack { table, number })
+    ended(rest)?;
+    Ok(MessageRef::Ack { table, number })
 }
 
-fn update_of(
-    alloc: Global,
-    received: &Received,
+fn update_of<'a>(
+    received: &'a Received,
     numbered: bool,
     timed: bool,
-    bytes: &[u8],
-) -> Result<Message, ReadError>
-    ensures { Gives (λ message. message) result (update_of (selected_table received.now) numbered timed bytes.now) }
+    bytes: &'a [u8],
+) -> Result<MessageRef<'a>, Breach>
+    ensures { Reads (λ message. owned_message message) result (update_of (selected_table received.now) numbered timed bytes.now) }
 {
     match received.selected_table() {
         Some(table) => {
-            let update = update_at(alloc, table, numbered, timed, bytes)?;
-            Ok(Message::Update(update))
+            let update = update_at(table, numbered, timed, bytes)?;
+            Ok(MessageRef::Update(update))
         }
-        None => Err(ReadError::Breach(Breach::NoTable)),
+        None => Err(Breach::NoTable),
     }
 }
 
@@ -120,35 +119,31 @@ struct Frame<'a> {
     body: &'a [u8],
 }
 
-fn message_of(
-    alloc: Global,
-    received: &Received,
+fn message_of<'a>(
+    received: &'a Received,
     meaning: Meaning,
     class: u8,
     kind: u8,
-    body: &[u8],
-) -> Result<Message, ReadError>
+    body: &'a [u8],
+) -> Result<MessageRef<'a>, Breach>
     requires { meaning ≡ meanings.Other → is_other (record { class = class; kind = kind; body = body.now }) ≡ true }
-    ensures { Gives (λ message. message) result (message_of received.now meaning class kind body.now) }
+    ensures { Reads (λ message. owned_message message) result (message_of received.now meaning class kind body.now) }
 {
     match meaning {
-        Meaning::Control(control) => Ok(Message::Control(control)),
-        Meaning::Error(error) => Ok(Message::Error(error)),
-        Meaning::Define => Ok(Message::Define(definition_at(alloc, body)?)),
+        Meaning::Control(control) => Ok(MessageRef::Control(control)),
+        Meaning::Error(error) => Ok(MessageRef::Error(error)),
+        Meaning::Define => Ok(MessageRef::Define(definition_at(body)?)),
         Meaning::Switch => switch_at(received, body),
         Meaning::Ack => ack_at(body),
-        Meaning::Update { numbered, timed } => update_of(alloc, received, numbered, timed, body),
-        Meaning::Other => match Other::new(class, kind, Vec::from_slice(alloc, body)?) {
-            Some(other) => Ok(Message::Other(other)),
-            None => unreachable!(),
-        },
+        Meaning::Update { numbered, timed } => update_of(received, numbered, timed, body),
+        Meaning::Other => Ok(MessageRef::Other(OtherRef::new(class, kind, body))),
     }
 }
 
 /// The data after a type, once they all stand.
 #[tactic(auto, unfolding(crate::specs::Reading::data_at))]
-fn data_at(kind: u8, bytes: &[u8]) -> Result<Option<(&[u8], &[u8])>, ReadError>
-    ensures { Gives (option_map (λ x. (x.0.now, x.1.now))) result (data_at kind bytes.now) }
+fn data_at(kind: u8, bytes: &[u8]) -> Result<Option<(&[u8], &[u8])>, Breach>
+    ensures { Reads (option_map (λ x. (x.0.now, x.1.now))) result (data_at kind bytes.now) }
 {
     if kind < 128 {
         return Ok(Some(bytes.split_at(0)));
@@ -156,10 +151,10 @@ fn data_at(kind: u8, bytes: &[u8]) -> Result<Option<(&[u8], &[u8])>, ReadError>
     let (count, rest) = match get(bytes) {
         Read::Value(count, used) => (count, &bytes[used..]),
         Read::Short => return Ok(None),
-        Read::Over => return Err(ReadError::Breach(Breach::BadInteger)),
+        Read::Over => return Err(Breach::BadInteger),
     };
     if count > 16_384 {
-        return Err(ReadError::Breach(Breach::SizeLimit));
+        return Err(Breach::SizeLimit);
     }
     if (rest.len() as u64) < count {
         return Ok(None);
@@ -169,8 +164,8 @@ fn data_at(kind: u8, bytes: &[u8]) -> Result<Option<(&[u8], &[u8])>, ReadError>
 
 /// Class, type and data at the front, once they all stand. While they don't, no byte of the data is looked at.
 #[tactic(auto, unfolding(crate::specs::Reading::frame_at))]
-fn frame_at(bytes: &[u8]) -> Result<Option<(Frame<'_>, &[u8])>, ReadError>
-    ensures { Gives (option_map (λ x. (record { class = x.0.class; kind = x.0.kind; body = x.0.body.now }, x.1.now))) result (frame_at bytes.now) }
+fn frame_at(bytes: &[u8]) -> Result<Option<(Frame<'_>, &[u8])>, Breach>
+    ensures { Reads (option_map (λ x. (record { class = x.0.class; kind = x.0.kind; body = x.0.body.now }, x.1.now))) result (frame_at bytes.now) }
 {
     let [class, kind, behind @ ..] = bytes else {
         return Ok(None);
@@ -191,23 +186,15 @@ fn frame_at(bytes: &[u8]) -> Result<Option<(Frame<'_>, &[u8])>, ReadError>
 /// The message at the front, and the bytes after it; `None` while it isn't whole.
 #[tactic(auto, unfolding(crate::specs::Reading::message_at, crate::specs::Reading::body_at))]
 pub(crate) fn message_at<'a>(
-    alloc: Global,
-    received: &Received,
+    received: &'a Received,
     bytes: &'a [u8],
-) -> Result<Option<(Message, &'a [u8])>, ReadError>
-    ensures { Gives (option_map (λ x. (x.0, x.1.now))) result (message_at received.now bytes.now) }
+) -> Result<Option<(MessageRef<'a>, &'a [u8])>, Breach>
+    ensures { Reads (option_map (λ x. (owned_message x.0, x.1.now))) result (message_at received.now bytes.now) }
 {
     let Some((frame, rest)) = frame_at(bytes)? else {
         return Ok(None);
     };
     let meaning = meant(frame.class, frame.kind);
-    let message = message_of(
-        alloc,
-        received,
-        meaning,
-        frame.class,
-        frame.kind,
-        frame.body,
-    )?;
+    let message = message_of(received, meaning, frame.class, frame.kind, frame.body)?;
     Ok(Some((message, rest)))
 }

@@ -1,7 +1,7 @@
 use Rattle.std.proofs.Common.{◌≡◌, Bool, true, false, None, ◌∙◌, ap, refl}
 use Rattle.table_types.specs.Tables.{Definition, fault_of}
 use Rattle.peers_msg.proofs.DefinitionParts.{kept, no_fault}
-use Rattle.peers_msg.proofs.reading.definitions.table_of.Goals as goal
+use Rattle.peers_msg.proofs.borrowed.definition_ref.table_of.Goals as goal
 
 pub unreachable-requires : goal.unreachable-requires
 unreachable-requires c =

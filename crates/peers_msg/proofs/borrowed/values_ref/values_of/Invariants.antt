@@ -1,7 +1,7 @@
 use Rattle.std.proofs.Common.{◌≡◌, drop}
 use Rattle.peers_msg.specs.Reading.{values_at}
 use Rattle.peers_msg.proofs.ReadingLoops.{with_front}
-use Rattle.peers_msg.proofs.reading.updates.values_at.Given as goal
+use Rattle.peers_msg.proofs.borrowed.values_ref.values_of.Given as goal
 
 abbrev pub invariant-loop-entry : goal.invariant-loop-entry
 invariant-loop-entry l =

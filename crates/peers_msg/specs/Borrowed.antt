@@ -1,0 +1,47 @@
+-- What is borrowed of the bytes of a message, and the values that it is.
+use Rattle.std.specs.Prelude.{◌≡◌, ℕ, Bool, true, false, List, [], Result, Ok, Err}
+use Rattle.table_types.specs.declared.key.Key.{Key}
+use Rattle.table_types.specs.declared.key.Key.TheVariants as keys
+use Rattle.table_types.specs.Names.{is_name}
+use Rattle.peers_msg.specs.declared.name_field.NameField.{NameField}
+use Rattle.peers_msg.specs.declared.name_field.NameField.TheVariants as names
+use Rattle.peers_msg.specs.declared.name_field_ref.NameFieldRef.{NameFieldRef}
+use Rattle.peers_msg.specs.declared.name_field_ref.NameFieldRef.TheVariants as fields
+use Rattle.peers_msg.specs.declared.borrowed.key_ref.KeyRef.{KeyRef}
+use Rattle.peers_msg.specs.declared.borrowed.key_ref.KeyRef.TheVariants as borrowed
+use Rattle.peers_msg.specs.declared.fault.Breach.{Breach}
+
+-- what was returned, seen so, is what reading gives
+abbrev pub Reads : {X Y : Type 0} → (X → Y) → Result X Breach → Result Y Breach → Type 0
+Reads view (Ok x) read = read ≡ Ok (view x)
+Reads view (Err breach) read = read ≡ Err breach
+
+-- whether reading meets no breach
+abbrev pub is_read : {A : Type 0} → Result A Breach → Bool
+is_read (Ok x) = true
+is_read (Err breach) = false
+
+-- the list that is read, and an empty one at a breach
+abbrev pub list_read : {A : Type 0} → Result (List A × List ℕ) Breach → List A
+list_read (Ok x) = x.0
+list_read (Err breach) = []
+
+-- the key that a borrowed key is
+abbrev pub owned_key : KeyRef → Key
+owned_key (borrowed.Int n) = keys.Int n
+owned_key (borrowed.Ip4 address) = keys.Ip4 address.now
+owned_key (borrowed.Ip6 address) = keys.Ip6 address.now
+owned_key (borrowed.Str text) = keys.Str text.now
+owned_key (borrowed.Bin bytes) = keys.Bin bytes.now
+
+-- the name field that a borrowed one is
+abbrev pub owned_name : NameFieldRef → NameField
+owned_name fields.NotStored = names.NotStored
+owned_name fields.NoName = names.NoName
+owned_name (fields.Held slot) = names.Held slot
+owned_name (fields.Written slot name) = names.Written slot name.now
+
+-- what a name field writes is a name
+abbrev pub is_named : NameField → Bool
+is_named (names.Written slot name) = is_name name
+is_named field = true

@@ -1,0 +1,85 @@
+//! The values of an update, borrowed.
+
+ghost use Rattle.std.specs.Prelude.{◌≡◌, true, IfOk};
+ghost use Rattle.peers_msg.specs.Borrowed.{is_read, list_read};
+ghost use Rattle.peers_msg.specs.Reading.{values_at};
+
+use crate::reading::{is_name_shape, value_at};
+use std::alloc::Global;
+use std::marker::Model;
+use table_types::{DataType, Items, Memory, Value};
+
+/// The values of an update: bytes that were found to hold one for each of the table's types but the server's name.
+#[derive(Debug, Drop)]
+pub struct ValuesRef<'a> {
+    types: &'a [(DataType, Option<u32>)],
+    /// From the first value on.
+    bytes: &'a [u8],
+}
+
+impl<'a> Model for ValuesRef<'a> {
+    ghost use Rattle.std.specs.Prelude.{◌≡◌, true, List};
+    ghost use Rattle.table_types.specs.declared.update.Value.{Value as RowValue};
+    ghost use Rattle.peers_msg.specs.Borrowed.{is_read, list_read};
+    ghost use Rattle.peers_msg.specs.Reading.{values_at};
+
+    ghost Value = { List RowValue };
+
+    ghost view = { λ v. list_read (values_at v.types.now v.bytes.now) };
+
+    ghost invariant = { λ v. is_read (values_at v.types.now v.bytes.now) ≡ true };
+}
+
+/// The values that the bytes begin with, one for each type but the server's name.
+fn values_of(
+    alloc: Global,
+    types: &[(DataType, Option<u32>)],
+    bytes: &[u8],
+) -> Result<Vec<Value>, Memory>
+    requires { is_read (values_at types.now bytes.now) ≡ true }
+    ensures { IfOk result (λ values. values.items ≡ list_read (values_at types.now bytes.now)) }
+{
+    let mut values = Vec::new(alloc);
+    let mut rest = bytes;
+    for entry in types {
+        let shape = entry.0.shape();
+        if is_name_shape(shape) {
+            continue;
+        }
+        match value_at(shape, rest) {
+            Ok((value, after)) => {
+                values.push(value)?;
+                rest = after;
+            }
+            Err(_) => unreachable!(),
+        }
+    }
+    Ok(values)
+}
+
+impl<'a> ValuesRef<'a> {
+    /// The values of these types that the bytes begin with.
+    pub(crate) fn new(types: &'a [(DataType, Option<u32>)], bytes: &'a [u8]) -> ValuesRef<'a>
+        requires { is_read (values_at types.now bytes.now) ≡ true }
+        ensures { result ≡ list_read (values_at types.now bytes.now) }
+    {
+        ValuesRef { types, bytes }
+    }
+
+    /// The same values once more.
+    pub fn again(&self) -> ValuesRef<'a>
+        ensures { result ≡ self.now }
+    {
+        ValuesRef {
+            types: self.types,
+            bytes: self.bytes,
+        }
+    }
+
+    /// Equal values of their own, in rising id.
+    pub fn to_owned(&self, alloc: Global) -> Result<Items<Value>, Memory>
+        ensures { IfOk result (λ values. values ≡ self.now) }
+    {
+        Ok(Items::new(values_of(alloc, self.types, self.bytes)?))
+    }
+}
