@@ -179,28 +179,28 @@ length-put now (d ∷ ds) (first ∷ others) u = elim (cases_eq d.id u.table) [
 abbrev pub no_rows : List Definition → List (List (Key × StoredRow))
 no_rows ds = map (λ _. []) ds
 
-pub all_shelved : (ds : List Definition) (n : ℕ) (shelves : List (List (Key × StoredRow))) → length ds ≤ n → shelves ++ no_rows (drop n ds) ≡ no_rows ds → shelves ≡ no_rows ds
-all_shelved ds n shelves le e =
-    sym (append-nil shelves) ∙ ap (λ (xs : List Definition). shelves ++ no_rows xs) (sym (drop_of_length-le ds le)) ∙ e
+pub all_shelved : (ds : List Definition) (n : ℕ) (rows_of_tables : List (List (Key × StoredRow))) → length ds ≤ n → rows_of_tables ++ no_rows (drop n ds) ≡ no_rows ds → rows_of_tables ≡ no_rows ds
+all_shelved ds n rows_of_tables le e =
+    sym (append-nil rows_of_tables) ∙ ap (λ (xs : List Definition). rows_of_tables ++ no_rows xs) (sym (drop_of_length-le ds le)) ∙ e
 
 pub length_shelved : (ds : List Definition) → length (no_rows ds) ≡ length ds
 length_shelved [] = refl
 length_shelved (d ∷ ds) = ap suc (length_shelved ds)
 
-pub shelf_within : (roster inside : List Definition) (id p : ℕ) (tables : List (List (Key × StoredRow))) → index_of roster id ≡ Some p → inside ≡ roster → length tables ≡ length inside → p < length tables
-shelf_within roster inside id p tables at same size =
+pub table_rows_within : (roster inside : List Definition) (id p : ℕ) (tables : List (List (Key × StoredRow))) → index_of roster id ≡ Some p → inside ≡ roster → length tables ≡ length inside → p < length tables
+table_rows_within roster inside id p tables at same size =
     let within = place_within roster id p at in
     let sizes : length inside ≡ length roster = ap (λ (ds : List Definition). length ds) same in
     omega arith
 
 -- an update is put at its table's place
-pub put_shelf : (now : ℕ) (ds : List Definition) (p expire : ℕ) (tables : List (List (Key × StoredRow))) (u : Update) (d : Definition) (shelf after : List (Key × StoredRow)) (key : Key) (row : StoredRow)
-    → length tables ≡ length ds → index_of ds u.table ≡ Some p → table_at ds u.table ≡ Some d → shelf ≡ get_or tables p shelf
-    → expire ≡ d.expire → key ≡ u.key → row ≡ row_of now expire u → after ≡ insert_entry key_cmp shelf key row
+pub put_in_table : (now : ℕ) (ds : List Definition) (p expire : ℕ) (tables : List (List (Key × StoredRow))) (u : Update) (d : Definition) (held after : List (Key × StoredRow)) (key : Key) (row : StoredRow)
+    → length tables ≡ length ds → index_of ds u.table ≡ Some p → table_at ds u.table ≡ Some d → held ≡ get_or tables p held
+    → expire ≡ d.expire → key ≡ u.key → row ≡ row_of now expire u → after ≡ insert_entry key_cmp held key row
     → set tables p after ≡ put now ds tables u
-put_shelf now ds p expire tables u d shelf after key row size at is_table is_shelf is_expire is_key is_row is_after =
-    let stored : after ≡ put_row now d u shelf =
+put_in_table now ds p expire tables u d held after key row size at is_table is_shelf is_expire is_key is_row is_after =
+    let stored : after ≡ put_row now d u held =
     is_after
-    ∙ ap (λ (k : Key). insert_entry key_cmp shelf k row) is_key
-    ∙ ap (λ (r : StoredRow). insert_entry key_cmp shelf u.key r) (is_row ∙ ap (λ (n : ℕ). row_of now n u) is_expire) in
-    ap (λ (rows : List (Key × StoredRow)). set tables p rows) stored ∙ put_placed now ds p tables u d shelf size at is_table is_shelf
+    ∙ ap (λ (k : Key). insert_entry key_cmp held k row) is_key
+    ∙ ap (λ (r : StoredRow). insert_entry key_cmp held u.key r) (is_row ∙ ap (λ (n : ℕ). row_of now n u) is_expire) in
+    ap (λ (rows : List (Key × StoredRow)). set tables p rows) stored ∙ put_placed now ds p tables u d held size at is_table is_shelf

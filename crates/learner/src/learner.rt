@@ -1,6 +1,6 @@
 //! Learners.
 
-ghost use Rattle.std.specs.Prelude.{◌≡◌, ◌≢◌, ◌<◌, ◌≤◌, [], false, IfOk, IfErr, OnOk, OnErr, IsSome, IfSome, length, option_copied};
+ghost use Rattle.std.specs.Prelude.{◌≡◌, ◌≢◌, ◌<◌, ◌≤◌, [], false, IfOk, IfErr, OnOk, OnErr, IsNone, IsSome, IfSome, length, option_copied};
 ghost use Rattle.std.specs.Map.{keys_of};
 ghost use Rattle.std.specs.List.Sorted.{IsStrictlySortedBy};
 ghost use Rattle.known_state.specs.Known.{known_of};
@@ -13,10 +13,11 @@ ghost use Rattle.learner.specs.Learning.{unlearned, LearnsOne, LearnsAll, FedAnd
 
 use crate::fault::Fault;
 use crate::intake::Intake;
-use crate::shelf::Shelf;
+use crate::table_rows::TableRows;
 use known_state::Known;
 use peers_msg::Message;
 use std::alloc::Global;
+use std::collections::BTreeMap;
 use std::marker::Model;
 use table_types::{Key, Memory, Moment, Roster, Row, TableDef, Update, table_at};
 
@@ -30,7 +31,7 @@ pub struct Learner {
     alloc: Global,
     intake: Intake,
     /// One for each table of the roster, in its order.
-    shelves: Vec<Shelf>,
+    rows_of_tables: Vec<TableRows>,
 }
 
 impl Model for Learner {
@@ -39,9 +40,9 @@ impl Model for Learner {
 
     ghost Value = { Learning };
 
-    ghost view = { λ l. record { intake = l.intake; rows = l.shelves.items } };
+    ghost view = { λ l. record { intake = l.intake; rows = l.rows_of_tables.items } };
 
-    ghost invariant = { λ l. length l.shelves.items ≡ length l.intake.roster };
+    ghost invariant = { λ l. length l.rows_of_tables.items ≡ length l.intake.roster };
 }
 
 /// The place of the table of that id, from 0.
@@ -60,14 +61,14 @@ fn index_of(tables: &[TableDef], id: u64) -> Option<usize>
 fn put(
     alloc: Global,
     tables: &[TableDef],
-    shelves: &mut Vec<Shelf>,
+    rows_of_tables: &mut Vec<TableRows>,
     update: Update,
     now: Moment,
 ) -> Result<(), Memory>
-    requires { length shelves.old.items ≡ length tables.now }
-    ensures put { OnOk result (shelves.new.items ≡ put now tables.now shelves.old.items update) }
-    ensures stays { OnErr result (shelves.new.items ≡ shelves.old.items) }
-    ensures size { length shelves.new.items ≡ length shelves.old.items }
+    requires { length rows_of_tables.old.items ≡ length tables.now }
+    ensures put { OnOk result (rows_of_tables.new.items ≡ put now tables.now rows_of_tables.old.items update) }
+    ensures stays { OnErr result (rows_of_tables.new.items ≡ rows_of_tables.old.items) }
+    ensures size { length rows_of_tables.new.items ≡ length rows_of_tables.old.items }
 {
     let Some(table) = table_at(tables, update.table) else {
         return Ok(());
@@ -76,7 +77,19 @@ fn put(
         return Ok(());
     };
     let (key, row) = Row::learned(alloc, update, table.expire(), now)?;
-    shelves[place].put(key, row)
+    rows_of_tables[place].put(key, row)
+}
+
+/// Copies of rows with their keys, in rising key.
+fn copies(alloc: Global, rows: &BTreeMap<Key, Row>) -> Result<Vec<(Key, Row)>, Memory>
+    ensures rows { IfOk result (λ copies. copies.items ≡ rows.now.entries) }
+    ensures rising { IfOk result (λ copies. IsStrictlySortedBy key_cmp (keys_of copies.items)) }
+{
+    let mut copies = Vec::with_capacity(alloc, rows.len())?;
+    for (key, row) in rows.iter() {
+        copies.push((key.copy(alloc)?, row.copy(alloc)?))?;
+    }
+    Ok(copies)
 }
 
 impl Learner {
@@ -84,14 +97,14 @@ impl Learner {
     pub fn new(alloc: Global, roster: Roster) -> Result<Learner, Memory>
         ensures { IfOk result (λ learner. learner ≡ unlearned roster) }
     {
-        let mut shelves = Vec::with_capacity(alloc, roster.tables().len())?;
+        let mut rows_of_tables = Vec::with_capacity(alloc, roster.tables().len())?;
         for _ in roster.tables() {
-            shelves.push(Shelf::new(alloc))?;
+            rows_of_tables.push(TableRows::new(alloc))?;
         }
         Ok(Learner {
             alloc,
             intake: Intake::new(alloc, roster),
-            shelves,
+            rows_of_tables,
         })
     }
 
@@ -174,7 +187,7 @@ impl Learner {
         put(
             self.alloc,
             self.intake.roster().tables(),
-            &mut self.shelves,
+            &mut self.rows_of_tables,
             update,
             now,
         )
@@ -195,18 +208,29 @@ impl Learner {
         ensures { option_copied result ≡ row_at key.now (rows_at self.now.intake.roster table self.now.rows) }
     {
         match index_of(self.roster().tables(), table) {
-            Some(place) => self.shelves[place].row(key),
+            Some(place) => self.rows_of_tables[place].row(key),
             None => None,
         }
     }
 
-    /// Copies of the rows of the own table of that id with their keys, in rising key; none where the roster lacks it.
+    /// The rows of the local table of that id by their keys; `None` where the roster lacks it.
+    pub fn table(&self, table: u64) -> Option<&BTreeMap<Key, Row>>
+        ensures rows { IfSome result (λ rows. rows.now.entries ≡ rows_at self.now.intake.roster table self.now.rows) }
+        ensures absent { IsNone result → rows_at self.now.intake.roster table self.now.rows ≡ [] }
+    {
+        match index_of(self.roster().tables(), table) {
+            Some(index) => Some(self.rows_of_tables[index].rows()),
+            None => None,
+        }
+    }
+
+    /// Copies of the rows of the local table of that id with their keys, in rising key; none where the roster lacks it.
     pub fn rows(&self, table: u64) -> Result<Vec<(Key, Row)>, Memory>
         ensures rows { IfOk result (λ rows. rows.items ≡ rows_at self.now.intake.roster table self.now.rows) }
         ensures rising { IfOk result (λ rows. IsStrictlySortedBy key_cmp (keys_of rows.items)) }
     {
-        match index_of(self.roster().tables(), table) {
-            Some(place) => self.shelves[place].rows(self.alloc),
+        match self.table(table) {
+            Some(rows) => copies(self.alloc, rows),
             None => Ok(Vec::new(self.alloc)),
         }
     }

@@ -7,7 +7,7 @@ mod intake;
 mod laws;
 mod learner;
 mod local_tables;
-mod shelf;
+mod table_rows;
 
 pub use fault::Fault;
 pub use laws::{

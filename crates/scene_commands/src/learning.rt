@@ -1,9 +1,10 @@
 //! The subcommand `learn`.
-ghost use Rattle.std.specs.Prelude.{◌≡◌, ◌≢◌, ◌++◌, ℕ, Ok, Err, IfErr, IfOk, OnOk, string_bytes};
+ghost use Rattle.std.specs.Prelude.{◌≡◌, ◌≢◌, ◌++◌, ℕ, Ok, Err, IfErr, IfOk, OnOk, flat_map, string_bytes};
 ghost use Rattle.std.specs.Io.KnownBytes.{Appends};
 ghost use Rattle.learner.specs.declared.fault.Fault.{Fault};
 ghost use Rattle.learner.specs.declared.fault.Fault.TheVariants as faults;
 ghost use Rattle.learner.specs.Learning.{Learning};
+ghost use Rattle.scene_text.specs.Rows.{row_line};
 ghost use Rattle.scene_text.specs.declared.scene.Scene.{Scene};
 ghost use Rattle.scene_commands.specs.Endings.{IsEarly, line_of};
 ghost use Rattle.scene_commands.specs.Learning.{AreInRisingId, IsLearned, IsPrinted, acks_text, rows_text};
@@ -11,10 +12,11 @@ ghost use Rattle.scene_commands.specs.Learning.{AreInRisingId, IsLearned, IsPrin
 use crate::ending::Ending;
 use learner::{Fault, Learner};
 use peers_devices::{Faults, read_to_end, write_all};
-use scene_text::{Scene, push_acks, push_rows, read_scene};
+use scene_text::{Scene, push_acks, push_row, read_scene};
 use std::alloc::Global;
+use std::collections::BTreeMap;
 use std::io::{Read, Write};
-use table_types::{Memory, Roster, RosterError, TableDef};
+use table_types::{Key, Memory, Roster, RosterError, Row, TableDef};
 
 /// Reads a scene, feeds its stream to a learner of its tables at its moment, and writes the rows that the learner
 /// then has, and the acknowledgements that are due.
@@ -117,8 +119,25 @@ fn push_all_rows(alloc: Global, text: &mut Vec<u8>, learner: &Learner) -> Result
     ensures { OnOk result (text.new.items ≡ text.old.items ++ rows_text learner.now) }
 {
     for table in learner.roster().tables() {
-        let rows = learner.rows(table.id())?;
-        push_rows(alloc, text, table, rows.as_slice())?;
+        match learner.table(table.id()) {
+            Some(rows) => push_rows(alloc, text, table, rows)?,
+            None => {}
+        }
+    }
+    Ok(())
+}
+
+/// Adds a line for each row of a table, in rising key.
+fn push_rows(
+    alloc: Global,
+    text: &mut Vec<u8>,
+    table: &TableDef,
+    rows: &BTreeMap<Key, Row>,
+) -> Result<(), Memory>
+    ensures { OnOk result (text.new.items ≡ text.old.items ++ flat_map (row_line table.now) rows.now.entries) }
+{
+    for (key, row) in rows.iter() {
+        push_row(alloc, text, table, key, row)?;
     }
     Ok(())
 }

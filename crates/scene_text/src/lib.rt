@@ -22,5 +22,5 @@ pub use acks::push_acks;
 pub use error::SceneError;
 pub use laws::printed_is_read;
 pub use lessons::printed_lesson;
-pub use rows::push_rows;
+pub use rows::push_row;
 pub use scene::{Scene, read_scene};

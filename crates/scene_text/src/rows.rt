@@ -1,5 +1,5 @@
 //! Rows as they are printed.
-ghost use Rattle.std.specs.Prelude.{◌≡◌, ◌++◌, OnOk, flat_map};
+ghost use Rattle.std.specs.Prelude.{◌≡◌, ◌++◌, OnOk};
 ghost use Rattle.scene_text.specs.Rows.{end_text, row_head, row_line};
 
 use crate::keys::push_key;
@@ -9,24 +9,9 @@ use crate::values::push_cells;
 use std::alloc::{AllocError, Global};
 use table_types::{Key, Moment, Row, TableDef};
 
-/// Adds a line for each of these rows of a table, in their order: `row`, the table's id, the moment at which the row
-/// ends or `-`, its key, its values, and its name where the table stores one.
-pub fn push_rows(
-    alloc: Global,
-    text: &mut Vec<u8>,
-    table: &TableDef,
-    rows: &[(Key, Row)],
-) -> Result<(), AllocError>
-    ensures { OnOk result (text.new.items ≡ text.old.items ++ flat_map (row_line table.now) rows.now) }
-{
-    for entry in rows {
-        push_row(alloc, text, table, &entry.0, &entry.1)?;
-    }
-    Ok(())
-}
-
-/// Adds the line of a row.
-fn push_row(
+/// Adds the line of a row of a table: `row`, the table's id, the moment at which the row ends or `-`, its key, its values,
+/// and its name where the table stores one.
+pub fn push_row(
     alloc: Global,
     text: &mut Vec<u8>,
     table: &TableDef,

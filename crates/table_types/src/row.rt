@@ -1,6 +1,6 @@
 //! Rows of stick tables.
 
-ghost use Rattle.std.specs.Prelude.{◌≡◌, ◌↔◌, IfOk, IsTrue, map, option_copied};
+ghost use Rattle.std.specs.Prelude.{◌≡◌, ◌↔◌, IfOk, IsTrue, map, option_copied, true};
 ghost use Rattle.table_types.specs.Rows.{cell_of, end_of, row_of};
 
 use crate::items::Items;
@@ -46,53 +46,44 @@ impl Model for Row {
     ghost view = { λ r. record { number = r.number; ends = r.ends; cells = r.cells; name = r.name; learned = r.learned } };
 }
 
-fn cell_of(value: Value, moment: Moment) -> Cell
-    ensures { result ≡ cell_of moment value }
-{
-    match value {
-        Value::Count(count) => Cell::Count(count),
-        Value::Rate {
-            elapsed,
-            current,
-            previous,
-        } => Cell::Rate {
-            start: moment.milliseconds() - u64::from(elapsed),
-            current,
-            previous,
-        },
+impl Cell {
+    /// What a row holds of a value that an update has, which came at that moment: a count as given, and of a rate the
+    /// moment at which its current period began.
+    pub fn of(value: Value, moment: Moment) -> Cell
+        ensures { result ≡ cell_of moment value }
+    {
+        match value {
+            Value::Count(count) => Cell::Count(count),
+            Value::Rate {
+                elapsed,
+                current,
+                previous,
+            } => Cell::Rate {
+                start: moment.milliseconds() - u64::from(elapsed),
+                current,
+                previous,
+            },
+        }
     }
 }
 
-fn cells_of(alloc: Global, values: &[Value], moment: Moment) -> Result<Items<Cell>, Memory>
-    ensures { IfOk result (λ cells. cells ≡ map (cell_of moment) values.now) }
+fn cells_of(alloc: Global, values: &[Value], moment: Moment) -> Result<Vec<Cell>, Memory>
+    ensures { IfOk result (λ cells. cells.items ≡ map (cell_of moment) values.now) }
 {
     let mut cells = Vec::with_capacity(alloc, values.len())?;
     for value in values {
-        cells.push(cell_of(*value, moment))?;
+        cells.push(Cell::of(*value, moment))?;
     }
-    Ok(Items::new(cells))
-}
-
-/// When a row ends whose remaining life was told so, in a table whose rows expire so.
-fn end_of(moment: Moment, expire: u32, life: Option<u32>) -> Option<Moment>
-    ensures { result ≡ end_of moment expire life }
-{
-    if expire == 0 {
-        return None;
-    }
-    match life {
-        Some(life) if life < expire => Some(moment.later_by(life)),
-        _ => Some(moment.later_by(expire)),
-    }
+    Ok(cells)
 }
 
 impl Row {
     /// The row that an update teaches at a moment, with its key, in a table whose rows expire after `expire`
     /// milliseconds, or never where that is 0.
     ///
-    /// The row is a learned one. It ends after the smaller of the life told and the table's expire, and after the
-    /// expire where no life is told; an end past the greatest moment is that moment. A rate's current period began
-    /// so long ago as the update says.
+    /// The row is a learned one. It ends after the smaller of the update's life and the table's expire, and after the
+    /// expire where the update has no life; an end past the greatest moment is that moment. A rate's current period
+    /// began so long ago as the update says.
     pub fn learned(
         alloc: Global,
         update: Update,
@@ -109,14 +100,40 @@ impl Row {
             name,
             ..
         } = update;
-        let row = Row {
+        let ends = Row::end(life, expire, moment);
+        Ok((key, Row::learned_with(number, ends, cells, name)))
+    }
+
+    /// When a row ends that an update of that life, in milliseconds, teaches at a moment, in a table whose rows expire
+    /// after `expire` milliseconds: never where that is 0.
+    pub fn end(life: Option<u32>, expire: u32, moment: Moment) -> Option<Moment>
+        ensures { result ≡ end_of moment expire life }
+    {
+        if expire == 0 {
+            return None;
+        }
+        match life {
+            Some(life) if life < expire => Some(moment.later_by(life)),
+            _ => Some(moment.later_by(expire)),
+        }
+    }
+
+    /// A learned row of these parts.
+    pub fn learned_with(
+        number: u32,
+        ends: Option<Moment>,
+        cells: Vec<Cell>,
+        name: Option<Name>,
+    ) -> Row
+        ensures { result ≡ record { number = number; ends = ends; cells = cells.items; name = name; learned = true } }
+    {
+        Row {
             number,
-            ends: end_of(moment, expire, life),
-            cells,
+            ends,
+            cells: Items::new(cells),
             name,
             learned: true,
-        };
-        Ok((key, row))
+        }
     }
 
     /// The number of the row's last update.

@@ -7,10 +7,10 @@ use Rattle.learner.proofs.learner.Learner.new.Goals as goal
 
 pub invariant_of-result : goal.invariant_of-result
 invariant_of-result c =
-    let held : c.loop.shelves.items ≡ no_rows c.tables-items.result.now = all_shelved c.tables-items.result.now c.loop.index c.loop.shelves.items (omega arith) c.loop.invariant in
+    let held : c.loop.rows_of_tables.items ≡ no_rows c.tables-items.result.now = all_shelved c.tables-items.result.now c.loop.index c.loop.rows_of_tables.items (omega arith) c.loop.invariant in
     ap length held ∙ length_shelved c.tables-items.result.now ∙ ap (λ (ds : List Definition). length ds) (c.tables-items.ensures.tables ∙ sym (ap (λ (t : Taking). t.roster) c.new-2.ensures))
 
 pub returns : goal.returns
 returns c =
-    let held : c.loop.shelves.items ≡ no_rows c.tables-items.result.now = all_shelved c.tables-items.result.now c.loop.index c.loop.shelves.items (omega arith) c.loop.invariant in
-    begins_so c.args.roster c.new-2.result c.loop.shelves.items c.new-2.ensures (held ∙ ap no_rows c.tables-items.ensures.tables)
+    let held : c.loop.rows_of_tables.items ≡ no_rows c.tables-items.result.now = all_shelved c.tables-items.result.now c.loop.index c.loop.rows_of_tables.items (omega arith) c.loop.invariant in
+    begins_so c.args.roster c.new-2.result c.loop.rows_of_tables.items c.new-2.ensures (held ∙ ap no_rows c.tables-items.ensures.tables)

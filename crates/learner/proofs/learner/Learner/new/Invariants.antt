@@ -3,4 +3,4 @@ use Rattle.learner.proofs.RowLemmas.{no_rows}
 use Rattle.learner.proofs.learner.Learner.new.Given as goal
 
 abbrev pub invariant-loop : goal.invariant-loop
-invariant-loop l = l.shelves.items ++ no_rows (drop l.index l.items) ≡ no_rows l.items
+invariant-loop l = l.rows_of_tables.items ++ no_rows (drop l.index l.items) ≡ no_rows l.items

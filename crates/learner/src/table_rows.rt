@@ -1,8 +1,6 @@
 //! The rows of one table.
 
-ghost use Rattle.std.specs.Prelude.{◌≡◌, [], IfOk, OnOk, OnErr, option_copied};
-ghost use Rattle.std.specs.Map.{keys_of};
-ghost use Rattle.std.specs.List.Sorted.{IsStrictlySortedBy};
+ghost use Rattle.std.specs.Prelude.{◌≡◌, [], OnOk, OnErr, option_copied};
 ghost use Rattle.std.specs.BTreeMap.{insert_entry};
 ghost use Rattle.table_types.specs.Keys.{key_cmp};
 ghost use Rattle.learner.specs.Rows.{row_at};
@@ -14,11 +12,11 @@ use table_types::{Key, Memory, Row};
 
 /// The rows of one table by their keys.
 #[derive(Drop)]
-pub struct Shelf {
+pub struct TableRows {
     rows: BTreeMap<Key, Row>,
 }
 
-impl Model for Shelf {
+impl Model for TableRows {
     ghost use Rattle.std.specs.Prelude.{List};
     ghost use Rattle.table_types.specs.declared.key.Key.{Key};
     ghost use Rattle.table_types.specs.Rows.{StoredRow};
@@ -28,12 +26,12 @@ impl Model for Shelf {
     ghost view = { λ s. s.rows.entries };
 }
 
-impl Shelf {
+impl TableRows {
     /// No rows. Takes no memory.
-    pub fn new(alloc: Global) -> Shelf
+    pub fn new(alloc: Global) -> TableRows
         ensures { result ≡ [] }
     {
-        Shelf {
+        TableRows {
             rows: BTreeMap::new(alloc),
         }
     }
@@ -54,15 +52,10 @@ impl Shelf {
         Ok(())
     }
 
-    /// Copies of the rows with their keys, in rising key.
-    pub fn rows(&self, alloc: Global) -> Result<Vec<(Key, Row)>, Memory>
-        ensures rows { IfOk result (λ rows. rows.items ≡ self.now) }
-        ensures rising { IsStrictlySortedBy key_cmp (keys_of self.now) }
+    /// The rows by their keys.
+    pub fn rows(&self) -> &BTreeMap<Key, Row>
+        ensures rows { result.now.entries ≡ self.now }
     {
-        let mut rows = Vec::with_capacity(alloc, self.rows.len())?;
-        for (key, row) in self.rows.iter() {
-            rows.push((key.copy(alloc)?, row.copy(alloc)?))?;
-        }
-        Ok(rows)
+        &self.rows
     }
 }
