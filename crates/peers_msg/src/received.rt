@@ -4,7 +4,7 @@ ghost use Rattle.std.specs.Prelude.{◌≡◌, ◌≤◌, ◌<◌, ◌+◌, IfOk
 ghost use Rattle.table_types.specs.Tables.{Definition};
 ghost use Rattle.table_types.specs.Rosters.{is_same_name, table_at};
 ghost use Rattle.peers_msg.specs.declared.message.Message.TheVariants as messages;
-ghost use Rattle.peers_msg.specs.Received.{nothing_received, received_after, put_table, outlives, selected_table, resumed};
+ghost use Rattle.peers_msg.specs.Received.{nothing_received, received_after, insert_table, outlives, selected_table, resumed};
 ghost use Rattle.peers_msg.specs.OwnTables.{own_part};
 
 use crate::own_tables::is_own;
@@ -54,7 +54,7 @@ fn keep_outliving(tables: &mut Vec<TableDef>, new: &TableDef)
 /// Where a table of that id goes among tables in rising id.
 fn index_of(tables: &[TableDef], id: u64) -> usize
     ensures within { result ≤ length tables.now }
-    ensures place { (new : Definition) → new.id ≡ id → insert tables.now result new ≡ put_table new tables.now }
+    ensures place { (new : Definition) → new.id ≡ id → insert tables.now result new ≡ insert_table new tables.now }
 {
     for (place, table) in tables.iter().enumerate() {
         if id < table.id() {
