@@ -11,7 +11,7 @@ use Rattle.table_types.specs.Tables.{Definition}
 use Rattle.table_types.specs.Updates.{stores_name}
 use Rattle.table_types.specs.Names.{is_name}
 use Rattle.table_types.specs.Rosters.{table_at, has_id}
-use Rattle.peers_msg.specs.Received.{put_table, outlives, defined}
+use Rattle.peers_msg.specs.Received.{insert_table, outlives, defined}
 use Rattle.peers_msg.specs.declared.name_field.NameField.{NameField}
 use Rattle.peers_msg.specs.declared.name_field.NameField.TheVariants as names
 use Rattle.peers_msg.specs.declared.message.Message.TheVariants as messages
@@ -312,7 +312,7 @@ update_pays roster k d m u slots after listed fit named life key values number =
         let least = as_meant m.name refl in
         omega arith
 
-put_has : (d : Definition) (ds : List Definition) (id : ℕ) → (id ≡ d.id → ⊥) → has_id id (put_table d ds) ≡ true → has_id id ds ≡ true
+put_has : (d : Definition) (ds : List Definition) (id : ℕ) → (id ≡ d.id → ⊥) → has_id id (insert_table d ds) ≡ true → has_id id ds ≡ true
 put_has d [] id other h = sym (rw (ne_eqb d.id id (λ e. other (sym e))) refl) ∙ h
 put_has d (x ∷ xs) id other h = at (nat_lt d.id x.id) refl (put_has d xs id other)
   where
@@ -323,9 +323,9 @@ put_has d (x ∷ xs) id other h = at (nat_lt d.id x.id) refl (put_has d xs id ot
     or_rest true b c f h = refl
     or_rest false b c f h = f h
 
-    at : (b : Bool) → nat_lt d.id x.id ≡ b → (has_id id (put_table d xs) ≡ true → has_id id xs ≡ true) → has_id id (x ∷ xs) ≡ true
+    at : (b : Bool) → nat_lt d.id x.id ≡ b → (has_id id (insert_table d xs) ≡ true → has_id id xs ≡ true) → has_id id (x ∷ xs) ≡ true
     at true e later = sym (rw (e, ne_eqb d.id id (λ e. other (sym e))) refl) ∙ h
-    at false e later = or_rest (eqb x.id id) (has_id id (put_table d xs)) (has_id id xs) later (sym (rw e refl) ∙ h)
+    at false e later = or_rest (eqb x.id id) (has_id id (insert_table d xs)) (has_id id xs) later (sym (rw e refl) ∙ h)
 
 filter_has : (p : Definition → Bool) (ds : List Definition) (id : ℕ) → has_id id (filter p ds) ≡ true → has_id id ds ≡ true
 filter_has p [] id h = h
@@ -346,7 +346,7 @@ filter_has p (x ∷ xs) id h = at (p x) refl (filter_has p xs id)
 -- a definition that is found after another was found before, or is the new one
 pub found_before : (d : Definition) (ds : List Definition) (id : ℕ) → is_some (table_at (defined d ds) id) ≡ true → (id == d.id || is_some (table_at ds id)) ≡ true
 found_before d ds id h =
-    let listed : has_id id (put_table d (filter (outlives d) ds)) ≡ true = has_id-table_at (defined d ds) id ∙ h in
+    let listed : has_id id (insert_table d (filter (outlives d) ds)) ≡ true = has_id-table_at (defined d ds) id ∙ h in
     elim (cases_eq id d.id) [
       | inl same ↦ rw (eq-eqb id d.id same) refl
       | inr other ↦

@@ -8,7 +8,7 @@ use Rattle.table_types.specs.Tables.{Definition}
 use Rattle.table_types.specs.Updates.{stores_name}
 use Rattle.table_types.specs.Rosters.{table_at, has_id, is_same_name}
 use Rattle.peers_msg.specs.declared.message.Message.TheVariants as messages
-use Rattle.peers_msg.specs.Received.{Received, put_table, outlives, defined, with_own, resumed, selected_table, received_after}
+use Rattle.peers_msg.specs.Received.{Received, insert_table, outlives, defined, with_own, resumed, selected_table, received_after}
 use Rattle.known_state.specs.Known.{AreOwn}
 
 -- the table that an id stands for has that id
@@ -51,10 +51,10 @@ AreOwn-filter roster p (x ∷ xs) own =
     let others = AreOwn-filter roster p xs own.1 in
     elim (p x) as (λ b. AreOwn roster (cond b (x ∷ filter p xs) (filter p xs))) [ true ↦ (own.0, others) | false ↦ others ]
 
-pub AreOwn-put : (roster : List Definition) (d : Definition) (ds : List Definition) → table_at roster d.id ≡ Some d → AreOwn roster ds → AreOwn roster (put_table d ds)
+pub AreOwn-put : (roster : List Definition) (d : Definition) (ds : List Definition) → table_at roster d.id ≡ Some d → AreOwn roster ds → AreOwn roster (insert_table d ds)
 AreOwn-put roster d [] is own = (is, tt)
 AreOwn-put roster d (x ∷ xs) is own =
-    elim (nat_lt d.id x.id) as (λ b. AreOwn roster (cond b (d ∷ (x ∷ xs)) (x ∷ put_table d xs))) [ true ↦ (is, own) | false ↦ (own.0, AreOwn-put roster d xs is own.1) ]
+    elim (nat_lt d.id x.id) as (λ b. AreOwn roster (cond b (d ∷ (x ∷ xs)) (x ∷ insert_table d xs))) [ true ↦ (is, own) | false ↦ (own.0, AreOwn-put roster d xs is own.1) ]
 
 -- what is received after the roster's own definition is the roster's own
 pub AreOwn-defined : (roster : List Definition) (d : Definition) (ds : List Definition) → table_at roster d.id ≡ Some d → AreOwn roster ds → AreOwn roster (defined d ds)
@@ -77,12 +77,12 @@ pub AreOwn-resumed : (roster : List Definition) (ids : List ℕ) (selected : Opt
 AreOwn-resumed roster ids selected = AreOwn-fold roster ids [] tt
 
 -- a table put among tables that lack its id is found there
-put_found : (d : Definition) (ds : List Definition) → has_id d.id ds ≡ false → table_at (put_table d ds) d.id ≡ Some d
+put_found : (d : Definition) (ds : List Definition) → has_id d.id ds ≡ false → table_at (insert_table d ds) d.id ≡ Some d
 put_found d [] none = rw (eq-eqb d.id d.id refl) refl
 put_found d (x ∷ xs) none =
     let other : eqb x.id d.id ≡ false = or-false-left (eqb x.id d.id) (has_id d.id xs) none in
     let rest : has_id d.id xs ≡ false = or-false-right (eqb x.id d.id) (has_id d.id xs) none in
-    elim (nat_lt d.id x.id) as (λ b. table_at (cond b (d ∷ (x ∷ xs)) (x ∷ put_table d xs)) d.id ≡ Some d) [
+    elim (nat_lt d.id x.id) as (λ b. table_at (cond b (d ∷ (x ∷ xs)) (x ∷ insert_table d xs)) d.id ≡ Some d) [
       | true ↦ rw (eq-eqb d.id d.id refl) refl
       | false ↦ rw other (put_found d xs rest)
     ]

@@ -17,3 +17,5 @@ pub mod FullLaws
 pub mod RosterLemmas
 pub mod ReadLaws
 pub mod BuiltLaws
+pub mod ResumingLaws
+pub mod FittingLaws

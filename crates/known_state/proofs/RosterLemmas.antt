@@ -6,7 +6,7 @@ use Rattle.std.proofs.lemmas.Bool.{cases_eq, eq-eqb, ne_eqb}
 use Rattle.table_types.specs.declared.roster.RosterError.TheVariants as errors
 use Rattle.table_types.specs.Tables.{Definition}
 use Rattle.table_types.specs.Rosters.{table_at, has_id, has_name, is_same_name, repeats_id, repeats_name, roster_fault}
-use Rattle.peers_msg.specs.Received.{defined, put_table, outlives}
+use Rattle.peers_msg.specs.Received.{defined, insert_table, outlives}
 use Rattle.known_state.specs.Known.{AreOwn}
 use Rattle.known_state.proofs.KnownLemmas.{or-false-left, or-false-right}
 use Rattle.known_state.proofs.StepLemmas.{has_id-table_at}
@@ -85,7 +85,7 @@ has_kept roster d (x ∷ xs) id distinct listed own apart h =
     passed true e other later = rw (e, ne_eqb x.id id other) later
     passed false e other later = rw e later
 
-pub has_put : (d : Definition) (ts : List Definition) (id : ℕ) → has_id id ts ≡ true → has_id id (put_table d ts) ≡ true
+pub has_put : (d : Definition) (ts : List Definition) (id : ℕ) → has_id id ts ≡ true → has_id id (insert_table d ts) ≡ true
 has_put d [] id h = cc
 has_put d (x ∷ xs) id h = at (nat_lt d.id x.id) refl (has_put d xs id)
   where
@@ -97,9 +97,9 @@ has_put d (x ∷ xs) id h = at (nat_lt d.id x.id) refl (has_put d xs id)
     or-mono true b c f h = refl
     or-mono false b c f h = f h
 
-    at : (b : Bool) → nat_lt d.id x.id ≡ b → (has_id id xs ≡ true → has_id id (put_table d xs) ≡ true) → has_id id (put_table d (x ∷ xs)) ≡ true
+    at : (b : Bool) → nat_lt d.id x.id ≡ b → (has_id id xs ≡ true → has_id id (insert_table d xs) ≡ true) → has_id id (insert_table d (x ∷ xs)) ≡ true
     at true e later = rw e (or-right (eqb d.id id) (has_id id (x ∷ xs)) h)
-    at false e later = rw e (or-mono (eqb x.id id) (has_id id xs) (has_id id (put_table d xs)) later h)
+    at false e later = rw e (or-mono (eqb x.id id) (has_id id xs) (has_id id (insert_table d xs)) later h)
 
 -- so it is received after it
 pub still_received : (roster : List Definition) (d : Definition) (ts : List Definition) (id : ℕ) → repeats_name roster ≡ false → table_at roster d.id ≡ Some d → AreOwn roster ts → (id ≡ d.id → ⊥) → is_some (table_at ts id) ≡ true → is_some (table_at (defined d ts) id) ≡ true

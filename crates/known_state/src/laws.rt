@@ -1,12 +1,14 @@
 //! What holds of known states, whatever the program does.
 
-ghost use Rattle.std.specs.Prelude.{◌≡◌, ◌≤◌, ◌+◌, ◌++◌, ℕ, true, false, List, length, None, Option, if◌then◌else◌};
+ghost use Rattle.std.specs.Prelude.{◌≡◌, ◌≤◌, ◌+◌, ◌++◌, ℕ, true, false, List, length, map, fold, None, Option, if◌then◌else◌};
 ghost use Rattle.std.specs.List.{AllByRecursion};
 ghost use Rattle.table_types.specs.declared.update.Update.{Update};
 ghost use Rattle.table_types.specs.Rosters.{roster_fault, table_at};
 ghost use Rattle.table_types.specs.Tables.{Definition};
 ghost use Rattle.peers_msg.specs.declared.message.Message.{Message};
 ghost use Rattle.peers_msg.specs.Spelling.{stream_of, size_of_all};
+ghost use Rattle.peers_msg.specs.Stream.{AllFit};
+ghost use Rattle.peers_msg.specs.Received.{AreDistinct, received_after, resumed};
 ghost use Rattle.peers_msg.specs.declared.name_field.NameField.{NameField};
 ghost use Rattle.known_state.specs.State.{State, Step, Teaches, Named, IsOwn, Legal, fresh};
 ghost use Rattle.known_state.specs.LastNumbers.{last_of, AreRising};
@@ -126,4 +128,16 @@ pub fn what_is_known_is_enough()
 pub fn numbers_rise()
     ensures fresh { AreRising fresh.last_numbers }
     ensures step { (s e : State) (m : Message) (us : List Update) → AreRising s.last_numbers → Step s m us e → AreRising e.last_numbers }
+{}
+
+/// Messages that make their steps one after another fit all along, and what is received at their end is what they say.
+pub fn steps_fit()
+    ensures { (s e : State) (ms : List Message) (us : List Update) → Teaches s ms us e →
+        AllFit s.received ms × (e.received ≡ fold received_after s.received ms) }
+{}
+
+/// What is resumed from the ids and the selected id of a known state is what was received in that state.
+pub fn resuming_gives_back()
+    ensures { (k : KnownState) → AreOwn k.roster k.state.received.tables → AreDistinct k.state.received.tables →
+        resumed k.roster (map (λ d. d.id) k.state.received.tables) k.state.received.selected ≡ k.state.received }
 {}

@@ -15,8 +15,8 @@ pub use known::{Known, KnownError, StepError};
 pub use last_numbers::LastNumbers;
 pub use laws::{
     a_list_pays, a_step_pays, full_adds_up, no_name_is_carried, none_is_shorter, numbers_rise,
-    one_lesson, one_name, one_step, reads_pay, refused_is_no_step, shortest_by_bytes,
-    what_is_built, what_is_known_is_enough,
+    one_lesson, one_name, one_step, reads_pay, refused_is_no_step, resuming_gives_back,
+    shortest_by_bytes, steps_fit, what_is_built, what_is_known_is_enough,
 };
 pub use parts::stores_no_name;
 pub use request::Request;

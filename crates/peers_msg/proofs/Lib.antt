@@ -14,3 +14,7 @@ pub mod ReadingUses
 pub mod Pieces
 pub mod ShapeLaws
 pub mod FrameLaws
+pub mod ReceivedLaws
+pub mod ListLaws
+pub mod CuttingLaws
+pub mod OneOutcome

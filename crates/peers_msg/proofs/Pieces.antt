@@ -35,12 +35,12 @@ joined h bytes more [] ns g k left rest good one other =
 joined h bytes more (m ∷ ms) ns g k left rest good one other =
     (one.0 ++ more, read_on h m bytes one.0 more good one.1, joined (received_after h m) one.0 more ms ns g k left rest (rest_good h m bytes one.0 good one.1) one.2 other)
 
-reads_on : (h : Received) (bytes more : List ℕ) (ms : List Message) (g : Received) (left : List ℕ) → IsBytes bytes → AreRead h bytes ms g left → AreRead h (bytes ++ more) ms g (left ++ more)
+pub reads_on : (h : Received) (bytes more : List ℕ) (ms : List Message) (g : Received) (left : List ℕ) → IsBytes bytes → AreRead h bytes ms g left → AreRead h (bytes ++ more) ms g (left ++ more)
 reads_on h bytes more [] g left good read = (read.0, ap (λ (x : List ℕ). x ++ more) read.1)
 reads_on h bytes more (m ∷ ms) g left good read =
     (read.0 ++ more, read_on h m bytes read.0 more good read.1, reads_on (received_after h m) read.0 more ms g left (rest_good h m bytes read.0 good read.1) read.2)
 
-left_good : (h : Received) (bytes : List ℕ) (ms : List Message) (g : Received) (left : List ℕ) → IsBytes bytes → AreRead h bytes ms g left → IsBytes left
+pub left_good : (h : Received) (bytes : List ℕ) (ms : List Message) (g : Received) (left : List ℕ) → IsBytes bytes → AreRead h bytes ms g left → IsBytes left
 left_good h bytes [] g left good read = subst IsBytes (sym read.1) good
 left_good h bytes (m ∷ ms) g left good read = left_good (received_after h m) read.0 ms g left (rest_good h m bytes read.0 good read.1) read.2
 

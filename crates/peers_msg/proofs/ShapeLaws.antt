@@ -74,7 +74,7 @@ one_name (x ∷ xs) (y ∷ ys) h =
     let rest : xs ≡ ys = one_name xs ys (and-right (eqb x y) (is_same_name xs ys) h) in
     cc
 
-same_name : (a : List ℕ) → is_same_name a a ≡ true
+pub same_name : (a : List ℕ) → is_same_name a a ≡ true
 same_name [] = refl
 same_name (x ∷ xs) = rw (eq-eqb x x refl) (same_name xs)
 

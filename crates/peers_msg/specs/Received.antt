@@ -1,25 +1,34 @@
 -- What of the tables was received on a stream: which definition each id stands for, and which id is selected
 -- (HAProxy, doc/peers-v2.0.txt, "Table Definition Message" and "Table Switch Message"; what a definition under
 -- another id or with another name takes away is the profile's choice).
-use Rattle.std.specs.Prelude.{ℕ, Bool, not, ◌&&◌, ◌==◌, nat_lt, List, [], ◌∷◌, filter, fold, Option, Some, None, option_and_then, if◌then◌else◌}
+use Rattle.std.specs.Prelude.{◌≢◌, ◌<◌, ℕ, Bool, not, ◌&&◌, ◌==◌, nat_lt, List, [], ◌∷◌, filter, fold, Option, Some, None, option_and_then, if◌then◌else◌}
+use Rattle.std.specs.List.{AllByRecursion}
 use Rattle.table_types.specs.Tables.{Definition}
 use Rattle.table_types.specs.Rosters.{is_same_name, table_at}
 use Rattle.peers_msg.specs.declared.message.Message.{Message}
 use Rattle.peers_msg.specs.declared.message.Message.TheVariants as messages
 
--- the tables received stand in rising id
 pub record Received : Type 0 where
   pub tables : List Definition
   pub selected : Option ℕ
+
+-- a table has a lower id than another, and another name
+abbrev pub IsBelow : Definition → Definition → Type 0
+IsBelow d other = (d.id < other.id) × (d.name ≢ other.name)
+
+-- the tables stand in ascending order of id, one for an id, and no two of them have one name
+abbrev pub AreDistinct : List Definition → Type 0
+AreDistinct [] = Unit {0}
+AreDistinct (d ∷ ds) = AllByRecursion (IsBelow d) ds × AreDistinct ds
 
 -- nothing is received yet
 abbrev pub nothing_received : Received
 nothing_received = record { tables = []; selected = None }
 
 -- a table in its place among tables in rising id
-abbrev pub put_table : Definition → List Definition → List Definition
-put_table new [] = new ∷ []
-put_table new (d ∷ ds) = if nat_lt new.id d.id then new ∷ (d ∷ ds) else d ∷ put_table new ds
+abbrev pub insert_table : Definition → List Definition → List Definition
+insert_table new [] = new ∷ []
+insert_table new (d ∷ ds) = if nat_lt new.id d.id then new ∷ (d ∷ ds) else d ∷ insert_table new ds
 
 -- a table outlives a definition that has neither its id nor its name
 abbrev pub outlives : Definition → Definition → Bool
@@ -27,7 +36,7 @@ outlives new d = not (d.id == new.id) && not (is_same_name d.name new.name)
 
 -- a definition replaces the table of its id, and takes its name from another id
 abbrev pub defined : Definition → List Definition → List Definition
-defined new ds = put_table new (filter (outlives new) ds)
+defined new ds = insert_table new (filter (outlives new) ds)
 
 -- a definition also selects its table, a switch selects a table, and nothing else changes what is received
 abbrev pub received_after : Received → Message → Received

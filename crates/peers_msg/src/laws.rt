@@ -1,15 +1,18 @@
 //! What holds of the definitions, whatever the program does.
 
-ghost use Rattle.std.specs.Prelude.{List, length, true, ℕ, ◌≡◌, ◌≤◌, [], ◌++◌, Ok, Some, ◌≢◌, None, ◌↔◌};
+ghost use Rattle.std.specs.Prelude.{List, length, fold, true, ℕ, ◌≡◌, ◌≤◌, [], ◌++◌, Result, Ok, Err, Option, Some, ◌≢◌, None, ◌↔◌};
 ghost use Rattle.peers_encint.specs.Integers.{IsBytes};
 ghost use Rattle.peers_msg.specs.Reading.{message_at, with_more};
-ghost use Rattle.peers_msg.specs.Decoding.{AreRead, AreReadInPieces, IsEnd, together};
+ghost use Rattle.peers_msg.specs.Decoding.{Decoding, Fed, Next, AreRead, AreReadInPieces, IsEnd, together};
 ghost use Rattle.peers_msg.specs.Stream.{AllFit};
-ghost use Rattle.peers_msg.specs.Received.{Received};
-ghost use Rattle.peers_msg.specs.OwnTables.{is_shape_of};
+ghost use Rattle.peers_msg.specs.Received.{Received, AreDistinct, nothing_received, received_after, resumed};
+ghost use Rattle.peers_msg.specs.OwnTables.{is_shape_of, own_part};
 ghost use Rattle.peers_msg.specs.Fitting.{update_fits, fits};
 ghost use Rattle.peers_msg.specs.Messages.{UpdateFields, is_small};
 ghost use Rattle.peers_msg.specs.Spelling.{update_text, definition_text, spelled, stream_of};
+ghost use Rattle.peers_msg.specs.declared.fault.Breach.{Breach};
+ghost use Rattle.peers_msg.specs.declared.fault.Fault.{Fault};
+ghost use Rattle.peers_msg.specs.declared.fault.Fault.TheVariants as faults;
 ghost use Rattle.peers_msg.specs.declared.message.Message.{Message};
 ghost use Rattle.table_types.specs.Tables.{Definition, is_definition};
 ghost use Rattle.table_types.specs.Updates.{row_fits};
@@ -51,11 +54,45 @@ pub fn reading_stays()
 {}
 
 /// However a stream is cut into pieces, and however many messages are read after each of them, the messages are those
-/// of the whole. Where two ways to cut one stream both end, the same messages were read, the same was received, and the
-/// same bytes are left.
+/// of the whole. Where two ways to cut one stream are both read until no message is whole, the same messages were read,
+/// the same was received, the same bytes are left, and the same answer stands at the end: not whole yet, or the same
+/// breach. Where one way stops at a breach before the stream is at its end, the other one ends at that breach too, after
+/// the same messages, and the bytes that came later are left after it.
 pub fn any_cutting()
     ensures whole { (h : Received) (unread : List ℕ) (pieces : List (List ℕ)) (ms : List Message) (g : Received) (rest : List ℕ) → IsBytes (unread ++ together pieces) → AreReadInPieces h unread pieces ms g rest → AreRead h (unread ++ together pieces) ms g rest }
-    ensures same { (h : Received) (one other : List (List ℕ)) (ms ns : List Message) (g k : Received) (x y : List ℕ) → IsBytes (together one) → together one ≡ together other → AreReadInPieces h [] one ms g x → AreReadInPieces h [] other ns k y → IsEnd g x → IsEnd k y → (ms ≡ ns) × (g ≡ k) × (x ≡ y) }
+    ensures same { (h : Received) (one other : List (List ℕ)) (ms ns : List Message) (g k : Received) (x y : List ℕ) → IsBytes (together one) → together one ≡ together other → AreReadInPieces h [] one ms g x → AreReadInPieces h [] other ns k y → IsEnd g x → IsEnd k y →
+        (ms ≡ ns) × (g ≡ k) × (x ≡ y) × (message_at g x ≡ message_at k y) }
+    ensures breach { (h : Received) (one other : List (List ℕ)) (more : List ℕ) (ms ns : List Message) (g k : Received) (x y : List ℕ) (breach : Breach) →
+        IsBytes (together other) → together one ++ more ≡ together other →
+        AreReadInPieces h [] one ms g x → message_at g x ≡ Err breach → AreReadInPieces h [] other ns k y → IsEnd k y →
+        (ms ≡ ns) × (g ≡ k) × (x ++ more ≡ y) × (message_at k y ≡ Err breach) }
+{}
+
+/// A list of messages that are read one after another fits, the bytes are the list's encoding and what is left, and what
+/// was received is what the list says. And a list that fits is read back from its encoding, whatever follows it.
+pub fn lists_are_read()
+    ensures spelled { (h g : Received) (bytes rest : List ℕ) (ms : List Message) → IsBytes bytes → AreRead h bytes ms g rest →
+        (bytes ≡ stream_of ms ++ rest) × AllFit h ms × (g ≡ fold received_after h ms) }
+    ensures read { (h : Received) (ms : List Message) (rest : List ℕ) → AllFit h ms → AreRead h (stream_of ms ++ rest) ms (fold received_after h ms) rest }
+{}
+
+/// A decoder does one thing: where two outcomes of feeding it a piece, or of asking it for a message, are both allowed
+/// and neither is running out of memory, the answer is the same and so is what it holds then.
+pub fn one_outcome()
+    ensures feed { (d a b : Decoding) (piece : List ℕ) (one other : Result (Unit {0}) Fault) → Fed d piece one a → Fed d piece other b →
+        one ≢ Err faults.Memory → other ≢ Err faults.Memory → (one ≡ other) × (a ≡ b) }
+    ensures next { (d a b : Decoding) (one other : Result (Option Message) Fault) → Next d one a → Next d other b →
+        one ≢ Err faults.Memory → other ≢ Err faults.Memory → (one ≡ other) × (a ≡ b) }
+{}
+
+/// The tables received stand in ascending order of id, one for an id, and no two of them have one name: so it is before
+/// anything is received, after each message, where a roster's own tables were defined, and of the part that is a
+/// roster's own.
+pub fn tables_stay_distinct()
+    ensures begun { AreDistinct nothing_received.tables }
+    ensures step { (h : Received) (m : Message) → AreDistinct h.tables → AreDistinct (received_after h m).tables }
+    ensures resumed { (roster : List Definition) (ids : List ℕ) (selected : Option ℕ) → AreDistinct (resumed roster ids selected).tables }
+    ensures own { (roster : List Definition) (h : Received) → AreDistinct h.tables → AreDistinct (own_part roster h).tables }
 {}
 
 /// The data of an update that fits a table, and of a definition, have at most 16,384 bytes; and key and values that

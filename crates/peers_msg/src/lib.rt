@@ -25,8 +25,8 @@ pub use encoding::encode;
 pub use fault::Fault;
 pub use framing::split_message;
 pub use laws::{
-    any_cutting, data_is_small, no_prefix, one_list, one_message, read_is_spelled, reading_stays,
-    same_shape, spelled_is_read,
+    any_cutting, data_is_small, lists_are_read, no_prefix, one_list, one_message, one_outcome,
+    read_is_spelled, reading_stays, same_shape, spelled_is_read, tables_stay_distinct,
 };
 pub use message::{Message, Other, UpdateMsg};
 pub use name_field::NameField;

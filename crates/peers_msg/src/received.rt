@@ -4,7 +4,7 @@ ghost use Rattle.std.specs.Prelude.{◌≡◌, ◌≤◌, ◌<◌, ◌+◌, IfOk
 ghost use Rattle.table_types.specs.Tables.{Definition};
 ghost use Rattle.table_types.specs.Rosters.{is_same_name, table_at};
 ghost use Rattle.peers_msg.specs.declared.message.Message.TheVariants as messages;
-ghost use Rattle.peers_msg.specs.Received.{nothing_received, received_after, put_table, outlives, selected_table, resumed};
+ghost use Rattle.peers_msg.specs.Received.{AreDistinct, nothing_received, received_after, insert_table, outlives, selected_table, resumed};
 ghost use Rattle.peers_msg.specs.OwnTables.{own_part};
 
 use crate::own_tables::is_own;
@@ -16,17 +16,19 @@ use table_types::{Memory, Roster, TableDef, is_same_name, table_at};
 /// messages before (HAProxy, doc/peers-v2.0.txt, "Table Definition Message", "Table Switch Message").
 #[derive(Debug, Drop)]
 pub struct Received {
-    /// In rising id.
+    /// In ascending order of id, and no two of one name.
     tables: Vec<TableDef>,
     selected: Option<u64>,
 }
 
 impl Model for Received {
-    ghost use Rattle.peers_msg.specs.Received.{Received};
+    ghost use Rattle.peers_msg.specs.Received.{Received, AreDistinct};
 
     ghost Value = { Received };
 
     ghost view = { λ h. record { tables = h.tables.items; selected = h.selected } };
+
+    ghost invariant = { λ h. AreDistinct h.tables.items };
 }
 
 fn outlives(new: &TableDef, table: &TableDef) -> bool
@@ -54,7 +56,7 @@ fn keep_outliving(tables: &mut Vec<TableDef>, new: &TableDef)
 /// Where a table of that id goes among tables in rising id.
 fn index_of(tables: &[TableDef], id: u64) -> usize
     ensures within { result ≤ length tables.now }
-    ensures place { (new : Definition) → new.id ≡ id → insert tables.now result new ≡ put_table new tables.now }
+    ensures place { (new : Definition) → new.id ≡ id → insert tables.now result new ≡ insert_table new tables.now }
 {
     for (place, table) in tables.iter().enumerate() {
         if id < table.id() {
@@ -95,9 +97,10 @@ impl Received {
         Ok(received)
     }
 
-    /// The tables received, in rising id.
+    /// The tables received, in ascending order of id; no two of them have one id or one name.
     pub fn tables(&self) -> &[TableDef]
-        ensures { result.now ≡ self.now.tables }
+        ensures tables { result.now ≡ self.now.tables }
+        ensures distinct { AreDistinct self.now.tables }
     {
         self.tables.as_slice()
     }

@@ -1,8 +1,12 @@
-use Rattle.peers_msg.proofs.Pieces.{whole, any_cutting}
+use Rattle.peers_msg.proofs.Pieces.{whole}
+use Rattle.peers_msg.proofs.CuttingLaws.{same_end, same_breach}
 use Rattle.peers_msg.proofs.laws.any_cutting.Goals as goal
 
 pub returns-clause-whole : goal.returns-clause-whole
 returns-clause-whole c = whole
 
 pub returns-clause-same : goal.returns-clause-same
-returns-clause-same c = any_cutting
+returns-clause-same c = same_end
+
+pub returns-clause-breach : goal.returns-clause-breach
+returns-clause-breach c = same_breach
