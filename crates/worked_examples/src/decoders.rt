@@ -1,6 +1,6 @@
 //! Streams of messages, cut anywhere, and how a decoder reads them.
 
-use crate::fixtures::{T1, alone};
+use example_parts::{T1, alone};
 use peers_msg::{Decoder, Fault};
 use std::alloc::Global;
 

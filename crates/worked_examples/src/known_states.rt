@@ -1,7 +1,7 @@
 //! Known states: which parts make one, and which messages are legal from it.
 
-use crate::fixtures::{KnownParts, ST, T1, TableParts, alone, are_held, definition, known, named};
 use dict_slots::Slots;
+use example_parts::{KnownParts, ST, T1, TableParts, alone, are_held, definition, known, named};
 use known_state::{Known, KnownError, StepError};
 use peers_msg::{Control, Message, NameField, UpdateMsg};
 use std::alloc::Global;

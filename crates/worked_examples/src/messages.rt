@@ -1,6 +1,6 @@
 //! Messages and their bytes.
 
-use crate::fixtures::{ST, T1, definition, named};
+use example_parts::{ST, T1, definition, named};
 use peers_msg::{Control, ErrorKind, Message, NameField, Other, UpdateMsg, encode, size};
 use std::alloc::Global;
 use table_types::{Items, Key, Value};

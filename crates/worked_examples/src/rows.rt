@@ -1,6 +1,6 @@
 //! Names, moments, keys, updates, and the rows that they teach.
 
-use crate::fixtures::{KeyParts, UpdateParts, is_called, key, named, update};
+use example_parts::{KeyParts, UpdateParts, is_called, key, named, update};
 use std::alloc::Global;
 use table_types::{Cell, Key, Moment, Row, Update, Value};
 

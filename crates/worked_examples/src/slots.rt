@@ -1,7 +1,7 @@
 //! The slots of the dictionary of server names.
 
-use crate::fixtures::{are_held, is_called, named, slots};
 use dict_slots::Slots;
+use example_parts::{are_held, is_called, named, slots};
 use std::alloc::Global;
 
 #[test]

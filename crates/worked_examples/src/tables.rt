@@ -1,6 +1,6 @@
 //! Definitions of tables, rosters and batches, and the words for what tables store.
 
-use crate::fixtures::{KeyParts, T1, TableParts, UpdateParts, alone, definition, update, updates};
+use example_parts::{KeyParts, T1, TableParts, UpdateParts, alone, definition, update, updates};
 use std::alloc::Global;
 use table_types::{
     Batch, BatchError, DataType, DefError, KeyKind, Roster, RosterError, TableDef, Update, Value,

@@ -1,6 +1,6 @@
 //! Learners: what they make of streams from outside.
 
-use crate::fixtures::{ST, T1, TableParts, alone, is_called};
+use example_parts::{ST, T1, TableParts, alone, is_called};
 use learner::{Fault, Learner};
 use peers_msg::Message;
 use std::alloc::Global;

@@ -1,5 +1,6 @@
-//! What the examples begin with, written in short, and made of that. A call that wants memory and gets none, or parts
-//! that are refused, answer `None`, so that a test of what comes of them fails.
+//! What the worked examples begin with, written in short, and made of that. A call that wants memory and gets none, or
+//! parts that are refused, answer `None`, so that a test of what comes of them fails.
+#![tactic(auto)]
 
 use dict_slots::Slots;
 use known_state::Known;
@@ -132,9 +133,9 @@ pub fn slots(alloc: Global, held: &[u8]) -> Option<Slots> {
     Some(slots)
 }
 
-/// Whether the place holds that name, and none where it is empty.
-pub fn is_called(place: Option<&Name>, name: &[u8]) -> bool {
-    match place {
+/// Whether a slot holds that name, or none where that is empty.
+pub fn is_called(slot: Option<&Name>, name: &[u8]) -> bool {
+    match slot {
         Some(held) => held.as_slice() == name,
         None => name.is_empty(),
     }

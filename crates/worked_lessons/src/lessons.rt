@@ -1,6 +1,6 @@
 //! Lessons, the known state in which each ends, and what names cost.
 
-use crate::fixtures::{
+use example_parts::{
     KeyParts, KnownParts, ST, T1, TableParts, UpdateParts, are_held, known, updates,
 };
 use known_state::{Known, Request};
