@@ -2,6 +2,7 @@ pub use Rattle.peers_encint.specs.Integers
 pub mod Messages
 pub mod Received
 pub mod OwnTables
+pub mod Borrowed
 pub mod Spelling
 pub mod Fitting
 pub mod Reading

@@ -3,6 +3,7 @@
 ghost use Rattle.std.specs.Prelude.{◌≡◌};
 ghost use Rattle.peers_msg.specs.Decoding.{fault_of};
 ghost use Rattle.peers_msg.specs.declared.fault.ReadError.TheVariants.{Memory as NoMemory};
+ghost use Rattle.peers_msg.specs.declared.fault.Fault.TheVariants as faults;
 
 use std::alloc::{AllocError, AllocFailed};
 use table_types::Memory;
@@ -95,6 +96,14 @@ pub enum Fault {
     /// There was a fault before: nothing more is read.
     #[error("there was a fault before")]
     Closed,
+}
+
+impl From<Memory> for Fault {
+    ghost from_gives = { λ _ e. e ≡ faults.Memory };
+
+    fn from(_refused: Memory) -> Fault {
+        Fault::Memory
+    }
 }
 
 impl Breach {

@@ -11,10 +11,12 @@ mod laws;
 mod meaning;
 mod message;
 mod name_field;
+mod name_field_ref;
 mod own_tables;
 mod reading;
 mod received;
 mod sizes;
+mod unread;
 
 pub use control::{Control, ErrorKind};
 pub use decoder::Decoder;
@@ -27,6 +29,8 @@ pub use laws::{
 };
 pub use message::{Message, Other, UpdateMsg};
 pub use name_field::NameField;
+pub use name_field_ref::NameFieldRef;
 pub use own_tables::{is_own, is_shape_of};
 pub use received::Received;
 pub use sizes::{named_sizes, size};
+pub use unread::Unread;

@@ -1,7 +1,7 @@
-use Rattle.std.proofs.Common.{refl, sym, ap, ◌∙◌, drop}
-use Rattle.peers_msg.specs.Reading.{message_at}
+use Rattle.std.proofs.Common.{refl, drop}
 use Rattle.peers_msg.proofs.decoder.Decoder.next.Goals as goal
 
-pub returns-in-Ok : goal.returns-in-Ok
-returns-in-Ok c =
-    rw (← c.self.view_is) (c.if-self.false, drop c.in-Ok-Some.used c.self.inside.unread.items, ap (message_at c.self.inside.received) (sym c.as_slice.ensures) ∙ c.in-Ok-Some.ensures.read ∙ rw (c.as_slice.ensures, c.in-Ok-Some.field-0-is) refl, c.in-Ok.ensures.passed ∙ rw (← c.self.view_is, c.if-self.false) refl)
+pub returns-in_ok-receive-in-Ok-Some : goal.returns-in_ok-receive-in-Ok-Some
+returns-in_ok-receive-in-Ok-Some c =
+    let found = rw c.in-Ok-Some.field-0-is at c.in-Ok-Some.ensures.front in
+    rw (← c.self.view_is) (c.if-self.false, drop c.in-Ok-Some.used c.self.inside.unread, found, rw (c.advance.ensures, c.in_ok-receive-in-Ok-Some.ensures.received, c.if-self.false) refl)
