@@ -5,7 +5,6 @@ use Rattle.peers_msg.specs.declared.fault.Breach.TheVariants as breaches
 use Rattle.peers_msg.specs.declared.fault.Fault.{Fault}
 use Rattle.peers_msg.specs.declared.fault.Fault.TheVariants as faults
 use Rattle.peers_msg.specs.declared.message.Message.{Message}
-use Rattle.peers_msg.specs.declared.message.Message.TheVariants as messages
 use Rattle.peers_msg.specs.declared.borrowed.message_ref.MessageRef.{MessageRef}
 use Rattle.peers_msg.specs.BorrowedMessages.{owned_message}
 use Rattle.peers_msg.specs.Received.{Received, received_after}
@@ -32,11 +31,11 @@ fault_of breaches.BadValue = faults.BadValue
 fault_of breaches.Trailing = faults.Trailing
 
 -- What feeding bytes does. After a fault nothing is fed.
-abbrev pub Fed : Decoding → List ℕ → Result (Unit {0}) Fault → Decoding → Type 0
-Fed d piece (Ok _) e = (d.closed ≡ false) × (e ≡ record { received = d.received; unread = d.unread ++ piece; closed = false })
-Fed d piece (Err faults.Memory) e = (d.closed ≡ false) × (e ≡ d)
-Fed d piece (Err faults.Closed) e = (d.closed ≡ true) × (e ≡ d)
-Fed d piece (Err fault) e = ⊥
+abbrev pub DecoderFeeds : Decoding → List ℕ → Result (Unit {0}) Fault → Decoding → Type 0
+DecoderFeeds d piece (Ok _) e = (d.closed ≡ false) × (e ≡ record { received = d.received; unread = d.unread ++ piece; closed = false })
+DecoderFeeds d piece (Err faults.Memory) e = (d.closed ≡ false) × (e ≡ d)
+DecoderFeeds d piece (Err faults.Closed) e = (d.closed ≡ true) × (e ≡ d)
+DecoderFeeds d piece (Err fault) e = ⊥
 
 -- a whole message without a breach stands at the front
 abbrev pub IsWhole : Decoding → Type 0
@@ -44,42 +43,28 @@ IsWhole d = (m : Message) × (rest : List ℕ) × (message_at d.received d.unrea
 
 -- What asking for a message does. A message is taken off the bytes and received, a breach closes, and nothing else changes
 -- anything. Memory runs out only for a whole message.
-abbrev pub Next : Decoding → Result (Option Message) Fault → Decoding → Type 0
-Next d (Ok None) e = (d.closed ≡ false) × (message_at d.received d.unread ≡ Ok None) × (e ≡ d)
-Next d (Ok (Some m)) e =
+abbrev pub DecoderNext : Decoding → Result (Option Message) Fault → Decoding → Type 0
+DecoderNext d (Ok None) e = (d.closed ≡ false) × (message_at d.received d.unread ≡ Ok None) × (e ≡ d)
+DecoderNext d (Ok (Some m)) e =
     (d.closed ≡ false)
     × (rest : List ℕ)
     × (message_at d.received d.unread ≡ Ok (Some (m, rest)))
     × (e ≡ record { received = received_after d.received m; unread = rest; closed = false })
-Next d (Err faults.Memory) e = (d.closed ≡ false) × IsWhole d × (e ≡ d)
-Next d (Err faults.Closed) e = (d.closed ≡ true) × (e ≡ d)
-Next d (Err fault) e =
+DecoderNext d (Err faults.Memory) e = (d.closed ≡ false) × IsWhole d × (e ≡ d)
+DecoderNext d (Err faults.Closed) e = (d.closed ≡ true) × (e ≡ d)
+DecoderNext d (Err fault) e =
     (d.closed ≡ false)
     × (breach : Breach)
     × (message_at d.received d.unread ≡ Err breach)
     × (fault ≡ fault_of breach)
     × (e ≡ record { received = d.received; unread = d.unread; closed = true })
 
--- What looking at the front tells: the message there and how many bytes it has, none, or what is wrong with it. It takes no
--- memory.
-abbrev pub Front : Decoding → Result (Option (MessageRef × ℕ)) Fault → Type 0
-Front d (Ok None) = (d.closed ≡ false) × (message_at d.received d.unread ≡ Ok None)
-Front d (Ok (Some found)) = (d.closed ≡ false) × (message_at d.received d.unread ≡ Ok (Some (owned_message found.0, drop found.1 d.unread)))
-Front d (Err faults.Memory) = ⊥
-Front d (Err faults.Closed) = d.closed ≡ true
-Front d (Err fault) =
-    (d.closed ≡ false)
-    × (breach : Breach)
-    × (message_at d.received d.unread ≡ Err breach)
-    × (fault ≡ fault_of breach)
-
--- a message of so many bytes is received, and its bytes are dropped
-abbrev pub passed : Decoding → Message → ℕ → Decoding
-passed d m used = record { received = received_after d.received m; unread = drop used d.unread; closed = d.closed }
-
-abbrev pub IsDefinition : Message → Type 0
-IsDefinition (messages.Define d) = Unit {0}
-IsDefinition m = ⊥
+-- What looking at the front of bytes tells, by what was received: the message there and how many bytes it has, none, or
+-- what is wrong with it. It takes no memory.
+abbrev pub IsFrontOf : Received → List ℕ → Result (Option (MessageRef × ℕ)) Fault → Type 0
+IsFrontOf received bytes (Ok None) = message_at received bytes ≡ Ok None
+IsFrontOf received bytes (Ok (Some found)) = message_at received bytes ≡ Ok (Some (owned_message found.0, drop found.1 bytes))
+IsFrontOf received bytes (Err fault) = (breach : Breach) × (message_at received bytes ≡ Err breach) × (fault ≡ fault_of breach)
 
 -- ---- streams in pieces
 

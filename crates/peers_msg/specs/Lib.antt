@@ -2,10 +2,10 @@ pub use Rattle.peers_encint.specs.Integers
 pub mod Messages
 pub mod Received
 pub mod OwnTables
+pub mod Borrowed
 pub mod Spelling
 pub mod Fitting
 pub mod Reading
-pub mod Borrowed
 pub mod BorrowedMessages
 pub mod Stream
 pub mod Decoding

@@ -1,19 +1,14 @@
 //! The decoder of a stream of messages.
 
-ghost use Rattle.std.specs.Prelude.{◌≡◌, ◌≤◌, IfOk, IfSome, OnOk, OnErr, true, false, Ok, Some, length, drop, option_map};
-ghost use Rattle.peers_msg.specs.Borrowed.{Reads};
-ghost use Rattle.peers_msg.specs.BorrowedMessages.{owned_message};
-ghost use Rattle.peers_msg.specs.Decoding.{begun, Fed, Next, Front, passed, IsDefinition};
-ghost use Rattle.peers_msg.specs.Fitting.{fits};
-ghost use Rattle.peers_msg.specs.Received.{nothing_received, received_after, resumed};
+ghost use Rattle.std.specs.Prelude.{◌≡◌, ◌≤◌, IfOk, OnOk, OnErr, Ok, Some, drop, false, length};
+ghost use Rattle.peers_msg.specs.Decoding.{begun, DecoderFeeds, DecoderNext};
 ghost use Rattle.peers_msg.specs.Reading.{message_at};
+ghost use Rattle.peers_msg.specs.Received.{nothing_received, received_after, resumed};
 
-use crate::borrowed::MessageRef;
-use crate::fault::{Breach, Fault};
+use crate::fault::Fault;
 use crate::message::Message;
-use crate::reading::message_at;
 use crate::received::Received;
-use bytes::BytesMut;
+use crate::unread::Unread;
 use std::alloc::Global;
 use std::marker::Model;
 use table_types::{Memory, Roster};
@@ -26,7 +21,7 @@ use table_types::{Memory, Roster};
 pub struct Decoder {
     alloc: Global,
     received: Received,
-    unread: BytesMut<Global>,
+    unread: Unread,
     closed: bool,
 }
 
@@ -35,30 +30,13 @@ impl Model for Decoder {
 
     ghost Value = { Decoding };
 
-    ghost view = { λ d. record { received = d.received; unread = d.unread.items; closed = d.closed } };
-}
-
-/// The message at the front, and how many bytes it has.
-fn front<'a>(
-    received: &'a Received,
-    unread: &'a [u8],
-) -> Result<Option<(MessageRef<'a>, usize)>, Breach>
-    ensures read { Reads (option_map (λ x. (owned_message x.0, drop x.1 unread.now))) result (message_at received.now unread.now) }
-    ensures within { IfOk result (λ found. IfSome found (λ x. (1 ≤ x.1) × (x.1 ≤ length unread.now))) }
-    ensures fits { IfOk result (λ found. IfSome found (λ x. fits received.now (owned_message x.0) ≡ true)) }
-{
-    let Some((message, rest)) = message_at(received, unread)? else {
-        return Ok(None);
-    };
-    let used = unread.len() - rest.len();
-    Ok(Some((message, used)))
+    ghost view = { λ d. record { received = d.received; unread = d.unread; closed = d.closed } };
 }
 
 /// Receives a message. After `Memory` nothing has changed.
 fn receive(alloc: Global, received: &mut Received, message: &Message) -> Result<(), Memory>
     ensures received { OnOk result (received.new ≡ received_after received.old message.now) }
     ensures stays { OnErr result (received.new ≡ received.old) }
-    ensures defines { OnErr result (IsDefinition message.now) }
 {
     match message {
         Message::Define(table) => received.define(table.copy(alloc)?),
@@ -78,7 +56,7 @@ impl Decoder {
         Decoder {
             alloc,
             received: Received::new(alloc),
-            unread: BytesMut::new(alloc),
+            unread: Unread::new(alloc),
             closed: false,
         }
     }
@@ -96,7 +74,7 @@ impl Decoder {
         Ok(Decoder {
             alloc,
             received: Received::resume(alloc, roster, defined, selected)?,
-            unread: BytesMut::new(alloc),
+            unread: Unread::new(alloc),
             closed: false,
         })
     }
@@ -117,59 +95,35 @@ impl Decoder {
 
     /// Takes the next piece of the stream. After a fault it answers `Closed`; after `Memory` nothing has changed.
     pub fn feed(&mut self, piece: &[u8]) -> Result<(), Fault>
-        ensures { Fed self.old piece.now result self.new }
+        ensures { DecoderFeeds self.old piece.now result self.new }
     {
         if self.closed {
             return Err(Fault::Closed);
         }
-        match self.unread.extend_from_slice(piece) {
-            Ok(()) => Ok(()),
-            Err(_) => Err(Fault::Memory),
-        }
-    }
-
-    /// The message at the front and how many bytes it has, and `None` while it isn't whole. It stays where it is: nothing
-    /// is received, no memory is taken, and bytes that begin no message don't close.
-    pub fn front(&self) -> Result<Option<(MessageRef<'_>, usize)>, Fault>
-        ensures front { Front self.now result }
-        ensures fits { IfOk result (λ found. IfSome found (λ x. fits self.now.received (owned_message x.0) ≡ true)) }
-        ensures within { IfOk result (λ found. IfSome found (λ x. (1 ≤ x.1) × (x.1 ≤ length self.now.unread))) }
-    {
-        if self.closed {
-            return Err(Fault::Closed);
-        }
-        match front(&self.received, self.unread.as_slice()) {
-            Ok(found) => Ok(found),
-            Err(breach) => Err(breach.fault()),
-        }
-    }
-
-    /// Receives a message and drops its bytes, as many as `front` told. Only a definition takes memory; after `Memory`
-    /// nothing has changed.
-    pub fn pass(&mut self, message: &Message, used: usize) -> Result<(), Memory>
-        requires { used ≤ length self.old.unread }
-        ensures passed { OnOk result (self.new ≡ passed self.old message.now used) }
-        ensures stays { OnErr result (self.new ≡ self.old) }
-        ensures defines { OnErr result (IsDefinition message.now) }
-    {
-        receive(self.alloc, &mut self.received, message)?;
-        self.skip(used);
+        self.unread.append(piece)?;
         Ok(())
     }
 
-    /// Drops the bytes of a message that tells nothing of the tables, as many as `front` told.
-    pub fn skip(&mut self, used: usize)
-        requires { used ≤ length self.old.unread }
-        ensures { self.new ≡ record self.old { unread = drop used self.old.unread } }
+    /// The next message, and `None` while it isn't whole. Bytes that begin no message are a fault, and after it the
+    /// decoder answers `Closed`. It answers `Memory` only where a whole message without a fault stands at the front, and
+    /// then nothing has changed.
+    pub fn next(&mut self) -> Result<Option<Message>, Fault>
+        ensures { DecoderNext self.old result self.new }
     {
-        self.unread.advance(used);
-    }
-
-    /// Reads no more: every later call answers `Closed`.
-    pub fn close(&mut self)
-        ensures { self.new ≡ record self.old { closed = true } }
-    {
-        self.closed = true;
+        if self.closed {
+            return Err(Fault::Closed);
+        }
+        match self.unread.front(&self.received) {
+            Ok(Some((found, used))) => match found.to_owned(self.alloc) {
+                Ok(message) => self.given(message, used),
+                Err(Memory) => Err(Fault::Memory),
+            },
+            Ok(None) => Ok(None),
+            Err(fault) => {
+                self.closed = true;
+                Err(fault)
+            }
+        }
     }
 
     /// Gives a message that stands at the front and has so many bytes.
@@ -177,33 +131,10 @@ impl Decoder {
         requires within { used ≤ length self.old.unread }
         requires opened { self.old.closed ≡ false }
         requires stands { message_at self.old.received self.old.unread ≡ Ok (Some (message, drop used self.old.unread)) }
-        ensures { Next self.old result self.new }
+        ensures { DecoderNext self.old result self.new }
     {
-        match self.pass(&message, used) {
-            Ok(()) => Ok(Some(message)),
-            Err(Memory) => Err(Fault::Memory),
-        }
-    }
-
-    /// The next message, and `None` while it isn't whole. Bytes that begin no message are a fault, and after it the
-    /// decoder answers `Closed`. It answers `Memory` only where a whole message without a fault stands at the front, and
-    /// then nothing has changed.
-    pub fn next(&mut self) -> Result<Option<Message>, Fault>
-        ensures { Next self.old result self.new }
-    {
-        if self.closed {
-            return Err(Fault::Closed);
-        }
-        match front(&self.received, self.unread.as_slice()) {
-            Ok(Some((found, used))) => match found.to_owned(self.alloc) {
-                Ok(message) => self.given(message, used),
-                Err(Memory) => Err(Fault::Memory),
-            },
-            Ok(None) => Ok(None),
-            Err(breach) => {
-                self.close();
-                Err(breach.fault())
-            }
-        }
+        receive(self.alloc, &mut self.received, &message)?;
+        self.unread.advance(used);
+        Ok(Some(message))
     }
 }

@@ -2,7 +2,9 @@
 
 ghost use Rattle.std.specs.Prelude.{◌≡◌};
 ghost use Rattle.peers_msg.specs.Decoding.{fault_of};
+ghost use Rattle.peers_msg.specs.declared.fault.Fault.TheVariants as faults;
 
+use table_types::Memory;
 use thiserror::Error;
 
 /// The first thing that is wrong with the bytes where a message is to stand (profile).
@@ -59,6 +61,14 @@ pub enum Fault {
     /// There was a fault before: nothing more is read.
     #[error("there was a fault before")]
     Closed,
+}
+
+impl From<Memory> for Fault {
+    ghost from_gives = { λ _ e. e ≡ faults.Memory };
+
+    fn from(_refused: Memory) -> Fault {
+        Fault::Memory
+    }
 }
 
 impl Breach {

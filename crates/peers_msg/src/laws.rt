@@ -3,7 +3,7 @@
 ghost use Rattle.std.specs.Prelude.{List, length, fold, true, ℕ, ◌≡◌, ◌≤◌, [], ◌++◌, Result, Ok, Err, Option, Some, ◌≢◌, None, ◌↔◌};
 ghost use Rattle.peers_encint.specs.Integers.{IsBytes};
 ghost use Rattle.peers_msg.specs.Reading.{message_at, with_more};
-ghost use Rattle.peers_msg.specs.Decoding.{Decoding, Fed, Next, AreRead, AreReadInPieces, IsEnd, together};
+ghost use Rattle.peers_msg.specs.Decoding.{Decoding, DecoderFeeds, DecoderNext, AreRead, AreReadInPieces, IsEnd, together};
 ghost use Rattle.peers_msg.specs.Stream.{AllFit};
 ghost use Rattle.peers_msg.specs.Received.{Received, AreDistinct, nothing_received, received_after, resumed};
 ghost use Rattle.peers_msg.specs.OwnTables.{is_shape_of, own_part};
@@ -79,9 +79,9 @@ pub fn lists_are_read()
 /// A decoder does one thing: where two outcomes of feeding it a piece, or of asking it for a message, are both allowed
 /// and neither is running out of memory, the answer is the same and so is what it holds then.
 pub fn one_outcome()
-    ensures feed { (d a b : Decoding) (piece : List ℕ) (one other : Result (Unit {0}) Fault) → Fed d piece one a → Fed d piece other b →
+    ensures feed { (d a b : Decoding) (piece : List ℕ) (one other : Result (Unit {0}) Fault) → DecoderFeeds d piece one a → DecoderFeeds d piece other b →
         one ≢ Err faults.Memory → other ≢ Err faults.Memory → (one ≡ other) × (a ≡ b) }
-    ensures next { (d a b : Decoding) (one other : Result (Option Message) Fault) → Next d one a → Next d other b →
+    ensures next { (d a b : Decoding) (one other : Result (Option Message) Fault) → DecoderNext d one a → DecoderNext d other b →
         one ≢ Err faults.Memory → other ≢ Err faults.Memory → (one ≡ other) × (a ≡ b) }
 {}
 

@@ -17,6 +17,7 @@ mod own_tables;
 mod reading;
 mod received;
 mod sizes;
+mod unread;
 
 pub use borrowed::{DefinitionRef, KeyRef, MessageRef, OtherRef, UpdateRef, ValuesRef};
 pub use control::{Control, ErrorKind};
@@ -34,3 +35,4 @@ pub use name_field_ref::NameFieldRef;
 pub use own_tables::{is_own, is_shape_of};
 pub use received::Received;
 pub use sizes::{named_sizes, size};
+pub use unread::Unread;

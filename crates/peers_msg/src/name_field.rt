@@ -1,5 +1,9 @@
 //! The name of a server in an update, by the dictionary.
 
+ghost use Rattle.std.specs.Prelude.{◌≡◌, true};
+ghost use Rattle.peers_msg.specs.Borrowed.{owned_name, is_named};
+
+use crate::name_field_ref::NameFieldRef;
 use table_types::Name;
 
 /// What stands where an update's server name goes. The dictionary's slots, 1 to 128, belong to the session and
@@ -17,4 +21,19 @@ pub enum NameField {
     Held(u8),
     /// The slot is written with the name.
     Written(u8, Name),
+}
+
+impl NameField {
+    /// The same field, lent.
+    pub fn lend(&self) -> NameFieldRef<'_>
+        ensures lent { owned_name result ≡ self.now }
+        ensures named { is_named self.now ≡ true }
+    {
+        match self {
+            NameField::NotStored => NameFieldRef::NotStored,
+            NameField::NoName => NameFieldRef::NoName,
+            NameField::Held(slot) => NameFieldRef::Held(*slot),
+            NameField::Written(slot, name) => NameFieldRef::Written(*slot, name.as_slice()),
+        }
+    }
 }

@@ -49,6 +49,17 @@ impl Name {
         }
     }
 
+    /// The name of these bytes, which are one.
+    pub fn from_slice(alloc: Global, bytes: &[u8]) -> Result<Name, Memory>
+        requires { is_name bytes.now ≡ true }
+        ensures { IfOk result (λ name. name ≡ bytes.now) }
+    {
+        match Name::new(Vec::from_slice(alloc, bytes)?) {
+            Some(name) => Ok(name),
+            None => unreachable!(),
+        }
+    }
+
     /// The name's bytes.
     pub fn as_slice(&self) -> &[u8]
         ensures bytes { result.now ≡ self.now }
