@@ -5,6 +5,8 @@ pub mod StepLemmas
 pub mod ResolvingLemmas
 pub mod RefusalLaws
 pub mod Unrefused
+pub mod EffectLemmas
+pub mod LegalEffects
 pub mod CostLaws
 pub mod StepPays
 pub mod BatchLemmas

@@ -3,8 +3,7 @@ use Rattle.std.proofs.Common.{◌≡◌, ℕ, ◌∙◌, true, false, List, Opti
 use Rattle.dict_slots.specs.Slots.{slot_at}
 use Rattle.peers_msg.specs.declared.name_field.NameField.{NameField}
 use Rattle.peers_msg.specs.declared.name_field.NameField.TheVariants as names
-use Rattle.known_state.specs.State.{Named}
-use Rattle.known_state.specs.Resolving.{reads_empty, name_of, slots_after}
+use Rattle.known_state.specs.State.{Named, reads_empty, name_of, slots_after}
 
 -- a field that reads no empty slot names an update
 pub named_by : (slots : List (Option (List ℕ))) (field : NameField) → reads_empty slots field ≡ false → Named slots field (name_of slots field) (slots_after slots field)

@@ -6,7 +6,6 @@ use Rattle.std.specs.List.{list_any}
 use Rattle.std.proofs.lemmas.Bool.{cases_eq, eq-eqb, ne_eqb, le-leb, lt-ltb}
 use Rattle.peers_encint.specs.Integers.{spelling}
 use Rattle.peers_encint.proofs.SpellingLaws as integers
-use Rattle.table_types.specs.declared.update.Update.{Update}
 use Rattle.table_types.specs.Tables.{Definition, is_definition}
 use Rattle.table_types.specs.Updates.{stores_name}
 use Rattle.table_types.specs.Rosters.{table_at, has_id}
@@ -14,17 +13,13 @@ use Rattle.peers_msg.specs.declared.message.Message.TheVariants as messages
 use Rattle.peers_msg.specs.declared.name_field.NameField.{NameField}
 use Rattle.peers_msg.specs.declared.name_field.NameField.TheVariants as names
 use Rattle.peers_msg.specs.Messages.{UpdateFields}
-use Rattle.peers_msg.specs.Received.{Received, received_after, selected_table}
+use Rattle.peers_msg.specs.Received.{Received, selected_table}
 use Rattle.peers_msg.specs.Spelling.{data_of, update_text, definition_text}
 use Rattle.peers_msg.specs.Fitting.{fits, update_fits, name_fits}
-use Rattle.known_state.specs.State.{State, Step, IsOwn, last_numbers_after, resolved_number, resolved}
-use Rattle.known_state.specs.LastNumbers.{last_of, set_last}
 use Rattle.peers_msg.proofs.DataLaws.{update_small, definition_small}
 use Rattle.known_state.specs.declared.known.StepError.TheVariants as step_errors
 use Rattle.known_state.specs.Known.{KnownState, AreOwn, stores_no_name, switch_refusal, update_refusal}
-use Rattle.known_state.specs.Resolving.{Resolving, reads_empty, name_of, slots_after, last_numbers_kept}
-use Rattle.known_state.proofs.KnownLemmas.{table_at-id, table_at-passes, table_at-nameless, AreOwn-defined}
-use Rattle.known_state.proofs.ResolvingLemmas.{named_by}
+use Rattle.known_state.proofs.KnownLemmas.{table_at-id, table_at-passes, table_at-nameless}
 
 -- an id is one of the tables' where its table is found
 pub has_id-table_at : (ds : List Definition) (id : ℕ) → has_id id ds ≡ is_some (table_at ds id)
@@ -48,14 +43,6 @@ pub update_fits_received : (h : Received) (u : UpdateFields) (d : Definition) �
 unfolding fits data_of
 update_fits_received h u d sel fit is = rw (sel, fit, le-leb (length (update_text u)) 16384 (update_small d u is fit)) refl
 
--- a switch to a table that was defined selects it
-pub switch_step : (s : State) (id : ℕ) → id < 2 ^ 64 → is_some (table_at s.received.tables id) ≡ true → Step s (messages.Switch id) [] (record { received = record { tables = s.received.tables; selected = Some id }; last_numbers = s.last_numbers; slots = s.slots })
-switch_step s id small found = (switch_fits s.received id small found, refl, refl)
-
--- a definition is received, and takes last numbers away
-pub define_step : (s : State) (d : Definition) → is_definition d ≡ true → Step s (messages.Define d) [] (record { received = received_after s.received (messages.Define d); last_numbers = last_numbers_after s (messages.Define d); slots = s.slots })
-define_step s d is = (define_fits s.received d is, refl, refl)
-
 -- the table selected is that of the id selected
 pub selected-id : (h : Received) (d : Definition) → selected_table h ≡ Some d → h.selected ≡ Some d.id
 selected-id h d sel = at h.selected sel
@@ -78,11 +65,6 @@ nameless d names.NoName no_name fit = cc
 nameless d (names.Held slot) no_name fit = let e : false ≡ true = sym (rw no_name refl) ∙ fit in cc
 nameless d (names.Written slot name) no_name fit = let e : false ≡ true = sym (rw no_name refl) ∙ fit in cc
 
--- an update of the selected table that reads no empty slot carries itself, and its number becomes the table's last
-pub update_step : (s : State) (u : UpdateFields) (d : Definition) (number : ℕ) → selected_table s.received ≡ Some d → update_fits d u ≡ true → is_definition d ≡ true → resolved_number u.number (last_of s.last_numbers d.id) ≡ Some number → reads_empty s.slots u.name ≡ false → Step s (messages.Update u) (resolved u d.id number (name_of s.slots u.name) ∷ []) (record { received = s.received; last_numbers = set_last d.id number s.last_numbers; slots = slots_after s.slots u.name })
-update_step s u d number sel fit defined is reads =
-    (update_fits_received s.received u d sel fit defined, d.id, selected-id s.received d sel, number, is, name_of s.slots u.name, named_by s.slots u.name reads, refl, refl, refl)
-
 -- why switches are refused
 pub foreign_switch : (k : KnownState) (id : ℕ) → table_at k.roster id ≡ None → switch_refusal k id ≡ Some step_errors.Foreign
 foreign_switch k id e = rw (has_id-table_at k.roster id, e) refl
@@ -98,12 +80,6 @@ unfitting h u d sel not_fit = rw (sel, not_fit) refl
 pub misfit : (k : KnownState) (u : UpdateFields) (d : Definition) → selected_table k.state.received ≡ Some d → update_fits d u ≡ false → update_refusal k u (selected_table k.state.received) ≡ Some step_errors.Foreign
 misfit k u d sel not_fit = rw (sel, unfitting k.state.received u d sel not_fit) refl
 
-pub numberless : (k : KnownState) (u : UpdateFields) (d : Definition) → selected_table k.state.received ≡ Some d → update_fits d u ≡ true → is_definition d ≡ true → resolved_number u.number (last_of k.state.last_numbers d.id) ≡ None → update_refusal k u (selected_table k.state.received) ≡ Some step_errors.NoNumber
-numberless k u d sel fit defined none = rw (sel, update_fits_received k.state.received u d sel fit defined, none) refl
-
-pub emptied : (k : KnownState) (u : UpdateFields) (d : Definition) (number : ℕ) → selected_table k.state.received ≡ Some d → update_fits d u ≡ true → is_definition d ≡ true → resolved_number u.number (last_of k.state.last_numbers d.id) ≡ Some number → reads_empty k.state.slots u.name ≡ true → update_refusal k u (selected_table k.state.received) ≡ Some step_errors.EmptySlot
-emptied k u d number sel fit defined is reads = rw (sel, update_fits_received k.state.received u d sel fit defined, is, reads) refl
-
 -- the table selected in a known state is one of the roster's
 pub selected-own : (k : KnownState) (d : Definition) → AreOwn k.roster k.state.received.tables → selected_table k.state.received ≡ Some d → table_at k.roster d.id ≡ Some d
 selected-own k d own sel =
@@ -117,43 +93,3 @@ selected-nameless k d own no_name sel = table_at-nameless k.roster d.id d (not-t
     not-true : (b : Bool) → not b ≡ true → b ≡ false
     not-true true h = cc
     not-true false h = refl
-
--- a known state with these parts
-abbrev pub known_of : List Definition → Received → Resolving → KnownState
-known_of roster received by = record { roster = roster; state = record { received = received; last_numbers = by.last_numbers; slots = by.slots } }
-
--- what a known state with these parts becomes by an update
-pub taken : (k : KnownState) (roster : List Definition) (received : Received) (before after : Resolving) (u : UpdateFields) (d : Definition) (id number : ℕ)
-    → known_of roster received before ≡ k
-    → selected_table received ≡ Some d → update_fits d u ≡ true → is_definition d ≡ true → id ≡ d.id
-    → resolved_number u.number (last_of before.last_numbers id) ≡ Some number → reads_empty before.slots u.name ≡ false
-    → after.last_numbers ≡ set_last id number before.last_numbers → after.slots ≡ slots_after before.slots u.name
-    → (us : List Update) × Step k.state (messages.Update u) us (known_of roster received after).state
-taken k roster received before after u d id number view sel fit defined is_id is reads put wrote =
-    let s : State = (known_of roster received before).state in
-    let us : List Update = resolved u d.id number (name_of before.slots u.name) ∷ [] in
-    let here : resolved_number u.number (last_of before.last_numbers d.id) ≡ Some number = subst (λ (n : ℕ). resolved_number u.number (last_of before.last_numbers n) ≡ Some number) is_id is in
-    let there : set_last d.id number before.last_numbers ≡ after.last_numbers = sym (put ∙ ap (λ (n : ℕ). set_last n number before.last_numbers) is_id) in
-    let step : Step s (messages.Update u) us (record { received = received; last_numbers = set_last d.id number before.last_numbers; slots = slots_after before.slots u.name }) = update_step s u d number sel fit defined here reads in
-    let one : Step s (messages.Update u) us (record { received = received; last_numbers = after.last_numbers; slots = slots_after before.slots u.name }) = subst (λ (ls : List (ℕ × ℕ)). Step s (messages.Update u) us (record { received = received; last_numbers = ls; slots = slots_after before.slots u.name })) there step in
-    let whole : Step s (messages.Update u) us (record { received = received; last_numbers = after.last_numbers; slots = after.slots }) = subst (λ (ns : List (Option (List ℕ))). Step s (messages.Update u) us (record { received = received; last_numbers = after.last_numbers; slots = ns })) (sym wrote) one in
-    subst (λ (x : KnownState). (vs : List Update) × Step x.state (messages.Update u) vs (known_of roster received after).state) view (us, whole)
-
--- what a known state with these parts becomes by the roster's own definition
-pub received_of_own : (k : KnownState) (roster : List Definition) (received after : Received) (before kept : Resolving) (d : Definition)
-    → known_of roster received before ≡ k
-    → is_definition d ≡ true → table_at roster d.id ≡ Some d
-    → after ≡ received_after received (messages.Define d)
-    → kept.last_numbers ≡ last_numbers_kept received.tables d before.last_numbers → kept.slots ≡ before.slots
-    → (us : List Update) × Step k.state (messages.Define d) us (known_of roster after kept).state × IsOwn k.roster (messages.Define d)
-received_of_own k roster received after before kept d view defined own is_after is_kept same =
-    let s : State = (known_of roster received before).state in
-    let step : Step s (messages.Define d) [] (record { received = received_after received (messages.Define d); last_numbers = last_numbers_kept received.tables d before.last_numbers; slots = before.slots }) = define_step s d defined in
-    let one : Step s (messages.Define d) [] (record { received = after; last_numbers = last_numbers_kept received.tables d before.last_numbers; slots = before.slots }) = subst (λ (h : Received). Step s (messages.Define d) [] (record { received = h; last_numbers = last_numbers_kept received.tables d before.last_numbers; slots = before.slots })) (sym is_after) step in
-    let two : Step s (messages.Define d) [] (record { received = after; last_numbers = kept.last_numbers; slots = before.slots }) = subst (λ (ls : List (ℕ × ℕ)). Step s (messages.Define d) [] (record { received = after; last_numbers = ls; slots = before.slots })) (sym is_kept) one in
-    let whole : Step s (messages.Define d) [] (record { received = after; last_numbers = kept.last_numbers; slots = kept.slots }) = subst (λ (ns : List (Option (List ℕ))). Step s (messages.Define d) [] (record { received = after; last_numbers = kept.last_numbers; slots = ns })) (sym same) two in
-    subst (λ (x : KnownState). (vs : List Update) × Step x.state (messages.Define d) vs (known_of roster after kept).state × IsOwn x.roster (messages.Define d)) view ([], whole, own)
-
--- and what it received is still the roster's own
-pub own_after : (roster : List Definition) (received after : Received) (d : Definition) → table_at roster d.id ≡ Some d → after ≡ received_after received (messages.Define d) → AreOwn roster received.tables → AreOwn roster after.tables
-own_after roster received after d is is_after own = subst (λ (h : Received). AreOwn roster h.tables) (sym is_after) (AreOwn-defined roster d received.tables is own)

@@ -11,9 +11,12 @@ use Rattle.peers_msg.specs.Received.{nothing_received, resumed, selected_table}
 use Rattle.peers_msg.specs.Fitting.{fits}
 use Rattle.peers_msg.specs.OwnTables.{own_part}
 use Rattle.dict_slots.specs.Slots.{no_names}
-use Rattle.known_state.specs.State.{State, resolved_number}
+use Rattle.known_state.specs.State.{State, IsOwn, resolved_number, reads_empty}
+use Rattle.known_state.specs.Effects.{IsEffect}
 use Rattle.known_state.specs.LastNumbers.{last_of, set_last, own_last_numbers}
-use Rattle.known_state.specs.Resolving.{reads_empty}
+use Rattle.known_state.specs.declared.effect.Effect.{Effect}
+use Rattle.known_state.specs.declared.effect.Refusal.{Refusal}
+use Rattle.known_state.specs.declared.effect.Refusal.TheVariants as refusals
 use Rattle.known_state.specs.declared.known.KnownError.{KnownError}
 use Rattle.known_state.specs.declared.known.KnownError.TheVariants as build_errors
 use Rattle.known_state.specs.declared.known.StepError.{StepError}
@@ -103,6 +106,20 @@ Refuses k (messages.Update u) e = update_refusal k u (selected_table k.state.rec
 Refuses k (messages.Define d) e = (table_at k.roster d.id ≢ Some d) × (e ≡ step_errors.Foreign)
 Refuses k (messages.Switch id) e = switch_refusal k id ≡ Some e
 Refuses k m e = ⊥
+
+-- why a message is refused whose update is
+abbrev pub refused_as : Refusal → StepError
+refused_as refusals.NoNumber = step_errors.NoNumber
+refused_as refusals.EmptySlot = step_errors.EmptySlot
+refused_as refusals.Memory = step_errors.Memory
+
+-- no cause but want of memory refuses the message
+abbrev pub IsTakenBy : KnownState → Message → Type 0
+IsTakenBy k m = (e : StepError) → Refuses k m e → ⊥
+
+-- the message is legal in the known state, and this is what it does
+abbrev pub IsLegalEffect : KnownState → Message → Effect → Type 0
+IsLegalEffect k m effect = (fits k.state.received m ≡ true) × IsOwn k.roster m × IsEffect k.state m effect
 
 -- of the roster's tables those are defined whose id stands for that very definition, with the last numbers that the
 -- learner has of them; the slots are the learner's, and the table selected is named where it is one of them

@@ -1,6 +1,6 @@
 pub mod LastNumbers
 pub mod State
-pub mod Resolving
+pub mod Effects
 pub mod Known
 pub mod Shortest
 pub mod Cost

@@ -37,8 +37,8 @@ abbrev pub knowledge_after_all : Knowledge → List Update → Knowledge
 knowledge_after_all k us = fold knowledge_after k us
 
 -- the update is one of a table of the roster
-abbrev pub IsTaught : List Definition → Update → Type 0
-IsTaught roster u = (d : Definition) × (table_at roster u.table ≡ Some d) × (fits d u ≡ true)
+abbrev pub IsUpdateOf : List Definition → Update → Type 0
+IsUpdateOf roster u = (d : Definition) × (table_at roster u.table ≡ Some d) × (fits d u ≡ true)
 
 -- ---- what a list of messages reads
 

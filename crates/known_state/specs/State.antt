@@ -1,7 +1,7 @@
 -- The state of one direction of a session, and the step that each message makes (HAProxy, doc/peers-v2.0.txt,
 -- "Stick Table Messages"; an incremental update only after a numbered one, what becomes of last numbers at
 -- definitions, and reading a slot only where a name was written, are the profile's choices).
-use Rattle.std.specs.Prelude.{◌≡◌, ℕ, ◌+◌, ◌-◌, ◌%◌, ◌^◌, Bool, true, not, ◌==◌, nat_lt, List, [], ◌∷◌, ◌++◌, filter, slice_set, Option, Some, None, if◌then◌else◌}
+use Rattle.std.specs.Prelude.{◌≡◌, ℕ, ◌+◌, ◌-◌, ◌%◌, ◌^◌, Bool, true, false, not, is_none, ◌==◌, nat_lt, List, [], ◌∷◌, ◌++◌, filter, slice_set, Option, Some, None, if◌then◌else◌}
 use Rattle.std.specs.List.{AllByRecursion}
 use Rattle.table_types.specs.declared.update.Update.{Update}
 use Rattle.table_types.specs.Tables.{Definition}
@@ -44,6 +44,22 @@ Named slots names.NotStored name after = (name ≡ None) × (after ≡ slots)
 Named slots names.NoName name after = (name ≡ None) × (after ≡ slots)
 Named slots (names.Written slot bytes) name after = (name ≡ Some bytes) × (after ≡ slice_set slots (slot - 1) (Some bytes))
 Named slots (names.Held slot) name after = (bytes : List ℕ) × (slot_at slots slot ≡ Some bytes) × (name ≡ Some bytes) × (after ≡ slots)
+
+-- a field that reads a slot which holds no name
+abbrev pub reads_empty : List (Option (List ℕ)) → NameField → Bool
+reads_empty slots (names.Held slot) = is_none (slot_at slots slot)
+reads_empty slots field = false
+
+-- the name that a field tells: none, the one written, or what its slot holds
+abbrev pub name_of : List (Option (List ℕ)) → NameField → Option (List ℕ)
+name_of slots (names.Held slot) = slot_at slots slot
+name_of slots (names.Written slot name) = Some name
+name_of slots field = None
+
+-- the slots after a field: a name that is written stands in its slot
+abbrev pub slots_after : List (Option (List ℕ)) → NameField → List (Option (List ℕ))
+slots_after slots (names.Written slot name) = slice_set slots (slot - 1) (Some name)
+slots_after slots field = slots
 
 -- what an update carries, once table, number and name are resolved
 abbrev pub resolved : UpdateFields → ℕ → ℕ → Option (List ℕ) → Update

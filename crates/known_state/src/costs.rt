@@ -8,7 +8,7 @@ ghost use Rattle.peers_msg.specs.declared.message.Message.TheVariants as message
 ghost use Rattle.peers_msg.specs.Messages.{is_small};
 ghost use Rattle.peers_msg.specs.Spelling.{size_of};
 ghost use Rattle.known_state.specs.Cost.{knowledge_of, number_sent, sent_as};
-ghost use Rattle.known_state.specs.Requests.{IsTaught, asked, requests_of, knowledge_after_all};
+ghost use Rattle.known_state.specs.Requests.{IsUpdateOf, asked, requests_of, knowledge_after_all};
 
 use crate::known::Known;
 use crate::request::Request;
@@ -82,7 +82,7 @@ fn add_request(
     update: &Update,
     requests: &mut Vec<Request>,
 ) -> Result<(), Memory>
-    requires { IsTaught known.now.roster update.now }
+    requires { IsUpdateOf known.now.roster update.now }
     ensures { OnOk result (requests.new.items ≡ requests.old.items
         ++ asked known.now.roster (knowledge_after_all (knowledge_of known.now.state) before.now) update.now update.now.name) }
 {

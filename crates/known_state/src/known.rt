@@ -1,24 +1,28 @@
 //! Known states.
 
-ghost use Rattle.std.specs.Prelude.{◌≡◌, ◌≢◌, Some, None, Err, IfOk, IfErr, OnOk, OnErr, List};
+ghost use Rattle.std.specs.Prelude.{◌≡◌, ◌≢◌, true, Some, None, Err, IfOk, IfErr, OnOk, OnErr, List};
 ghost use Rattle.table_types.specs.declared.update.Update.{Update};
 ghost use Rattle.peers_msg.specs.declared.message.Message.TheVariants as messages;
+ghost use Rattle.peers_msg.specs.Fitting.{fits, IsPlain};
 ghost use Rattle.known_state.specs.State.{Step, IsOwn};
-ghost use Rattle.known_state.specs.Known.{known_of, KnownState, AreOwn, fresh_of, build_fault, built, Refuses};
+ghost use Rattle.known_state.specs.declared.effect.Effect.TheVariants as effects;
+ghost use Rattle.known_state.specs.Effects.{written_by};
+ghost use Rattle.known_state.specs.Known.{known_of, KnownState, AreOwn, fresh_of, build_fault, built, Refuses, refused_as, IsTakenBy, IsLegalEffect};
 ghost use Rattle.known_state.specs.LastNumbers.{AreRising};
 ghost use Rattle.known_state.specs.declared.known.KnownError.{KnownError};
 ghost use Rattle.known_state.specs.declared.known.KnownError.TheVariants as build_errors;
 ghost use Rattle.known_state.specs.declared.known.StepError.{StepError};
 ghost use Rattle.known_state.specs.declared.known.StepError.TheVariants as step_errors;
 
+use crate::effect::{Effect, Refusal, ResolvedUpdate};
 use crate::last_numbers::LastNumbers;
 use crate::parts::{are_defined, are_known, repeats, repeats_last};
-use crate::resolver::Resolver;
+use crate::state::State;
 use dict_slots::Slots;
-use peers_msg::{Message, Received, UpdateMsg};
+use peers_msg::{Message, NameField, Received, UpdateMsg};
 use std::alloc::Global;
 use std::marker::Model;
-use table_types::{Memory, Roster, TableDef};
+use table_types::{Memory, Name, Roster, TableDef};
 use thiserror::Error;
 
 /// Why a known state can't be built: the first that applies, in this order.
@@ -77,14 +81,25 @@ impl From<Memory> for StepError {
     }
 }
 
+impl From<Refusal> for StepError {
+    ghost from_gives = { λ refusal e. e ≡ refused_as refusal };
+
+    fn from(refusal: Refusal) -> StepError {
+        match refusal {
+            Refusal::NoNumber => StepError::NoNumber,
+            Refusal::EmptySlot => StepError::EmptySlot,
+            Refusal::Memory => StepError::Memory,
+        }
+    }
+}
+
 /// What a teacher knows of its learner (profile): the roster of the tables that are shared, those that were defined to it
 /// and the one selected, the last number of each, and the slots of the dictionary of server names.
 #[derive(Debug, Drop)]
 pub struct Known {
     alloc: Global,
     roster: Roster,
-    received: Received,
-    resolver: Resolver,
+    state: State,
 }
 
 impl Model for Known {
@@ -92,9 +107,20 @@ impl Model for Known {
 
     ghost Value = { KnownState };
 
-    ghost view = { λ k. record { roster = k.roster; state = record { received = k.received; last_numbers = k.resolver.last_numbers; slots = k.resolver.slots } } };
+    ghost view = { λ k. record { roster = k.roster; state = k.state } };
 
-    ghost invariant = { λ k. AreOwn k.roster k.received.tables };
+    ghost invariant = { λ k. AreOwn k.roster k.state.received.tables };
+}
+
+/// The slot that an update writes, and the name, which it gives up.
+fn written_by(update: UpdateMsg) -> Option<(u8, Name)>
+    ensures { result ≡ written_by update.name }
+{
+    let (_, _, field) = update.into_parts();
+    match field {
+        NameField::Written(slot, name) => Some((slot, name)),
+        NameField::NotStored | NameField::NoName | NameField::Held(_) => None,
+    }
 }
 
 impl Known {
@@ -105,8 +131,7 @@ impl Known {
         Known {
             alloc,
             roster,
-            received: Received::new(alloc),
-            resolver: Resolver::new(alloc),
+            state: State::new(alloc),
         }
     }
 
@@ -145,33 +170,26 @@ impl Known {
         Ok(Known {
             alloc,
             roster,
-            received,
-            resolver: Resolver::of(alloc, last_numbers, slots),
+            state: State::of(alloc, received, last_numbers, slots),
         })
     }
 
-    /// What a teacher of that roster knows of a learner that received this and resolves updates by that: of the roster's
-    /// tables those are defined whose id stands for that very definition, with their last numbers; the slots are the
-    /// learner's, and the table selected is named where it is one of them.
-    pub fn of_learner(
-        alloc: Global,
-        roster: Roster,
-        received: &Received,
-        resolver: &Resolver,
-    ) -> Result<Known, Memory>
-        ensures known { IfOk result (λ known. known
-            ≡ known_of roster (record { received = received.now; last_numbers = resolver.now.last_numbers; slots = resolver.now.slots })) }
-        ensures rising { AreRising resolver.now.last_numbers }
+    /// What a teacher of that roster knows of a learner in that state: of the roster's tables those are defined whose id
+    /// stands for that very definition, with their last numbers; the slots are the learner's, and the table selected is
+    /// named where it is one of them.
+    pub fn of_learner(alloc: Global, roster: Roster, state: &State) -> Result<Known, Memory>
+        ensures known { IfOk result (λ known. known ≡ known_of roster state.now) }
+        ensures rising { AreRising state.now.last_numbers }
     {
-        let last_numbers = resolver.last_numbers().own_part(alloc, received, &roster)?;
-        let slots = resolver.slots().copy(alloc)?;
-        let received = received.own_part(alloc, &roster)?;
-        let own = Resolver::of(alloc, last_numbers, slots);
+        let last_numbers = state
+            .last_numbers()
+            .own_part(alloc, state.received(), &roster)?;
+        let slots = state.slots().copy(alloc)?;
+        let received = state.received().own_part(alloc, &roster)?;
         Ok(Known {
             alloc,
             roster,
-            received,
-            resolver: own,
+            state: State::of(alloc, received, last_numbers, slots),
         })
     }
 
@@ -187,21 +205,21 @@ impl Known {
     pub fn received(&self) -> &Received
         ensures { result.now ≡ self.now.state.received }
     {
-        &self.received
+        self.state.received()
     }
 
     /// The last number of each table.
     pub fn last_numbers(&self) -> &LastNumbers
         ensures { result.now ≡ self.now.state.last_numbers }
     {
-        self.resolver.last_numbers()
+        self.state.last_numbers()
     }
 
     /// The slots of the dictionary of server names.
     pub fn slots(&self) -> &Slots
         ensures { result.now ≡ self.now.state.slots }
     {
-        self.resolver.slots()
+        self.state.slots()
     }
 
     /// Moves the state by one message that is legal from it: the message makes the step that the definition
@@ -216,77 +234,137 @@ impl Known {
         ensures exactly { (e : StepError) → Refuses self.old message.now e → result ≡ Err e }
         ensures stays { OnErr result (self.new ≡ self.old) }
     {
+        let effect = self.effect(message)?;
+        self.state.make(effect)?;
+        Ok(())
+    }
+
+    /// Moves the state by one message of which it is known that it is legal. The message is given up: what it owns
+    /// moves into the state, without a copy. After `Memory` nothing has changed.
+    pub fn follow(&mut self, message: Message) -> Result<(), Memory>
+        requires { IsTakenBy self.old message }
+        ensures step { OnOk result ((us : List Update)
+            × Step self.old.state message us self.new.state × IsOwn self.old.roster message) }
+        ensures roster { self.new.roster ≡ self.old.roster }
+        ensures stays { OnErr result (self.new ≡ self.old) }
+    {
+        let effect = self.effect_of_legal(message);
+        self.state.make(effect)?;
+        Ok(())
+    }
+
+    /// What a message does.
+    fn effect(&self, message: &Message) -> Result<Effect, StepError>
+        ensures effect { IfOk result (λ effect. IsLegalEffect self.now message.now effect) }
+        ensures refused { IfErr result (λ e. e ≢ step_errors.Memory → Refuses self.now message.now e) }
+        ensures exactly { (e : StepError) → Refuses self.now message.now e → result ≡ Err e }
+    {
         match message {
             Message::Define(table) => self.define(table),
             Message::Switch(id) => self.select(*id),
-            Message::Update(update) => self.take(update),
+            Message::Update(update) => self.update(update),
             Message::Control(_) | Message::Error(_) | Message::Ack { .. } | Message::Other(_) => {
-                let fits = message.fits(&self.received);
-                prove!(fits);
-                Ok(())
+                Ok(self.nothing(message))
             }
         }
     }
 
-    fn define(&mut self, table: &TableDef) -> Result<(), StepError>
-        ensures step { OnOk result ((us : List Update)
-            × Step self.old.state (messages.Define table.now) us self.new.state
-            × IsOwn self.old.roster (messages.Define table.now)) }
-        ensures roster { self.new.roster ≡ self.old.roster }
-        ensures refused { IfErr result (λ e. e ≢ step_errors.Memory → Refuses self.old (messages.Define table.now) e) }
-        ensures exactly { (e : StepError) → Refuses self.old (messages.Define table.now) e → result ≡ Err e }
-        ensures stays { OnErr result (self.new ≡ self.old) }
+    /// What a message does that fits wherever it stands.
+    fn nothing(&self, message: &Message) -> Effect
+        requires { IsPlain message.now }
+        ensures nothing { result ≡ effects.Nothing }
+        ensures fits { fits self.now.state.received message.now ≡ true }
+    {
+        let fits = message.fits(self.state.received());
+        prove!(fits);
+        Effect::Nothing
+    }
+
+    fn define(&self, table: &TableDef) -> Result<Effect, StepError>
+        ensures effect { IfOk result (λ effect. IsLegalEffect self.now (messages.Define table.now) effect) }
+        ensures refused { IfErr result (λ e. e ≢ step_errors.Memory → Refuses self.now (messages.Define table.now) e) }
+        ensures exactly { (e : StepError) → Refuses self.now (messages.Define table.now) e → result ≡ Err e }
     {
         match self.roster.table(table.id()) {
             Some(own) if own.is_same(table) => {}
             _ => return Err(StepError::Foreign),
         }
-        let own = table.copy(self.alloc)?;
-        self.resolver.define(&mut self.received, own)?;
-        Ok(())
+        Ok(Effect::Define(table.copy(self.alloc)?))
     }
 
-    fn select(&mut self, id: u64) -> Result<(), StepError>
-        ensures step { OnOk result ((us : List Update)
-            × Step self.old.state (messages.Switch id) us self.new.state) }
-        ensures roster { self.new.roster ≡ self.old.roster }
-        ensures refused { IfErr result (λ e. Refuses self.old (messages.Switch id) e) }
-        ensures exactly { (e : StepError) → Refuses self.old (messages.Switch id) e → result ≡ Err e }
-        ensures stays { OnErr result (self.new ≡ self.old) }
+    fn select(&self, id: u64) -> Result<Effect, StepError>
+        ensures effect { IfOk result (λ effect. IsLegalEffect self.now (messages.Switch id) effect) }
+        ensures refused { IfErr result (λ e. Refuses self.now (messages.Switch id) e) }
+        ensures exactly { (e : StepError) → Refuses self.now (messages.Switch id) e → result ≡ Err e }
     {
         let Some(_) = self.roster.table(id) else {
             return Err(StepError::Foreign);
         };
-        let Some(_) = self.received.table(id) else {
+        let Some(_) = self.state.received().table(id) else {
             return Err(StepError::NotDefined);
         };
-        self.received.select(id);
-        Ok(())
+        Ok(Effect::Select(id))
     }
 
-    fn take(&mut self, update: &UpdateMsg) -> Result<(), StepError>
-        ensures step { OnOk result ((us : List Update)
-            × Step self.old.state (messages.Update update.now) us self.new.state) }
-        ensures roster { self.new.roster ≡ self.old.roster }
-        ensures refused { IfErr result (λ e. e ≢ step_errors.Memory → Refuses self.old (messages.Update update.now) e) }
-        ensures exactly { (e : StepError) → Refuses self.old (messages.Update update.now) e → result ≡ Err e }
-        ensures stays { OnErr result (self.new ≡ self.old) }
+    fn update(&self, update: &UpdateMsg) -> Result<Effect, StepError>
+        ensures effect { IfOk result (λ effect. IsLegalEffect self.now (messages.Update update.now) effect) }
+        ensures refused { IfErr result (λ e. e ≢ step_errors.Memory → Refuses self.now (messages.Update update.now) e) }
+        ensures exactly { (e : StepError) → Refuses self.now (messages.Update update.now) e → result ≡ Err e }
     {
-        let Some(table) = self.received.selected_table() else {
+        let Some(table) = self.state.received().selected_table() else {
             return Err(StepError::NoTable);
         };
+        let _id = table.id();
         if !update.fits(table) {
             return Err(StepError::Foreign);
         }
-        let id = table.id();
-        let Some(number) = self.resolver.number(id, update.number()) else {
-            return Err(StepError::NoNumber);
-        };
-        if self.resolver.reads_empty(update.name()) {
-            return Err(StepError::EmptySlot);
+        let resolved = self.state.resolve(update.number(), update.name().lend())?;
+        Ok(Effect::Update(resolved))
+    }
+
+    /// What a message does of which it is known that it is legal.
+    fn effect_of_legal(&self, message: Message) -> Effect
+        requires { IsTakenBy self.now message }
+        ensures { IsLegalEffect self.now message result }
+    {
+        match message {
+            Message::Define(table) => self.effect_of_definition(table),
+            Message::Switch(id) => self.effect_of_switch(id),
+            Message::Update(update) => self.effect_of_update(update),
+            Message::Control(control) => self.nothing(&Message::Control(control)),
+            Message::Error(kind) => self.nothing(&Message::Error(kind)),
+            Message::Ack { table, number } => self.nothing(&Message::Ack { table, number }),
+            Message::Other(other) => self.nothing(&Message::Other(other)),
         }
-        self.resolver.take(id, number, update.name())?;
-        Ok(())
+    }
+
+    fn effect_of_definition(&self, table: TableDef) -> Effect
+        requires { IsTakenBy self.now (messages.Define table) }
+        ensures { IsLegalEffect self.now (messages.Define table) result }
+    {
+        let _id = table.id();
+        Effect::Define(table)
+    }
+
+    fn effect_of_switch(&self, id: u64) -> Effect
+        requires { IsTakenBy self.now (messages.Switch id) }
+        ensures { IsLegalEffect self.now (messages.Switch id) result }
+    {
+        Effect::Select(id)
+    }
+
+    fn effect_of_update(&self, update: UpdateMsg) -> Effect
+        requires { IsTakenBy self.now (messages.Update update) }
+        ensures { IsLegalEffect self.now (messages.Update update) result }
+    {
+        match self.state.number(update.number()) {
+            Some((table, number)) => Effect::Update(ResolvedUpdate {
+                table,
+                number,
+                written: written_by(update),
+            }),
+            None => unreachable!(),
+        }
     }
 
     /// An equal state.
@@ -297,8 +375,7 @@ impl Known {
         Ok(Known {
             alloc,
             roster: self.roster.copy(alloc)?,
-            received: self.received.copy(alloc)?,
-            resolver: self.resolver.copy(alloc)?,
+            state: self.state.copy(alloc)?,
         })
     }
 }

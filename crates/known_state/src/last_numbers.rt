@@ -41,7 +41,7 @@ fn last_of(numbers: &[(u64, u32)], id: u64) -> Option<u32>
 
 /// Puts a last number in its place, in place of the one that the id had.
 fn set_last(numbers: &mut Vec<(u64, u32)>, id: u64, number: u32) -> Result<(), Memory>
-    ensures put { OnOk result (numbers.new.items ≡ set_last id number numbers.old.items) }
+    ensures set { OnOk result (numbers.new.items ≡ set_last id number numbers.old.items) }
     ensures stays { OnErr result (numbers.new.items ≡ numbers.old.items) }
 {
     for place in 0..numbers.len() {
@@ -71,7 +71,7 @@ fn keeps_last(new: &TableDef, stood_for: Option<&TableDef>, id: u64) -> bool
     }
 }
 
-fn keep_at(numbers: &mut Vec<(u64, u32)>, new: &TableDef, received: &Received)
+fn keep_last_numbers(numbers: &mut Vec<(u64, u32)>, new: &TableDef, received: &Received)
     ensures { numbers.new.items
         ≡ filter (λ last. keeps_last new.now (table_at received.now.tables last.0) last.0) numbers.old.items }
 {
@@ -112,7 +112,7 @@ impl LastNumbers {
     {
         let mut made = LastNumbers::new(alloc);
         for last in last_numbers {
-            made.put(last.0, last.1)?;
+            made.set(last.0, last.1)?;
         }
         Ok(made)
     }
@@ -125,19 +125,19 @@ impl LastNumbers {
     }
 
     /// Makes a number the last one of a table. After `Memory` nothing has changed.
-    pub fn put(&mut self, id: u64, number: u32) -> Result<(), Memory>
-        ensures put { OnOk result (self.new ≡ set_last id number self.old) }
+    pub fn set(&mut self, id: u64, number: u32) -> Result<(), Memory>
+        ensures set { OnOk result (self.new ≡ set_last id number self.old) }
         ensures stays { OnErr result (self.new ≡ self.old) }
     {
         set_last(&mut self.numbers, id, number)
     }
 
-    /// Drops the last numbers that a definition takes away, by what was received before it.
-    pub fn keep_at(&mut self, new: &TableDef, received: &Received)
+    /// Receives a definition: drops the last numbers that it takes away, by what was received of the tables before it.
+    pub fn define(&mut self, new: &TableDef, received: &Received)
         ensures { self.new
             ≡ filter (λ last. keeps_last new.now (table_at received.now.tables last.0) last.0) self.old }
     {
-        keep_at(&mut self.numbers, new, received);
+        keep_last_numbers(&mut self.numbers, new, received);
     }
 
     /// The last numbers of a roster's own tables, by what was received of them: of the ids that stand for that very

@@ -3,14 +3,16 @@
 #![tactic(auto)]
 
 mod costs;
+mod effect;
 mod known;
 mod last_numbers;
 mod laws;
 mod parts;
 mod request;
-mod resolver;
+mod state;
 
 pub use costs::number_sent;
+pub use effect::{Effect, Refusal, ResolvedUpdate, effects_are_steps};
 pub use known::{Known, KnownError, StepError};
 pub use last_numbers::LastNumbers;
 pub use laws::{
@@ -18,6 +20,5 @@ pub use laws::{
     one_lesson, one_name, one_step, reads_pay, refused_is_no_step, resuming_gives_back,
     shortest_by_bytes, steps_fit, what_is_built, what_is_known_is_enough,
 };
-pub use parts::stores_no_name;
 pub use request::Request;
-pub use resolver::Resolver;
+pub use state::State;

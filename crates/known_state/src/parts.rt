@@ -1,12 +1,11 @@
 //! What the parts of a known state have to be.
 
 ghost use Rattle.std.specs.Prelude.{◌≡◌};
-ghost use Rattle.std.specs.List.{list_all, list_any};
-ghost use Rattle.table_types.specs.Updates.{stores_name};
+ghost use Rattle.std.specs.List.{list_all};
 ghost use Rattle.table_types.specs.Rosters.{has_id};
-ghost use Rattle.known_state.specs.Known.{holds, repeats, has_last, repeats_last, are_known, are_defined, stores_no_name};
+ghost use Rattle.known_state.specs.Known.{holds, repeats, has_last, repeats_last, are_known, are_defined};
 
-use table_types::{Roster, TableDef, has_id};
+use table_types::{Roster, has_id};
 
 fn all_own(roster: &Roster, ids: &[u64]) -> bool
     ensures { result ≡ list_all (λ id. has_id id roster.now) ids.now }
@@ -45,24 +44,6 @@ fn all_last_numbers_held(defined: &[u64], last_numbers: &[(u64, u32)]) -> bool
         }
     }
     true
-}
-
-/// Whether no table of the roster stores the server's name.
-pub fn stores_no_name(roster: &Roster) -> bool
-    ensures { result ≡ stores_no_name roster.now }
-{
-    !any_stores_name(roster.tables())
-}
-
-fn any_stores_name(tables: &[TableDef]) -> bool
-    ensures { result ≡ list_any stores_name tables.now }
-{
-    for table in tables {
-        if table.stores_name() {
-            return true;
-        }
-    }
-    false
 }
 
 /// Whether each id is the roster's.

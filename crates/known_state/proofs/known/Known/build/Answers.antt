@@ -1,5 +1,6 @@
-use Rattle.std.proofs.Common.{◌≡◌, subst, sym}
+use Rattle.std.proofs.Common.{◌≡◌, ap, subst, sym, ◌∙◌}
 use Rattle.peers_msg.specs.Received.{Received, resumed}
+use Rattle.known_state.specs.State.{State}
 use Rattle.known_state.specs.Known.{AreOwn}
 use Rattle.known_state.proofs.KnownLemmas.{AreOwn-resumed}
 use Rattle.known_state.proofs.known.Known.build.Goals as goal
@@ -7,4 +8,5 @@ use Rattle.known_state.proofs.known.Known.build.Goals as goal
 pub invariant_of-result : goal.invariant_of-result
 invariant_of-result c =
     let is : c.in_ok-received.received ≡ resumed c.args.roster c.args.defined.items c.args.selected = cc (c.in_ok-received.ensures) in
-    subst (λ (h : Received). AreOwn c.args.roster h.tables) (sym is) (AreOwn-resumed c.args.roster c.args.defined.items c.args.selected)
+    let here : c.of-2.result.received ≡ resumed c.args.roster c.args.defined.items c.args.selected = ap (λ (s : State). s.received) c.of-2.ensures ∙ is in
+    subst (λ (h : Received). AreOwn c.args.roster h.tables) (sym here) (AreOwn-resumed c.args.roster c.args.defined.items c.args.selected)

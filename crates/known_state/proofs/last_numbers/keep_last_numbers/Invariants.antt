@@ -2,7 +2,7 @@ use Rattle.std.proofs.Common.{◌≡◌, ◌≤◌, ◌-◌, ◌++◌, take, dro
 use Rattle.std.specs.Prelude.{filter}
 use Rattle.table_types.specs.Rosters.{table_at}
 use Rattle.known_state.specs.LastNumbers.{keeps_last}
-use Rattle.known_state.proofs.last_numbers.keep_at.Given as goal
+use Rattle.known_state.proofs.last_numbers.keep_last_numbers.Given as goal
 
 abbrev pub invariant-loop-place : goal.invariant-loop-place
 invariant-loop-place l = record {

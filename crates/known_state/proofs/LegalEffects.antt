@@ -1,0 +1,130 @@
+-- What the effect of a legal message makes, and why a known state refuses an update.
+use Rattle.std.proofs.Common.{◌≡◌, ℕ, Bool, true, false, List, Option, Some, None, refl, sym, ap, subst, ◌∙◌}
+use Rattle.std.specs.Prelude.{◌≢◌, not, is_none, is_some, option_map, option_and_then, if◌then◌else◌}
+use Rattle.std.proofs.lemmas.Bool.{eq-eqb}
+use Rattle.table_types.specs.declared.update.Update.{Update}
+use Rattle.table_types.specs.Tables.{Definition}
+use Rattle.table_types.specs.Rosters.{table_at, has_id}
+use Rattle.peers_msg.specs.declared.name_field.NameField.{NameField}
+use Rattle.peers_msg.specs.OwnTables.{is_same_definition}
+use Rattle.peers_msg.proofs.ShapeLaws.{means_shape, same_definition}
+use Rattle.peers_msg.specs.declared.message.Message.{Message}
+use Rattle.peers_msg.specs.declared.message.Message.TheVariants as messages
+use Rattle.peers_msg.specs.Messages.{UpdateFields}
+use Rattle.peers_msg.specs.Received.{selected_table}
+use Rattle.peers_msg.specs.Fitting.{fits}
+use Rattle.known_state.specs.LastNumbers.{last_of}
+use Rattle.known_state.specs.State.{State, Step, IsOwn, resolved_number, reads_empty}
+use Rattle.known_state.specs.Effects.{Resolves, carried_by, made, refusal_of, selected_number}
+use Rattle.known_state.specs.Known.{KnownState, AreOwn, IsLegalEffect, IsTakenBy, refused_as, update_refusal}
+use Rattle.known_state.specs.declared.effect.Effect.{Effect}
+use Rattle.known_state.specs.declared.effect.ResolvedUpdate.{ResolvedUpdate}
+use Rattle.known_state.specs.declared.effect.Refusal.{Refusal}
+use Rattle.known_state.specs.declared.effect.Refusal.TheVariants as refusals
+use Rattle.known_state.specs.declared.known.StepError.{StepError}
+use Rattle.known_state.specs.declared.known.StepError.TheVariants as step_errors
+use Rattle.known_state.proofs.EffectLemmas.{effect_steps, resolved_unrefused}
+use Rattle.known_state.proofs.StepLemmas.{selected-id}
+use Rattle.known_state.proofs.StepPays.{own_stays}
+
+-- the effect of a legal message makes its step, in a known state of these parts
+pub legal_step : (k : KnownState) (roster : List Definition) (s e : State) (m : Message) (effect : Effect) → ◌≡◌ {A = KnownState} (record { roster = roster; state = s }) k → IsLegalEffect k m effect → e ≡ made s effect → (us : List Update) × Step k.state m us e × IsOwn k.roster m
+legal_step k roster s e m effect view (fit, own, is) made_is =
+    let here : e ≡ made k.state effect = made_is ∙ ap (λ (x : KnownState). made x.state effect) view in
+    (carried_by k.state m effect, subst (λ (x : State). Step k.state m (carried_by k.state m effect) x) (sym here) (effect_steps k.state m effect fit is), own)
+
+-- and what is received after it is the roster's own
+pub legal_own : (k : KnownState) (roster : List Definition) (s e : State) (m : Message) (effect : Effect) → ◌≡◌ {A = KnownState} (record { roster = roster; state = s }) k → AreOwn roster s.received.tables → IsLegalEffect k m effect → e ≡ made s effect → AreOwn roster e.received.tables
+legal_own k roster s e m effect view all legal made_is =
+    let step = legal_step k roster s e m effect view legal made_is in
+    let all_k : AreOwn k.roster k.state.received.tables = subst (λ (x : KnownState). AreOwn x.roster x.state.received.tables) view all in
+    let after : AreOwn k.roster e.received.tables = own_stays k.roster k.state e m step.0 all_k step.2 step.1 in
+    subst (λ (x : KnownState). AreOwn x.roster e.received.tables) (sym view) after
+
+-- ---- updates
+
+-- an update of the selected table that fits is refused for what its state refuses it
+pub refused_so : (k : KnownState) (u : UpdateFields) (d : Definition) → selected_table k.state.received ≡ Some d → fits k.state.received (messages.Update u) ≡ true → update_refusal k u (selected_table k.state.received) ≡ option_map refused_as (refusal_of k.state u.number u.name)
+refused_so k u d sel fit =
+    let number : selected_number k.state u.number ≡ resolved_number u.number (last_of k.state.last_numbers d.id) = ap (λ (o : Option ℕ). option_and_then (λ table. resolved_number u.number (last_of k.state.last_numbers table)) o) (selected-id k.state.received d sel) in
+    let here : update_refusal k u (selected_table k.state.received) ≡ update_refusal k u (Some d) = ap (λ (o : Option Definition). update_refusal k u o) sel in
+    here ∙ fitting (fits k.state.received (messages.Update u)) fit (is_none (resolved_number u.number (last_of k.state.last_numbers d.id))) (is_none (selected_number k.state u.number)) (reads_empty k.state.slots u.name) (ap (λ (o : Option ℕ). is_none o) number)
+  where
+    at : (a b : Bool) → (if a then Some step_errors.NoNumber else (if b then Some step_errors.EmptySlot else None)) ≡ option_map refused_as (if a then Some refusals.NoNumber else (if b then Some refusals.EmptySlot else None))
+    at true b = refl
+    at false true = refl
+    at false false = refl
+
+    fitting : (f : Bool) → f ≡ true → (a c b : Bool) → c ≡ a → (if not f then Some step_errors.Foreign else (if a then Some step_errors.NoNumber else (if b then Some step_errors.EmptySlot else None))) ≡ option_map refused_as (if c then Some refusals.NoNumber else (if b then Some refusals.EmptySlot else None))
+    fitting false f a c b same = cc
+    fitting true f a c b same = at a b ∙ ap (λ (x : Bool). option_map refused_as (if x then Some refusals.NoNumber else (if b then Some refusals.EmptySlot else None))) (sym same)
+
+-- where its state refuses it, that is told
+pub refusal_told : (k : KnownState) (s : State) (u : UpdateFields) (d : Definition) (number : Option ℕ) (field : NameField) (refusal : Refusal) → s ≡ k.state → number ≡ u.number → field ≡ u.name → selected_table k.state.received ≡ Some d → fits k.state.received (messages.Update u) ≡ true
+    → (refusal ≢ refusals.Memory → refusal_of s number field ≡ Some refusal) → refused_as refusal ≢ step_errors.Memory → update_refusal k u (selected_table k.state.received) ≡ Some (refused_as refusal)
+refusal_told k s u d number field refusal is_s is_number is_field sel fit refused other =
+    let told : refusal_of s number field ≡ Some refusal = refused (λ same. other (ap refused_as same)) in
+    let here : refusal_of k.state u.number u.name ≡ Some refusal = rw (← is_s, ← is_number, ← is_field) told in
+    refused_so k u d sel fit ∙ ap (λ (o : Option Refusal). option_map refused_as o) here
+
+-- and what is refused is refused there for that cause
+pub same_refusal : (k : KnownState) (s : State) (u : UpdateFields) (d : Definition) (number : Option ℕ) (field : NameField) (refusal : Refusal) (e : StepError) → s ≡ k.state → number ≡ u.number → field ≡ u.name → selected_table k.state.received ≡ Some d → fits k.state.received (messages.Update u) ≡ true
+    → ((r : Refusal) → refusal_of s number field ≡ Some r → refusal ≡ r) → update_refusal k u (selected_table k.state.received) ≡ Some e → refused_as refusal ≡ e
+same_refusal k s u d number field refusal e is_s is_number is_field sel fit exactly refuses =
+    at (refusal_of s number field) refl (sym (refused_so k u d sel fit ∙ ap (λ (o : Option Refusal). option_map refused_as o) (sym same)) ∙ refuses)
+  where
+    same : refusal_of s number field ≡ refusal_of k.state u.number u.name
+    same = ap (λ (x : State). refusal_of x number field) is_s ∙ ap (λ (n : Option ℕ). refusal_of k.state n field) is_number ∙ ap (λ (f : NameField). refusal_of k.state u.number f) is_field
+
+    at : (o : Option Refusal) → refusal_of s number field ≡ o → option_map refused_as o ≡ Some e → refused_as refusal ≡ e
+    at None is h = cc
+    at (Some r) is h = let told : refused_as r ≡ e = cc in ap refused_as (exactly r is) ∙ told
+
+-- what is resolved in a state is resolved in the known state
+pub resolves_here : (k : KnownState) (s : State) (u : UpdateFields) (number : Option ℕ) (field : NameField) (r : ResolvedUpdate) → s ≡ k.state → number ≡ u.number → field ≡ u.name → Resolves s number field r → Resolves k.state u.number u.name r
+resolves_here k s u number field r is_s is_number is_field resolves =
+    subst (λ (f : NameField). Resolves k.state u.number f r) is_field (subst (λ (n : Option ℕ). Resolves k.state n field r) is_number (subst (λ (x : State). Resolves x number field r) is_s resolves))
+
+-- and isn't refused
+pub unrefused : (k : KnownState) (u : UpdateFields) (d : Definition) (r : ResolvedUpdate) (e : StepError) → selected_table k.state.received ≡ Some d → fits k.state.received (messages.Update u) ≡ true → Resolves k.state u.number u.name r → update_refusal k u (selected_table k.state.received) ≡ Some e → ⊥
+unrefused k u d r e sel fit resolves refuses =
+    let none : update_refusal k u (selected_table k.state.received) ≡ None = refused_so k u d sel fit ∙ ap (λ (o : Option Refusal). option_map refused_as o) (resolved_unrefused k.state u.number u.name r resolves) in
+    let bad : None ≡ Some e = sym none ∙ refuses in
+    cc
+
+-- ---- messages that are refused for no cause but want of memory
+
+-- an update among them fits, and its state doesn't refuse it
+pub taken_update : (k : KnownState) (u : UpdateFields) → IsTakenBy k (messages.Update u) → (d : Definition) × (selected_table k.state.received ≡ Some d) × (fits k.state.received (messages.Update u) ≡ true) × (refusal_of k.state u.number u.name ≡ None)
+taken_update k u taken = at (selected_table k.state.received) refl (fits k.state.received (messages.Update u)) refl (refusal_of k.state u.number u.name) refl
+  where
+    at : (o : Option Definition) → selected_table k.state.received ≡ o → (f : Bool) → fits k.state.received (messages.Update u) ≡ f → (r : Option Refusal) → refusal_of k.state u.number u.name ≡ r → (d : Definition) × (selected_table k.state.received ≡ Some d) × (fits k.state.received (messages.Update u) ≡ true) × (refusal_of k.state u.number u.name ≡ None)
+    at None is f fit r refused = absurd (taken step_errors.NoTable (ap (λ (x : Option Definition). update_refusal k u x) is))
+    at (Some d) is false fit r refused = absurd (taken step_errors.Foreign (ap (λ (x : Option Definition). update_refusal k u x) is ∙ rw fit refl))
+    at (Some d) is true fit None refused = (d, is, fit, refused)
+    at (Some d) is true fit (Some r) refused = absurd (taken (refused_as r) (refused_so k u d is fit ∙ ap (λ (x : Option Refusal). option_map refused_as x) refused))
+
+-- a switch among them goes to a table that is defined
+pub taken_switch : (k : KnownState) (id : ℕ) → IsTakenBy k (messages.Switch id) → is_some (table_at k.state.received.tables id) ≡ true
+taken_switch k id taken = at (has_id id k.roster) refl (table_at k.state.received.tables id) refl
+  where
+    at : (b : Bool) → has_id id k.roster ≡ b → (o : Option Definition) → table_at k.state.received.tables id ≡ o → is_some (table_at k.state.received.tables id) ≡ true
+    at false own o is = absurd (taken step_errors.Foreign (rw own refl))
+    at true own None is = absurd (taken step_errors.NotDefined (rw (own, is) refl))
+    at true own (Some d) is = rw is refl
+
+same_as_itself : (d : Definition) → is_same_definition d d ≡ true
+same_as_itself d = rw (eq-eqb d.id d.id refl, eq-eqb d.expire d.expire refl, means_shape d d refl) refl
+
+-- and a definition among them is the roster's own
+pub taken_define : (k : KnownState) (d : Definition) → IsTakenBy k (messages.Define d) → table_at k.roster d.id ≡ Some d
+taken_define k d taken = at (table_at k.roster d.id) refl
+  where
+    by_test : (own : Definition) → table_at k.roster d.id ≡ Some own → (b : Bool) → is_same_definition own d ≡ b → table_at k.roster d.id ≡ Some d
+    by_test own is true same = is ∙ ap (λ (x : Definition). Some x) (same_definition own d same)
+    by_test own is false other =
+        absurd (taken step_errors.Foreign (λ found. let one : Some own ≡ Some d = sym is ∙ found in let own_is : own ≡ d = cc in let bad : false ≡ true = sym other ∙ ap (λ (x : Definition). is_same_definition x d) own_is ∙ same_as_itself d in absurd cc, refl))
+
+    at : (o : Option Definition) → table_at k.roster d.id ≡ o → table_at k.roster d.id ≡ Some d
+    at None is = absurd (taken step_errors.Foreign (λ found. let bad : None ≡ Some d = sym is ∙ found in absurd cc, refl))
+    at (Some own) is = by_test own is (is_same_definition own d) refl

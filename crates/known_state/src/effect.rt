@@ -1,0 +1,74 @@
+//! What messages do to a state.
+
+ghost use Rattle.std.specs.Prelude.{◌≡◌, ℕ, List, true, Some};
+ghost use Rattle.table_types.specs.declared.update.Update.{Update};
+ghost use Rattle.peers_msg.specs.declared.message.Message.{Message};
+ghost use Rattle.peers_msg.specs.declared.message.Message.TheVariants as messages;
+ghost use Rattle.peers_msg.specs.Messages.{UpdateFields};
+ghost use Rattle.peers_msg.specs.Fitting.{fits};
+ghost use Rattle.known_state.specs.State.{State, Step};
+ghost use Rattle.known_state.specs.Effects.{IsEffect, carried_by, made, refusal_of};
+ghost use Rattle.known_state.specs.declared.effect.Effect.{Effect};
+ghost use Rattle.known_state.specs.declared.effect.Refusal.{Refusal};
+ghost use Rattle.known_state.specs.declared.effect.Refusal.TheVariants as refusals;
+
+use table_types::{Memory, Name, TableDef};
+use thiserror::Error;
+
+/// Why an update makes no step: the first that applies, in this order.
+#[derive(Clone, Copy, Debug, PartialEq, Eq, Error)]
+pub enum Refusal {
+    /// It is incremental, and its table has no last number.
+    #[error("an incremental update of a table without a number")]
+    NoNumber,
+    /// It reads its name from a slot that holds none.
+    #[error("a name read from an empty slot")]
+    EmptySlot,
+    /// Memory was wanted, and the growth was refused.
+    #[error("memory")]
+    Memory,
+}
+
+impl From<Memory> for Refusal {
+    ghost from_gives = { λ _ e. e ≡ refusals.Memory };
+
+    fn from(_refused: Memory) -> Refusal {
+        Refusal::Memory
+    }
+}
+
+/// What a state takes of an update: its number, and the name that it writes.
+#[derive(Debug, Drop)]
+pub struct ResolvedUpdate {
+    /// The id that is selected.
+    pub table: u64,
+    /// The update's own number, or one more than the table's last, modulo 2^32.
+    pub number: u32,
+    /// The slot that the update writes, 1 to 128, and the name.
+    pub written: Option<(u8, Name)>,
+}
+
+/// What a message does to a state, with all that it owns (HAProxy, doc/peers-v2.0.txt, "Stick Table Messages").
+#[derive(Debug, Drop)]
+pub enum Effect {
+    /// Nothing: a control message, an error, an acknowledgement, or a message of another class or type.
+    Nothing,
+    /// The table is defined and selected.
+    Define(TableDef),
+    /// The id is selected.
+    Select(u64),
+    /// The number becomes the table's last, and a name that is written stands in its slot.
+    Update(ResolvedUpdate),
+}
+
+/// Effects are the steps that the definition says. A message that fits makes by its effect a step, which carries the
+/// update with its table, number and name resolved, and leads to the state that the effect makes; it makes no other.
+/// An update that is refused makes none.
+pub fn effects_are_steps()
+    ensures step { (s : State) (m : Message) (effect : Effect) → fits s.received m ≡ true → IsEffect s m effect →
+        Step s m (carried_by s m effect) (made s effect) }
+    ensures only { (s e : State) (m : Message) (us : List Update) (effect : Effect) → IsEffect s m effect → Step s m us e →
+        (us ≡ carried_by s m effect) × (e ≡ made s effect) }
+    ensures refused { (s e : State) (u : UpdateFields) (us : List Update) (refusal : Refusal) →
+        refusal_of s u.number u.name ≡ Some refusal → Step s (messages.Update u) us e → ⊥ }
+{}

@@ -1,0 +1,249 @@
+//! The state of one direction of a session.
+
+ghost use Rattle.std.specs.Prelude.{◌≡◌, ◌≢◌, ◌-◌, true, Some, Err, IfOk, IfErr, IfSome, OnOk, OnErr, option_copied, option_map, slice_set};
+ghost use Rattle.table_types.specs.Names.{is_name};
+ghost use Rattle.dict_slots.specs.Slots.{slot_at};
+ghost use Rattle.peers_msg.specs.Borrowed.{name_lent, is_named};
+ghost use Rattle.known_state.specs.State.{fresh, resolved_number, reads_empty, name_of};
+ghost use Rattle.known_state.specs.Effects.{Resolves, made, refusal_of, selected_number, slots_with, written_by};
+ghost use Rattle.known_state.specs.declared.effect.Effect.TheVariants as effects;
+ghost use Rattle.known_state.specs.declared.effect.Refusal.{Refusal};
+ghost use Rattle.known_state.specs.declared.effect.Refusal.TheVariants as refusals;
+
+use crate::effect::{Effect, Refusal, ResolvedUpdate};
+use crate::last_numbers::LastNumbers;
+use dict_slots::Slots;
+use peers_msg::{NameFieldRef, Received};
+use std::alloc::Global;
+use std::marker::Model;
+use table_types::{Memory, Name, TableDef};
+
+/// The state of one direction of a session: what was received of the tables, the last number of each, and the slots of
+/// the dictionary of server names. Each message moves it by a step (HAProxy, doc/peers-v2.0.txt, "Stick Table
+/// Messages"): an `Effect` is found first, with all that may refuse it, and then made.
+#[derive(Debug, Drop)]
+pub struct State {
+    alloc: Global,
+    received: Received,
+    last_numbers: LastNumbers,
+    slots: Slots,
+}
+
+impl Model for State {
+    ghost use Rattle.known_state.specs.State.{State};
+
+    ghost Value = { State };
+
+    ghost view = { λ s. record { received = s.received; last_numbers = s.last_numbers; slots = s.slots } };
+}
+
+/// The number of an update: its own, or one more than the last, modulo 2^32.
+fn resolved_number(number: Option<u32>, last: Option<u32>) -> Option<u32>
+    ensures { result ≡ resolved_number number last }
+{
+    match (number, last) {
+        (Some(number), _) => Some(number),
+        (None, Some(last)) => Some(last.wrapping_add(1)),
+        (None, None) => None,
+    }
+}
+
+/// The name that a slot holds. Slot 0, which no message has, is taken as slot 1; slots above 128 hold none.
+fn held(slots: &Slots, slot: u8) -> Option<&Name>
+    ensures { option_copied result ≡ slot_at slots.now slot }
+{
+    if usize::from(slot) > slots.len() {
+        return None;
+    }
+    slots.name(slot.max(1))
+}
+
+/// Writes a name into its slot. Slot 0, which no message has, is taken as slot 1; slots above 128 take none.
+fn write(slots: &mut Slots, written: Option<(u8, Name)>)
+    ensures { slots.new ≡ slots_with slots.old written }
+{
+    let Some((slot, name)) = written else {
+        return;
+    };
+    if usize::from(slot) > slots.len() {
+        return;
+    }
+    let _old = slots.write(slot.max(1), name);
+}
+
+/// The slot that a field writes, and a copy of the name.
+fn written_by(alloc: Global, field: NameFieldRef<'_>) -> Result<Option<(u8, Name)>, Memory>
+    requires { is_named (name_lent field) ≡ true }
+    ensures { IfOk result (λ written. written ≡ written_by (name_lent field.entry)) }
+{
+    match field {
+        NameFieldRef::Written(slot, name) => Ok(Some((slot, Name::from_slice(alloc, name)?))),
+        NameFieldRef::NotStored | NameFieldRef::NoName | NameFieldRef::Held(_) => Ok(None),
+    }
+}
+
+impl State {
+    /// Nothing was received. Takes no memory.
+    pub fn new(alloc: Global) -> State
+        ensures { result ≡ fresh }
+    {
+        State::of(
+            alloc,
+            Received::new(alloc),
+            LastNumbers::new(alloc),
+            Slots::new(alloc),
+        )
+    }
+
+    /// The state of these parts.
+    pub fn of(alloc: Global, received: Received, last_numbers: LastNumbers, slots: Slots) -> State
+        ensures { result ≡ record { received = received; last_numbers = last_numbers; slots = slots } }
+    {
+        State {
+            alloc,
+            received,
+            last_numbers,
+            slots,
+        }
+    }
+
+    /// What was received: the tables defined, and the one selected.
+    pub fn received(&self) -> &Received
+        ensures { result.now ≡ self.now.received }
+    {
+        &self.received
+    }
+
+    /// The last number of each table.
+    pub fn last_numbers(&self) -> &LastNumbers
+        ensures { result.now ≡ self.now.last_numbers }
+    {
+        &self.last_numbers
+    }
+
+    /// The slots of the dictionary of server names.
+    pub fn slots(&self) -> &Slots
+        ensures { result.now ≡ self.now.slots }
+    {
+        &self.slots
+    }
+
+    /// The id that is selected, and the number of an update of its table: its own, or one more than the table's last,
+    /// modulo 2^32. `None` where none is selected, and for an incremental update of a table that has no last number.
+    pub fn number(&self, number: Option<u32>) -> Option<(u64, u32)>
+        ensures table { IfSome result (λ found. self.now.received.selected ≡ Some found.0) }
+        ensures number { option_map (λ found. found.1) result ≡ selected_number self.now number }
+    {
+        match self.received.selected() {
+            Some(table) => match resolved_number(number, self.last_numbers.last(table)) {
+                Some(number) => Some((table, number)),
+                None => None,
+            },
+            None => None,
+        }
+    }
+
+    fn reads_empty(&self, field: NameFieldRef<'_>) -> bool
+        ensures { result ≡ reads_empty self.now.slots (name_lent field.entry) }
+    {
+        match field {
+            NameFieldRef::Held(slot) => held(&self.slots, slot).is_none(),
+            NameFieldRef::NotStored | NameFieldRef::NoName | NameFieldRef::Written(_, _) => false,
+        }
+    }
+
+    /// The name that a field tells: the one written, or what its slot holds, which is `None` where the field reads an
+    /// empty slot.
+    pub fn name<'a>(&'a self, field: NameFieldRef<'a>) -> Option<&'a [u8]>
+        requires { is_named (name_lent field) ≡ true }
+        ensures name { option_map (λ name. name.now) result ≡ name_of self.now.slots (name_lent field.entry) }
+        ensures named { IfSome result (λ name. is_name name.now ≡ true) }
+    {
+        match field {
+            NameFieldRef::NotStored | NameFieldRef::NoName => None,
+            NameFieldRef::Held(slot) => match held(&self.slots, slot) {
+                Some(name) => Some(name.as_slice()),
+                None => None,
+            },
+            NameFieldRef::Written(_, name) => Some(name),
+        }
+    }
+
+    /// What an update of this number and name field does to the state. Nothing changes yet. A name that the update
+    /// writes is copied.
+    ///
+    /// Refuses in this order: `NoNumber`, `EmptySlot`, `Memory`.
+    pub fn resolve(
+        &self,
+        number: Option<u32>,
+        field: NameFieldRef<'_>,
+    ) -> Result<ResolvedUpdate, Refusal>
+        requires { is_named (name_lent field) ≡ true }
+        ensures resolved { IfOk result (λ update. Resolves self.now number (name_lent field.entry) update) }
+        ensures refused { IfErr result (λ e. e ≢ refusals.Memory → refusal_of self.now number (name_lent field.entry) ≡ Some e) }
+        ensures exactly { (e : Refusal) → refusal_of self.now number (name_lent field.entry) ≡ Some e → result ≡ Err e }
+    {
+        let Some((table, number)) = self.number(number) else {
+            return Err(Refusal::NoNumber);
+        };
+        if self.reads_empty(field) {
+            return Err(Refusal::EmptySlot);
+        }
+        let written = written_by(self.alloc, field)?;
+        Ok(ResolvedUpdate {
+            table,
+            number,
+            written,
+        })
+    }
+
+    /// Makes an effect. After `Memory` nothing has changed.
+    pub fn make(&mut self, effect: Effect) -> Result<(), Memory>
+        ensures made { OnOk result (self.new ≡ made self.old effect) }
+        ensures stays { OnErr result (self.new ≡ self.old) }
+    {
+        match effect {
+            Effect::Nothing => Ok(()),
+            Effect::Define(table) => self.define(table),
+            Effect::Select(id) => {
+                self.received.select(id);
+                Ok(())
+            }
+            Effect::Update(update) => self.take(update),
+        }
+    }
+
+    fn define(&mut self, table: TableDef) -> Result<(), Memory>
+        ensures made { OnOk result (self.new ≡ made self.old (effects.Define table)) }
+        ensures stays { OnErr result (self.new ≡ self.old) }
+    {
+        let mut last_numbers = self.last_numbers.copy(self.alloc)?;
+        last_numbers.define(&table, &self.received);
+        self.received.define(table)?;
+        self.last_numbers = last_numbers;
+        Ok(())
+    }
+
+    fn take(&mut self, update: ResolvedUpdate) -> Result<(), Memory>
+        ensures made { OnOk result (self.new ≡ made self.old (effects.Update update)) }
+        ensures stays { OnErr result (self.new ≡ self.old) }
+    {
+        self.last_numbers.set(update.table, update.number)?;
+        write(&mut self.slots, update.written);
+        Ok(())
+    }
+
+    /// An equal state.
+    pub fn copy(&self, alloc: Global) -> Result<State, Memory>
+        ensures { IfOk result (λ copy. copy ≡ self.now) }
+    {
+        let received = self.received.copy(alloc)?;
+        let last_numbers = self.last_numbers.copy(alloc)?;
+        Ok(State::of(
+            alloc,
+            received,
+            last_numbers,
+            self.slots.copy(alloc)?,
+        ))
+    }
+}
