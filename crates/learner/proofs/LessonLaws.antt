@@ -218,7 +218,7 @@ waits_on t x faults.BadValue waits stops wanted = never_both stops.1 (sym stops.
 waits_on t x faults.Trailing waits stops wanted = never_both stops.1 (sym stops.2 ∙ waits.1)
 
 -- where messages are learned to an end at which it waits, no fault comes on the way
-no_fault : (now : ℕ) (l a mid : Learning) (x : Taking) (ms ns : List Message) (us vs : List Update) (fault : Fault) → AreLearned now l ms us a → IsWaiting a.intake → AreLearned now l ns vs mid → Stops mid.intake fault x → fault ≢ faults.Memory → ⊥
+pub no_fault : (now : ℕ) (l a mid : Learning) (x : Taking) (ms ns : List Message) (us vs : List Update) (fault : Fault) → AreLearned now l ms us a → IsWaiting a.intake → AreLearned now l ns vs mid → Stops mid.intake fault x → fault ≢ faults.Memory → ⊥
 no_fault now l a mid x [] [] us vs fault one waits other stops wanted =
     waits_on l.intake x fault (subst (λ (y : Learning). IsWaiting y.intake) one.1 waits) (subst (λ (y : Learning). Stops y.intake fault x) other.1 stops) wanted
 no_fault now l a mid x [] (n ∷ ns) us vs fault one waits (first, rest, next, all, begins, later) stops wanted =

@@ -6,3 +6,7 @@ pub mod PutLaws
 pub mod LessonLaws
 pub mod MomentLaws
 pub mod KnownLessons
+pub mod AckLaws
+pub mod OneOutcome
+pub mod FaultLaws
+pub mod StreamLaws

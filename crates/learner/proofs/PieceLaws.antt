@@ -18,11 +18,11 @@ takes_on : (t e : Taking) (m : Message) (own : List Update) (more : List ℕ) �
 takes_on t e m own more good (is_open, rest, at, us, step, keeps, is) =
     (is_open, rest ++ more, read_on t.state.received m t.unread rest more good at, us, step, keeps, ap (λ (x : Taking). fed x more) is)
 
-learns_on : (now : ℕ) (l e : Learning) (m : Message) (us : List Update) (more : List ℕ) → IsBytes l.intake.unread → Learns now l m us e → Learns now (with_piece l more) m us (with_piece e more)
+pub learns_on : (now : ℕ) (l e : Learning) (m : Message) (us : List Update) (more : List ℕ) → IsBytes l.intake.unread → Learns now l m us e → Learns now (with_piece l more) m us (with_piece e more)
 learns_on now l e m us more good (takes, rows) = (takes_on l.intake e.intake m us more good takes, rows)
 
 -- what is left after a message are bytes
-left_good : (t e : Taking) (m : Message) (own : List Update) → IsBytes t.unread → Takes t m own e → IsBytes e.unread
+pub left_good : (t e : Taking) (m : Message) (own : List Update) → IsBytes t.unread → Takes t m own e → IsBytes e.unread
 left_good t e m own good (is_open, rest, at, us, step, keeps, is) =
     subst IsBytes (sym (ap (λ (x : Taking). x.unread) is)) (rest_good t.state.received m t.unread rest good at)
 
@@ -46,7 +46,7 @@ two now l mid e a b one other good (is_open, (ms, us, learned, waits, count)) (l
 
 -- ---- one thing is learned
 
-one_taking : (t a b : Taking) (m : Message) (own kin : List Update) → Takes t m own a → Takes t m kin b → (own ≡ kin) × (a ≡ b)
+pub one_taking : (t a b : Taking) (m : Message) (own kin : List Update) → Takes t m own a → Takes t m kin b → (own ≡ kin) × (a ≡ b)
 one_taking t a b m own kin (is_open, rest, at, us, step, keeps, is) (is_open', rest', at', us', step', keeps', is') =
     let read = found_is m m rest rest' (sym at ∙ at') in
     let steps = one_step t.state a.state b.state m us us' step step' in
@@ -55,7 +55,7 @@ one_taking t a b m own kin (is_open, rest, at, us, step, keeps, is) (is_open', r
     ∙ ap (λ (bytes : List ℕ). record { roster = t.roster; state = b.state; due = due_after t.state m t.due; unread = bytes; closed = false }) read.1 in
     (keeps ∙ ap (λ (carried : List Update). local_updates t.roster t.state.received carried) steps.0 ∙ sym keeps', is ∙ left ∙ sym is')
 
-one_message : (t a b : Taking) (m n : Message) (own kin : List Update) → Takes t m own a → Takes t n kin b → m ≡ n
+pub one_message : (t a b : Taking) (m n : Message) (own kin : List Update) → Takes t m own a → Takes t n kin b → m ≡ n
 one_message t a b m n own kin one other = (found_is m n one.1 other.1 (sym one.2 ∙ other.2)).0
 
 pub one_learned : (now : ℕ) (l a b : Learning) (m n : Message) (us vs : List Update) → Learns now l m us a → Learns now l n vs b → (us ≡ vs) × (a ≡ b)

@@ -4,3 +4,5 @@ pub mod Intake
 pub mod Rows
 pub mod Learning
 pub mod Moments
+pub mod Acks
+pub mod Cutting

@@ -8,6 +8,7 @@ ghost use Rattle.known_state.specs.LastNumbers.{last_of};
 ghost use Rattle.known_state.specs.State.{resolved_number};
 ghost use Rattle.known_state.specs.Resolving.{reads_empty};
 ghost use Rattle.learner.specs.LocalTables.{local_table, local_id};
+ghost use Rattle.learner.specs.Acks.{AreRisingAcks};
 ghost use Rattle.learner.specs.Intake.{begun, shut, Feeds, Next, Gives, IsFront, answer_of, remembered, rows_of, ack_of, acks_of};
 
 use crate::due::{add_due, holds, still_due};
@@ -315,6 +316,7 @@ impl Intake {
     /// in rising id of the sender's. Then none is due. After `Memory` nothing has changed.
     pub fn acks(&mut self) -> Result<Vec<Message>, Memory>
         ensures told { IfOk result (λ acks. acks.items ≡ acks_of self.old) }
+        ensures rising { IfOk result (λ acks. AreRisingAcks acks.items) }
         ensures done { OnOk result (self.new ≡ record self.old { due = [] }) }
         ensures stays { OnErr result (self.new ≡ self.old) }
     {

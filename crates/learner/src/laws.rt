@@ -1,6 +1,6 @@
 //! What holds of the definitions, whatever the program does.
 
-ghost use Rattle.std.specs.Prelude.{◌≡◌, ◌≢◌, ◌+◌, ◌∷◌, ◌++◌, ℕ, List, Result, Ok, Err, Some, None, length};
+ghost use Rattle.std.specs.Prelude.{◌≡◌, ◌≢◌, ◌+◌, ◌∷◌, ◌++◌, ℕ, List, Result, Ok, Err, Option, Some, None, false, length};
 ghost use Rattle.peers_msg.specs.Integers.{IsBytes};
 ghost use Rattle.table_types.specs.declared.key.Key.{Key};
 ghost use Rattle.table_types.specs.declared.update.Update.{Update};
@@ -16,9 +16,12 @@ ghost use Rattle.known_state.specs.LastNumbers.{AreRising};
 ghost use Rattle.known_state.specs.Lessons.{IsLessonFor};
 ghost use Rattle.learner.specs.declared.fault.Fault.{Fault};
 ghost use Rattle.learner.specs.declared.fault.Fault.TheVariants as faults;
+ghost use Rattle.learner.specs.declared.intake.Taken.{Taken};
+ghost use Rattle.learner.specs.Intake.{Taking, Feeds, Next};
+ghost use Rattle.learner.specs.Cutting.{IsStopped};
 ghost use Rattle.learner.specs.Rows.{put, put_all, row_at, rows_at, AreOfOthers};
 ghost use Rattle.learner.specs.Moments.{Piece, stream_in, AreFedInTime, HasLearnedInTime};
-ghost use Rattle.learner.specs.Learning.{Learning, unlearned, Fed, AreFed, IsReady, IsReadyIn, IsTaught, HasLearned};
+ghost use Rattle.learner.specs.Learning.{Learning, unlearned, with_piece, Fed, AreFed, IsReady, IsReadyIn, IsTaught, HasLearned};
 
 /// However a stream is cut into pieces, what is learned of them at one moment is what is learned of the whole: the
 /// same rows, the same state, and the same bytes left.
@@ -31,6 +34,37 @@ pub fn any_pieces()
         Fed now l (together (a ∷ pieces)) (Ok count) e }
     ensures same { (now : ℕ) (l a b : Learning) (piece : List ℕ) (one other : ℕ) →
         Fed now l piece (Ok one) a → Fed now l piece (Ok other) b → (one ≡ other) × (a ≡ b) }
+{}
+
+/// A learner does one thing: where two outcomes of feeding it a piece are both allowed, and neither is running out of
+/// memory, the answer is the same and so is what it holds then. The same of what takes its messages: of feeding it, and
+/// of asking it for one.
+pub fn one_outcome()
+    ensures learner { (now : ℕ) (l a b : Learning) (piece : List ℕ) (one other : Result ℕ Fault) → Fed now l piece one a → Fed now l piece other b →
+        one ≢ Err faults.Memory → other ≢ Err faults.Memory → (one ≡ other) × (a ≡ b) }
+    ensures feed { (t a b : Taking) (piece : List ℕ) (one other : Result (Unit {0}) Fault) → Feeds t piece one a → Feeds t piece other b →
+        one ≢ Err faults.Memory → other ≢ Err faults.Memory → (one ≡ other) × (a ≡ b) }
+    ensures next { (t a b : Taking) (one other : Result (Option Taken) Fault) → Next t one a → Next t other b →
+        one ≢ Err faults.Memory → other ≢ Err faults.Memory → (one ≡ other) × (a ≡ b) }
+{}
+
+/// However a stream is cut into pieces that are fed at one moment, the same fault comes, but for running out of memory.
+/// Where two ways to cut it each stop at a fault, it is the same fault, with the same rows and the same state, and the
+/// same bytes are left up to what each was fed: with what was still to come of the stream they are one and the same.
+/// Where a fault stops one way, no other goes through without one. After a fault every piece is answered `Closed`, and
+/// changes nothing.
+pub fn one_fault()
+    ensures same { (now : ℕ) (l a b : Learning) (before others : List (List ℕ)) (last end more rest : List ℕ) (fault other : Fault) →
+        l.intake.closed ≡ false → IsBytes (l.intake.unread ++ (together before ++ (last ++ more))) →
+        together before ++ (last ++ more) ≡ together others ++ (end ++ rest) →
+        IsStopped now l before last fault a → IsStopped now l others end other b → fault ≢ faults.Memory → other ≢ faults.Memory →
+        (fault ≡ other) × (with_piece a more ≡ with_piece b rest) }
+    ensures through { (now : ℕ) (l a b : Learning) (before others : List (List ℕ)) (last first more : List ℕ) (count : ℕ) (fault : Fault) →
+        IsBytes (l.intake.unread ++ (together before ++ (last ++ more))) →
+        together before ++ (last ++ more) ≡ together (first ∷ others) →
+        IsStopped now l before last fault a → fault ≢ faults.Memory → AreFed now l (first ∷ others) count b → ⊥ }
+    ensures closed { (now after : ℕ) (l e x : Learning) (piece bytes : List ℕ) (fault : Fault) (answer : Result ℕ Fault) →
+        Fed now l piece (Err fault) e → Fed after e bytes answer x → (answer ≡ Err faults.Closed) × (x ≡ e) }
 {}
 
 /// An update that is put changes the row of its table and key alone: that row becomes what the update teaches at that
@@ -59,7 +93,8 @@ pub fn the_last_stands()
 /// What a legal stream teaches. Where each id that a learner received stands for its own definition, and nothing is
 /// unread, it is fed a stream that is legal from its state: then every update that the stream carries is put among its
 /// rows, and nothing else; it reaches the state in which the stream ends; nothing is left unread; and no fault comes,
-/// but want of memory. So it is however the stream is cut, all at one moment.
+/// but want of memory. So it is however the stream is cut, all at one moment; and on the way, with pieces at whatever
+/// moments, no fault comes but want of memory.
 pub fn a_legal_stream()
     ensures whole { (now : ℕ) (l e : Learning) (ms : List Message) (us : List Update) (after : State) (result : Result ℕ Fault) →
         IsReady l → Legal l.intake.roster l.intake.state ms us after →
@@ -69,6 +104,10 @@ pub fn a_legal_stream()
         IsReady l → Legal l.intake.roster l.intake.state ms us after →
         IsBytes (stream_of ms) → together (a ∷ pieces) ≡ stream_of ms → AreFed now l (a ∷ pieces) count e →
         (count ≡ length us) × IsTaught now l us after e }
+    ensures faultless { (now : ℕ) (l mid e : Learning) (ms : List Message) (us : List Update) (after : State) (before : List Piece) (piece more : List ℕ) (counts : List ℕ) (fault : Fault) →
+        IsReady l → Legal l.intake.roster l.intake.state ms us after →
+        IsBytes (stream_of ms) → stream_in before ++ (piece ++ more) ≡ stream_of ms →
+        AreFedInTime l before counts mid → Fed now mid piece (Err fault) e → fault ≡ faults.Memory }
 {}
 
 /// A lesson teaches what it says. A teacher knows of a learner that it is in the known state k, and not what else it

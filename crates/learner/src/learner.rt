@@ -6,6 +6,7 @@ ghost use Rattle.std.specs.List.Sorted.{IsStrictlySortedBy};
 ghost use Rattle.known_state.specs.Known.{known_of};
 ghost use Rattle.known_state.specs.LastNumbers.{AreRising};
 ghost use Rattle.learner.specs.declared.fault.Fault.TheVariants as faults;
+ghost use Rattle.learner.specs.Acks.{AreRisingAcks};
 ghost use Rattle.learner.specs.Intake.{acks_of};
 ghost use Rattle.table_types.specs.Keys.{key_cmp};
 ghost use Rattle.learner.specs.Rows.{row_at, rows_at, index_of, put};
@@ -197,6 +198,7 @@ impl Learner {
     /// in rising id of the sender's. Then none is due. After `Memory` nothing has changed.
     pub fn acks(&mut self) -> Result<Vec<Message>, Memory>
         ensures told { IfOk result (λ acks. acks.items ≡ acks_of self.old.intake) }
+        ensures rising { IfOk result (λ acks. AreRisingAcks acks.items) }
         ensures done { OnOk result (self.new ≡ record self.old { intake = record self.old.intake { due = [] } }) }
         ensures stays { OnErr result (self.new ≡ self.old) }
     {

@@ -11,6 +11,7 @@ mod table_rows;
 
 pub use fault::Fault;
 pub use laws::{
-    a_legal_stream, a_lesson, any_pieces, numbers_stay_rising, others_stay, the_last_stands,
+    a_legal_stream, a_lesson, any_pieces, numbers_stay_rising, one_fault, one_outcome, others_stay,
+    the_last_stands,
 };
 pub use learner::Learner;

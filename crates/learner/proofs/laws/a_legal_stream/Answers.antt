@@ -1,4 +1,5 @@
 use Rattle.learner.proofs.LessonLaws.{taught, taught_in_pieces}
+use Rattle.learner.proofs.StreamLaws.{stream_faultless}
 use Rattle.learner.proofs.laws.a_legal_stream.Goals as goal
 
 pub returns-clause-whole : goal.returns-clause-whole
@@ -6,3 +7,6 @@ returns-clause-whole c = taught
 
 pub returns-clause-pieces : goal.returns-clause-pieces
 returns-clause-pieces c = taught_in_pieces
+
+pub returns-clause-faultless : goal.returns-clause-faultless
+returns-clause-faultless c = stream_faultless
