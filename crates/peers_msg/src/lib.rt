@@ -18,7 +18,7 @@ mod sizes;
 
 pub use control::{Control, ErrorKind};
 pub use decoder::Decoder;
-pub use encoding::encode;
+pub use encoding::{append, encode};
 pub use fault::Fault;
 pub use framing::split_message;
 pub use laws::{
