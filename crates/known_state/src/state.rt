@@ -3,7 +3,7 @@
 ghost use Rattle.std.specs.Prelude.{◌≡◌, ◌≢◌, ◌-◌, true, Some, Err, IfOk, IfErr, IfSome, OnOk, OnErr, option_copied, option_map, slice_set};
 ghost use Rattle.table_types.specs.Names.{is_name};
 ghost use Rattle.dict_slots.specs.Slots.{slot_at};
-ghost use Rattle.peers_msg.specs.Borrowed.{name_lent, is_named};
+ghost use Rattle.peers_msg.specs.Borrowed.{owned_name, is_named};
 ghost use Rattle.known_state.specs.State.{fresh, resolved_number, reads_empty, name_of};
 ghost use Rattle.known_state.specs.Effects.{Resolves, made, refusal_of, selected_number, slots_with, written_by};
 ghost use Rattle.known_state.specs.declared.effect.Effect.TheVariants as effects;
@@ -73,8 +73,8 @@ fn write(slots: &mut Slots, written: Option<(u8, Name)>)
 
 /// The slot that a field writes, and a copy of the name.
 fn written_by(alloc: Global, field: NameFieldRef<'_>) -> Result<Option<(u8, Name)>, Memory>
-    requires { is_named (name_lent field) ≡ true }
-    ensures { IfOk result (λ written. written ≡ written_by (name_lent field.entry)) }
+    requires { is_named (owned_name field) ≡ true }
+    ensures { IfOk result (λ written. written ≡ written_by (owned_name field.entry)) }
 {
     match field {
         NameFieldRef::Written(slot, name) => Ok(Some((slot, Name::from_slice(alloc, name)?))),
@@ -144,7 +144,7 @@ impl State {
     }
 
     fn reads_empty(&self, field: NameFieldRef<'_>) -> bool
-        ensures { result ≡ reads_empty self.now.slots (name_lent field.entry) }
+        ensures { result ≡ reads_empty self.now.slots (owned_name field.entry) }
     {
         match field {
             NameFieldRef::Held(slot) => held(&self.slots, slot).is_none(),
@@ -155,8 +155,8 @@ impl State {
     /// The name that a field tells: the one written, or what its slot holds, which is `None` where the field reads an
     /// empty slot.
     pub fn name<'a>(&'a self, field: NameFieldRef<'a>) -> Option<&'a [u8]>
-        requires { is_named (name_lent field) ≡ true }
-        ensures name { option_map (λ name. name.now) result ≡ name_of self.now.slots (name_lent field.entry) }
+        requires { is_named (owned_name field) ≡ true }
+        ensures name { option_map (λ name. name.now) result ≡ name_of self.now.slots (owned_name field.entry) }
         ensures named { IfSome result (λ name. is_name name.now ≡ true) }
     {
         match field {
@@ -178,10 +178,10 @@ impl State {
         number: Option<u32>,
         field: NameFieldRef<'_>,
     ) -> Result<ResolvedUpdate, Refusal>
-        requires { is_named (name_lent field) ≡ true }
-        ensures resolved { IfOk result (λ update. Resolves self.now number (name_lent field.entry) update) }
-        ensures refused { IfErr result (λ e. e ≢ refusals.Memory → refusal_of self.now number (name_lent field.entry) ≡ Some e) }
-        ensures exactly { (e : Refusal) → refusal_of self.now number (name_lent field.entry) ≡ Some e → result ≡ Err e }
+        requires { is_named (owned_name field) ≡ true }
+        ensures resolved { IfOk result (λ update. Resolves self.now number (owned_name field.entry) update) }
+        ensures refused { IfErr result (λ e. e ≢ refusals.Memory → refusal_of self.now number (owned_name field.entry) ≡ Some e) }
+        ensures exactly { (e : Refusal) → refusal_of self.now number (owned_name field.entry) ≡ Some e → result ≡ Err e }
     {
         let Some((table, number)) = self.number(number) else {
             return Err(Refusal::NoNumber);

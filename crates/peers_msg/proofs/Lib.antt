@@ -1,3 +1,4 @@
+pub mod AppendedIntegers
 pub mod SizeLaws
 pub mod DataLaws
 pub mod FieldsAgain

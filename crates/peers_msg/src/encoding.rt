@@ -1,6 +1,7 @@
-//! The bytes of messages.
+//! The bytes of messages. Room for a whole message is reserved before its first byte is appended, so that only this can
+//! fail; each function below that appends a part asks for room for it.
 
-ghost use Rattle.std.specs.Prelude.{◌≡◌, ◌++◌, ◌∷◌, [], true, flat_map, IfOk, OnOk};
+ghost use Rattle.std.specs.Prelude.{◌≡◌, ◌≤◌, ◌<◌, ◌+◌, ◌^◌, ◌++◌, ◌∷◌, [], true, length, flat_map, vec_len, vec_capacity, IfOk, OnOk, OnErr};
 ghost use Rattle.peers_encint.specs.Integers.{spelling};
 ghost use Rattle.table_types.specs.Tables.{rise_from};
 ghost use Rattle.peers_msg.specs.declared.message.Message.TheVariants as messages;
@@ -9,52 +10,83 @@ ghost use Rattle.peers_msg.specs.Spelling.{word, optional_word, counted, key_tex
 use crate::control::{Control, ErrorKind};
 use crate::message::{Message, Other, UpdateMsg};
 use crate::name_field::NameField;
-use crate::sizes::{bits, definition_size, size, update_size, written_size};
-use peers_encint::{len, put};
+use crate::sizes::{bits, definition_size, framed_size, update_size, written_size};
+use peers_encint::len;
 use std::alloc::Global;
 use table_types::{DataType, Key, Memory, TableDef, Value};
 
-fn append_bytes(out: &mut Vec<u8>, bytes: &[u8]) -> Result<(), Memory>
-    ensures { OnOk result (out.new.items ≡ out.old.items ++ bytes.now) }
+fn append_bytes(out: &mut Vec<u8>, bytes: &[u8])
+    requires room { vec_len out.old + length (bytes.now) ≤ vec_capacity out.old }
+    ensures appended { out.new.items ≡ out.old.items ++ bytes.now }
+    ensures room { vec_len out.new + vec_capacity out.old ≤ vec_len out.old + length (bytes.now) + vec_capacity out.new }
 {
-    out.extend_from_slice(bytes)?;
-    Ok(())
+    match out.extend_from_slice(bytes) {
+        Ok(()) => {}
+        Err(_) => unreachable!(),
+    }
 }
 
-fn append_integer(out: &mut Vec<u8>, n: u64) -> Result<(), Memory>
-    ensures { OnOk result (out.new.items ≡ out.old.items ++ spelling n) }
+/// Appends the spelling of a number of 240 or more.
+fn append_long(out: &mut Vec<u8>, n: u64)
+    requires long { 240 ≤ n }
+    requires room { vec_len out.old + length (spelling n) ≤ vec_capacity out.old }
+    ensures appended { out.new.items ≡ out.old.items ++ spelling n }
+    ensures room { vec_len out.new + vec_capacity out.old ≤ vec_len out.old + length (spelling n) + vec_capacity out.new }
 {
-    let mut bytes = [0; 10];
-    let used = put(n, &mut bytes);
-    append_bytes(out, &bytes[..used])
+    out.push_reserved(240 | (n & 15) as u8);
+    let mut rest = (n - 240) >> 4;
+    while rest >= 128 {
+        out.push_reserved((rest & 255) as u8 | 128);
+        rest = (rest - 128) >> 7;
+    }
+    out.push_reserved(rest as u8);
+}
+
+fn append_integer(out: &mut Vec<u8>, n: u64)
+    requires room { vec_len out.old + length (spelling n) ≤ vec_capacity out.old }
+    ensures appended { out.new.items ≡ out.old.items ++ spelling n }
+    ensures room { vec_len out.new + vec_capacity out.old ≤ vec_len out.old + length (spelling n) + vec_capacity out.new }
+{
+    if n < 240 {
+        out.push_reserved(n as u8);
+    } else {
+        append_long(out, n);
+    }
 }
 
 /// Appends four bytes, the big end first.
-fn append_word(out: &mut Vec<u8>, n: u32) -> Result<(), Memory>
-    ensures { OnOk result (out.new.items ≡ out.old.items ++ word n) }
+fn append_word(out: &mut Vec<u8>, n: u32)
+    requires room { vec_len out.old + length (word n) ≤ vec_capacity out.old }
+    ensures appended { out.new.items ≡ out.old.items ++ word n }
+    ensures room { vec_len out.new + vec_capacity out.old ≤ vec_len out.old + length (word n) + vec_capacity out.new }
 {
-    append_bytes(out, &n.to_be_bytes())
+    append_bytes(out, &n.to_be_bytes());
 }
 
-fn append_optional(out: &mut Vec<u8>, n: Option<u32>) -> Result<(), Memory>
-    ensures { OnOk result (out.new.items ≡ out.old.items ++ optional_word n) }
+fn append_optional(out: &mut Vec<u8>, n: Option<u32>)
+    requires room { vec_len out.old + length (optional_word n) ≤ vec_capacity out.old }
+    ensures appended { out.new.items ≡ out.old.items ++ optional_word n }
+    ensures room { vec_len out.new + vec_capacity out.old ≤ vec_len out.old + length (optional_word n) + vec_capacity out.new }
 {
-    match n {
-        Some(n) => append_word(out, n),
-        None => Ok(()),
+    if let Some(n) = n {
+        append_word(out, n);
     }
 }
 
 /// Appends bytes after their encoded length.
-fn append_counted(out: &mut Vec<u8>, bytes: &[u8]) -> Result<(), Memory>
-    ensures { OnOk result (out.new.items ≡ out.old.items ++ counted bytes.now) }
+fn append_counted(out: &mut Vec<u8>, bytes: &[u8])
+    requires room { vec_len out.old + length (counted bytes.now) ≤ vec_capacity out.old }
+    ensures appended { out.new.items ≡ out.old.items ++ counted bytes.now }
+    ensures room { vec_len out.new + vec_capacity out.old ≤ vec_len out.old + length (counted bytes.now) + vec_capacity out.new }
 {
-    append_integer(out, bytes.len() as u64)?;
-    append_bytes(out, bytes)
+    append_integer(out, bytes.len() as u64);
+    append_bytes(out, bytes);
 }
 
-fn append_key(out: &mut Vec<u8>, key: &Key) -> Result<(), Memory>
-    ensures { OnOk result (out.new.items ≡ out.old.items ++ key_text key.now) }
+fn append_key(out: &mut Vec<u8>, key: &Key)
+    requires room { vec_len out.old + length (key_text key.now) ≤ vec_capacity out.old }
+    ensures appended { out.new.items ≡ out.old.items ++ key_text key.now }
+    ensures room { vec_len out.new + vec_capacity out.old ≤ vec_len out.old + length (key_text key.now) + vec_capacity out.new }
 {
     match key {
         Key::Int(number) => append_word(out, *number),
@@ -65,8 +97,10 @@ fn append_key(out: &mut Vec<u8>, key: &Key) -> Result<(), Memory>
     }
 }
 
-fn append_value(out: &mut Vec<u8>, value: &Value) -> Result<(), Memory>
-    ensures { OnOk result (out.new.items ≡ out.old.items ++ value_text value.now) }
+fn append_value(out: &mut Vec<u8>, value: &Value)
+    requires room { vec_len out.old + length (value_text value.now) ≤ vec_capacity out.old }
+    ensures appended { out.new.items ≡ out.old.items ++ value_text value.now }
+    ensures room { vec_len out.new + vec_capacity out.old ≤ vec_len out.old + length (value_text value.now) + vec_capacity out.new }
 {
     match value {
         Value::Count(count) => append_integer(out, *count),
@@ -75,92 +109,101 @@ fn append_value(out: &mut Vec<u8>, value: &Value) -> Result<(), Memory>
             current,
             previous,
         } => {
-            append_integer(out, u64::from(*elapsed))?;
-            append_integer(out, u64::from(*current))?;
-            append_integer(out, u64::from(*previous))
+            append_integer(out, u64::from(*elapsed));
+            append_integer(out, u64::from(*current));
+            append_integer(out, u64::from(*previous));
         }
     }
 }
 
-fn append_values(out: &mut Vec<u8>, values: &[Value]) -> Result<(), Memory>
-    ensures { OnOk result (out.new.items ≡ out.old.items ++ flat_map value_text values.now) }
+fn append_values(out: &mut Vec<u8>, values: &[Value])
+    requires room { vec_len out.old + length (flat_map value_text values.now) ≤ vec_capacity out.old }
+    ensures appended { out.new.items ≡ out.old.items ++ flat_map value_text values.now }
+    ensures room { vec_len out.new + vec_capacity out.old ≤ vec_len out.old + length (flat_map value_text values.now) + vec_capacity out.new }
 {
     for value in values {
-        append_value(out, value)?;
+        append_value(out, value);
     }
-    Ok(())
 }
 
-fn append_name(out: &mut Vec<u8>, name: &NameField) -> Result<(), Memory>
-    ensures { OnOk result (out.new.items ≡ out.old.items ++ name_text name.now) }
+fn append_name(out: &mut Vec<u8>, name: &NameField)
+    requires room { vec_len out.old + length (name_text name.now) ≤ vec_capacity out.old }
+    ensures appended { out.new.items ≡ out.old.items ++ name_text name.now }
+    ensures room { vec_len out.new + vec_capacity out.old ≤ vec_len out.old + length (name_text name.now) + vec_capacity out.new }
 {
     match name {
-        NameField::NotStored => Ok(()),
+        NameField::NotStored => {}
         NameField::NoName => append_integer(out, 0),
         NameField::Held(slot) => {
             let slot = u64::from(*slot);
-            append_integer(out, len(slot) as u64)?;
-            append_integer(out, slot)
+            append_integer(out, len(slot) as u64);
+            append_integer(out, slot);
         }
         NameField::Written(slot, name) => {
-            append_integer(out, written_size(*slot, name) as u64)?;
-            append_integer(out, u64::from(*slot))?;
-            append_counted(out, name.as_slice())
+            append_integer(out, written_size(*slot, name) as u64);
+            append_integer(out, u64::from(*slot));
+            append_counted(out, name.as_slice());
         }
     }
 }
 
-fn append_update(out: &mut Vec<u8>, update: &UpdateMsg) -> Result<(), Memory>
-    ensures { OnOk result (out.new.items ≡ out.old.items ++ update_text update.now) }
+fn append_update(out: &mut Vec<u8>, update: &UpdateMsg)
+    requires room { vec_len out.old + length (update_text update.now) ≤ vec_capacity out.old }
+    ensures appended { out.new.items ≡ out.old.items ++ update_text update.now }
+    ensures room { vec_len out.new + vec_capacity out.old ≤ vec_len out.old + length (update_text update.now) + vec_capacity out.new }
 {
-    append_optional(out, update.number())?;
-    append_optional(out, update.life())?;
-    append_key(out, update.key())?;
-    append_values(out, update.values())?;
-    append_name(out, update.name())
+    append_optional(out, update.number());
+    append_optional(out, update.life());
+    append_key(out, update.key());
+    append_values(out, update.values());
+    append_name(out, update.name());
 }
 
 /// Appends a rate's id and period, and for another type nothing.
-fn append_period(out: &mut Vec<u8>, entry: &(DataType, Option<u32>)) -> Result<(), Memory>
-    ensures { OnOk result (out.new.items ≡ out.old.items ++ period_text entry.now) }
+fn append_period(out: &mut Vec<u8>, entry: &(DataType, Option<u32>))
+    requires room { vec_len out.old + length (period_text entry.now) ≤ vec_capacity out.old }
+    ensures appended { out.new.items ≡ out.old.items ++ period_text entry.now }
+    ensures room { vec_len out.new + vec_capacity out.old ≤ vec_len out.old + length (period_text entry.now) + vec_capacity out.new }
 {
-    match entry.1 {
-        Some(period) => {
-            append_integer(out, u64::from(entry.0.id()))?;
-            append_integer(out, u64::from(period))
-        }
-        None => Ok(()),
+    if let Some(period) = entry.1 {
+        append_integer(out, u64::from(entry.0.id()));
+        append_integer(out, u64::from(period));
     }
 }
 
-fn append_periods(out: &mut Vec<u8>, types: &[(DataType, Option<u32>)]) -> Result<(), Memory>
-    ensures { OnOk result (out.new.items ≡ out.old.items ++ flat_map period_text types.now) }
+fn append_periods(out: &mut Vec<u8>, types: &[(DataType, Option<u32>)])
+    requires room { vec_len out.old + length (flat_map period_text types.now) ≤ vec_capacity out.old }
+    ensures appended { out.new.items ≡ out.old.items ++ flat_map period_text types.now }
+    ensures room { vec_len out.new + vec_capacity out.old ≤ vec_len out.old + length (flat_map period_text types.now) + vec_capacity out.new }
 {
     for entry in types {
-        append_period(out, entry)?;
+        append_period(out, entry);
     }
-    Ok(())
 }
 
 /// Appends what a table stores: its data types as bits, how long its rows live, and the periods of its rates.
-fn append_stored(out: &mut Vec<u8>, table: &TableDef) -> Result<(), Memory>
-    requires { rise_from 0 table.now.types ≡ true }
-    ensures { OnOk result (out.new.items ≡ out.old.items ++ (spelling (bits_of table.now.types) ++ (spelling table.now.expire ++ flat_map period_text table.now.types))) }
+fn append_stored(out: &mut Vec<u8>, table: &TableDef)
+    requires rising { rise_from 0 table.now.types ≡ true }
+    requires room { vec_len out.old + length (spelling (bits_of table.now.types) ++ (spelling table.now.expire ++ flat_map period_text table.now.types)) ≤ vec_capacity out.old }
+    ensures appended { out.new.items ≡ out.old.items ++ (spelling (bits_of table.now.types) ++ (spelling table.now.expire ++ flat_map period_text table.now.types)) }
+    ensures room { vec_len out.new + vec_capacity out.old ≤ vec_len out.old + length (spelling (bits_of table.now.types) ++ (spelling table.now.expire ++ flat_map period_text table.now.types)) + vec_capacity out.new }
 {
     let types = table.types();
-    append_integer(out, bits(types))?;
-    append_integer(out, u64::from(table.expire()))?;
-    append_periods(out, types)
+    append_integer(out, bits(types));
+    append_integer(out, u64::from(table.expire()));
+    append_periods(out, types);
 }
 
-fn append_definition(out: &mut Vec<u8>, table: &TableDef) -> Result<(), Memory>
-    ensures { OnOk result (out.new.items ≡ out.old.items ++ definition_text table.now) }
+fn append_definition(out: &mut Vec<u8>, table: &TableDef)
+    requires room { vec_len out.old + length (definition_text table.now) ≤ vec_capacity out.old }
+    ensures appended { out.new.items ≡ out.old.items ++ definition_text table.now }
+    ensures room { vec_len out.new + vec_capacity out.old ≤ vec_len out.old + length (definition_text table.now) + vec_capacity out.new }
 {
-    append_integer(out, table.id())?;
-    append_counted(out, table.name())?;
-    append_integer(out, u64::from(table.kind().number()))?;
-    append_integer(out, table.key_length())?;
-    append_stored(out, table)
+    append_integer(out, table.id());
+    append_counted(out, table.name());
+    append_integer(out, u64::from(table.kind().number()));
+    append_integer(out, table.key_length());
+    append_stored(out, table);
 }
 
 /// The type of a control message.
@@ -190,70 +233,87 @@ fn update_kind(update: &UpdateMsg) -> u8
 }
 
 /// Appends a message without data.
-fn append_pair(out: &mut Vec<u8>, class: u8, kind: u8) -> Result<(), Memory>
-    ensures { OnOk result (out.new.items ≡ out.old.items ++ (class ∷ (kind ∷ []))) }
+fn append_pair(out: &mut Vec<u8>, class: u8, message_type: u8) -> Result<(), Memory>
+    ensures appended { OnOk result (out.new.items ≡ out.old.items ++ (class ∷ (message_type ∷ []))) }
+    ensures stays { OnErr result (out.new.items ≡ out.old.items) }
 {
-    out.push(class)?;
-    out.push(kind)?;
+    out.reserve(2)?;
+    out.push_reserved(class);
+    out.push_reserved(message_type);
     Ok(())
 }
 
-/// Appends what stands before the data of a message: class, type, and how many bytes of data it has.
-fn append_header(out: &mut Vec<u8>, class: u8, kind: u8, count: usize) -> Result<(), Memory>
-    ensures { OnOk result (out.new.items ≡ out.old.items ++ (class ∷ (kind ∷ spelling count))) }
+/// Reserves room for a message with that many bytes of data, and appends what stands before the data: class, type, and how
+/// many bytes there are.
+fn append_header(out: &mut Vec<u8>, class: u8, message_type: u8, count: usize) -> Result<(), Memory>
+    requires { count < 2 ^ 63 }
+    ensures appended { OnOk result (out.new.items ≡ out.old.items ++ (class ∷ (message_type ∷ spelling count))) }
+    ensures room { OnOk result (vec_len out.new + count ≤ vec_capacity out.new) }
+    ensures stays { OnErr result (out.new.items ≡ out.old.items) }
 {
-    append_pair(out, class, kind)?;
-    append_integer(out, count as u64)
+    out.reserve(framed_size(count))?;
+    out.push_reserved(class);
+    out.push_reserved(message_type);
+    append_integer(out, count as u64);
+    Ok(())
 }
 
 #[tactic(auto, unfolding(crate::specs::Spelling::spelled))]
 fn append_other(out: &mut Vec<u8>, other: &Other) -> Result<(), Memory>
-    ensures { OnOk result (out.new.items ≡ out.old.items ++ spelled (messages.Other other.now)) }
+    ensures appended { OnOk result (out.new.items ≡ out.old.items ++ spelled (messages.Other other.now)) }
+    ensures stays { OnErr result (out.new.items ≡ out.old.items) }
 {
     if other.kind() < 128 {
         append_pair(out, other.class(), other.kind())
     } else {
-        append_pair(out, other.class(), other.kind())?;
-        append_counted(out, other.body())
+        append_header(out, other.class(), other.kind(), other.body().len())?;
+        append_bytes(out, other.body());
+        Ok(())
     }
 }
 
+/// Appends the bytes of a message. It reserves memory once, for as many bytes as `size` says.
+///
+/// # Errors
+/// `Memory` where that is refused. `out` then has what it had.
 #[tactic(auto, unfolding(crate::specs::Spelling::spelled))]
-fn append_message(out: &mut Vec<u8>, message: &Message) -> Result<(), Memory>
-    ensures { OnOk result (out.new.items ≡ out.old.items ++ spelled message.now) }
+pub fn append(out: &mut Vec<u8>, message: &Message) -> Result<(), Memory>
+    ensures appended { OnOk result (out.new.items ≡ out.old.items ++ spelled message.now) }
+    ensures stays { OnErr result (out.new.items ≡ out.old.items) }
 {
     match message {
-        Message::Control(control) => append_pair(out, 0, control_kind(*control)),
-        Message::Error(error) => append_pair(out, 1, error_kind(*error)),
+        Message::Control(control) => append_pair(out, 0, control_kind(*control))?,
+        Message::Error(error) => append_pair(out, 1, error_kind(*error))?,
         Message::Define(table) => {
             append_header(out, 10, 130, definition_size(table))?;
-            append_definition(out, table)
+            append_definition(out, table);
         }
         Message::Switch(id) => {
             append_header(out, 10, 131, len(*id))?;
-            append_integer(out, *id)
+            append_integer(out, *id);
         }
         Message::Ack { table, number } => {
             append_header(out, 10, 132, len(*table) + 4)?;
-            append_integer(out, *table)?;
-            append_word(out, *number)
+            append_integer(out, *table);
+            append_word(out, *number);
         }
         Message::Update(update) => {
             append_header(out, 10, update_kind(update), update_size(update))?;
-            append_update(out, update)
+            append_update(out, update);
         }
-        Message::Other(other) => append_other(out, other),
+        Message::Other(other) => append_other(out, other)?,
     }
+    Ok(())
 }
 
-/// The bytes of a message. It takes memory once, for as many bytes as `size` says.
+/// The bytes of a message. It takes memory once.
 ///
 /// # Errors
 /// `Memory` where that is refused.
 pub fn encode(alloc: Global, message: &Message) -> Result<Vec<u8>, Memory>
     ensures spelled { IfOk result (λ bytes. Spells message.now bytes.items) }
 {
-    let mut out = Vec::with_capacity(alloc, size(message))?;
-    append_message(&mut out, message)?;
-    Ok(out)
+    let mut bytes = Vec::new(alloc);
+    append(&mut bytes, message)?;
+    Ok(bytes)
 }

@@ -151,7 +151,7 @@ pub fn definition_size(table: &TableDef) -> usize
 }
 
 /// How many bytes a message with that many bytes of data has.
-fn framed_size(count: usize) -> usize
+pub fn framed_size(count: usize) -> usize
     requires { count < 2 ^ 63 }
     ensures exact { result ≡ 2 + (length (spelling count) + count) }
     ensures within { result ≤ 12 + count }

@@ -1,5 +1,5 @@
-pub mod SendingLaws
-pub mod ShortLaws
-pub mod NamingLaws
-pub mod OrderLaws
-pub mod MarkLaws
+pub mod UpdateStepsAreLegal
+pub mod NamelessLessonsAreShortest
+pub mod AskedNamesAreRetained
+pub mod UpdatesGoInOrder
+pub mod MarksAreReads

@@ -40,7 +40,7 @@ abbrev pub retains_next : List ℕ → List Update → List Bool → Bool
 retains_next name [] marks = false
 retains_next name (u ∷ us) marks = if is_that_name name u.name then first_mark marks else retains_next name us (marks_after u.name marks)
 
--- A name is retained over the place of the first of these updates in that slot: it is the very slot that a retained link will
+-- A name is retained over the first of these updates in that slot: it is the very slot that a retained link will
 -- read, which began before and ends after.
 abbrev pub IsRetainedOver : (List ℕ → Option ℕ) → List Update → List Bool → ℕ → Type 0
 IsRetainedOver starts us marks slot = (name : List ℕ) × (starts name ≡ Some slot) × (retains_next name us marks ≡ true)
@@ -49,8 +49,8 @@ IsRetainedOver starts us marks slot = (name : List ℕ) × (starts name ≡ Some
 abbrev pub IsOpen : (List ℕ → Option ℕ) → List Update → List Bool → ℕ → Type 0
 IsOpen starts us marks slot = (is_slot slot ≡ true) × (IsRetainedOver starts us marks slot → ⊥)
 
--- How the name of the first of these updates is told. A retained request reads the slot in which its link began; any other name
--- is written, to the lowest slot in which no name is retained over this place. An update without a name has an empty field where
+-- How the name of the first of these updates is sent. A retained request reads the slot in which its link began; any other name
+-- is written, to the lowest slot in which no name is retained over this update. An update without a name has an empty field where
 -- its table stores names, and else no field.
 abbrev pub IsNamed : (List ℕ → Option ℕ) → List Update → List Bool → Bool → Option (List ℕ) → NameField → Type 0
 IsNamed starts us (true ∷ marks) stored (Some name) (names.Held slot) = starts name ≡ Some slot

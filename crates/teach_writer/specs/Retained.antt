@@ -24,7 +24,7 @@ Retains retained slots slot name = (retained_at retained slot ≡ true) × Holds
 abbrev pub IsFree : List Bool → ℕ → Type 0
 IsFree retained slot = (is_slot slot ≡ true) × (retained_at retained slot ≡ false)
 
--- How an update's name is told. One that is retained is read, in the lowest slot that retains it; any other is written, to the
+-- How an update's name is sent. One that is retained is read, in the lowest slot that retains it; any other is written, to the
 -- lowest slot that is free. An update without a name has an empty field where its table stores names, and else no field.
 abbrev pub IsNameField : List Bool → List (Option (List ℕ)) → Bool → Option (List ℕ) → NameField → Type 0
 IsNameField retained slots stored (Some name) (names.Held slot) =

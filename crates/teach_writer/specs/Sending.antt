@@ -1,4 +1,4 @@
--- How a batch is told (profile). Each update's table is selected where it isn't, by its definition where it isn't defined yet
+-- How a batch is sent (profile). Each update's table is selected where it isn't, by its definition where it isn't defined yet
 -- and else by a switch; then the update comes, without its number exactly where that is one more than the table's last,
 -- modulo 2^32.
 use Rattle.std.specs.Prelude.{◌≡◌, ℕ, Bool, false, ◌==◌, List, [], ◌∷◌, ◌++◌, is_some, Option, Some, None, if◌then◌else◌}
@@ -57,7 +57,7 @@ abbrev pub is_stored : List Definition → Update → Bool
 is_stored roster u = is_named_table (table_at roster u.table)
 
 -- These messages send the updates one after another, and nothing else, with one mark for each request: each name is read or
--- written as IsNamed says.
+-- written by IsNamed.
 abbrev pub AreSent : List Definition → State → (List ℕ → Option ℕ) → List Update → List Bool → List Message → State → Type 0
 AreSent roster s starts [] marks ms e = (marks ≡ []) × (ms ≡ []) × (e ≡ s)
 AreSent roster s starts (u ∷ us) marks ms e =

@@ -13,7 +13,7 @@ ghost use Rattle.teach_writer.specs.Retained.{is_asked, MayRetain, IsRetainedAtS
 ghost use Rattle.teach_writer.specs.Sending.{GoesThrough};
 
 use crate::retained::Retained;
-use crate::sending::send;
+use crate::sending::write_update;
 use dict_slots::Slots;
 use known_state::Known;
 use std::alloc::Global;
@@ -144,13 +144,13 @@ pub fn teach(alloc: Global, known: &Known, batch: &Batch) -> Result<Lesson, Teac
     let mut after = known.copy(alloc)?;
     let mut retained = retained_at_start(after.slots(), updates);
     let mut bytes = Vec::new(alloc);
-    for (place, update) in updates.iter().enumerate() {
-        let slot = send(alloc, &mut after, &retained, update, &mut bytes)?;
+    for (index, update) in updates.iter().enumerate() {
+        let slot = write_update(alloc, &mut after, &retained, update, &mut bytes)?;
         settle(
             &mut retained,
             slot,
             update.name.as_ref(),
-            &updates[place + 1..],
+            &updates[index + 1..],
         );
     }
     Ok(Lesson {

@@ -33,18 +33,18 @@ fn lowest_free(flags: &[bool; 128]) -> Option<u8>
     ensures lowest { IfSome result (λ slot. (other : ℕ) → IsFree flags.now other → slot ≤ other) }
     ensures absent { IsNone result → (slot : ℕ) → IsFree flags.now slot → ⊥ }
 {
-    for (place, retained) in flags.iter().enumerate() {
+    for (index, retained) in flags.iter().enumerate() {
         if !*retained {
-            return Some(place as u8 + 1);
+            return Some(index as u8 + 1);
         }
     }
     None
 }
 
-fn holds(place: Option<&Name>, name: &Name) -> bool
-    ensures { IsTrue result ↔ (option_copied place.entry ≡ Some name.now) }
+fn holds(slot: Option<&Name>, name: &Name) -> bool
+    ensures { IsTrue result ↔ (option_copied slot.entry ≡ Some name.now) }
 {
-    match place {
+    match slot {
         Some(held) => held.is_same(name),
         None => false,
     }
@@ -66,8 +66,8 @@ impl Retained {
         ensures lowest { IfSome result (λ slot. (other : ℕ) → Retains self.now slots.now other name.now → slot ≤ other) }
         ensures absent { IsNone result → (slot : ℕ) → Retains self.now slots.now slot name.now → ⊥ }
     {
-        for (place, retained) in self.flags.iter().enumerate() {
-            let slot = place as u8 + 1;
+        for (index, retained) in self.flags.iter().enumerate() {
+            let slot = index as u8 + 1;
             if *retained && holds(slots.name(slot), name) {
                 return Some(slot);
             }

@@ -1,4 +1,4 @@
-//! How one update is told.
+//! How one update is written.
 
 ghost use Rattle.std.specs.Prelude.{◌≡◌, ◌≤◌, ◌+◌, ◌^◌, ◌<◌, ◌∷◌, [], ◌++◌, true, false, List, Some, None, IfOk, OnOk, IfSome, option_to_list};
 ghost use Rattle.std.specs.List.{AllByRecursion};
@@ -22,7 +22,7 @@ ghost use Rattle.teach_writer.specs.Sending.{selection, slot_of, is_stored, IsTa
 use crate::retained::Retained;
 use dict_slots::Slots;
 use known_state::{Known, StepError, number_sent};
-use peers_msg::{Message, NameField, Received, UpdateMsg, encode};
+use peers_msg::{Message, NameField, Received, UpdateMsg, append};
 use std::alloc::Global;
 use table_types::{Memory, TableDef, Update};
 
@@ -45,7 +45,7 @@ fn selection(
     }
 }
 
-/// How the name of an update of that table is told: read where it is retained, and else written where a slot is free.
+/// How the name of an update of that table is sent: read where it is retained, and else written where a slot is free.
 fn name_field(
     alloc: Global,
     retained: &Retained,
@@ -73,7 +73,7 @@ fn name_field(
     }
 }
 
-/// The update as its message tells it, after that last number of its table, with that name field.
+/// The update as its message has it, after that last number of its table, with that name field.
 fn update_sent(
     alloc: Global,
     last: Option<u32>,
@@ -81,7 +81,7 @@ fn update_sent(
     update: &Update,
 ) -> Result<UpdateMsg, Memory>
     requires { is_small update.now.key update.now.values ≡ true }
-    ensures told { IfOk result (λ told. told ≡ sent_as last field update.now) }
+    ensures sent { IfOk result (λ sent. sent ≡ sent_as last field update.now) }
     ensures word { is_optional_word (number_sent last update.now.number) ≡ true }
 {
     Ok(UpdateMsg::new(
@@ -93,43 +93,24 @@ fn update_sent(
     ))
 }
 
-/// Says a message: its bytes go out, and the learner's state moves by it.
-fn say(
-    alloc: Global,
-    known: &mut Known,
-    message: &Message,
-    bytes: &mut Vec<u8>,
-) -> Result<(), Memory>
-    requires { IsTaken known.old message.now }
-    ensures said { OnOk result (bytes.new.items ≡ bytes.old.items ++ spelled message.now) }
-    ensures step { OnOk result ((us : List Update) × Step known.old.state message.now us known.new.state
-        × IsOwn known.old.roster message.now) }
-    ensures roster { known.new.roster ≡ known.old.roster }
-{
-    let text = encode(alloc, message)?;
-    match known.after(message) {
-        Ok(()) => {}
-        Err(StepError::Memory) => return Err(Memory),
-        Err(_) => unreachable!(),
-    }
-    bytes.extend_from_slice(text.as_slice())?;
-    Ok(())
-}
-
-/// Says a message that is needed no more.
-fn say_owned(
-    alloc: Global,
+/// Writes a message: its bytes are appended, and the learner's state moves by it.
+fn write_message(
     known: &mut Known,
     message: Message,
     bytes: &mut Vec<u8>,
 ) -> Result<(), Memory>
     requires { IsTaken known.old message }
-    ensures said { OnOk result (bytes.new.items ≡ bytes.old.items ++ spelled message) }
+    ensures appended { OnOk result (bytes.new.items ≡ bytes.old.items ++ spelled message) }
     ensures step { OnOk result ((us : List Update) × Step known.old.state message us known.new.state
         × IsOwn known.old.roster message) }
     ensures roster { known.new.roster ≡ known.old.roster }
 {
-    say(alloc, known, &message, bytes)
+    append(bytes, &message)?;
+    match known.after(&message) {
+        Ok(()) => Ok(()),
+        Err(StepError::Memory) => Err(Memory),
+        Err(_) => unreachable!(),
+    }
 }
 
 /// Selects a table of the roster, by a definition or a switch where it isn't selected.
@@ -151,12 +132,12 @@ fn select(alloc: Global, known: &mut Known, id: u64, bytes: &mut Vec<u8>) -> Res
         None => unreachable!(),
     };
     if let Some(message) = chosen {
-        say_owned(alloc, known, message, bytes)?;
+        write_message(known, message, bytes)?;
     }
     Ok(())
 }
 
-/// How the name of an update is told, once its table is found in the roster.
+/// How the name of an update is sent, once its table is found in the roster.
 fn named(
     alloc: Global,
     known: &Known,
@@ -187,9 +168,9 @@ fn slot_of(field: &NameField) -> Option<u8>
     }
 }
 
-/// Tells one update of a table of the roster: selects its table where it isn't selected, and says the update. The answer
+/// Writes one update of a table of the roster: what selects its table where it isn't selected, and the update. The answer
 /// is the slot through which its name went, if it has one.
-pub fn send(
+pub fn write_update(
     alloc: Global,
     known: &mut Known,
     retained: &Retained,
@@ -197,7 +178,7 @@ pub fn send(
     bytes: &mut Vec<u8>,
 ) -> Result<Option<u8>, Memory>
     requires { IsTaught known.old.roster update.now }
-    ensures told { OnOk result ((ms : List Message) × (bytes.new.items ≡ bytes.old.items ++ stream_of ms)
+    ensures written { OnOk result ((ms : List Message) × (bytes.new.items ≡ bytes.old.items ++ stream_of ms)
         × Legal known.old.roster known.old.state ms (update.now ∷ []) known.new.state
         × (update.now.name ≡ None → (rest : List Update) → AllByRecursion (IsOfRoster known.old.roster) rest →
         size_of_all ms + cost known.old.roster known.new.state rest ≤ cost known.old.roster known.old.state (update.now ∷ rest))) }
@@ -211,12 +192,12 @@ pub fn send(
     select(alloc, known, update.table, bytes)?;
     let field = named(alloc, known, retained, update)?;
     let slot = slot_of(&field);
-    let told = update_sent(
+    let message = update_sent(
         alloc,
         known.last_numbers().last(update.table),
         field,
         update,
     )?;
-    say_owned(alloc, known, Message::Update(told), bytes)?;
+    write_message(known, Message::Update(message), bytes)?;
     Ok(slot)
 }

@@ -1,4 +1,4 @@
-use Rattle.teach_writer.proofs.MarkLaws.{marks_read}
+use Rattle.teach_writer.proofs.MarksAreReads.{marks_read}
 use Rattle.teach_writer.proofs.laws.marks_are_reads.Goals as goal
 
 pub returns : goal.returns

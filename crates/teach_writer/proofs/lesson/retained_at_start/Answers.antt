@@ -1,4 +1,4 @@
-use Rattle.teach_writer.proofs.NamingLaws.{start_none}
+use Rattle.teach_writer.proofs.AskedNamesAreRetained.{start_none}
 use Rattle.teach_writer.proofs.lesson.retained_at_start.Goals as goal
 
 pub loop-slot-init : goal.loop-slot-init

@@ -1,6 +1,6 @@
 use Rattle.std.proofs.Common.{◌≡◌, true, Some, option_copied, rules}
 use Rattle.teach_writer.specs.Retained.{is_asked}
-use Rattle.teach_writer.proofs.NamingLaws.{settled_retained}
+use Rattle.teach_writer.proofs.AskedNamesAreRetained.{settled_retained}
 use Rattle.teach_writer.proofs.lesson.settle.Goals as goal
 
 pub returns-then-is_asked : goal.returns-then-is_asked

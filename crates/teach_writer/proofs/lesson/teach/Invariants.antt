@@ -5,12 +5,12 @@ use Rattle.known_state.specs.State.{Legal}
 use Rattle.known_state.specs.Requests.{AreNameless}
 use Rattle.known_state.specs.Cost.{cost}
 use Rattle.teach_writer.specs.Retained.{IsRetainedAtStart}
-use Rattle.teach_writer.proofs.OrderLaws.{Leads}
+use Rattle.teach_writer.proofs.UpdatesGoInOrder.{Leads}
 use Rattle.teach_writer.proofs.lesson.teach.Given as goal
 
-abbrev pub invariant-loop-place : goal.invariant-loop-place
-invariant-loop-place l = record {
+abbrev pub invariant-loop-index : goal.invariant-loop-index
+invariant-loop-index l = record {
   roster : l.after.roster ≡ l.known.roster;
-  told : (ms : List Message) × (l.bytes.items ≡ stream_of ms) × Legal l.known.roster l.known.state ms (take l.place l.updates) l.after.state × (AreNameless l.updates → size_of_all ms + cost l.known.roster l.after.state (drop l.place l.updates) ≤ cost l.known.roster l.known.state l.updates);
-  order : (start : List Bool) × (ms : List Message) × (l.bytes.items ≡ stream_of ms) × IsRetainedAtStart l.known.state.slots l.updates start × Leads l.known.roster l.known.state start l.updates ms l.after.state l.retained (drop l.place l.updates);
+  written : (ms : List Message) × (l.bytes.items ≡ stream_of ms) × Legal l.known.roster l.known.state ms (take l.index l.updates) l.after.state × (AreNameless l.updates → size_of_all ms + cost l.known.roster l.after.state (drop l.index l.updates) ≤ cost l.known.roster l.known.state l.updates);
+  order : (start : List Bool) × (ms : List Message) × (l.bytes.items ≡ stream_of ms) × IsRetainedAtStart l.known.state.slots l.updates start × Leads l.known.roster l.known.state start l.updates ms l.after.state l.retained (drop l.index l.updates);
 }

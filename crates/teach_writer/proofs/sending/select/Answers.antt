@@ -7,50 +7,50 @@ use Rattle.peers_msg.specs.declared.message.Message.{Message}
 use Rattle.peers_msg.specs.Spelling.{spelled, stream_of, size_of_all}
 use Rattle.known_state.specs.State.{Step, Teaches, IsOwn, Legal}
 use Rattle.teach_writer.specs.Sending.{selection}
-use Rattle.teach_writer.proofs.SendingLaws.{selection_taken, selection_selects, selection_none, listed_by_id, legal-one, stream-one}
+use Rattle.teach_writer.proofs.UpdateStepsAreLegal.{selection_taken, selection_selects, selection_none, listed_by_id, legal-one, stream-one}
 use Rattle.known_state.specs.Cost.{KnowsLess, with_selected, knowledge_of, selection_cost}
 use Rattle.known_state.proofs.KnownLemmas.{table_at-id}
-use Rattle.teach_writer.proofs.ShortLaws.{selection_size, selection_knows, knows_retained}
+use Rattle.teach_writer.proofs.NamelessLessonsAreShortest.{selection_size, selection_knows, knows_retained}
 use Rattle.teach_writer.proofs.sending.select.Goals as goal
 
-pub say_owned-requires : goal.say_owned-requires
-say_owned-requires c =
+pub write_message-requires : goal.write_message-requires
+write_message-requires c =
     let k = c.args.known.now in
     let d = c.in-Some.table.now in
     let listed : table_at k.roster c.args.id ≡ Some d = search rules in
     let is : c.in-Some-chosen.message ∷ [] ≡ selection k.state.received d = search rules in
     selection_taken k d c.in-Some-chosen.message c.roster.ensures.own (listed_by_id k.roster c.args.id d listed) is
 
-pub returns-in_ok-say_owned-clause-legal : goal.returns-in_ok-say_owned-clause-legal
-returns-in_ok-say_owned-clause-legal c =
+pub returns-in_ok-write_message-clause-legal : goal.returns-in_ok-write_message-clause-legal
+returns-in_ok-write_message-clause-legal c =
     let k = c.args.known.now in
     let d = c.in-Some.table.now in
     let m = c.in-Some-chosen.message in
     let listed : table_at k.roster c.args.id ≡ Some d = search rules in
     let is : m ∷ [] ≡ selection k.state.received d = search rules in
-    let said : c.say_owned.new.bytes.items ≡ c.args.bytes.now.items ++ spelled m = search rules in
-    let step : (us : List Update) × Step k.state m us c.say_owned.new.known.state × IsOwn k.roster m = search rules in
+    let appended : c.write_message.new.bytes.items ≡ c.args.bytes.now.items ++ spelled m = search rules in
+    let step : (us : List Update) × Step k.state m us c.write_message.new.known.state × IsOwn k.roster m = search rules in
     let by_id = listed_by_id k.roster c.args.id d listed in
-    let none = selection_selects k d m step.0 c.say_owned.new.known.state c.roster.ensures.own by_id is step.1 in
+    let none = selection_selects k d m step.0 c.write_message.new.known.state c.roster.ensures.own by_id is step.1 in
     let size : size_of_all (m ∷ []) ≤ selection_cost k.roster (knowledge_of k.state) d.id =
     subst (λ (ms : List Message). size_of_all ms ≤ selection_cost k.roster (knowledge_of k.state) d.id) (sym is) (selection_size k.roster k.state d by_id) in (
       m ∷ [],
-      said ∙ ap (λ x. c.args.bytes.now.items ++ x) (sym (stream-one m)),
-      subst (λ (us : List Update). Legal k.roster k.state (m ∷ []) us c.say_owned.new.known.state) none.0 (legal-one k.roster m k.state c.say_owned.new.known.state step.0 step.2 step.1),
+      appended ∙ ap (λ x. c.args.bytes.now.items ++ x) (sym (stream-one m)),
+      subst (λ (us : List Update). Legal k.roster k.state (m ∷ []) us c.write_message.new.known.state) none.0 (legal-one k.roster m k.state c.write_message.new.known.state step.0 step.2 step.1),
       subst (λ (n : ℕ). size_of_all (m ∷ []) ≤ selection_cost k.roster (knowledge_of k.state) n) (table_at-id k.roster c.args.id d listed) size,
     )
 
-pub returns-in_ok-say_owned-clause-knows : goal.returns-in_ok-say_owned-clause-knows
-returns-in_ok-say_owned-clause-knows c =
+pub returns-in_ok-write_message-clause-knows : goal.returns-in_ok-write_message-clause-knows
+returns-in_ok-write_message-clause-knows c =
     let k = c.args.known.now in
     let d = c.in-Some.table.now in
     let m = c.in-Some-chosen.message in
     let listed : table_at k.roster c.args.id ≡ Some d = search rules in
     let is : m ∷ [] ≡ selection k.state.received d = search rules in
     let sound : roster_fault k.roster ≡ None = search rules in
-    let step : (us : List Update) × Step k.state m us c.say_owned.new.known.state × IsOwn k.roster m = search rules in
-    subst (λ (n : ℕ). KnowsLess (with_selected (knowledge_of k.state) n) (knowledge_of c.say_owned.new.known.state)) (table_at-id k.roster c.args.id d listed)
-    (selection_knows k d m step.0 c.say_owned.new.known.state sound c.roster.ensures.own (listed_by_id k.roster c.args.id d listed) is step.1)
+    let step : (us : List Update) × Step k.state m us c.write_message.new.known.state × IsOwn k.roster m = search rules in
+    subst (λ (n : ℕ). KnowsLess (with_selected (knowledge_of k.state) n) (knowledge_of c.write_message.new.known.state)) (table_at-id k.roster c.args.id d listed)
+    (selection_knows k d m step.0 c.write_message.new.known.state sound c.roster.ensures.own (listed_by_id k.roster c.args.id d listed) is step.1)
 
 pub returns-in_default-clause-knows : goal.returns-in_default-clause-knows
 returns-in_default-clause-knows c =
@@ -61,15 +61,15 @@ returns-in_default-clause-knows c =
     subst (λ (n : ℕ). KnowsLess (with_selected (knowledge_of k.state) n) (knowledge_of k.state)) (table_at-id k.roster c.args.id d listed)
     (knows_retained k.state d (selection_none k d c.roster.ensures.own (listed_by_id k.roster c.args.id d listed) is))
 
-pub returns-in_ok-say_owned-clause-selected : goal.returns-in_ok-say_owned-clause-selected
-returns-in_ok-say_owned-clause-selected c =
+pub returns-in_ok-write_message-clause-selected : goal.returns-in_ok-write_message-clause-selected
+returns-in_ok-write_message-clause-selected c =
     let k = c.args.known.now in
     let d = c.in-Some.table.now in
     let m = c.in-Some-chosen.message in
     let listed : table_at k.roster c.args.id ≡ Some d = search rules in
     let is : m ∷ [] ≡ selection k.state.received d = search rules in
-    let step : (us : List Update) × Step k.state m us c.say_owned.new.known.state × IsOwn k.roster m = search rules in
-    let none = selection_selects k d m step.0 c.say_owned.new.known.state c.roster.ensures.own (listed_by_id k.roster c.args.id d listed) is step.1 in
+    let step : (us : List Update) × Step k.state m us c.write_message.new.known.state × IsOwn k.roster m = search rules in
+    let none = selection_selects k d m step.0 c.write_message.new.known.state c.roster.ensures.own (listed_by_id k.roster c.args.id d listed) is step.1 in
     none.1 ∙ sym listed
 
 pub returns-in_default-clause-selected : goal.returns-in_default-clause-selected
@@ -80,23 +80,23 @@ returns-in_default-clause-selected c =
     let is : [] ≡ selection k.state.received d = search rules in
     selection_none k d c.roster.ensures.own (listed_by_id k.roster c.args.id d listed) is ∙ sym listed
 
-pub returns-in_ok-say_owned-clause-chosen : goal.returns-in_ok-say_owned-clause-chosen
-returns-in_ok-say_owned-clause-chosen c = λ other found.
+pub returns-in_ok-write_message-clause-chosen : goal.returns-in_ok-write_message-clause-chosen
+returns-in_ok-write_message-clause-chosen c = λ other found.
     let k = c.args.known.now in
     let d = c.in-Some.table.now in
     let m = c.in-Some-chosen.message in
-    let e = c.say_owned.new.known.state in
+    let e = c.write_message.new.known.state in
     let listed : table_at k.roster c.args.id ≡ Some d = search rules in
     let is : m ∷ [] ≡ selection k.state.received d = search rules in
     let both : Some d ≡ Some other = sym listed ∙ found in
     let same : d ≡ other = cc in
-    let said : c.say_owned.new.bytes.items ≡ c.args.bytes.now.items ++ spelled m = search rules in
+    let appended : c.write_message.new.bytes.items ≡ c.args.bytes.now.items ++ spelled m = search rules in
     let step : (us : List Update) × Step k.state m us e × IsOwn k.roster m = search rules in
     let none = selection_selects k d m step.0 e c.roster.ensures.own (listed_by_id k.roster c.args.id d listed) is step.1 in
     let legal : Legal k.roster k.state (m ∷ []) [] e = subst (λ (us : List Update). Legal k.roster k.state (m ∷ []) us e) none.0 (legal-one k.roster m k.state e step.0 step.2 step.1) in
-    let one : (c.say_owned.new.bytes.items ≡ c.args.bytes.now.items ++ stream_of (m ∷ [])) × Teaches k.state (m ∷ []) [] e = (said ∙ ap (λ x. c.args.bytes.now.items ++ x) (sym (stream-one m)), legal.1) in
-    subst (λ (x : Definition). (c.say_owned.new.bytes.items ≡ c.args.bytes.now.items ++ stream_of (selection k.state.received x)) × Teaches k.state (selection k.state.received x) [] e) same
-    (subst (λ (ms : List Message). (c.say_owned.new.bytes.items ≡ c.args.bytes.now.items ++ stream_of ms) × Teaches k.state ms [] e) is one)
+    let one : (c.write_message.new.bytes.items ≡ c.args.bytes.now.items ++ stream_of (m ∷ [])) × Teaches k.state (m ∷ []) [] e = (appended ∙ ap (λ x. c.args.bytes.now.items ++ x) (sym (stream-one m)), legal.1) in
+    subst (λ (x : Definition). (c.write_message.new.bytes.items ≡ c.args.bytes.now.items ++ stream_of (selection k.state.received x)) × Teaches k.state (selection k.state.received x) [] e) same
+    (subst (λ (ms : List Message). (c.write_message.new.bytes.items ≡ c.args.bytes.now.items ++ stream_of ms) × Teaches k.state ms [] e) is one)
 
 pub returns-in_default-clause-chosen : goal.returns-in_default-clause-chosen
 returns-in_default-clause-chosen c = λ other found.

@@ -1,4 +1,4 @@
--- What slots retain, told by the marks of the requests.
+-- What slots retain, in terms of the marks of the requests.
 use Rattle.std.proofs.Common.{◌≡◌, ◌≢◌, cond, ℕ, zero, suc, ◌+◌, ◌-◌, ◌<◌, ◌≤◌, Bool, true, false, List, [], ◌∷◌, ◌++◌, length, Option, Some, None, refl, sym, ap, ◌∙◌, subst, inl, inr, arith, get_or}
 use Rattle.std.specs.Prelude.{slice_set, is_some}
 use Rattle.std.specs.Cmp.Lexicographic.{same_text}
@@ -22,7 +22,7 @@ use Rattle.known_state.proofs.RosterLemmas.{name_itself}
 use Rattle.teach_writer.specs.Naming.{is_that_name, lowest_from, starts_at_first, starts_after, marks_after, retains_next, IsRetainedOver, IsNamed}
 use Rattle.teach_writer.specs.Retained.{retained_at, is_asked, Retains, IsFree, IsNameField, IsRetainedAtStart, IsSettled}
 use Rattle.teach_writer.specs.Sending.{is_table, selection, slot_of, is_stored, update_sent, IsSent, AreSent}
-use Rattle.teach_writer.proofs.OrderLaws.{AreSentBy}
+use Rattle.teach_writer.proofs.UpdatesGoInOrder.{AreSentBy}
 
 -- ---- slots and names
 
@@ -263,17 +263,17 @@ selection_slots s mid d taught = by (is_table (selected_table s.received) d.id) 
     by false true (one, rest, after, is, (fit, none, moved), (nothing, same)) = ap (λ (x : State). x.slots) (same ∙ moved)
     by false false (one, rest, after, is, (fit, none, moved), (nothing, same)) = ap (λ (x : State). x.slots) (same ∙ moved)
 
--- the slots after an update that is told
-told_slots : (roster : List Definition) (s e : State) (u : Update) (field : NameField) (ms : List Message) → IsSent roster s u field ms e → (name : Option (List ℕ)) × Named s.slots field name e.slots
-told_slots roster s e u field ms (d, mid, listed, chosen, (fit, table, on, number, numbered, name, named, carried, received, last_numbers), is) =
+-- the slots after an update that is sent
+sent_slots : (roster : List Definition) (s e : State) (u : Update) (field : NameField) (ms : List Message) → IsSent roster s u field ms e → (name : Option (List ℕ)) × Named s.slots field name e.slots
+sent_slots roster s e u field ms (d, mid, listed, chosen, (fit, table, on, number, numbered, name, named, carried, received, last_numbers), is) =
     (name, subst (λ (ss : List (Option (List ℕ))). Named ss field name e.slots) (selection_slots s mid d chosen) named)
 
--- an update that is told as the slots retain their names is told by its mark
+-- an update that is sent as the slots retain their names is sent by its mark
 one_step : (roster : List Definition) (s e : State) (retained next : List Bool) (starts : List ℕ → Option ℕ) (u : Update) (us : List Update) (stored : Bool) (field : NameField) (asked : Option (List ℕ)) (name : Option (List ℕ)) → u.name ≡ asked → length s.slots ≡ 128 → IsTracked retained starts s.slots (u ∷ us) → IsNameField retained s.slots stored asked field → IsSettled retained (slot_of field) asked us next → Named s.slots field name e.slots
     → IsStepMarked retained starts s.slots u us asked stored field next e.slots
 one_step roster s e retained next starts u us stored names.NotStored None name is long tracked named settled moved = nameless_step retained next starts s.slots e.slots u us stored names.NotStored is tracked named settled moved.1
 one_step roster s e retained next starts u us stored names.NoName None name is long tracked named settled moved = nameless_step retained next starts s.slots e.slots u us stored names.NoName is tracked named settled moved.1
-one_step roster s e retained next starts u us stored (names.Held slot) None name is long tracked named settled (bytes, held, told, stay) = nameless_step retained next starts s.slots e.slots u us stored (names.Held slot) is tracked named settled stay
+one_step roster s e retained next starts u us stored (names.Held slot) None name is long tracked named settled (bytes, held, sent, stay) = nameless_step retained next starts s.slots e.slots u us stored (names.Held slot) is tracked named settled stay
 one_step roster s e retained next starts u us stored (names.Written slot written) None name is long tracked named settled moved = absurd (not_written stored named)
   where
     not_written : (b : Bool) → names.Written slot written ≡ written_field b None → ⊥
@@ -281,7 +281,7 @@ one_step roster s e retained next starts u us stored (names.Written slot written
     not_written false h = cc
 one_step roster s e retained next starts u us stored names.NotStored (Some asked) name is long tracked named settled moved = absurd named
 one_step roster s e retained next starts u us stored names.NoName (Some asked) name is long tracked named settled moved = absurd named
-one_step roster s e retained next starts u us stored (names.Held slot) (Some asked) name is long tracked named settled (bytes, held, told, stay) = held_step retained next starts s.slots e.slots u us stored asked slot is tracked named.0 settled stay
+one_step roster s e retained next starts u us stored (names.Held slot) (Some asked) name is long tracked named settled (bytes, held, sent, stay) = held_step retained next starts s.slots e.slots u us stored asked slot is tracked named.0 settled stay
 one_step roster s e retained next starts u us stored (names.Written slot written) (Some asked) name is long tracked named settled moved =
     written_step retained next starts s.slots e.slots u us stored asked written slot is long tracked named.0 named.1 named.2 named.3 settled (moved.1 ∙ ap (λ (n : List ℕ). slice_set s.slots (slot - 1) (Some n)) named.0)
 
@@ -299,13 +299,13 @@ are_marked roster s e retained starts [] ms long tracked (none, same) =
   where
     bad : false ≡ true → ⊥
     bad h = cc
-are_marked roster s e retained starts (u ∷ us) ms long tracked (field, first, mid, next, rest, told, named, settled, more, is) =
-    let moved = told_slots roster s mid u field first told in
+are_marked roster s e retained starts (u ∷ us) ms long tracked (field, first, mid, next, rest, sent, named, settled, more, is) =
+    let moved = sent_slots roster s mid u field first sent in
     let step = one_step roster s mid retained next starts u us (is_stored roster u) field u.name moved.0 refl long tracked named settled moved.1 in
     let others = are_marked roster mid e next (starts_after starts u.name (slot_of field)) us rest (slots_long s.slots mid.slots field moved.0 long moved.1) step.0 more in
     let here = step.1 others.0 others.2 in
     let behind : AreSent roster mid (starts_after starts u.name (slot_of field)) us (marks_after u.name here.0) rest e = subst (λ (marks : List Bool). AreSent roster mid (starts_after starts u.name (slot_of field)) us marks rest e) (sym here.1) others.1 in
-    (here.0, (field, first, mid, rest, told, here.2, behind, is), here.3)
+    (here.0, (field, first, mid, rest, sent, here.2, behind, is), here.3)
 
 -- ---- at the start
 
@@ -340,10 +340,10 @@ tracked_first slots us retained long start = λ slot is flag.
     slot_of_place : (j : ℕ) → j < 128 → is_slot (suc j) ≡ true
     slot_of_place j lt = grind (arith, nat_tests)
 
--- a batch that is told as the slots retain their names is told by its marks
-pub told_by_marks : (roster : List Definition) (s e : State) (retained : List Bool) (us : List Update) (ms : List Message) → length s.slots ≡ 128 → IsRetainedAtStart s.slots us retained → AreSentBy roster s retained us ms e → (marks : List Bool) × AreSent roster s (starts_at_first s.slots) us marks ms e
-told_by_marks roster s e retained us ms long start told =
-    let all = are_marked roster s e retained (starts_at_first s.slots) us ms long (tracked_first s.slots us retained long start) told in
+-- a batch that is sent as the slots retain their names is sent by its marks
+pub sent_by_marks : (roster : List Definition) (s e : State) (retained : List Bool) (us : List Update) (ms : List Message) → length s.slots ≡ 128 → IsRetainedAtStart s.slots us retained → AreSentBy roster s retained us ms e → (marks : List Bool) × AreSent roster s (starts_at_first s.slots) us marks ms e
+sent_by_marks roster s e retained us ms long start sent =
+    let all = are_marked roster s e retained (starts_at_first s.slots) us ms long (tracked_first s.slots us retained long start) sent in
     (all.0, all.1)
 
 -- ---- marks and reads
@@ -364,8 +364,8 @@ mark_first starts us (false ∷ marks) stored (Some name) names.NoName named = a
 mark_first starts us (false ∷ marks) stored (Some name) (names.Held slot) named = absurd named
 mark_first starts us (false ∷ marks) stored (Some name) (names.Written slot written) named = refl
 
-told_reads : (roster : List Definition) (s e : State) (u : Update) (field : NameField) (ms rest : List Message) → IsSent roster s u field ms e → reads_of (ms ++ rest) ≡ mark_of field ++ reads_of rest
-told_reads roster s e u field ms rest (d, mid, listed, chosen, step, is) =
+sent_reads : (roster : List Definition) (s e : State) (u : Update) (field : NameField) (ms rest : List Message) → IsSent roster s u field ms e → reads_of (ms ++ rest) ≡ mark_of field ++ reads_of rest
+sent_reads roster s e u field ms rest (d, mid, listed, chosen, step, is) =
     ap (λ (l : List Message). reads_of (l ++ rest)) is ∙ by (is_table (selected_table s.received) d.id) (is_some (table_at s.received.tables d.id))
   where
     by : (a b : Bool) → reads_of ((cond a [] (cond b (messages.Switch d.id ∷ []) (messages.Define d ∷ [])) ++ update_sent mid field u ∷ []) ++ rest) ≡ mark_of field ++ reads_of rest
@@ -376,6 +376,6 @@ told_reads roster s e u field ms rest (d, mid, listed, chosen, step, is) =
 -- the requests that are read are those that are marked
 pub marks_read : (roster : List Definition) (s e : State) (starts : List ℕ → Option ℕ) (us : List Update) (marks : List Bool) (ms : List Message) → AreSent roster s starts us marks ms e → reads_of ms ≡ marks
 marks_read roster s e starts [] marks ms (none, empty, same) = rw (none, empty) refl
-marks_read roster s e starts (u ∷ us) marks ms (field, first, mid, rest, told, named, more, is) =
+marks_read roster s e starts (u ∷ us) marks ms (field, first, mid, rest, sent, named, more, is) =
     let later = marks_read roster mid e (starts_after starts u.name (slot_of field)) us (marks_after u.name marks) rest more in
-    ap reads_of is ∙ told_reads roster s mid u field first rest told ∙ ap (λ (l : List Bool). mark_of field ++ l) later ∙ mark_first starts (u ∷ us) marks (is_stored roster u) u.name field named
+    ap reads_of is ∙ sent_reads roster s mid u field first rest sent ∙ ap (λ (l : List Bool). mark_of field ++ l) later ∙ mark_first starts (u ∷ us) marks (is_stored roster u) u.name field named

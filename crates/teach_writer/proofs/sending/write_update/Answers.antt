@@ -18,12 +18,12 @@ use Rattle.known_state.specs.Resolving.{name_of, reads_empty}
 use Rattle.known_state.specs.Cost.{number_sent, sent_as, KnowsLess, with_selected, knowledge_of, knowledge_after, selection_cost, written_cost, written_field, is_named_table, cost, cost_from, IsOfRoster}
 use Rattle.teach_writer.specs.Retained.{IsNameField}
 use Rattle.teach_writer.specs.Sending.{IsTaken, IsSent, is_stored, selection, update_sent}
-use Rattle.teach_writer.proofs.MarkLaws.{selection_slots}
-use Rattle.teach_writer.proofs.SendingLaws.{told_taken, told_carries, told_legal, stream-one, stream-append}
+use Rattle.teach_writer.proofs.MarksAreReads.{selection_slots}
+use Rattle.teach_writer.proofs.UpdateStepsAreLegal.{sent_taken, sent_carries, sent_legal, stream-one, stream-append}
 use Rattle.known_state.proofs.KnownLemmas.{table_at-id}
-use Rattle.teach_writer.proofs.ShortLaws.{told_cheap, send_cheap}
+use Rattle.teach_writer.proofs.NamelessLessonsAreShortest.{sent_cheap, send_cheap}
 use Rattle.known_state.proofs.BatchLemmas.{row_of_fits}
-use Rattle.teach_writer.proofs.sending.send.Goals as goal
+use Rattle.teach_writer.proofs.sending.write_update.Goals as goal
 
 pub update_sent-requires : goal.update_sent-requires
 update_sent-requires c =
@@ -31,8 +31,8 @@ update_sent-requires c =
     let defined : (d : Definition) → table_at c.args.known.now.roster c.args.update.now.table ≡ Some d → is_definition d ≡ true = search rules in
     row_small d c.args.update.now.key c.args.update.now.values (defined d c.requires.1) (row_of_fits d c.args.update.now c.requires.2)
 
-pub say_owned-requires : goal.say_owned-requires
-say_owned-requires c =
+pub write_message-requires : goal.write_message-requires
+write_message-requires c =
     let k = c.select.new.known in
     let u = c.args.update.now in
     let d = c.requires.0 in
@@ -40,7 +40,7 @@ say_owned-requires c =
     let listed : table_at c.args.known.now.roster u.table ≡ Some d = c.requires.1 in
     let each : (d : Definition) → table_at c.args.known.now.roster u.table ≡ Some d → is_definition d ≡ true = search rules in
     let selected : selected_table k.state.received ≡ table_at c.args.known.now.roster u.table = search rules in
-    let told_is : c.in_ok-told.told ≡ sent_as c.last.result field u = search rules in
+    let sent_is : c.in_ok-message.message ≡ sent_as c.last.result field u = search rules in
     let here : c.last.result ≡ last_of k.state.last_numbers u.table = search rules in
     let last_is : c.last.result ≡ last_of k.state.last_numbers d.id = subst (λ (n : ℕ). c.last.result ≡ last_of k.state.last_numbers n) (sym (table_at-id c.args.known.now.roster u.table d listed)) here in
     let same_roster : k.roster ≡ c.args.known.now.roster = search rules in
@@ -48,33 +48,33 @@ say_owned-requires c =
     let field_fits : name_fits d field ≡ true = each_fits d (ap (λ (r : List Definition). table_at r u.table) same_roster ∙ listed) in
     let reads : reads_empty k.state.slots field ≡ false = search rules in
     let word : is_optional_word (number_sent c.last.result u.number) ≡ true = c.update_sent.ensures.word in
-    subst (λ (t : UpdateFields). IsTaken k (messages.Update t)) (sym told_is) (told_taken k d u c.last.result field last_is (selected ∙ listed) (each d listed) field_fits reads c.requires.2 word)
+    subst (λ (t : UpdateFields). IsTaken k (messages.Update t)) (sym sent_is) (sent_taken k d u c.last.result field last_is (selected ∙ listed) (each d listed) field_fits reads c.requires.2 word)
 
-pub returns-clause-told : goal.returns-clause-told
-returns-clause-told c =
+pub returns-clause-written : goal.returns-clause-written
+returns-clause-written c =
     let k = c.select.new.known in
     let u = c.args.update.now in
     let d = c.requires.0 in
     let field = c.in_ok-field.field in
     let listed : table_at c.args.known.now.roster u.table ≡ Some d = c.requires.1 in
     let selected : selected_table k.state.received ≡ table_at c.args.known.now.roster u.table = search rules in
-    let told_is : c.in_ok-told.told ≡ sent_as c.last.result field u = search rules in
+    let sent_is : c.in_ok-message.message ≡ sent_as c.last.result field u = search rules in
     let here : c.last.result ≡ last_of k.state.last_numbers u.table = search rules in
     let last_is : c.last.result ≡ last_of k.state.last_numbers d.id = subst (λ (n : ℕ). c.last.result ≡ last_of k.state.last_numbers n) (sym (table_at-id c.args.known.now.roster u.table d listed)) here in
     let same_roster : k.roster ≡ c.args.known.now.roster = search rules in
     let named : name_of k.state.slots field ≡ u.name = search rules in
-    let e = c.say_owned.new.known.state in
-    let m : Message = messages.Update c.in_ok-told.told in
+    let e = c.write_message.new.known.state in
+    let m : Message = messages.Update c.in_ok-message.message in
     let roster = c.args.known.now.roster in
     let s = c.args.known.now.state in
     let chosen : (ms : List Message) × (c.select.new.bytes.items ≡ c.args.bytes.now.items ++ stream_of ms) × Legal roster s ms [] k.state × (size_of_all ms ≤ selection_cost roster (knowledge_of s) u.table) = search rules in
     let knows : KnowsLess (with_selected (knowledge_of s) u.table) (knowledge_of k.state) = search rules in
-    let said : c.say_owned.new.bytes.items ≡ c.select.new.bytes.items ++ spelled m = search rules in
+    let appended : c.write_message.new.bytes.items ≡ c.select.new.bytes.items ++ spelled m = search rules in
     let step : (us : List Update) × Step k.state m us e × IsOwn k.roster m = search rules in
-    let as_told : Step k.state (messages.Update (sent_as c.last.result field u)) step.0 e = subst (λ (t : UpdateFields). Step k.state (messages.Update t) step.0 e) told_is step.1 in
-    let carried : step.0 ≡ u ∷ [] = told_carries k.state d u c.last.result field step.0 e last_is (selected ∙ listed) (sym (table_at-id c.args.known.now.roster u.table d listed)) named as_told in
-    let bytes : c.say_owned.new.bytes.items ≡ c.args.bytes.now.items ++ stream_of (chosen.0 ++ m ∷ []) =
-    said ∙ ap (λ x. x ++ spelled m) chosen.1 ∙ append_assoc c.args.bytes.now.items (stream_of chosen.0) (spelled m)
+    let as_sent : Step k.state (messages.Update (sent_as c.last.result field u)) step.0 e = subst (λ (t : UpdateFields). Step k.state (messages.Update t) step.0 e) sent_is step.1 in
+    let carried : step.0 ≡ u ∷ [] = sent_carries k.state d u c.last.result field step.0 e last_is (selected ∙ listed) (sym (table_at-id c.args.known.now.roster u.table d listed)) named as_sent in
+    let bytes : c.write_message.new.bytes.items ≡ c.args.bytes.now.items ++ stream_of (chosen.0 ++ m ∷ []) =
+    appended ∙ ap (λ x. x ++ spelled m) chosen.1 ∙ append_assoc c.args.bytes.now.items (stream_of chosen.0) (spelled m)
     ∙ ap (λ x. c.args.bytes.now.items ++ x) (ap (λ x. stream_of chosen.0 ++ x) (sym (stream-one m)) ∙ sym (stream-append chosen.0 (m ∷ []))) in
     let by_roster : table_at k.roster u.table ≡ Some d = ap (λ (r : List Definition). table_at r u.table) same_roster ∙ listed in
     let each_field : (d : Definition) → table_at k.roster u.table ≡ Some d → IsNameField c.args.retained.now k.state.slots (stores_name d) u.name field = search rules in
@@ -82,12 +82,12 @@ returns-clause-told c =
     λ unnamed rest all.
     let bare : NameField = written_field (stores_name d) None in
     let field_is : field ≡ bare = subst (λ (n : Option (List ℕ)). IsNameField c.args.retained.now k.state.slots (stores_name d) n field) unnamed (each_field d by_roster) in
-    let plain : Step k.state (messages.Update (sent_as c.last.result bare u)) step.0 e = subst (λ (f : NameField). Step k.state (messages.Update (sent_as c.last.result f u)) step.0 e) field_is as_told in
-    let plainly : c.in_ok-told.told ≡ sent_as c.last.result bare u = told_is ∙ ap (λ (f : NameField). sent_as c.last.result f u) field_is in
+    let plain : Step k.state (messages.Update (sent_as c.last.result bare u)) step.0 e = subst (λ (f : NameField). Step k.state (messages.Update (sent_as c.last.result f u)) step.0 e) field_is as_sent in
+    let plainly : c.in_ok-message.message ≡ sent_as c.last.result bare u = sent_is ∙ ap (λ (f : NameField). sent_as c.last.result f u) field_is in
     send_cheap roster s e u m chosen.0 rest chosen.3
     (subst (λ (t : UpdateFields). size_of (messages.Update t) + cost roster e rest ≤ written_cost roster (knowledge_of s) u + cost_from roster (knowledge_after (knowledge_of s) u) rest) (sym plainly)
-    (told_cheap roster s k.state e d u c.last.result step.0 rest knows (selected ∙ listed) (table_at-id roster u.table d listed) listed unnamed here plain carried all)) in
-    (chosen.0 ++ m ∷ [], bytes, told_legal roster s k.state e chosen.0 m u step.0 chosen.2 tt carried step.1, cheap)
+    (sent_cheap roster s k.state e d u c.last.result step.0 rest knows (selected ∙ listed) (table_at-id roster u.table d listed) listed unnamed here plain carried all)) in
+    (chosen.0 ++ m ∷ [], bytes, sent_legal roster s k.state e chosen.0 m u step.0 chosen.2 tt carried step.1, cheap)
 
 pub returns-clause-order : goal.returns-clause-order
 returns-clause-order c =
@@ -97,13 +97,13 @@ returns-clause-order c =
     let field = c.in_ok-field.field in
     let roster = c.args.known.now.roster in
     let s = c.args.known.now.state in
-    let e = c.say_owned.new.known.state in
+    let e = c.write_message.new.known.state in
     let start = c.args.bytes.now.items in
-    let sent : Message = messages.Update c.in_ok-told.told in
+    let sent : Message = messages.Update c.in_ok-message.message in
     let m : Message = update_sent k.state field u in
     let listed : table_at roster u.table ≡ Some d = c.requires.1 in
     let selected : selected_table k.state.received ≡ table_at roster u.table = search rules in
-    let told_is : c.in_ok-told.told ≡ sent_as c.last.result field u = search rules in
+    let sent_is : c.in_ok-message.message ≡ sent_as c.last.result field u = search rules in
     let here : c.last.result ≡ last_of k.state.last_numbers u.table = search rules in
     let last_is : c.last.result ≡ last_of k.state.last_numbers d.id = subst (λ (n : ℕ). c.last.result ≡ last_of k.state.last_numbers n) (sym (table_at-id roster u.table d listed)) here in
     let same_roster : k.roster ≡ roster = search rules in
@@ -112,19 +112,19 @@ returns-clause-order c =
     let named : name_of k.state.slots field ≡ u.name = search rules in
     let each_chosen : (d : Definition) → table_at roster u.table ≡ Some d → (c.select.new.bytes.items ≡ start ++ stream_of (selection s.received d)) × Teaches s (selection s.received d) [] k.state = search rules in
     let chosen = each_chosen d listed in
-    let said : c.say_owned.new.bytes.items ≡ c.select.new.bytes.items ++ spelled sent = search rules in
+    let appended : c.write_message.new.bytes.items ≡ c.select.new.bytes.items ++ spelled sent = search rules in
     let step : (us : List Update) × Step k.state sent us e × IsOwn k.roster sent = search rules in
-    let as_told : Step k.state (messages.Update (sent_as c.last.result field u)) step.0 e = subst (λ (t : UpdateFields). Step k.state (messages.Update t) step.0 e) told_is step.1 in
-    let carried : step.0 ≡ u ∷ [] = told_carries k.state d u c.last.result field step.0 e last_is (selected ∙ listed) (sym (table_at-id roster u.table d listed)) named as_told in
-    let is : sent ≡ m = ap (λ (t : UpdateFields). messages.Update t) told_is ∙ ap (λ (l : Option ℕ). messages.Update (sent_as l field u)) here in
+    let as_sent : Step k.state (messages.Update (sent_as c.last.result field u)) step.0 e = subst (λ (t : UpdateFields). Step k.state (messages.Update t) step.0 e) sent_is step.1 in
+    let carried : step.0 ≡ u ∷ [] = sent_carries k.state d u c.last.result field step.0 e last_is (selected ∙ listed) (sym (table_at-id roster u.table d listed)) named as_sent in
+    let is : sent ≡ m = ap (λ (t : UpdateFields). messages.Update t) sent_is ∙ ap (λ (l : Option ℕ). messages.Update (sent_as l field u)) here in
     let moved : Step k.state m (u ∷ []) e = subst (λ (x : Message). Step k.state x (u ∷ []) e) is (subst (λ (us : List Update). Step k.state sent us e) carried step.1) in
     let ms : List Message = selection s.received d ++ m ∷ [] in
-    let bytes : c.say_owned.new.bytes.items ≡ start ++ stream_of ms =
-    said ∙ ap (λ (x : Message). c.select.new.bytes.items ++ spelled x) is ∙ ap (λ x. x ++ spelled m) chosen.0 ∙ append_assoc start (stream_of (selection s.received d)) (spelled m)
+    let bytes : c.write_message.new.bytes.items ≡ start ++ stream_of ms =
+    appended ∙ ap (λ (x : Message). c.select.new.bytes.items ++ spelled x) is ∙ ap (λ x. x ++ spelled m) chosen.0 ∙ append_assoc start (stream_of (selection s.received d)) (spelled m)
     ∙ ap (λ x. start ++ x) (ap (λ x. stream_of (selection s.received d) ++ x) (sym (stream-one m)) ∙ sym (stream-append (selection s.received d) (m ∷ []))) in
-    let told : IsSent roster s u field ms e = (d, k.state, listed, chosen.1, moved, refl) in
+    let is_sent : IsSent roster s u field ms e = (d, k.state, listed, chosen.1, moved, refl) in
     let slots : k.state.slots ≡ s.slots = selection_slots s k.state d chosen.1 in
     let stored : stores_name d ≡ is_stored roster u = ap is_named_table (sym listed) in
     let field_is : IsNameField c.args.retained.now s.slots (is_stored roster u) u.name field =
     subst (λ (b : Bool). IsNameField c.args.retained.now s.slots b u.name field) stored (subst (λ (ss : List (Option (List ℕ))). IsNameField c.args.retained.now ss (stores_name d) u.name field) slots (each_field d by_roster)) in
-    (field, ms, search rules, bytes, told, field_is)
+    (field, ms, search rules, bytes, is_sent, field_is)

@@ -1,4 +1,4 @@
--- What is selected for an update, that it is told as it is, and that both are legal.
+-- What is selected for an update, that it is sent as it is, and that both are legal.
 use Rattle.std.proofs.Common.{◌≡◌, ℕ, ◌+◌, ◌%◌, ◌^◌, ◌<◌, Bool, true, false, eqb, List, [], ◌∷◌, ◌++◌, Option, Some, None, refl, sym, ap, ◌∙◌, subst, inl, inr, arith, append_assoc}
 use Rattle.std.specs.Prelude.{is_some, is_none}
 use Rattle.std.specs.List.{AllByRecursion}
@@ -77,10 +77,10 @@ switch_selects roster h d own listed found = at (table_at h.tables d.id) refl
 pub define_taken : (k : KnownState) (d : Definition) → table_at k.roster d.id ≡ Some d → IsTaken k (messages.Define d)
 define_taken k d listed = λ e refuses. refuses.0 listed
 
--- the number told is resolved to the update's
-told_resolved : (last : Option ℕ) (number : ℕ) → resolved_number (number_sent last number) last ≡ Some number
-told_resolved None number = refl
-told_resolved (Some last) number = elim (cases_eq ((last + 1) % 2 ^ 32) number) [
+-- the number sent is resolved to the update's
+sent_resolved : (last : Option ℕ) (number : ℕ) → resolved_number (number_sent last number) last ≡ Some number
+sent_resolved None number = refl
+sent_resolved (Some last) number = elim (cases_eq ((last + 1) % 2 ^ 32) number) [
   | inl same ↦ rw (eq-eqb ((last + 1) % 2 ^ 32) number same) (ap (λ (n : ℕ). Some n) same)
   | inr other ↦ rw (ne_eqb ((last + 1) % 2 ^ 32) number other) refl
 ]
@@ -93,25 +93,25 @@ life_word d (Some n) small fit = grind (arith, nat_tests)
 expire_small : (d : Definition) → is_definition d ≡ true → d.expire < 2 ^ 32
 expire_small d is = grind (arith, nat_tests)
 
--- an update fits as it is told where its name field does
-told_fits : (last : Option ℕ) (field : NameField) (d : Definition) (u : Update) → is_definition d ≡ true → name_fits d field ≡ true → fits d u ≡ true → is_optional_word (number_sent last u.number) ≡ true → update_fits d (sent_as last field u) ≡ true
-told_fits last field d u is field_fits fit word = rw (word, life_word d u.life (expire_small d is) (life_of_fits d u fit), row_of_fits d u fit, field_fits) refl
+-- an update fits as it is sent where its name field does
+sent_fits : (last : Option ℕ) (field : NameField) (d : Definition) (u : Update) → is_definition d ≡ true → name_fits d field ≡ true → fits d u ≡ true → is_optional_word (number_sent last u.number) ≡ true → update_fits d (sent_as last field u) ≡ true
+sent_fits last field d u is field_fits fit word = rw (word, life_word d u.life (expire_small d is) (life_of_fits d u fit), row_of_fits d u fit, field_fits) refl
 
 -- it is taken where its table is selected, and it reads no empty slot
-pub told_taken : (k : KnownState) (d : Definition) (u : Update) (last : Option ℕ) (field : NameField) → last ≡ last_of k.state.last_numbers d.id → selected_table k.state.received ≡ Some d → is_definition d ≡ true → name_fits d field ≡ true → reads_empty k.state.slots field ≡ false → fits d u ≡ true → is_optional_word (number_sent last u.number) ≡ true → IsTaken k (messages.Update (sent_as last field u))
-told_taken k d u last field is_last sel is field_fits reads fit word = λ e refuses.
-    let resolved_here : resolved_number (number_sent last u.number) (last_of k.state.last_numbers d.id) ≡ Some u.number = subst (λ (l : Option ℕ). resolved_number (number_sent last u.number) l ≡ Some u.number) is_last (told_resolved last u.number) in
-    let none : update_refusal k (sent_as last field u) (selected_table k.state.received) ≡ None = rw (sel, update_fits_received k.state.received (sent_as last field u) d sel (told_fits last field d u is field_fits fit word) is, resolved_here, reads) refl in
+pub sent_taken : (k : KnownState) (d : Definition) (u : Update) (last : Option ℕ) (field : NameField) → last ≡ last_of k.state.last_numbers d.id → selected_table k.state.received ≡ Some d → is_definition d ≡ true → name_fits d field ≡ true → reads_empty k.state.slots field ≡ false → fits d u ≡ true → is_optional_word (number_sent last u.number) ≡ true → IsTaken k (messages.Update (sent_as last field u))
+sent_taken k d u last field is_last sel is field_fits reads fit word = λ e refuses.
+    let resolved_here : resolved_number (number_sent last u.number) (last_of k.state.last_numbers d.id) ≡ Some u.number = subst (λ (l : Option ℕ). resolved_number (number_sent last u.number) l ≡ Some u.number) is_last (sent_resolved last u.number) in
+    let none : update_refusal k (sent_as last field u) (selected_table k.state.received) ≡ None = rw (sel, update_fits_received k.state.received (sent_as last field u) d sel (sent_fits last field d u is field_fits fit word) is, resolved_here, reads) refl in
     let bad : None ≡ Some e = sym none ∙ refuses in
     cc
 
 -- and carries exactly the update
-pub told_carries : (s : State) (d : Definition) (u : Update) (last : Option ℕ) (field : NameField) (us : List Update) (e : State) → last ≡ last_of s.last_numbers d.id → selected_table s.received ≡ Some d → u.table ≡ d.id → name_of s.slots field ≡ u.name → Step s (messages.Update (sent_as last field u)) us e → us ≡ u ∷ []
-told_carries s d u last field us e is_last sel table_of is_name (fit, table, on_table, number, is_number, name, named, carried, received, last_numbers) =
+pub sent_carries : (s : State) (d : Definition) (u : Update) (last : Option ℕ) (field : NameField) (us : List Update) (e : State) → last ≡ last_of s.last_numbers d.id → selected_table s.received ≡ Some d → u.table ≡ d.id → name_of s.slots field ≡ u.name → Step s (messages.Update (sent_as last field u)) us e → us ≡ u ∷ []
+sent_carries s d u last field us e is_last sel table_of is_name (fit, table, on_table, number, is_number, name, named, carried, received, last_numbers) =
     let same_table : Some d.id ≡ Some table = sym (selected-id s.received d sel) ∙ on_table in
     let id_is : d.id ≡ table = cc in
     let last_is : last_of s.last_numbers table ≡ last = sym (subst (λ (n : ℕ). last ≡ last_of s.last_numbers n) id_is is_last) in
-    let numbers : Some u.number ≡ Some number = sym (told_resolved last u.number) ∙ ap (λ (l : Option ℕ). resolved_number (number_sent last u.number) l) (sym last_is) ∙ is_number in
+    let numbers : Some u.number ≡ Some number = sym (sent_resolved last u.number) ∙ ap (λ (l : Option ℕ). resolved_number (number_sent last u.number) l) (sym last_is) ∙ is_number in
     let number_is : u.number ≡ number = cc in
     let table_is : table ≡ u.table = sym id_is ∙ sym table_of in
     let name_is : name ≡ u.name = (named_so s.slots field name e.slots named).1 ∙ is_name in
@@ -185,9 +185,9 @@ stream-one m = append-nothing (spelled m)
     append-nothing [] = refl
     append-nothing (x ∷ xs) = ap (λ (l : List ℕ). x ∷ l) (append-nothing xs)
 
--- a selection and an update told after it are legal, and carry the update
-pub told_legal : (roster : List Definition) (s mid e : State) (ms : List Message) (m : Message) (u : Update) (us : List Update) → Legal roster s ms [] mid → IsOwn roster m → us ≡ u ∷ [] → Step mid m us e → Legal roster s (ms ++ m ∷ []) (u ∷ []) e
-told_legal roster s mid e ms m u us first own is step =
+-- a selection and an update sent after it are legal, and carry the update
+pub sent_legal : (roster : List Definition) (s mid e : State) (ms : List Message) (m : Message) (u : Update) (us : List Update) → Legal roster s ms [] mid → IsOwn roster m → us ≡ u ∷ [] → Step mid m us e → Legal roster s (ms ++ m ∷ []) (u ∷ []) e
+sent_legal roster s mid e ms m u us first own is step =
     legal-append roster ms (m ∷ []) s mid e [] (u ∷ []) first (legal-one roster m mid e (u ∷ []) own (subst (λ (x : List Update). Step mid m x e) is step))
 
 -- a table of the roster stands there under its own id

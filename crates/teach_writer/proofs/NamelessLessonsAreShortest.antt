@@ -14,7 +14,7 @@ use Rattle.peers_msg.specs.declared.message.Message.TheVariants as messages
 use Rattle.peers_msg.specs.Received.{Received, received_after, defined, selected_table}
 use Rattle.peers_msg.specs.Spelling.{size_of, size_of_all}
 use Rattle.known_state.specs.State.{State, Step, Legal, resolved}
-use Rattle.known_state.specs.LastNumbers.{last_of, set_last, keeps_last}
+use Rattle.known_state.specs.LastNumbers.{keeps_last, last_of, set_last}
 use Rattle.table_types.specs.Batches.{IsBatchFor}
 use Rattle.known_state.specs.Known.{KnownState, AreOwn}
 use Rattle.known_state.specs.Shortest.{Shortest}
@@ -27,7 +27,7 @@ use Rattle.known_state.proofs.StepPays.{moved_last, is_there, none_shorter}
 use Rattle.known_state.specs.Requests.{IsTaught, AreNameless}
 use Rattle.known_state.proofs.BatchLemmas.{batch_taught}
 use Rattle.teach_writer.specs.Sending.{is_table, selection}
-use Rattle.teach_writer.proofs.SendingLaws.{found_is_own}
+use Rattle.teach_writer.proofs.UpdateStepsAreLegal.{found_is_own}
 
 -- what selects a table is the cheapest that can
 pub selection_size : (roster : List Definition) (s : State) (d : Definition) → table_at roster d.id ≡ Some d → size_of_all (selection s.received d) ≤ selection_cost roster (knowledge_of s) d.id
@@ -133,10 +133,10 @@ selection_knows k d m us e sound own listed is step = at (is_table (selected_tab
     at false h (Some t) f = let same : m ∷ [] ≡ messages.Switch d.id ∷ [] = is ∙ rw (h, f) refl in let one : m ≡ messages.Switch d.id = cc in switched t f (subst (λ (x : Message). Step k.state x us e) one step)
     at false h None f = let same : m ∷ [] ≡ messages.Define d ∷ [] = is ∙ rw (h, f) refl in let one : m ≡ messages.Define d = cc in defined_so (rw f refl) (subst (λ (x : Message). Step k.state x us e) one step)
 
--- an update without a name, told after the selection of its table, costs no more than the whole, and loses nothing
-pub told_cheap : (roster : List Definition) (s mid e : State) (d : Definition) (u : Update) (last : Option ℕ) (us rest : List Update) → KnowsLess (with_selected (knowledge_of s) u.table) (knowledge_of mid) → selected_table mid.received ≡ Some d → d.id ≡ u.table → table_at roster u.table ≡ Some d → u.name ≡ None → last ≡ last_of mid.last_numbers u.table → Step mid (messages.Update (sent_as last (written_field (stores_name d) None) u)) us e → us ≡ u ∷ [] → AllByRecursion (IsOfRoster roster) rest
+-- an update without a name, sent after the selection of its table, costs no more than the whole, and loses nothing
+pub sent_cheap : (roster : List Definition) (s mid e : State) (d : Definition) (u : Update) (last : Option ℕ) (us rest : List Update) → KnowsLess (with_selected (knowledge_of s) u.table) (knowledge_of mid) → selected_table mid.received ≡ Some d → d.id ≡ u.table → table_at roster u.table ≡ Some d → u.name ≡ None → last ≡ last_of mid.last_numbers u.table → Step mid (messages.Update (sent_as last (written_field (stores_name d) None) u)) us e → us ≡ u ∷ [] → AllByRecursion (IsOfRoster roster) rest
     → size_of (messages.Update (sent_as last (written_field (stores_name d) None) u)) + cost roster e rest ≤ written_cost roster (knowledge_of s) u + cost_from roster (knowledge_after (knowledge_of s) u) rest
-told_cheap roster s mid e d u last us rest knows sel id listed unnamed is_last (fit, table, on, number, numbered, name, named, carried, received, last_numbers) us_is all =
+sent_cheap roster s mid e d u last us rest knows sel id listed unnamed is_last (fit, table, on, number, numbered, name, named, carried, received, last_numbers) us_is all =
     let k = knowledge_of s in
     let one : resolved (sent_as last (written_field (stores_name d) None) u) table number name ∷ [] ≡ u ∷ [] = sym carried ∙ us_is in
     let same_update : resolved (sent_as last (written_field (stores_name d) None) u) table number name ≡ u = cc in
@@ -195,9 +195,9 @@ nameless_at [] i u unnamed lt at = absurd (omega arith)
 nameless_at (x ∷ xs) zero u unnamed lt at = ap (λ (y : Update). y.name) at ∙ unnamed.0
 nameless_at (x ∷ xs) (suc i) u unnamed lt at = nameless_at xs i u unnamed.1 (omega arith) at
 
--- the costs of what was told so far, and of one update more
-pub joined_costs : (roster : List Definition) (s mid e : State) (before told : List Message) (left rest us : List Update) → size_of_all before + cost roster mid left ≤ cost roster s us → size_of_all told + cost roster e rest ≤ cost roster mid left → size_of_all (before ++ told) + cost roster e rest ≤ cost roster s us
-joined_costs roster s mid e before told left rest us so_far one = omega (arith, sum_by-append size_of before told)
+-- the costs of what was sent so far, and of one update more
+pub joined_costs : (roster : List Definition) (s mid e : State) (before sent : List Message) (left rest us : List Update) → size_of_all before + cost roster mid left ≤ cost roster s us → size_of_all sent + cost roster e rest ≤ cost roster mid left → size_of_all (before ++ sent) + cost roster e rest ≤ cost roster s us
+joined_costs roster s mid e before sent left rest us so_far one = omega (arith, sum_by-append size_of before sent)
 
 -- a lesson that costs no more than the whole is the shortest
 pub shortest_at_end : (k : KnownState) (us : List Update) (ms : List Message) (e : State) → AreOwn k.roster k.state.received.tables → AreNameless us → IsBatchFor k.roster us → Legal k.roster k.state ms us e → size_of_all ms ≤ cost k.roster k.state us → Shortest k us ms
