@@ -10,7 +10,7 @@ use Rattle.peers_msg.proofs.CuttingLaws.{breach_on}
 use Rattle.learner.specs.declared.fault.Fault.{Fault}
 use Rattle.learner.specs.declared.fault.Fault.TheVariants as faults
 use Rattle.learner.specs.Intake.{Taking, Stops, fed}
-use Rattle.learner.specs.Learning.{Learning, AreLearned, Fed, AreFed, with_piece}
+use Rattle.learner.specs.Learning.{Learning, AreLearned, LearnerFeeds, AreFed, with_piece}
 use Rattle.learner.specs.Cutting.{IsStopped}
 use Rattle.learner.proofs.LearningLemmas.{stays_open}
 use Rattle.learner.proofs.LessonLaws.{apart}
@@ -63,13 +63,13 @@ regrouped now l e a b fault runs =
 
 -- ---- from feeding to running, and back
 
-is_run : (now : ℕ) (l e : Learning) (piece : List ℕ) (fault : Fault) → l.intake.closed ≡ false → Fed now l piece (Err fault) e → fault ≢ faults.Memory → Runs now (with_piece l piece) fault e
+is_run : (now : ℕ) (l e : Learning) (piece : List ℕ) (fault : Fault) → l.intake.closed ≡ false → LearnerFeeds now l piece (Err fault) e → fault ≢ faults.Memory → Runs now (with_piece l piece) fault e
 is_run now l e piece fault is_open fed wanted = elim (faulty now l e piece fault fed wanted) [
   | inl shut ↦ absurd (apart (sym shut.0 ∙ is_open))
   | inr runs ↦ runs.1
 ]
 
-is_fed : (now : ℕ) (l e : Learning) (piece : List ℕ) (fault : Fault) → l.intake.closed ≡ false → Runs now (with_piece l piece) fault e → fault ≢ faults.Memory → Fed now l piece (Err fault) e
+is_fed : (now : ℕ) (l e : Learning) (piece : List ℕ) (fault : Fault) → l.intake.closed ≡ false → Runs now (with_piece l piece) fault e → fault ≢ faults.Memory → LearnerFeeds now l piece (Err fault) e
 is_fed now l e piece faults.Memory is_open runs wanted = absurd (wanted refl)
 is_fed now l e piece faults.Closed is_open (ms, us, mid, learned, stops, rows) wanted =
     absurd (apart (sym stops.0 ∙ stays_open now (with_piece l piece) mid ms us is_open learned))
@@ -87,7 +87,7 @@ is_fed now l e piece faults.Trailing is_open runs wanted = (is_open, runs)
 -- ---- pieces
 
 -- a fault stays with more bytes after
-fault_on : (now : ℕ) (l e : Learning) (piece more : List ℕ) (fault : Fault) → l.intake.closed ≡ false → IsBytes (l.intake.unread ++ (piece ++ more)) → Fed now l piece (Err fault) e → fault ≢ faults.Memory → Fed now l (piece ++ more) (Err fault) (with_piece e more)
+fault_on : (now : ℕ) (l e : Learning) (piece more : List ℕ) (fault : Fault) → l.intake.closed ≡ false → IsBytes (l.intake.unread ++ (piece ++ more)) → LearnerFeeds now l piece (Err fault) e → fault ≢ faults.Memory → LearnerFeeds now l (piece ++ more) (Err fault) (with_piece e more)
 fault_on now l e piece more fault is_open good fed wanted =
     let grouped : (l.intake.unread ++ piece) ++ more ≡ l.intake.unread ++ (piece ++ more) = simp append_assoc in
     let front : IsBytes (l.intake.unread ++ piece) = front_good (l.intake.unread ++ piece) more (subst IsBytes (sym grouped) good) in
@@ -95,21 +95,21 @@ fault_on now l e piece more fault is_open good fed wanted =
     is_fed now l (with_piece e more) (piece ++ more) fault is_open (regrouped now l (with_piece e more) piece more fault runs) wanted
 
 -- a fault that comes after a piece comes of both together
-fault_then : (now : ℕ) (l mid e : Learning) (a b : List ℕ) (count : ℕ) (fault : Fault) → IsBytes (l.intake.unread ++ (a ++ b)) → Fed now l a (Ok count) mid → Fed now mid b (Err fault) e → fault ≢ faults.Memory → Fed now l (a ++ b) (Err fault) e
+fault_then : (now : ℕ) (l mid e : Learning) (a b : List ℕ) (count : ℕ) (fault : Fault) → IsBytes (l.intake.unread ++ (a ++ b)) → LearnerFeeds now l a (Ok count) mid → LearnerFeeds now mid b (Err fault) e → fault ≢ faults.Memory → LearnerFeeds now l (a ++ b) (Err fault) e
 fault_then now l mid e a b count fault good (is_open, (ms, us, learned, waits, is)) later wanted =
     let grouped : (l.intake.unread ++ a) ++ b ≡ l.intake.unread ++ (a ++ b) = simp append_assoc in
     let front : IsBytes (l.intake.unread ++ a) = front_good (l.intake.unread ++ a) b (subst IsBytes (sym grouped) good) in
     by front (is_run now mid e b fault waits.0 later wanted)
   where
-    by : IsBytes (l.intake.unread ++ a) → Runs now (with_piece mid b) fault e → Fed now l (a ++ b) (Err fault) e
+    by : IsBytes (l.intake.unread ++ a) → Runs now (with_piece mid b) fault e → LearnerFeeds now l (a ++ b) (Err fault) e
     by front (ns, vs, end, learned', stops, rows) =
         let all : AreLearned now (with_piece (with_piece l a) b) (ms ++ ns) (us ++ vs) end = joined now (with_piece l a) mid end b ms ns us vs front learned learned' in
         is_fed now l e (a ++ b) fault is_open (regrouped now l e a b fault (ms ++ ns, us ++ vs, end, all, stops, rows)) wanted
 
-fed_open : (now : ℕ) (l e : Learning) (piece : List ℕ) (count : ℕ) → Fed now l piece (Ok count) e → e.intake.closed ≡ false
+fed_open : (now : ℕ) (l e : Learning) (piece : List ℕ) (count : ℕ) → LearnerFeeds now l piece (Ok count) e → e.intake.closed ≡ false
 fed_open now l e piece count (is_open, (ms, us, learned, waits, is)) = waits.0
 
-fed_left : (now : ℕ) (l e : Learning) (a more : List ℕ) (count : ℕ) → IsBytes (l.intake.unread ++ (a ++ more)) → Fed now l a (Ok count) e → IsBytes (e.intake.unread ++ more)
+fed_left : (now : ℕ) (l e : Learning) (a more : List ℕ) (count : ℕ) → IsBytes (l.intake.unread ++ (a ++ more)) → LearnerFeeds now l a (Ok count) e → IsBytes (e.intake.unread ++ more)
 fed_left now l e a more count good (is_open, (ms, us, learned, waits, is)) =
     let grouped : (l.intake.unread ++ a) ++ more ≡ l.intake.unread ++ (a ++ more) = simp append_assoc in
     let whole : IsBytes ((l.intake.unread ++ a) ++ more) = subst IsBytes (sym grouped) good in
@@ -117,16 +117,16 @@ fed_left now l e a more count good (is_open, (ms, us, learned, waits, is)) =
     learned_left now (with_piece (with_piece l a) more) (with_piece e more) ms us whole on
 
 -- a fault that stops some pieces stops the whole
-stopped_whole : (now : ℕ) (before : List (List ℕ)) (l e : Learning) (last more : List ℕ) (fault : Fault) → l.intake.closed ≡ false → IsBytes (l.intake.unread ++ (together before ++ (last ++ more))) → IsStopped now l before last fault e → fault ≢ faults.Memory → Fed now l (together before ++ (last ++ more)) (Err fault) (with_piece e more)
+stopped_whole : (now : ℕ) (before : List (List ℕ)) (l e : Learning) (last more : List ℕ) (fault : Fault) → l.intake.closed ≡ false → IsBytes (l.intake.unread ++ (together before ++ (last ++ more))) → IsStopped now l before last fault e → fault ≢ faults.Memory → LearnerFeeds now l (together before ++ (last ++ more)) (Err fault) (with_piece e more)
 stopped_whole now [] l e last more fault is_open good (count, mid, (none, here), stops) wanted =
-    fault_on now l e last more fault is_open good (subst (λ (x : Learning). Fed now x last (Err fault) e) here stops) wanted
+    fault_on now l e last more fault is_open good (subst (λ (x : Learning). LearnerFeeds now x last (Err fault) e) here stops) wanted
 stopped_whole now (p ∷ ps) l e last more fault is_open good (count, mid, (one, rest, next, sum, first, later), stops) wanted =
     let grouped : p ++ (together ps ++ (last ++ more)) ≡ (p ++ together ps) ++ (last ++ more) = simp append_assoc in
     let bytes : IsBytes (l.intake.unread ++ (p ++ (together ps ++ (last ++ more)))) = subst (λ (x : List ℕ). IsBytes (l.intake.unread ++ x)) (sym grouped) good in
     let left : IsBytes (next.intake.unread ++ (together ps ++ (last ++ more))) = fed_left now l next p (together ps ++ (last ++ more)) one bytes first in
     let others = stopped_whole now ps next e last more fault (fed_open now l next p one first) left (rest, mid, later, stops) wanted in
     let all = fault_then now l next (with_piece e more) p (together ps ++ (last ++ more)) one fault bytes first others wanted in
-    subst (λ (x : List ℕ). Fed now l x (Err fault) (with_piece e more)) grouped all
+    subst (λ (x : List ℕ). LearnerFeeds now l x (Err fault) (with_piece e more)) grouped all
 
 not_memory : (fault : Fault) → fault ≢ faults.Memory → ◌≢◌ {A = Result ℕ Fault} (Err fault) (Err faults.Memory)
 not_memory fault wanted same = let is : fault ≡ faults.Memory = cc in wanted is
@@ -139,7 +139,7 @@ pub same_stop : (now : ℕ) (l a b : Learning) (before others : List (List ℕ))
 same_stop now l a b before others last end more rest fault other is_open good cut one again p q =
     let first = stopped_whole now before l a last more fault is_open good one p in
     let bytes : IsBytes (l.intake.unread ++ (together others ++ (end ++ rest))) = subst (λ (x : List ℕ). IsBytes (l.intake.unread ++ x)) cut good in
-    let second : Fed now l (together before ++ (last ++ more)) (Err other) (with_piece b rest) = subst (λ (x : List ℕ). Fed now l x (Err other) (with_piece b rest)) (sym cut) (stopped_whole now others l b end rest other is_open bytes again q) in
+    let second : LearnerFeeds now l (together before ++ (last ++ more)) (Err other) (with_piece b rest) = subst (λ (x : List ℕ). LearnerFeeds now l x (Err other) (with_piece b rest)) (sym cut) (stopped_whole now others l b end rest other is_open bytes again q) in
     let both = learner_fed_once now l (with_piece a more) (with_piece b rest) (together before ++ (last ++ more)) (Err fault) (Err other) first second (not_memory fault p) (not_memory other q) in
     (one_fault fault other both.0, both.1)
 
@@ -147,12 +147,12 @@ same_stop now l a b before others last end more rest fault other is_open good cu
 pub never_through : (now : ℕ) (l a b : Learning) (before others : List (List ℕ)) (last first more : List ℕ) (count : ℕ) (fault : Fault) → IsBytes (l.intake.unread ++ (together before ++ (last ++ more))) → together before ++ (last ++ more) ≡ together (first ∷ others) → IsStopped now l before last fault a → fault ≢ faults.Memory → AreFed now l (first ∷ others) count b → ⊥
 never_through now l a b before others last first more count fault good cut stopped wanted fed =
     let bytes : IsBytes (l.intake.unread ++ together (first ∷ others)) = subst (λ (x : List ℕ). IsBytes (l.intake.unread ++ x)) cut good in
-    let all : Fed now l (together before ++ (last ++ more)) (Ok count) b = subst (λ (x : List ℕ). Fed now l x (Ok count) b) (sym cut) (whole now others l b first count bytes fed) in
+    let all : LearnerFeeds now l (together before ++ (last ++ more)) (Ok count) b = subst (λ (x : List ℕ). LearnerFeeds now l x (Ok count) b) (sym cut) (whole now others l b first count bytes fed) in
     let ends = stopped_whole now before l a last more fault (opened all) good stopped wanted in
     let both = learner_fed_once now l b (with_piece a more) (together before ++ (last ++ more)) (Ok count) (Err fault) all ends (never count faults.Memory) (not_memory fault wanted) in
     never count fault both.0
   where
-    opened : Fed now l (together before ++ (last ++ more)) (Ok count) b → l.intake.closed ≡ false
+    opened : LearnerFeeds now l (together before ++ (last ++ more)) (Ok count) b → l.intake.closed ≡ false
     opened (is_open, rest) = is_open
 
     never : (n : ℕ) (f : Fault) → ◌≡◌ {A = Result ℕ Fault} (Ok n) (Err f) → ⊥
@@ -160,7 +160,7 @@ never_through now l a b before others last first more count fault good cut stopp
 
 -- ---- after a fault
 
-shut_by : (now : ℕ) (l e : Learning) (piece : List ℕ) (fault : Fault) → Fed now l piece (Err fault) e → e.intake.closed ≡ true
+shut_by : (now : ℕ) (l e : Learning) (piece : List ℕ) (fault : Fault) → LearnerFeeds now l piece (Err fault) e → e.intake.closed ≡ true
 shut_by now l e piece faults.Memory (is_open, left, all, is) = ap (λ (x : Learning). x.intake.closed) is
 shut_by now l e piece faults.Closed (shut, is) = ap (λ (x : Learning). x.intake.closed) is ∙ shut
 shut_by now l e piece faults.NoNumber (is_open, (ms, us, mid, learned, (going, u, next, lacks, is), rows)) = ap (λ (x : Taking). x.closed) is
@@ -175,7 +175,7 @@ shut_by now l e piece faults.BadValue (is_open, (ms, us, mid, learned, (going, b
 shut_by now l e piece faults.Trailing (is_open, (ms, us, mid, learned, (going, breach, at, named, is), rows)) = ap (λ (x : Taking). x.closed) is
 
 -- what is closed takes nothing
-stays_shut : (now : ℕ) (l e : Learning) (bytes : List ℕ) (answer : Result ℕ Fault) → l.intake.closed ≡ true → Fed now l bytes answer e → (answer ≡ Err faults.Closed) × (e ≡ l)
+stays_shut : (now : ℕ) (l e : Learning) (bytes : List ℕ) (answer : Result ℕ Fault) → l.intake.closed ≡ true → LearnerFeeds now l bytes answer e → (answer ≡ Err faults.Closed) × (e ≡ l)
 stays_shut now l e bytes (Ok count) shut (is_open, all) = absurd (apart (sym shut ∙ is_open))
 stays_shut now l e bytes (Err faults.Closed) shut (is, same) = (refl, same)
 stays_shut now l e bytes (Err faults.Memory) shut (is_open, left, all, is) = absurd (apart (sym shut ∙ is_open))
@@ -190,5 +190,5 @@ stays_shut now l e bytes (Err faults.BadKey) shut (is_open, all) = absurd (apart
 stays_shut now l e bytes (Err faults.BadValue) shut (is_open, all) = absurd (apart (sym shut ∙ is_open))
 stays_shut now l e bytes (Err faults.Trailing) shut (is_open, all) = absurd (apart (sym shut ∙ is_open))
 
-pub closed_then : (now after : ℕ) (l e x : Learning) (piece bytes : List ℕ) (fault : Fault) (answer : Result ℕ Fault) → Fed now l piece (Err fault) e → Fed after e bytes answer x → (answer ≡ Err faults.Closed) × (x ≡ e)
+pub closed_then : (now after : ℕ) (l e x : Learning) (piece bytes : List ℕ) (fault : Fault) (answer : Result ℕ Fault) → LearnerFeeds now l piece (Err fault) e → LearnerFeeds after e bytes answer x → (answer ≡ Err faults.Closed) × (x ≡ e)
 closed_then now after l e x piece bytes fault answer fed later = stays_shut after e x bytes answer (shut_by now l e piece fault fed) later

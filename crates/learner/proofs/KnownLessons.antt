@@ -18,7 +18,7 @@ use Rattle.known_state.proofs.RisingLemmas.{rising-step}
 use Rattle.learner.specs.declared.fault.Fault.{Fault}
 use Rattle.learner.specs.declared.fault.Fault.TheVariants as faults
 use Rattle.learner.specs.Intake.{Taking, Stops}
-use Rattle.learner.specs.Learning.{Learning, AreLearned, IsCutShort, Fed, AreFed, IsReadyIn, IsTaught, HasLearned, with_piece}
+use Rattle.learner.specs.Learning.{Learning, AreLearned, IsCutShort, LearnerFeeds, AreFed, IsReadyIn, IsTaught, HasLearned, with_piece}
 use Rattle.learner.specs.Moments.{Piece, stream_in, AreFedInTime, AreTooFew, FallInto, HasLearnedInTime}
 use Rattle.learner.proofs.LessonLaws.{once_named, taught, taught_in_pieces}
 use Rattle.learner.proofs.MomentLaws.{IsOnItsWay, some_bytes, taught_in_time, fed_along, only_memory}
@@ -52,14 +52,14 @@ cut_rise l e rise (rows, roster, behind) = elim behind [
 ]
 
 -- whatever a learner is fed, they do
-pub fed_rise : (now : ℕ) (l e : Learning) (piece : List ℕ) (result : Result ℕ Fault) → AreRising l.intake.state.last_numbers → Fed now l piece result e → AreRising e.intake.state.last_numbers
+pub fed_rise : (now : ℕ) (l e : Learning) (piece : List ℕ) (result : Result ℕ Fault) → AreRising l.intake.state.last_numbers → LearnerFeeds now l piece result e → AreRising e.intake.state.last_numbers
 fed_rise now l e piece result rise = by result
   where
     stopped : (fault : Fault) → ((ms : List Message) × (us : List Update) × (mid : Learning) × AreLearned now (with_piece l piece) ms us mid × Stops mid.intake fault e.intake × (e.rows ≡ mid.rows)) → AreRising e.intake.state.last_numbers
     stopped fault (ms, us, mid, learned, stops, rows) =
         subst (λ (x : State). AreRising x.last_numbers) (sym (stopped_state mid.intake e.intake fault stops)) (learned_rise now (with_piece l piece) mid ms us rise learned)
 
-    by : (result : Result ℕ Fault) → Fed now l piece result e → AreRising e.intake.state.last_numbers
+    by : (result : Result ℕ Fault) → LearnerFeeds now l piece result e → AreRising e.intake.state.last_numbers
     by (Ok count) (is_open, (ms, us, learned, waits, is)) = learned_rise now (with_piece l piece) e ms us rise learned
     by (Err faults.Closed) (shut, is) = subst (λ (x : Learning). AreRising x.intake.state.last_numbers) (sym is) rise
     by (Err faults.Memory) (is_open, left, (ms, us, mid, learned, cut), is) =
@@ -111,10 +111,10 @@ learned_it now after us ms l e sound own (roster, state, unread, is_open, rows) 
     (rows, ready_then after us ms l e sound own roster state unread is_open)
 
 -- a lesson that is fed whole is learned, or memory was wanted
-pub lesson_learned : (now : ℕ) (k after : KnownState) (us : List Update) (bytes : List ℕ) (l e : Learning) (result : Result ℕ Fault) → IsLessonFor k us bytes after → IsReadyIn k l → Fed now l bytes result e → result ≢ Err faults.Memory → (result ≡ Ok (length us)) × HasLearned now l us after e
+pub lesson_learned : (now : ℕ) (k after : KnownState) (us : List Update) (bytes : List ℕ) (l e : Learning) (result : Result ℕ Fault) → IsLessonFor k us bytes after → IsReadyIn k l → LearnerFeeds now l bytes result e → result ≢ Err faults.Memory → (result ≡ Ok (length us)) × HasLearned now l us after e
 lesson_learned now k after us bytes l e result (ms, spelt, legal, rosters) ready fed wanted =
     let own = ends_known k after l ms us legal rosters ready in
-    let stream : Fed now l (stream_of ms) result e = subst (λ (b : List ℕ). Fed now l b result e) spelt fed in
+    let stream : LearnerFeeds now l (stream_of ms) result e = subst (λ (b : List ℕ). LearnerFeeds now l b result e) spelt fed in
     let done = taught now l e ms us own.0 result ready.0 own.1 stream wanted in
     (done.0, learned_it now after us ms l e ready.0.0 own done.1)
 
@@ -180,7 +180,7 @@ lesson_in_time k after us pieces counts l e (ms, spelt, legal, rosters) good rea
     (ms, done.0, spelt, falls_known, done.2, done.3, done.4, ready_then after us ms l e ready.0.0 own done.5 done.6 done.7 done.8)
 
 -- and no fault comes on the way but want of memory
-pub lesson_faultless : (now : ℕ) (k after : KnownState) (us : List Update) (before : List Piece) (piece more : List ℕ) (counts : List ℕ) (l mid e : Learning) (fault : Fault) → IsLessonFor k us (stream_in before ++ (piece ++ more)) after → IsBytes (stream_in before ++ (piece ++ more)) → IsReadyIn k l → AreFedInTime l before counts mid → Fed now mid piece (Err fault) e → fault ≡ faults.Memory
+pub lesson_faultless : (now : ℕ) (k after : KnownState) (us : List Update) (before : List Piece) (piece more : List ℕ) (counts : List ℕ) (l mid e : Learning) (fault : Fault) → IsLessonFor k us (stream_in before ++ (piece ++ more)) after → IsBytes (stream_in before ++ (piece ++ more)) → IsReadyIn k l → AreFedInTime l before counts mid → LearnerFeeds now mid piece (Err fault) e → fault ≡ faults.Memory
 lesson_faultless now k after us before piece more counts l mid e fault (ms, spelt, legal, rosters) good ready fed faulty =
     let own = ends_known k after l ms us legal rosters ready in
     let way = starts k after us (stream_in before ++ (piece ++ more)) ms l spelt good ready own in

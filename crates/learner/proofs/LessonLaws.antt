@@ -35,7 +35,7 @@ use Rattle.learner.specs.declared.fault.Fault.TheVariants as faults
 use Rattle.learner.specs.LocalTables.{local_table, local_id, local_updates}
 use Rattle.learner.specs.Intake.{Taking, Takes, Stops, due_after, lacks_number}
 use Rattle.learner.specs.Rows.{put, put_all}
-use Rattle.learner.specs.Learning.{Learning, AreLearned, IsWaiting, Fed, AreFed, IsReady, IsTaught, with_piece}
+use Rattle.learner.specs.Learning.{Learning, AreLearned, IsWaiting, LearnerFeeds, AreFed, IsReady, IsTaught, with_piece}
 use Rattle.learner.proofs.PieceLaws.{one_learned, waits_for_more, same, whole}
 
 -- ---- own tables are their own
@@ -252,7 +252,7 @@ once_named roster sound = at (nat_le 1 (length roster) && nat_le (length roster)
     at true false false h = refl
 
 -- a legal stream that is fed whole is taught, or memory was wanted
-pub taught : (now : ℕ) (l e : Learning) (ms : List Message) (us : List Update) (after : State) (result : Result ℕ Fault) → IsReady l → Legal l.intake.roster l.intake.state ms us after → Fed now l (stream_of ms) result e → result ≢ Err faults.Memory → (result ≡ Ok (length us)) × IsTaught now l us after e
+pub taught : (now : ℕ) (l e : Learning) (ms : List Message) (us : List Update) (after : State) (result : Result ℕ Fault) → IsReady l → Legal l.intake.roster l.intake.state ms us after → LearnerFeeds now l (stream_of ms) result e → result ≢ Err faults.Memory → (result ≡ Ok (length us)) × IsTaught now l us after e
 taught now l e ms us after result (sound, own, going, none) (all, teaches) fed wanted =
     by result (learned now (with_piece l (stream_of ms)) ms us after (once_named l.intake.roster sound) own all teaches going (ap (λ (u : List ℕ). u ++ stream_of ms) none)) fed wanted
   where
@@ -263,7 +263,7 @@ taught now l e ms us after result (sound, own, going, none) (all, teaches) fed w
     stopped fault a mid x ns vs other one done begun stops =
         no_fault now (with_piece l (stream_of ms)) a mid x ms ns us vs fault one (ends a done) begun stops (not_memory fault other)
 
-    by : (result : Result ℕ Fault) → ((a : Learning) × AreLearned now (with_piece l (stream_of ms)) ms us a × IsTaught now (with_piece l (stream_of ms)) us after a) → Fed now l (stream_of ms) result e → result ≢ Err faults.Memory → (result ≡ Ok (length us)) × IsTaught now l us after e
+    by : (result : Result ℕ Fault) → ((a : Learning) × AreLearned now (with_piece l (stream_of ms)) ms us a × IsTaught now (with_piece l (stream_of ms)) us after a) → LearnerFeeds now l (stream_of ms) result e → result ≢ Err faults.Memory → (result ≡ Ok (length us)) × IsTaught now l us after e
     by (Ok count) (a, one, done) (is_open, (ns, vs, begun, waits, is)) wanted =
         let both = same now (with_piece l (stream_of ms)) a e ms ns us vs one begun (ends a done) waits in
         (ap (λ (n : ℕ). Ok n) (is ∙ ap (λ (xs : List Update). length xs) (sym both.0)), subst (λ (x : Learning). IsTaught now l us after x) both.1 done)
@@ -284,7 +284,7 @@ taught now l e ms us after result (sound, own, going, none) (all, teaches) fed w
 pub taught_in_pieces : (now : ℕ) (l e : Learning) (ms : List Message) (us : List Update) (after : State) (a : List ℕ) (pieces : List (List ℕ)) (count : ℕ) → IsReady l → Legal l.intake.roster l.intake.state ms us after → IsBytes (stream_of ms) → together (a ∷ pieces) ≡ stream_of ms → AreFed now l (a ∷ pieces) count e → (count ≡ length us) × IsTaught now l us after e
 taught_in_pieces now l e ms us after a pieces count ready legal good cut fed =
     let bytes : IsBytes (l.intake.unread ++ together (a ∷ pieces)) = subst (λ (u : List ℕ). IsBytes (u ++ together (a ∷ pieces))) (sym ready.3) (subst IsBytes (sym cut) good) in
-    let all : Fed now l (stream_of ms) (Ok count) e = subst (λ (s : List ℕ). Fed now l s (Ok count) e) cut (whole now pieces l e a count bytes fed) in
+    let all : LearnerFeeds now l (stream_of ms) (Ok count) e = subst (λ (s : List ℕ). LearnerFeeds now l s (Ok count) e) cut (whole now pieces l e a count bytes fed) in
     let done = taught now l e ms us after (Ok count) ready legal all (λ wanted. never_ok count wanted) in
     (one_count count (length us) done.0, done.1)
   where

@@ -29,7 +29,7 @@ use Rattle.learner.specs.declared.fault.Fault.{Fault}
 use Rattle.learner.specs.declared.fault.Fault.TheVariants as faults
 use Rattle.learner.specs.Intake.{Taking, Stops}
 use Rattle.learner.specs.Rows.{put_all}
-use Rattle.learner.specs.Learning.{Learning, Learns, AreLearned, IsWaiting, Fed, with_piece}
+use Rattle.learner.specs.Learning.{Learning, Learns, AreLearned, IsWaiting, LearnerFeeds, with_piece}
 use Rattle.learner.specs.Moments.{Piece, stream_in, AreFedInTime, AreTooFew, FallInto, put_parts}
 use Rattle.learner.proofs.LessonLaws.{step_fits, kept_own, takes_legal, put_all-append, waits_at_end, goes_on, waits_on, apart, is_memory}
 
@@ -310,7 +310,7 @@ memory_is faults.BadValue h = absurd (apart (sym h))
 memory_is faults.Trailing h = absurd (apart (sym h))
 
 -- a fault of a piece on the way is want of memory
-pub only_memory : (now : ℕ) (l e : Learning) (piece more : List ℕ) (ms : List Message) (us : List Update) (after : State) (fault : Fault) → IsOnItsWay l (piece ++ more) ms us after → Fed now l piece (Err fault) e → fault ≡ faults.Memory
+pub only_memory : (now : ℕ) (l e : Learning) (piece more : List ℕ) (ms : List Message) (us : List Update) (after : State) (fault : Fault) → IsOnItsWay l (piece ++ more) ms us after → LearnerFeeds now l piece (Err fault) e → fault ≡ faults.Memory
 only_memory now l e piece more ms us after fault way fed = elim (cases_Bool (is_memory fault)) [
   | inl is ↦ memory_is fault is
   | inr other ↦ absurd (by fault other fed)
@@ -321,7 +321,7 @@ only_memory now l e piece more ms us after fault way fed = elim (cases_Bool (is_
         let begins = on_way now (with_piece l piece) mid more ms ns us vs after (fed_on_way l piece more ms us after way) learned in
         never_stops mid e.intake more begins.0 begins.1 after fault begins.8 stops (λ same. apart (sym (ap is_memory same) ∙ other))
 
-    by : (fault : Fault) → is_memory fault ≡ false → Fed now l piece (Err fault) e → ⊥
+    by : (fault : Fault) → is_memory fault ≡ false → LearnerFeeds now l piece (Err fault) e → ⊥
     by faults.Memory other fed = apart other
     by faults.Closed other (shut, is) = apart (sym shut ∙ way.4)
     by faults.NoNumber other (is_open, all) = stopped faults.NoNumber refl all

@@ -15,8 +15,8 @@ use Rattle.learner.specs.declared.fault.Fault.TheVariants as faults
 use Rattle.learner.specs.declared.intake.Taken.{Taken}
 use Rattle.learner.specs.declared.intake.Taken.TheVariants as taken
 use Rattle.learner.specs.Faults.{fault_like}
-use Rattle.learner.specs.Intake.{Taking, Takes, Stops, Feeds, Next, Tells, lacks_number, rows_of, told_of, fed, shut}
-use Rattle.learner.specs.Learning.{Learning, AreLearned, IsWaiting, Fed, with_piece}
+use Rattle.learner.specs.Intake.{Taking, Takes, Stops, IntakeFeeds, IntakeNext, Tells, lacks_number, rows_of, told_of, fed, shut}
+use Rattle.learner.specs.Learning.{Learning, AreLearned, IsWaiting, LearnerFeeds, with_piece}
 use Rattle.learner.proofs.PieceLaws.{one_learned, one_message, one_taking, same_fed}
 use Rattle.learner.proofs.LessonLaws.{apart, goes_on, no_fault, waits_on}
 
@@ -81,7 +81,7 @@ abbrev feeding : Taking → List ℕ → Bool → Result (Unit {0}) Fault × Tak
 feeding t piece true = (Err faults.Closed, t)
 feeding t piece false = (Ok tt, fed t piece)
 
-fed_so : (t e : Taking) (piece : List ℕ) (answer : Result (Unit {0}) Fault) → Feeds t piece answer e → answer ≢ Err faults.Memory → (answer, e) ≡ feeding t piece t.closed
+fed_so : (t e : Taking) (piece : List ℕ) (answer : Result (Unit {0}) Fault) → IntakeFeeds t piece answer e → answer ≢ Err faults.Memory → (answer, e) ≡ feeding t piece t.closed
 fed_so t e piece (Ok _) (is_open, is) wanted = ap (λ (x : Taking). (Ok tt, x)) is ∙ sym (ap (feeding t piece) is_open)
 fed_so t e piece (Err faults.Closed) (shut, is) wanted = ap (λ (x : Taking). (Err faults.Closed, x)) is ∙ sym (ap (feeding t piece) shut)
 fed_so t e piece (Err faults.Memory) feeds wanted = absurd (wanted refl)
@@ -96,7 +96,7 @@ fed_so t e piece (Err faults.BadKey) feeds wanted = absurd feeds
 fed_so t e piece (Err faults.BadValue) feeds wanted = absurd feeds
 fed_so t e piece (Err faults.Trailing) feeds wanted = absurd feeds
 
-pub intake_fed_once : (t a b : Taking) (piece : List ℕ) (one other : Result (Unit {0}) Fault) → Feeds t piece one a → Feeds t piece other b → one ≢ Err faults.Memory → other ≢ Err faults.Memory → (one ≡ other) × (a ≡ b)
+pub intake_fed_once : (t a b : Taking) (piece : List ℕ) (one other : Result (Unit {0}) Fault) → IntakeFeeds t piece one a → IntakeFeeds t piece other b → one ≢ Err faults.Memory → other ≢ Err faults.Memory → (one ≡ other) × (a ≡ b)
 intake_fed_once t a b piece one other feeds again p q = parts (one, a) (other, b) (fed_so t a piece one feeds p ∙ sym (fed_so t b piece other again q))
 
 no_row : (u : Update) (us : List Update) → u ∷ us ≡ [] → ⊥
@@ -137,7 +137,7 @@ taken_or_waits t e m own none takes = let bad : Ok None ≡ found m takes.1 = sy
 not_wanted : (fault : Fault) → ◌≢◌ {A = Result (Option Taken) Fault} (Err fault) (Err faults.Memory) → fault ≢ faults.Memory
 not_wanted fault wanted same = wanted (ap (λ (f : Fault). Err f) same)
 
-pub intake_next_once : (t a b : Taking) (one other : Result (Option Taken) Fault) → Next t one a → Next t other b → one ≢ Err faults.Memory → other ≢ Err faults.Memory → (one ≡ other) × (a ≡ b)
+pub intake_next_once : (t a b : Taking) (one other : Result (Option Taken) Fault) → IntakeNext t one a → IntakeNext t other b → one ≢ Err faults.Memory → other ≢ Err faults.Memory → (one ≡ other) × (a ≡ b)
 intake_next_once t a b (Ok None) (Ok None) next again p q = (refl, next.2 ∙ sym again.2)
 intake_next_once t a b (Ok None) (Ok (Some answer)) next again p q = absurd (taken_or_waits t b again.0 (rows_of answer) next.1 again.1)
 intake_next_once t a b (Ok None) (Err fault) next again p q = absurd (waits_on t b fault (next.0, next.1) again (not_wanted fault q))
@@ -189,7 +189,7 @@ same_run now l a b fault other (ms, us, m, learned, stops, rows) (ns, vs, n, lea
 abbrev pub IsFaulty : ℕ → Learning → List ℕ → Fault → Learning → Type 0
 IsFaulty now l piece fault e = ((l.intake.closed ≡ true) × (fault ≡ faults.Closed) × (e ≡ l)) ⊎ ((l.intake.closed ≡ false) × Runs now (with_piece l piece) fault e)
 
-pub faulty : (now : ℕ) (l e : Learning) (piece : List ℕ) (fault : Fault) → Fed now l piece (Err fault) e → fault ≢ faults.Memory → IsFaulty now l piece fault e
+pub faulty : (now : ℕ) (l e : Learning) (piece : List ℕ) (fault : Fault) → LearnerFeeds now l piece (Err fault) e → fault ≢ faults.Memory → IsFaulty now l piece fault e
 faulty now l e piece faults.Memory fed wanted = absurd (wanted refl)
 faulty now l e piece faults.Closed (shut, is) wanted = inl (shut, refl, is)
 faulty now l e piece faults.NoNumber fed wanted = inr fed
@@ -203,7 +203,7 @@ faulty now l e piece faults.BadKey fed wanted = inr fed
 faulty now l e piece faults.BadValue fed wanted = inr fed
 faulty now l e piece faults.Trailing fed wanted = inr fed
 
-no_ok : (now : ℕ) (l a b : Learning) (piece : List ℕ) (count : ℕ) (fault : Fault) → Fed now l piece (Ok count) a → Fed now l piece (Err fault) b → fault ≢ faults.Memory → ⊥
+no_ok : (now : ℕ) (l a b : Learning) (piece : List ℕ) (count : ℕ) (fault : Fault) → LearnerFeeds now l piece (Ok count) a → LearnerFeeds now l piece (Err fault) b → fault ≢ faults.Memory → ⊥
 no_ok now l a b piece count fault (is_open, (ms, us, learned, waits, is)) fed wanted = elim (faulty now l b piece fault fed wanted) [
   | inl shut ↦ apart (sym shut.0 ∙ is_open)
   | inr runs ↦ no_fault now (with_piece l piece) a runs.1.2 b.intake ms runs.1.0 us runs.1.1 fault learned waits runs.1.3 runs.1.4 wanted
@@ -218,7 +218,7 @@ one_fault now l a b piece fault other (inl shut) (inr runs) p q = absurd (apart 
 one_fault now l a b piece fault other (inr runs) (inl shut) p q = absurd (apart (sym shut.0 ∙ runs.0))
 one_fault now l a b piece fault other (inr runs) (inr runs') p q = same_run now (with_piece l piece) a b fault other runs.1 runs'.1 p q
 
-pub learner_fed_once : (now : ℕ) (l a b : Learning) (piece : List ℕ) (one other : Result ℕ Fault) → Fed now l piece one a → Fed now l piece other b → one ≢ Err faults.Memory → other ≢ Err faults.Memory → (one ≡ other) × (a ≡ b)
+pub learner_fed_once : (now : ℕ) (l a b : Learning) (piece : List ℕ) (one other : Result ℕ Fault) → LearnerFeeds now l piece one a → LearnerFeeds now l piece other b → one ≢ Err faults.Memory → other ≢ Err faults.Memory → (one ≡ other) × (a ≡ b)
 learner_fed_once now l a b piece (Ok one) (Ok other) fed again p q =
     let both = same_fed now l a b piece one other fed again in
     (ap (λ (n : ℕ). Ok n) both.0, both.1)

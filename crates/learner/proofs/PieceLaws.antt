@@ -11,7 +11,7 @@ use Rattle.known_state.proofs.StepIsDeterministic.{one_step}
 use Rattle.learner.specs.LocalTables.{local_updates}
 use Rattle.learner.specs.Intake.{Taking, Takes, due_after, fed}
 use Rattle.learner.specs.Rows.{put_all}
-use Rattle.learner.specs.Learning.{Learning, Learns, AreLearned, IsWaiting, Fed, AreFed, with_piece}
+use Rattle.learner.specs.Learning.{Learning, Learns, AreLearned, IsWaiting, LearnerFeeds, AreFed, with_piece}
 
 -- a message that is taken is taken with more bytes after
 takes_on : (t e : Taking) (m : Message) (own : List Update) (more : List ℕ) → IsBytes t.unread → Takes t m own e → Takes (fed t more) m own (fed e more)
@@ -35,7 +35,7 @@ joined now l mid e more (m ∷ ms) ns us vs good (first, rest, next, all, begins
     (first, rest ++ vs, with_piece next more, grouped, learns_on now l next m first more good begins, joined now next mid e more ms ns rest vs (left_good l.intake next.intake m first good begins.0) goes later)
 
 -- one piece and then another are both together
-pub two : (now : ℕ) (l mid e : Learning) (a b : List ℕ) (one other : ℕ) → IsBytes (l.intake.unread ++ (a ++ b)) → Fed now l a (Ok one) mid → Fed now mid b (Ok other) e → Fed now l (a ++ b) (Ok (one + other)) e
+pub two : (now : ℕ) (l mid e : Learning) (a b : List ℕ) (one other : ℕ) → IsBytes (l.intake.unread ++ (a ++ b)) → LearnerFeeds now l a (Ok one) mid → LearnerFeeds now mid b (Ok other) e → LearnerFeeds now l (a ++ b) (Ok (one + other)) e
 two now l mid e a b one other good (is_open, (ms, us, learned, waits, count)) (later_is, (ns, vs, later, later_waits, later_count)) =
     let grouped : (l.intake.unread ++ a) ++ b ≡ l.intake.unread ++ (a ++ b) = simp append_assoc in
     let front : IsBytes (l.intake.unread ++ a) = front_good (l.intake.unread ++ a) b (subst IsBytes (sym grouped) good) in
@@ -87,7 +87,7 @@ same now l a b (m ∷ ms) (n ∷ ns) us vs (first, rest, next, all, begins, late
     let others = same now next a b ms ns rest rest' later goes p q in
     (all ∙ ap (λ (xs : List Update). xs ++ rest) step.0 ∙ ap (λ (xs : List Update). first' ++ xs) others.0 ∙ sym all', others.1)
 
-pub same_fed : (now : ℕ) (l a b : Learning) (piece : List ℕ) (one other : ℕ) → Fed now l piece (Ok one) a → Fed now l piece (Ok other) b → (one ≡ other) × (a ≡ b)
+pub same_fed : (now : ℕ) (l a b : Learning) (piece : List ℕ) (one other : ℕ) → LearnerFeeds now l piece (Ok one) a → LearnerFeeds now l piece (Ok other) b → (one ≡ other) × (a ≡ b)
 same_fed now l a b piece one other (is_open, (ms, us, learned, waits, count)) (is_open', (ns, vs, learned', waits', count')) =
     let both = same now (with_piece l piece) a b ms ns us vs learned learned' waits waits' in
     (count ∙ ap (λ (xs : List Update). length xs) both.0 ∙ sym count', both.1)
@@ -95,16 +95,16 @@ same_fed now l a b piece one other (is_open, (ms, us, learned, waits, count)) (i
 -- ---- many pieces
 
 -- pieces fed one after another are all together
-pub whole : (now : ℕ) (pieces : List (List ℕ)) (l e : Learning) (a : List ℕ) (count : ℕ) → IsBytes (l.intake.unread ++ together (a ∷ pieces)) → AreFed now l (a ∷ pieces) count e → Fed now l (together (a ∷ pieces)) (Ok count) e
+pub whole : (now : ℕ) (pieces : List (List ℕ)) (l e : Learning) (a : List ℕ) (count : ℕ) → IsBytes (l.intake.unread ++ together (a ∷ pieces)) → AreFed now l (a ∷ pieces) count e → LearnerFeeds now l (together (a ∷ pieces)) (Ok count) e
 whole now [] l e a count good (one, rest, mid, sum, first, (none, here)) =
     let nothing : count ≡ one = omega arith in
-    let all : Fed now l a (Ok count) e = subst (λ (n : ℕ). Fed now l a (Ok n) e) (sym nothing) (subst (λ (x : Learning). Fed now l a (Ok one) x) (sym here) first) in
-    subst (λ (bytes : List ℕ). Fed now l bytes (Ok count) e) (sym (append-nil a)) all
+    let all : LearnerFeeds now l a (Ok count) e = subst (λ (n : ℕ). LearnerFeeds now l a (Ok n) e) (sym nothing) (subst (λ (x : Learning). LearnerFeeds now l a (Ok one) x) (sym here) first) in
+    subst (λ (bytes : List ℕ). LearnerFeeds now l bytes (Ok count) e) (sym (append-nil a)) all
 whole now (b ∷ pieces) l e a count good (one, rest, mid, sum, first, later) =
     let bytes : IsBytes (mid.intake.unread ++ together (b ∷ pieces)) = fed_good now l mid a (together (b ∷ pieces)) one good first in
-    let others : Fed now mid (together (b ∷ pieces)) (Ok rest) e = whole now pieces mid e b rest bytes later in
+    let others : LearnerFeeds now mid (together (b ∷ pieces)) (Ok rest) e = whole now pieces mid e b rest bytes later in
     let all = two now l mid e a (together (b ∷ pieces)) one rest good first others in
-    subst (λ (n : ℕ). Fed now l (together (a ∷ (b ∷ pieces))) (Ok n) e) (sym sum) all
+    subst (λ (n : ℕ). LearnerFeeds now l (together (a ∷ (b ∷ pieces))) (Ok n) e) (sym sum) all
   where
     learned_good : (now : ℕ) (l e : Learning) (ms : List Message) (us : List Update) (more : List ℕ) → IsBytes (l.intake.unread ++ more) → AreLearned now l ms us e → IsBytes (e.intake.unread ++ more)
     learned_good now l e [] us more good (none, here) = subst (λ (x : Learning). IsBytes (x.intake.unread ++ more)) (sym here) good
@@ -112,7 +112,7 @@ whole now (b ∷ pieces) l e a count good (one, rest, mid, sum, first, later) =
         let front : IsBytes l.intake.unread = front_good l.intake.unread more good in
         learned_good now next e ms rest more (left_good (fed l.intake more) (fed next.intake more) m first good (takes_on l.intake next.intake m first more front begins.0)) goes
 
-    fed_good : (now : ℕ) (l e : Learning) (a more : List ℕ) (count : ℕ) → IsBytes (l.intake.unread ++ (a ++ more)) → Fed now l a (Ok count) e → IsBytes (e.intake.unread ++ more)
+    fed_good : (now : ℕ) (l e : Learning) (a more : List ℕ) (count : ℕ) → IsBytes (l.intake.unread ++ (a ++ more)) → LearnerFeeds now l a (Ok count) e → IsBytes (e.intake.unread ++ more)
     fed_good now l e a more count good (is_open, (ms, us, learned, waits, is)) =
         let grouped : (l.intake.unread ++ a) ++ more ≡ l.intake.unread ++ (a ++ more) = simp append_assoc in
         learned_good now (with_piece l a) e ms us more (subst IsBytes (sym grouped) good) learned

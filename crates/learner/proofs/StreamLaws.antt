@@ -7,12 +7,12 @@ use Rattle.peers_msg.specs.Spelling.{stream_of}
 use Rattle.known_state.specs.State.{State, Legal}
 use Rattle.learner.specs.declared.fault.Fault.{Fault}
 use Rattle.learner.specs.declared.fault.Fault.TheVariants as faults
-use Rattle.learner.specs.Learning.{Learning, Fed, IsReady}
+use Rattle.learner.specs.Learning.{Learning, LearnerFeeds, IsReady}
 use Rattle.learner.specs.Moments.{Piece, stream_in, AreFedInTime}
 use Rattle.learner.proofs.LessonLaws.{once_named}
 use Rattle.learner.proofs.MomentLaws.{IsOnItsWay, fed_along, only_memory}
 
-pub stream_faultless : (now : ℕ) (l mid e : Learning) (ms : List Message) (us : List Update) (after : State) (before : List Piece) (piece more : List ℕ) (counts : List ℕ) (fault : Fault) → IsReady l → Legal l.intake.roster l.intake.state ms us after → IsBytes (stream_of ms) → stream_in before ++ (piece ++ more) ≡ stream_of ms → AreFedInTime l before counts mid → Fed now mid piece (Err fault) e → fault ≡ faults.Memory
+pub stream_faultless : (now : ℕ) (l mid e : Learning) (ms : List Message) (us : List Update) (after : State) (before : List Piece) (piece more : List ℕ) (counts : List ℕ) (fault : Fault) → IsReady l → Legal l.intake.roster l.intake.state ms us after → IsBytes (stream_of ms) → stream_in before ++ (piece ++ more) ≡ stream_of ms → AreFedInTime l before counts mid → LearnerFeeds now mid piece (Err fault) e → fault ≡ faults.Memory
 stream_faultless now l mid e ms us after before piece more counts fault (sound, owns, is_open, unread) legal good cut fed faulty =
     let bytes : List ℕ = stream_in before ++ (piece ++ more) in
     let all_bytes : IsBytes (l.intake.unread ++ bytes) = subst (λ (x : List ℕ). IsBytes (x ++ bytes)) (sym unread) (subst IsBytes (sym cut) good) in

@@ -2,6 +2,8 @@
 use Rattle.std.specs.Prelude.{ℕ, List, codes}
 use Rattle.peers_msg.specs.declared.fault.Fault.{Fault as ReadFault}
 use Rattle.peers_msg.specs.declared.fault.Fault.TheVariants as reads
+use Rattle.known_state.specs.declared.effect.Refusal.{Refusal}
+use Rattle.known_state.specs.declared.effect.Refusal.TheVariants as refusals
 use Rattle.learner.specs.declared.fault.Fault.{Fault}
 use Rattle.learner.specs.declared.fault.Fault.TheVariants as faults
 
@@ -17,6 +19,12 @@ fault_like reads.BadValue = faults.BadValue
 fault_like reads.Trailing = faults.Trailing
 fault_like reads.Memory = faults.Memory
 fault_like reads.Closed = faults.Closed
+
+-- why an update makes no step, as a learner calls it
+abbrev pub refused_as : Refusal → Fault
+refused_as refusals.NoNumber = faults.NoNumber
+refused_as refusals.EmptySlot = faults.EmptySlot
+refused_as refusals.Memory = faults.Memory
 
 -- the word for a fault
 abbrev pub fault_name : Fault → List ℕ

@@ -6,14 +6,15 @@ use Rattle.table_types.specs.Tables.{Definition}
 use Rattle.peers_msg.specs.declared.fault.Breach.{Breach}
 use Rattle.peers_msg.specs.declared.message.Message.{Message}
 use Rattle.peers_msg.specs.declared.message.Message.TheVariants as messages
-use Rattle.peers_msg.specs.declared.name_field.NameField.{NameField}
 use Rattle.peers_msg.specs.Messages.{UpdateFields}
 use Rattle.peers_msg.specs.Reading.{message_at}
 use Rattle.peers_msg.specs.Decoding.{fault_of}
 use Rattle.peers_msg.specs.Fitting.{fits}
-use Rattle.known_state.specs.State.{State, Step, fresh, last_numbers_after, resolved_number, resolved}
-use Rattle.known_state.specs.LastNumbers.{last_of, set_last}
-use Rattle.known_state.specs.Resolving.{reads_empty, slots_after}
+use Rattle.known_state.specs.State.{State, Step, fresh, last_numbers_after, resolved_number, resolved, reads_empty}
+use Rattle.known_state.specs.LastNumbers.{last_of}
+use Rattle.known_state.specs.Effects.{made}
+use Rattle.known_state.specs.declared.effect.Effect.TheVariants as effects
+use Rattle.known_state.specs.declared.effect.ResolvedUpdate.{ResolvedUpdate}
 use Rattle.learner.specs.declared.fault.Fault.{Fault}
 use Rattle.learner.specs.declared.fault.Fault.TheVariants as faults
 use Rattle.learner.specs.declared.intake.Taken.{Taken}
@@ -57,15 +58,9 @@ due_after s (messages.Update u) due = with_due s.received.selected due
 due_after s (messages.Define d) due = filter (λ id. is_some (last_of (last_numbers_after s (messages.Define d)) id)) due
 due_after s m due = due
 
--- the number of an update of that table and the name that it writes are remembered, and the table is due
-abbrev pub remembered : Taking → ℕ → ℕ → NameField → Taking
-remembered t table number field = record {
-  roster = t.roster;
-  state = record { received = t.state.received; last_numbers = set_last table number t.state.last_numbers; slots = slots_after t.state.slots field };
-  due = with_due (Some table) t.due;
-  unread = t.unread;
-  closed = t.closed;
-}
+-- the number of an update and the name that it writes are remembered, and its table is due
+abbrev pub remembered : Taking → ResolvedUpdate → Taking
+remembered t update = record t { state = made t.state (effects.Update update); due = with_due (Some update.table) t.due }
 
 -- The message m stands at the front and makes its step, which leads to e; of what it carries the updates of own tables
 -- are local_updates.
@@ -141,17 +136,17 @@ Gives t (Ok answer) e = (m : Message) × Takes t m (rows_of answer) e × Tells m
 Gives t (Err fault) e = Stops t fault e
 
 -- what asking for a message does
-abbrev pub Next : Taking → Result (Option Taken) Fault → Taking → Type 0
-Next t (Ok None) e = (t.closed ≡ false) × (message_at t.state.received t.unread ≡ Ok None) × (e ≡ t)
-Next t (Ok (Some answer)) e = Gives t (Ok answer) e
-Next t (Err fault) e = Gives t (Err fault) e
+abbrev pub IntakeNext : Taking → Result (Option Taken) Fault → Taking → Type 0
+IntakeNext t (Ok None) e = (t.closed ≡ false) × (message_at t.state.received t.unread ≡ Ok None) × (e ≡ t)
+IntakeNext t (Ok (Some answer)) e = Gives t (Ok answer) e
+IntakeNext t (Err fault) e = Gives t (Err fault) e
 
 -- what feeding bytes does
-abbrev pub Feeds : Taking → List ℕ → Result (Unit {0}) Fault → Taking → Type 0
-Feeds t piece (Ok _) e = (t.closed ≡ false) × (e ≡ fed t piece)
-Feeds t piece (Err faults.Memory) e = (t.closed ≡ false) × (e ≡ t)
-Feeds t piece (Err faults.Closed) e = (t.closed ≡ true) × (e ≡ t)
-Feeds t piece (Err fault) e = ⊥
+abbrev pub IntakeFeeds : Taking → List ℕ → Result (Unit {0}) Fault → Taking → Type 0
+IntakeFeeds t piece (Ok _) e = (t.closed ≡ false) × (e ≡ fed t piece)
+IntakeFeeds t piece (Err faults.Memory) e = (t.closed ≡ false) × (e ≡ t)
+IntakeFeeds t piece (Err faults.Closed) e = (t.closed ≡ true) × (e ≡ t)
+IntakeFeeds t piece (Err fault) e = ⊥
 
 -- a message of so many bytes stands at the front
 abbrev pub IsFront : Taking → Message → ℕ → Type 0

@@ -91,14 +91,14 @@ shut_off l = record { intake = shut l.intake; rows = l.rows }
 
 -- What feeding bytes at the moment now does: what is whole then is learned. After a fault it is closed, and so it is
 -- where memory was wanted; what is closed takes no bytes.
-abbrev pub Fed : ℕ → Learning → List ℕ → Result ℕ Fault → Learning → Type 0
-Fed now l piece (Err faults.Closed) e = (l.intake.closed ≡ true) × (e ≡ l)
-Fed now l piece (Err faults.Memory) e =
+abbrev pub LearnerFeeds : ℕ → Learning → List ℕ → Result ℕ Fault → Learning → Type 0
+LearnerFeeds now l piece (Err faults.Closed) e = (l.intake.closed ≡ true) × (e ≡ l)
+LearnerFeeds now l piece (Err faults.Memory) e =
     (l.intake.closed ≡ false)
     × (left : Learning)
     × LearnsAll now (with_piece l piece) (Err faults.Memory) left
     × (e ≡ shut_off left)
-Fed now l piece result e = (l.intake.closed ≡ false) × LearnsAll now (with_piece l piece) result e
+LearnerFeeds now l piece result e = (l.intake.closed ≡ false) × LearnsAll now (with_piece l piece) result e
 
 -- the same before it is closed for want of memory
 abbrev pub FedAndOpen : ℕ → Learning → List ℕ → Result ℕ Fault → Learning → Type 0
@@ -115,7 +115,7 @@ AreFed now l (piece ∷ pieces) count e =
     × (rest : ℕ)
     × (mid : Learning)
     × (count ≡ one + rest)
-    × Fed now l piece (Ok one) mid
+    × LearnerFeeds now l piece (Ok one) mid
     × AreFed now mid pieces rest e
 
 -- ---- what it comes to

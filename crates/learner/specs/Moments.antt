@@ -9,7 +9,7 @@ use Rattle.peers_msg.specs.Spelling.{spelled, stream_of}
 use Rattle.known_state.specs.State.{State, Teaches}
 use Rattle.known_state.specs.Known.{KnownState}
 use Rattle.learner.specs.Rows.{put_all}
-use Rattle.learner.specs.Learning.{Learning, Fed, IsReadyIn}
+use Rattle.learner.specs.Learning.{Learning, LearnerFeeds, IsReadyIn}
 
 -- bytes of a stream, and the moment at which they are fed
 pub record Piece : Type 0 where
@@ -29,7 +29,7 @@ AreFedInTime l (p ∷ ps) counts e =
     × (rest : List ℕ)
     × (mid : Learning)
     × (counts ≡ one ∷ rest)
-    × Fed p.moment l p.bytes (Ok one) mid
+    × LearnerFeeds p.moment l p.bytes (Ok one) mid
     × AreFedInTime mid ps rest e
 
 -- so many bytes are fewer than the next of these messages has, and none where no message is to come

@@ -1,9 +1,10 @@
 //! Why a learner stops.
 
 ghost use Rattle.std.specs.Prelude.{◌≡◌};
-ghost use Rattle.learner.specs.Faults.{fault_like, fault_name};
+ghost use Rattle.learner.specs.Faults.{fault_like, fault_name, refused_as};
 ghost use Rattle.learner.specs.declared.fault.Fault.TheVariants.{Memory as NoMemory};
 
+use known_state::Refusal;
 use peers_msg::Fault as ReadFault;
 use table_types::Memory;
 use thiserror::Error;
@@ -68,6 +69,18 @@ impl From<ReadFault> for Fault {
             ReadFault::Trailing => Fault::Trailing,
             ReadFault::Memory => Fault::Memory,
             ReadFault::Closed => Fault::Closed,
+        }
+    }
+}
+
+impl From<Refusal> for Fault {
+    ghost from_gives = { λ refusal e. e ≡ refused_as refusal };
+
+    fn from(refusal: Refusal) -> Fault {
+        match refusal {
+            Refusal::NoNumber => Fault::NoNumber,
+            Refusal::EmptySlot => Fault::EmptySlot,
+            Refusal::Memory => Fault::Memory,
         }
     }
 }

@@ -1,21 +1,21 @@
 //! What is taken of a stream, message by message.
 
-ghost use Rattle.std.specs.Prelude.{◌≡◌, ◌<◌, [], Some, false, IfOk, OnOk, OnErr, IsSome, length, drop, option_copied, option_map};
+ghost use Rattle.std.specs.Prelude.{◌≡◌, ◌<◌, ◌≤◌, [], true, IfOk, OnOk, OnErr, IsSome, IfSome, length, drop, option_map, option_and_then};
 ghost use Rattle.std.specs.Option.{option_to_list};
 ghost use Rattle.table_types.specs.declared.update.Update.{Update};
 ghost use Rattle.peers_msg.specs.declared.message.Message.TheVariants as messages;
-ghost use Rattle.known_state.specs.LastNumbers.{last_of};
-ghost use Rattle.known_state.specs.State.{resolved_number};
-ghost use Rattle.known_state.specs.Resolving.{reads_empty};
-ghost use Rattle.learner.specs.LocalTables.{local_table, local_id};
+ghost use Rattle.table_types.specs.Names.{is_name};
+ghost use Rattle.peers_msg.specs.Received.{selected_table};
+ghost use Rattle.known_state.specs.Effects.{Resolves};
+ghost use Rattle.learner.specs.LocalTables.{local_table};
 ghost use Rattle.learner.specs.Acks.{AreRisingAcks};
-ghost use Rattle.learner.specs.Intake.{begun, shut, Feeds, Next, Gives, IsFront, answer_of, remembered, rows_of, ack_of, acks_of};
+ghost use Rattle.learner.specs.Intake.{begun, shut, IntakeFeeds, IntakeNext, Gives, IsFront, answer_of, remembered, rows_of, ack_of, acks_of};
 
 use crate::due::{add_due, holds, still_due};
 use crate::fault::Fault;
 use crate::local_tables::local_table;
-use known_state::Resolver;
-use peers_msg::{Control, Decoder, ErrorKind, Message, NameField, Received, UpdateMsg};
+use known_state::{Effect, Refusal, ResolvedUpdate, State};
+use peers_msg::{Control, ErrorKind, Message, Unread, UpdateMsg};
 use std::alloc::Global;
 use std::marker::Model;
 use table_types::{Memory, Name, Roster, TableDef, Update};
@@ -46,9 +46,10 @@ pub enum Taken {
 pub struct Intake {
     alloc: Global,
     roster: Roster,
-    decoder: Decoder,
-    resolver: Resolver,
+    state: State,
     due: Vec<u64>,
+    unread: Unread,
+    closed: bool,
 }
 
 impl Model for Intake {
@@ -56,7 +57,7 @@ impl Model for Intake {
 
     ghost Value = { Taking };
 
-    ghost view = { λ i. record { roster = i.roster; state = record { received = i.decoder.received; last_numbers = i.resolver.last_numbers; slots = i.resolver.slots }; due = i.due.items; unread = i.decoder.unread; closed = i.decoder.closed } };
+    ghost view = { λ i. record { roster = i.roster; state = i.state; due = i.due.items; unread = i.unread; closed = i.closed } };
 }
 
 /// The id of the own table that a table received is.
@@ -69,11 +70,12 @@ fn local_id(roster: &Roster, received: &TableDef) -> Option<u64>
     }
 }
 
-fn copy_of(name: Option<&Name>, alloc: Global) -> Result<Option<Name>, Memory>
-    ensures { IfOk result (λ copy. copy ≡ option_copied name.entry) }
+fn copy_of(name: Option<&[u8]>, alloc: Global) -> Result<Option<Name>, Memory>
+    requires { IfSome name (λ name. is_name name.now ≡ true) }
+    ensures { IfOk result (λ copy. copy ≡ option_map (λ name. name.now) name.entry) }
 {
     match name {
-        Some(name) => Ok(Some(name.copy(alloc)?)),
+        Some(name) => Ok(Some(Name::from_slice(alloc, name)?)),
         None => Ok(None),
     }
 }
@@ -123,9 +125,10 @@ impl Intake {
         Intake {
             alloc,
             roster,
-            decoder: Decoder::new(alloc),
-            resolver: Resolver::new(alloc),
+            state: State::new(alloc),
             due: Vec::new(alloc),
+            unread: Unread::new(alloc),
+            closed: false,
         }
     }
 
@@ -136,59 +139,55 @@ impl Intake {
         &self.roster
     }
 
-    /// What was received of the tables.
-    pub fn received(&self) -> &Received
-        ensures { result.now ≡ self.now.state.received }
+    /// The state in which the messages read leave it.
+    pub fn state(&self) -> &State
+        ensures { result.now ≡ self.now.state }
     {
-        self.decoder.received()
-    }
-
-    /// The last numbers and the slots.
-    pub fn resolver(&self) -> &Resolver
-        ensures last_numbers { result.now.last_numbers ≡ self.now.state.last_numbers }
-        ensures slots { result.now.slots ≡ self.now.state.slots }
-    {
-        &self.resolver
+        &self.state
     }
 
     /// How many bytes were fed and not taken. Where `next` answers `None` they are those of an unfinished message.
     pub fn waiting(&self) -> usize
         ensures { result ≡ length self.now.unread }
     {
-        self.decoder.waiting()
+        self.unread.len()
     }
 
     /// Takes no more: every later call that takes bytes answers `Closed`.
     pub fn close(&mut self)
         ensures { self.new ≡ shut self.old }
     {
-        self.decoder.close();
+        self.closed = true;
     }
 
     /// Takes the next piece of the stream. After a fault it answers `Closed`; after `Memory` nothing has changed.
     pub fn feed(&mut self, piece: &[u8]) -> Result<(), Fault>
-        ensures { Feeds self.old piece.now result self.new }
+        ensures { IntakeFeeds self.old piece.now result self.new }
     {
-        match self.decoder.feed(piece) {
-            Ok(()) => Ok(()),
-            Err(fault) => Err(Fault::from(fault)),
+        if self.closed {
+            return Err(Fault::Closed);
         }
+        self.unread.append(piece)?;
+        Ok(())
     }
 
     /// What the next message gives, and `None` while it isn't whole. After a fault it answers `Closed`; after `Memory`
     /// nothing has changed.
     pub fn next(&mut self) -> Result<Option<Taken>, Fault>
-        ensures next { Next self.old result self.new }
+        ensures next { IntakeNext self.old result self.new }
         ensures fewer { IfOk result (λ found. IsSome found → length self.new.unread < length self.old.unread) }
     {
-        match self.decoder.front() {
+        if self.closed {
+            return Err(Fault::Closed);
+        }
+        match self.unread.front(self.state.received()) {
             Ok(Some((found, used))) => {
                 let message = found.to_owned(self.alloc)?;
                 Ok(Some(self.take(message, used)?))
             }
             Ok(None) => Ok(None),
             Err(fault) => {
-                self.decoder.close();
+                self.close();
                 Err(Fault::from(fault))
             }
         }
@@ -203,27 +202,42 @@ impl Intake {
         match message {
             Message::Update(update) => self.update(update, used),
             Message::Define(table) => self.define(table, used),
-            Message::Switch(id) => {
-                self.decoder.pass(&Message::Switch(id), used)?;
-                Ok(Taken::Passed)
-            }
+            Message::Switch(id) => self.select(id, used),
             Message::Control(control) => {
-                self.decoder.skip(used);
+                self.skip(used);
                 Ok(Taken::Said(control))
             }
             Message::Error(kind) => {
-                self.decoder.skip(used);
+                self.skip(used);
                 Ok(Taken::Failed(kind))
             }
             Message::Ack { table, number } => {
-                self.decoder.skip(used);
+                self.skip(used);
                 Ok(Taken::Acked { table, number })
             }
             Message::Other(_) => {
-                self.decoder.skip(used);
+                self.skip(used);
                 Ok(Taken::Passed)
             }
         }
+    }
+
+    /// Drops the bytes of a message that changes nothing.
+    fn skip(&mut self, used: usize)
+        requires { used ≤ length self.old.unread }
+        ensures { self.new ≡ record self.old { unread = drop used self.old.unread } }
+    {
+        self.unread.advance(used);
+    }
+
+    fn select(&mut self, id: u64, used: usize) -> Result<Taken, Fault>
+        requires { IsFront self.old (messages.Switch id) used }
+        ensures gives { Gives self.old result self.new }
+        ensures fewer { OnOk result (self.new.unread ≡ drop used self.old.unread) }
+    {
+        self.state.make(Effect::Select(id))?;
+        self.unread.advance(used);
+        Ok(Taken::Passed)
     }
 
     fn define(&mut self, table: TableDef, used: usize) -> Result<Taken, Fault>
@@ -231,11 +245,9 @@ impl Intake {
         ensures gives { Gives self.old result self.new }
         ensures fewer { OnOk result (self.new.unread ≡ drop used self.old.unread) }
     {
-        let mut last_numbers = self.resolver.last_numbers().copy(self.alloc)?;
-        last_numbers.keep_at(&table, self.decoder.received());
-        self.decoder.pass(&Message::Define(table), used)?;
-        still_due(&mut self.due, &last_numbers);
-        self.resolver.keep(last_numbers);
+        self.state.make(Effect::Define(table))?;
+        still_due(&mut self.due, self.state.last_numbers());
+        self.unread.advance(used);
         Ok(Taken::Passed)
     }
 
@@ -244,53 +256,55 @@ impl Intake {
         ensures gives { Gives self.old result self.new }
         ensures fewer { OnOk result (self.new.unread ≡ drop used self.old.unread) }
     {
-        let Some(table) = self.decoder.received().selected_table() else {
-            unreachable!();
-        };
-        let id = table.id();
-        let own = local_id(&self.roster, table);
-        let Some(number) = self.resolver.number(id, update.number()) else {
-            self.decoder.close();
-            return Err(Fault::NoNumber);
-        };
-        if self.resolver.reads_empty(update.name()) {
-            self.decoder.close();
-            return Err(Fault::EmptySlot);
+        match self.state.resolve(update.number(), update.name().lend()) {
+            Ok(resolved) => self.learn(update, resolved, used),
+            Err(Refusal::Memory) => Err(Fault::Memory),
+            Err(refusal) => {
+                self.close();
+                Err(Fault::from(refusal))
+            }
         }
-        self.learn(update, used, id, own, number)
     }
 
-    /// Takes an update of the table `id`, which is that own one or none, with its number resolved.
+    /// Takes an update that is resolved so.
     fn learn(
         &mut self,
         update: UpdateMsg,
+        resolved: ResolvedUpdate,
         used: usize,
-        id: u64,
-        own: Option<u64>,
-        number: u32,
     ) -> Result<Taken, Fault>
         requires front { IsFront self.old (messages.Update update) used }
-        requires selected { self.old.state.received.selected ≡ Some id }
-        requires own { own ≡ local_id self.old.roster self.old.state.received id }
-        requires number { resolved_number update.number (last_of self.old.state.last_numbers id) ≡ Some number }
-        requires named { reads_empty self.old.state.slots update.name ≡ false }
+        requires resolved { Resolves self.old.state update.number update.name resolved }
         ensures gives { Gives self.old result self.new }
         ensures fewer { OnOk result (self.new.unread ≡ drop used self.old.unread) }
     {
-        let name = copy_of(self.resolver.name(update.name()), self.alloc)?;
-        self.remember(id, number, update.name())?;
-        self.decoder.skip(used);
+        let own = self.selected_local();
+        let name = copy_of(self.state.name(update.name().lend()), self.alloc)?;
+        let number = resolved.number;
+        self.remember(resolved)?;
+        self.skip(used);
         Ok(answer_of(own, number, name, update))
     }
 
-    /// Remembers the number of an update of that table and the name that it writes, and makes its table due. After
-    /// `Memory` nothing has changed.
-    fn remember(&mut self, table: u64, number: u32, field: &NameField) -> Result<(), Memory>
-        ensures remembered { OnOk result (self.new ≡ remembered self.old table number field.now) }
+    /// The id of the own table that is selected.
+    fn selected_local(&self) -> Option<u64>
+        ensures { result ≡ option_map (λ d. d.id) (option_and_then (local_table self.now.roster) (selected_table self.now.state.received)) }
+    {
+        match self.state.received().selected_table() {
+            Some(table) => local_id(&self.roster, table),
+            None => None,
+        }
+    }
+
+    /// Remembers the number of an update and the name that it writes, and makes its table due. After `Memory` nothing has
+    /// changed.
+    fn remember(&mut self, update: ResolvedUpdate) -> Result<(), Memory>
+        ensures remembered { OnOk result (self.new ≡ remembered self.old update) }
         ensures stays { OnErr result (self.new ≡ self.old) }
     {
         self.due.reserve(1)?;
-        self.resolver.take(table, number, field)?;
+        let table = update.table;
+        self.state.make(Effect::Update(update))?;
         add_due(&mut self.due, table);
         Ok(())
     }
@@ -303,7 +317,7 @@ impl Intake {
         {
             return None;
         }
-        match self.resolver.last_numbers().last(table.id()) {
+        match self.state.last_numbers().last(table.id()) {
             Some(number) => Some(Message::Ack {
                 table: table.id(),
                 number,
@@ -321,7 +335,7 @@ impl Intake {
         ensures stays { OnErr result (self.new ≡ self.old) }
     {
         let mut acks = Vec::new(self.alloc);
-        for table in self.decoder.received().tables() {
+        for table in self.state.received().tables() {
             if let Some(ack) = self.ack(table) {
                 acks.push(ack)?;
             }

@@ -17,34 +17,34 @@ ghost use Rattle.known_state.specs.Lessons.{IsLessonFor};
 ghost use Rattle.learner.specs.declared.fault.Fault.{Fault};
 ghost use Rattle.learner.specs.declared.fault.Fault.TheVariants as faults;
 ghost use Rattle.learner.specs.declared.intake.Taken.{Taken};
-ghost use Rattle.learner.specs.Intake.{Taking, Feeds, Next};
+ghost use Rattle.learner.specs.Intake.{Taking, IntakeFeeds, IntakeNext};
 ghost use Rattle.learner.specs.Cutting.{IsStopped};
 ghost use Rattle.learner.specs.Rows.{put, put_all, row_at, rows_at, AreOfOthers};
 ghost use Rattle.learner.specs.Moments.{Piece, stream_in, AreFedInTime, HasLearnedInTime};
-ghost use Rattle.learner.specs.Learning.{Learning, unlearned, with_piece, Fed, AreFed, IsReady, IsReadyIn, IsTaught, HasLearned};
+ghost use Rattle.learner.specs.Learning.{Learning, unlearned, with_piece, LearnerFeeds, AreFed, IsReady, IsReadyIn, IsTaught, HasLearned};
 
 /// However a stream is cut into pieces, what is learned of them at one moment is what is learned of the whole: the
 /// same rows, the same state, and the same bytes left.
 pub fn any_pieces()
     ensures two { (now : ℕ) (l mid e : Learning) (a b : List ℕ) (one other : ℕ) →
-        IsBytes (l.intake.unread ++ (a ++ b)) → Fed now l a (Ok one) mid → Fed now mid b (Ok other) e →
-        Fed now l (a ++ b) (Ok (one + other)) e }
+        IsBytes (l.intake.unread ++ (a ++ b)) → LearnerFeeds now l a (Ok one) mid → LearnerFeeds now mid b (Ok other) e →
+        LearnerFeeds now l (a ++ b) (Ok (one + other)) e }
     ensures whole { (now : ℕ) (l e : Learning) (a : List ℕ) (pieces : List (List ℕ)) (count : ℕ) →
         IsBytes (l.intake.unread ++ together (a ∷ pieces)) → AreFed now l (a ∷ pieces) count e →
-        Fed now l (together (a ∷ pieces)) (Ok count) e }
+        LearnerFeeds now l (together (a ∷ pieces)) (Ok count) e }
     ensures same { (now : ℕ) (l a b : Learning) (piece : List ℕ) (one other : ℕ) →
-        Fed now l piece (Ok one) a → Fed now l piece (Ok other) b → (one ≡ other) × (a ≡ b) }
+        LearnerFeeds now l piece (Ok one) a → LearnerFeeds now l piece (Ok other) b → (one ≡ other) × (a ≡ b) }
 {}
 
 /// A learner does one thing: where two outcomes of feeding it a piece are both allowed, and neither is running out of
 /// memory, the answer is the same and so is what it holds then. The same of what takes its messages: of feeding it, and
 /// of asking it for one.
 pub fn one_outcome()
-    ensures learner { (now : ℕ) (l a b : Learning) (piece : List ℕ) (one other : Result ℕ Fault) → Fed now l piece one a → Fed now l piece other b →
+    ensures learner { (now : ℕ) (l a b : Learning) (piece : List ℕ) (one other : Result ℕ Fault) → LearnerFeeds now l piece one a → LearnerFeeds now l piece other b →
         one ≢ Err faults.Memory → other ≢ Err faults.Memory → (one ≡ other) × (a ≡ b) }
-    ensures feed { (t a b : Taking) (piece : List ℕ) (one other : Result (Unit {0}) Fault) → Feeds t piece one a → Feeds t piece other b →
+    ensures feed { (t a b : Taking) (piece : List ℕ) (one other : Result (Unit {0}) Fault) → IntakeFeeds t piece one a → IntakeFeeds t piece other b →
         one ≢ Err faults.Memory → other ≢ Err faults.Memory → (one ≡ other) × (a ≡ b) }
-    ensures next { (t a b : Taking) (one other : Result (Option Taken) Fault) → Next t one a → Next t other b →
+    ensures next { (t a b : Taking) (one other : Result (Option Taken) Fault) → IntakeNext t one a → IntakeNext t other b →
         one ≢ Err faults.Memory → other ≢ Err faults.Memory → (one ≡ other) × (a ≡ b) }
 {}
 
@@ -64,7 +64,7 @@ pub fn one_fault()
         together before ++ (last ++ more) ≡ together (first ∷ others) →
         IsStopped now l before last fault a → fault ≢ faults.Memory → AreFed now l (first ∷ others) count b → ⊥ }
     ensures closed { (now after : ℕ) (l e x : Learning) (piece bytes : List ℕ) (fault : Fault) (answer : Result ℕ Fault) →
-        Fed now l piece (Err fault) e → Fed after e bytes answer x → (answer ≡ Err faults.Closed) × (x ≡ e) }
+        LearnerFeeds now l piece (Err fault) e → LearnerFeeds after e bytes answer x → (answer ≡ Err faults.Closed) × (x ≡ e) }
 {}
 
 /// An update that is put changes the row of its table and key alone: that row becomes what the update teaches at that
@@ -98,7 +98,7 @@ pub fn the_last_stands()
 pub fn a_legal_stream()
     ensures whole { (now : ℕ) (l e : Learning) (ms : List Message) (us : List Update) (after : State) (result : Result ℕ Fault) →
         IsReady l → Legal l.intake.roster l.intake.state ms us after →
-        Fed now l (stream_of ms) result e → result ≢ Err faults.Memory →
+        LearnerFeeds now l (stream_of ms) result e → result ≢ Err faults.Memory →
         (result ≡ Ok (length us)) × IsTaught now l us after e }
     ensures pieces { (now : ℕ) (l e : Learning) (ms : List Message) (us : List Update) (after : State) (a : List ℕ) (pieces : List (List ℕ)) (count : ℕ) →
         IsReady l → Legal l.intake.roster l.intake.state ms us after →
@@ -107,11 +107,11 @@ pub fn a_legal_stream()
     ensures faultless { (now : ℕ) (l mid e : Learning) (ms : List Message) (us : List Update) (after : State) (before : List Piece) (piece more : List ℕ) (counts : List ℕ) (fault : Fault) →
         IsReady l → Legal l.intake.roster l.intake.state ms us after →
         IsBytes (stream_of ms) → stream_in before ++ (piece ++ more) ≡ stream_of ms →
-        AreFedInTime l before counts mid → Fed now mid piece (Err fault) e → fault ≡ faults.Memory }
+        AreFedInTime l before counts mid → LearnerFeeds now mid piece (Err fault) e → fault ≡ faults.Memory }
 {}
 
 /// A lesson teaches what it says. A teacher knows of a learner that it is in the known state k, and not what else it
-/// holds. Fed a lesson from k, every such learner puts all the updates that the lesson carries and nothing else; it is
+/// holds. LearnerFeeds a lesson from k, every such learner puts all the updates that the lesson carries and nothing else; it is
 /// then in the known state in which the lesson ends, and ready for the next one from there; nothing is left unread; and
 /// no fault comes, but want of memory. So it is however the lesson is cut. With pieces at several moments a row takes
 /// the moment of the piece that ended its message: the updates fall into parts, one for each piece. A learner that was
@@ -119,7 +119,7 @@ pub fn a_legal_stream()
 pub fn a_lesson()
     ensures fresh { (roster : List Definition) → roster_fault roster ≡ None → IsReadyIn (fresh_of roster) (unlearned roster) }
     ensures whole { (now : ℕ) (k after : KnownState) (us : List Update) (bytes : List ℕ) (l e : Learning) (result : Result ℕ Fault) →
-        IsLessonFor k us bytes after → IsReadyIn k l → Fed now l bytes result e → result ≢ Err faults.Memory →
+        IsLessonFor k us bytes after → IsReadyIn k l → LearnerFeeds now l bytes result e → result ≢ Err faults.Memory →
         (result ≡ Ok (length us)) × HasLearned now l us after e }
     ensures pieces { (now : ℕ) (k after : KnownState) (us : List Update) (a : List ℕ) (pieces : List (List ℕ)) (l e : Learning) (count : ℕ) →
         IsLessonFor k us (together (a ∷ pieces)) after → IsBytes (together (a ∷ pieces)) → IsReadyIn k l → AreFed now l (a ∷ pieces) count e →
@@ -129,12 +129,12 @@ pub fn a_lesson()
         HasLearnedInTime k l pieces us counts after e }
     ensures faultless { (now : ℕ) (k after : KnownState) (us : List Update) (before : List Piece) (piece more : List ℕ) (counts : List ℕ) (l mid e : Learning) (fault : Fault) →
         IsLessonFor k us (stream_in before ++ (piece ++ more)) after → IsBytes (stream_in before ++ (piece ++ more)) → IsReadyIn k l →
-        AreFedInTime l before counts mid → Fed now mid piece (Err fault) e → fault ≡ faults.Memory }
+        AreFedInTime l before counts mid → LearnerFeeds now mid piece (Err fault) e → fault ≡ faults.Memory }
 {}
 
 /// The last numbers of a learner that was fed nothing stand in rising id, and whatever it is fed they stay so.
 pub fn numbers_stay_rising()
     ensures begun { (roster : List Definition) → AreRising (unlearned roster).intake.state.last_numbers }
     ensures fed { (now : ℕ) (l e : Learning) (piece : List ℕ) (result : Result ℕ Fault) →
-        AreRising l.intake.state.last_numbers → Fed now l piece result e → AreRising e.intake.state.last_numbers }
+        AreRising l.intake.state.last_numbers → LearnerFeeds now l piece result e → AreRising e.intake.state.last_numbers }
 {}

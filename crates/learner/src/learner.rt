@@ -10,7 +10,7 @@ ghost use Rattle.learner.specs.Acks.{AreRisingAcks};
 ghost use Rattle.learner.specs.Intake.{acks_of};
 ghost use Rattle.table_types.specs.Keys.{key_cmp};
 ghost use Rattle.learner.specs.Rows.{row_at, rows_at, index_of, put};
-ghost use Rattle.learner.specs.Learning.{unlearned, LearnsOne, LearnsAll, FedAndOpen, Fed};
+ghost use Rattle.learner.specs.Learning.{unlearned, LearnsOne, LearnsAll, FedAndOpen, LearnerFeeds};
 
 use crate::fault::Fault;
 use crate::intake::Intake;
@@ -128,7 +128,7 @@ impl Learner {
     /// * Rows keep what was put before a fault. After any fault every later call answers `Closed`.
     /// * After `Memory` too: the rows are then those of whole messages.
     pub fn feed(&mut self, piece: &[u8], now: Moment) -> Result<usize, Fault>
-        ensures { Fed now self.old piece.now result self.new }
+        ensures { LearnerFeeds now self.old piece.now result self.new }
     {
         match self.take(piece, now) {
             Ok(count) => Ok(count),
@@ -245,11 +245,6 @@ impl Learner {
         ensures rising { IfOk result (λ _. AreRising self.now.intake.state.last_numbers) }
     {
         let roster = roster.copy(self.alloc)?;
-        Known::of_learner(
-            self.alloc,
-            roster,
-            self.intake.received(),
-            self.intake.resolver(),
-        )
+        Known::of_learner(self.alloc, roster, self.intake.state())
     }
 }

@@ -12,7 +12,7 @@ use Rattle.known_state.specs.Shortest.{Shortest}
 use Rattle.teach_writer.specs.Sending.{GoesThrough}
 use Rattle.learner.specs.declared.fault.Fault.{Fault}
 use Rattle.learner.specs.declared.fault.Fault.TheVariants as faults
-use Rattle.learner.specs.Learning.{Fed, Learning, unlearned}
+use Rattle.learner.specs.Learning.{LearnerFeeds, Learning, unlearned}
 use Rattle.scene_text.specs.declared.scene.Scene.{Scene}
 use Rattle.scene_commands.specs.Teaching.{start_of, IsLesson}
 use Rattle.scene_commands.specs.Learning.{AreInRisingId, IsLearned, IsPrinted, acks_text, rows_text}
@@ -34,10 +34,10 @@ lesson_of_scene scene roster known batch ms after roster_is known_is batch_is le
 -- a learner that knows nothing, and is fed bytes that are the scene's stream
 pub learned_of_scene : (scene : Scene) (now : ℕ) (roster : List Definition) (fresh : Learning) (bytes : List ℕ) (answer : Result ℕ Fault) (l : Learning)
     → scene.moment ≡ Some now → AreInRisingId scene.tables.items roster → fresh ≡ unlearned roster → bytes ≡ scene.stream.items
-    → Fed now fresh bytes answer l → IsLearned scene answer l
+    → LearnerFeeds now fresh bytes answer l → IsLearned scene answer l
 unfolding IsLearned
 learned_of_scene scene now roster fresh bytes answer l at rising begins same fed =
-    (now, roster, at, rising, subst (λ b. Fed now (unlearned roster) b answer l) same (subst (λ f. Fed now f bytes answer l) begins fed))
+    (now, roster, at, rising, subst (λ b. LearnerFeeds now (unlearned roster) b answer l) same (subst (λ f. LearnerFeeds now f bytes answer l) begins fed))
 
 -- what is printed where all was done
 pub done_printed : (scene : Scene) (text : List ℕ) (ending : Ending) → ending ≡ endings.Done → IsPrinted scene text ending

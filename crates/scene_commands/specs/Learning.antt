@@ -6,7 +6,7 @@ use Rattle.learner.specs.declared.fault.Fault.{Fault}
 use Rattle.learner.specs.declared.fault.Fault.TheVariants as faults
 use Rattle.learner.specs.Intake.{acks_of}
 use Rattle.learner.specs.Rows.{rows_at}
-use Rattle.learner.specs.Learning.{Fed, Learning, unlearned}
+use Rattle.learner.specs.Learning.{LearnerFeeds, Learning, unlearned}
 use Rattle.scene_text.specs.Acks.{ack_line}
 use Rattle.scene_text.specs.Rows.{row_line}
 use Rattle.scene_text.specs.declared.scene.Scene.{Scene}
@@ -37,7 +37,7 @@ IsLearned scene answer l =
     × (roster : List Definition)
     × (scene.moment ≡ Some now)
     × AreInRisingId scene.tables.items roster
-    × Fed now (unlearned roster) scene.stream.items answer l
+    × LearnerFeeds now (unlearned roster) scene.stream.items answer l
 
 -- What is printed for a scene, and how the subcommand then ends: where the stream has no fault, the rows and the
 -- acknowledgements that are due; else the rows so far.

@@ -24,7 +24,7 @@ use Rattle.known_state.proofs.RosterLemmas.{roster_names, still_received, two_na
 use Rattle.known_state.proofs.StepLemmas.{selected-found}
 use Rattle.known_state.proofs.CostLaws.{falls, told_shorter, last-kept, last-put}
 use Rattle.known_state.proofs.StepPays.{moved_last, is_there, none_shorter}
-use Rattle.known_state.specs.Requests.{IsTaught, AreNameless}
+use Rattle.known_state.specs.Requests.{IsUpdateOf, AreNameless}
 use Rattle.known_state.proofs.BatchLemmas.{batch_taught}
 use Rattle.teach_writer.specs.Sending.{is_table, selection}
 use Rattle.teach_writer.proofs.UpdateStepsAreLegal.{found_is_own}
@@ -179,7 +179,7 @@ send_cheap roster s e u m chosen rest first second =
 pub batch_rest : (roster : List Definition) (us : List Update) (i : ℕ) → IsBatchFor roster us → AllByRecursion (IsOfRoster roster) (drop i us)
 batch_rest roster us i is = each (drop i us) (λ j u lt at. of_taught u (batch_taught roster us (i + j) u is (further i j us lt) (at ∙ get_or-drop i us j u)))
   where
-    of_taught : (u : Update) → IsTaught roster u → IsOfRoster roster u
+    of_taught : (u : Update) → IsUpdateOf roster u → IsOfRoster roster u
     of_taught u (d, listed, fit) = (d, listed)
 
     further : (i j : ℕ) (us : List Update) → j < length (drop i us) → i + j < length us

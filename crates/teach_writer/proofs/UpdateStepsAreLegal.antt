@@ -15,16 +15,15 @@ use Rattle.peers_msg.specs.declared.message.Message.TheVariants as messages
 use Rattle.peers_msg.specs.Received.{Received, selected_table, received_after}
 use Rattle.peers_msg.specs.Spelling.{spelled, stream_of}
 use Rattle.peers_msg.specs.Fitting.{update_fits, name_fits}
-use Rattle.known_state.specs.State.{State, Step, Teaches, IsOwn, Legal, resolved_number}
+use Rattle.known_state.specs.State.{State, Step, Teaches, IsOwn, Legal, resolved_number, name_of, reads_empty}
 use Rattle.known_state.specs.LastNumbers.{last_of}
-use Rattle.known_state.specs.Known.{KnownState, AreOwn, switch_refusal, update_refusal}
+use Rattle.known_state.specs.Known.{KnownState, AreOwn, switch_refusal, update_refusal, IsTakenBy}
 use Rattle.known_state.proofs.KnownLemmas.{table_at-id, table_at-passes, define_selects}
 use Rattle.known_state.proofs.StepLemmas.{has_id-table_at, selected-id, selected-found, update_fits_received}
-use Rattle.known_state.specs.Resolving.{name_of, reads_empty}
 use Rattle.known_state.proofs.ResolvingLemmas.{named_so}
 use Rattle.known_state.specs.Cost.{number_sent, sent_as}
 use Rattle.known_state.proofs.BatchLemmas.{row_of_fits, life_of_fits}
-use Rattle.teach_writer.specs.Sending.{is_table, selection, IsTaken}
+use Rattle.teach_writer.specs.Sending.{is_table, selection}
 
 -- a table that is received is the roster's of its id
 pub found_is_own : (roster ds : List Definition) (id : ℕ) (t d : Definition) → AreOwn roster ds → table_at ds id ≡ Some t → table_at roster id ≡ Some d → t ≡ d
@@ -55,7 +54,7 @@ retained_selected k d own listed is = at (selected_table k.state.received) refl
         e ∙ ap (λ (x : Definition). Some x) (selected_is_own k t d own e listed_t)
 
 -- a switch to a table of the roster that is received is taken
-pub switch_taken : (k : KnownState) (d : Definition) → table_at k.roster d.id ≡ Some d → is_some (table_at k.state.received.tables d.id) ≡ true → IsTaken k (messages.Switch d.id)
+pub switch_taken : (k : KnownState) (d : Definition) → table_at k.roster d.id ≡ Some d → is_some (table_at k.state.received.tables d.id) ≡ true → IsTakenBy k (messages.Switch d.id)
 switch_taken k d listed found = λ e refuses.
     let none : switch_refusal k d.id ≡ None = rw (has_id-table_at k.roster d.id, listed, some-not-none (table_at k.state.received.tables d.id) found) refl in
     let bad : None ≡ Some e = sym none ∙ refuses in
@@ -74,7 +73,7 @@ switch_selects roster h d own listed found = at (table_at h.tables d.id) refl
     at (Some t) e = e ∙ ap (λ (x : Definition). Some x) (found_is_own roster h.tables d.id t d own e listed)
 
 -- the roster's own definition is taken
-pub define_taken : (k : KnownState) (d : Definition) → table_at k.roster d.id ≡ Some d → IsTaken k (messages.Define d)
+pub define_taken : (k : KnownState) (d : Definition) → table_at k.roster d.id ≡ Some d → IsTakenBy k (messages.Define d)
 define_taken k d listed = λ e refuses. refuses.0 listed
 
 -- the number sent is resolved to the update's
@@ -98,7 +97,7 @@ sent_fits : (last : Option ℕ) (field : NameField) (d : Definition) (u : Update
 sent_fits last field d u is field_fits fit word = rw (word, life_word d u.life (expire_small d is) (life_of_fits d u fit), row_of_fits d u fit, field_fits) refl
 
 -- it is taken where its table is selected, and it reads no empty slot
-pub sent_taken : (k : KnownState) (d : Definition) (u : Update) (last : Option ℕ) (field : NameField) → last ≡ last_of k.state.last_numbers d.id → selected_table k.state.received ≡ Some d → is_definition d ≡ true → name_fits d field ≡ true → reads_empty k.state.slots field ≡ false → fits d u ≡ true → is_optional_word (number_sent last u.number) ≡ true → IsTaken k (messages.Update (sent_as last field u))
+pub sent_taken : (k : KnownState) (d : Definition) (u : Update) (last : Option ℕ) (field : NameField) → last ≡ last_of k.state.last_numbers d.id → selected_table k.state.received ≡ Some d → is_definition d ≡ true → name_fits d field ≡ true → reads_empty k.state.slots field ≡ false → fits d u ≡ true → is_optional_word (number_sent last u.number) ≡ true → IsTakenBy k (messages.Update (sent_as last field u))
 sent_taken k d u last field is_last sel is field_fits reads fit word = λ e refuses.
     let resolved_here : resolved_number (number_sent last u.number) (last_of k.state.last_numbers d.id) ≡ Some u.number = subst (λ (l : Option ℕ). resolved_number (number_sent last u.number) l ≡ Some u.number) is_last (sent_resolved last u.number) in
     let none : update_refusal k (sent_as last field u) (selected_table k.state.received) ≡ None = rw (sel, update_fits_received k.state.received (sent_as last field u) d sel (sent_fits last field d u is field_fits fit word) is, resolved_here, reads) refl in
@@ -145,13 +144,13 @@ pub legal-none : (roster : List Definition) (s : State) → Legal roster s [] []
 legal-none roster s = (tt, (refl, refl))
 
 -- what selects a table of the roster is taken
-pub selection_taken : (k : KnownState) (d : Definition) (m : Message) → AreOwn k.roster k.state.received.tables → table_at k.roster d.id ≡ Some d → m ∷ [] ≡ selection k.state.received d → IsTaken k m
+pub selection_taken : (k : KnownState) (d : Definition) (m : Message) → AreOwn k.roster k.state.received.tables → table_at k.roster d.id ≡ Some d → m ∷ [] ≡ selection k.state.received d → IsTakenBy k m
 selection_taken k d m own listed is = at (is_table (selected_table k.state.received) d.id) refl (is_some (table_at k.state.received.tables d.id)) refl
   where
-    at : (a : Bool) → is_table (selected_table k.state.received) d.id ≡ a → (b : Bool) → is_some (table_at k.state.received.tables d.id) ≡ b → IsTaken k m
+    at : (a : Bool) → is_table (selected_table k.state.received) d.id ≡ a → (b : Bool) → is_some (table_at k.state.received.tables d.id) ≡ b → IsTakenBy k m
     at true e b f = let bad : m ∷ [] ≡ [] = is ∙ rw e refl in cc
-    at false e true f = let same : m ∷ [] ≡ messages.Switch d.id ∷ [] = is ∙ rw (e, f) refl in let one : messages.Switch d.id ≡ m = cc in subst (λ (x : Message). IsTaken k x) one (switch_taken k d listed f)
-    at false e false f = let same : m ∷ [] ≡ messages.Define d ∷ [] = is ∙ rw (e, f) refl in let one : messages.Define d ≡ m = cc in subst (λ (x : Message). IsTaken k x) one (define_taken k d listed)
+    at false e true f = let same : m ∷ [] ≡ messages.Switch d.id ∷ [] = is ∙ rw (e, f) refl in let one : messages.Switch d.id ≡ m = cc in subst (λ (x : Message). IsTakenBy k x) one (switch_taken k d listed f)
+    at false e false f = let same : m ∷ [] ≡ messages.Define d ∷ [] = is ∙ rw (e, f) refl in let one : messages.Define d ≡ m = cc in subst (λ (x : Message). IsTakenBy k x) one (define_taken k d listed)
 
 -- it carries nothing, and after it the table is selected
 pub selection_selects : (k : KnownState) (d : Definition) (m : Message) (us : List Update) (e : State) → AreOwn k.roster k.state.received.tables → table_at k.roster d.id ≡ Some d → m ∷ [] ≡ selection k.state.received d → Step k.state m us e → (us ≡ []) × (selected_table e.received ≡ Some d)

@@ -13,8 +13,7 @@ use Rattle.peers_msg.specs.Received.{Received, selected_table}
 use Rattle.peers_msg.specs.Spelling.{stream_of}
 use Rattle.known_state.specs.State.{State, Step, Teaches}
 use Rattle.known_state.specs.LastNumbers.{last_of}
-use Rattle.known_state.specs.declared.known.StepError.{StepError}
-use Rattle.known_state.specs.Known.{KnownState, Refuses}
+use Rattle.known_state.specs.Known.{KnownState}
 use Rattle.known_state.specs.Cost.{sent_as, is_named_table}
 use Rattle.teach_writer.specs.Naming.{IsNamed, starts_at_first, starts_after, marks_after}
 
@@ -33,10 +32,6 @@ abbrev pub slot_of : NameField → Option ℕ
 slot_of (names.Held slot) = Some slot
 slot_of (names.Written slot name) = Some slot
 slot_of field = None
-
--- no cause but want of memory refuses the message
-abbrev pub IsTaken : KnownState → Message → Type 0
-IsTaken k m = (e : StepError) → Refuses k m e → ⊥
 
 -- the update in its shortest number form, with that name field
 abbrev pub update_sent : State → NameField → Update → Message

@@ -11,17 +11,17 @@ ghost use Rattle.peers_msg.specs.declared.message.Message.{Message};
 ghost use Rattle.peers_msg.specs.Messages.{is_small};
 ghost use Rattle.peers_msg.specs.Fitting.{name_fits};
 ghost use Rattle.peers_msg.specs.Received.{selected_table};
-ghost use Rattle.known_state.specs.Resolving.{name_of, reads_empty};
 ghost use Rattle.peers_msg.specs.Spelling.{spelled, stream_of, size_of_all};
-ghost use Rattle.known_state.specs.State.{Step, Teaches, IsOwn, Legal};
+ghost use Rattle.known_state.specs.Known.{IsTakenBy};
+ghost use Rattle.known_state.specs.State.{Step, Teaches, IsOwn, Legal, name_of, reads_empty};
 ghost use Rattle.known_state.specs.Cost.{number_sent, sent_as, knowledge_of, with_selected, selection_cost, KnowsLess, IsOfRoster, cost};
-ghost use Rattle.known_state.specs.Requests.{IsTaught};
+ghost use Rattle.known_state.specs.Requests.{IsUpdateOf};
 ghost use Rattle.teach_writer.specs.Retained.{IsNameField};
-ghost use Rattle.teach_writer.specs.Sending.{selection, slot_of, is_stored, IsTaken, IsSent};
+ghost use Rattle.teach_writer.specs.Sending.{selection, slot_of, is_stored, IsSent};
 
 use crate::retained::Retained;
 use dict_slots::Slots;
-use known_state::{Known, StepError, number_sent};
+use known_state::{Known, number_sent};
 use peers_msg::{Message, NameField, Received, UpdateMsg, append};
 use std::alloc::Global;
 use table_types::{Memory, TableDef, Update};
@@ -99,18 +99,14 @@ fn write_message(
     message: Message,
     bytes: &mut Vec<u8>,
 ) -> Result<(), Memory>
-    requires { IsTaken known.old message }
+    requires { IsTakenBy known.old message }
     ensures appended { OnOk result (bytes.new.items ≡ bytes.old.items ++ spelled message) }
     ensures step { OnOk result ((us : List Update) × Step known.old.state message us known.new.state
         × IsOwn known.old.roster message) }
     ensures roster { known.new.roster ≡ known.old.roster }
 {
     append(bytes, &message)?;
-    match known.after(&message) {
-        Ok(()) => Ok(()),
-        Err(StepError::Memory) => Err(Memory),
-        Err(_) => unreachable!(),
-    }
+    known.follow(message)
 }
 
 /// Selects a table of the roster, by a definition or a switch where it isn't selected.
@@ -144,7 +140,7 @@ fn named(
     retained: &Retained,
     update: &Update,
 ) -> Result<NameField, Memory>
-    requires { IsTaught known.now.roster update.now }
+    requires { IsUpdateOf known.now.roster update.now }
     ensures field { IfOk result (λ field. (d : Definition) → table_at known.now.roster update.now.table ≡ Some d →
         IsNameField retained.now known.now.state.slots (stores_name d) update.now.name field) }
     ensures fits { IfOk result (λ field. (d : Definition) → table_at known.now.roster update.now.table ≡ Some d → name_fits d field ≡ true) }
@@ -177,7 +173,7 @@ pub fn write_update(
     update: &Update,
     bytes: &mut Vec<u8>,
 ) -> Result<Option<u8>, Memory>
-    requires { IsTaught known.old.roster update.now }
+    requires { IsUpdateOf known.old.roster update.now }
     ensures written { OnOk result ((ms : List Message) × (bytes.new.items ≡ bytes.old.items ++ stream_of ms)
         × Legal known.old.roster known.old.state ms (update.now ∷ []) known.new.state
         × (update.now.name ≡ None → (rest : List Update) → AllByRecursion (IsOfRoster known.old.roster) rest →

@@ -10,7 +10,7 @@ use Rattle.peers_msg.specs.Spelling.{stream_of, size_of_all}
 use Rattle.known_state.specs.Known.{KnownState, AreOwn}
 use Rattle.known_state.specs.Cost.{cost, IsOfRoster}
 use Rattle.known_state.specs.State.{Legal}
-use Rattle.known_state.specs.Requests.{IsTaught, AreNameless}
+use Rattle.known_state.specs.Requests.{IsUpdateOf, AreNameless}
 use Rattle.known_state.proofs.BatchLemmas.{batch_taught}
 use Rattle.peers_msg.specs.declared.name_field.NameField.{NameField}
 use Rattle.teach_writer.specs.Retained.{IsRetainedAtStart, IsNameField, IsSettled}
@@ -26,8 +26,8 @@ write_update-requires c =
     let u = c.index-updates-index.result in
     let us = c.updates-updates.result.now in
     let batch : IsBatchFor c.args.known.now.roster us = subst (λ (l : List Update). IsBatchFor c.args.known.now.roster l) (sym c.updates-updates.ensures.updates) c.requires.batch in
-    let taught : IsTaught c.args.known.now.roster u = batch_taught c.args.known.now.roster us c.loop-index.index u batch c.loop-index-test.true c.index-updates-index.is in
-    subst (λ (r : List Definition). IsTaught r u) (sym c.loop-index.invariant.roster) taught
+    let taught : IsUpdateOf c.args.known.now.roster u = batch_taught c.args.known.now.roster us c.loop-index.index u batch c.loop-index-test.true c.index-updates-index.is in
+    subst (λ (r : List Definition). IsUpdateOf r u) (sym c.loop-index.invariant.roster) taught
 
 pub loop-index-init : goal.loop-index-init
 loop-index-init c =

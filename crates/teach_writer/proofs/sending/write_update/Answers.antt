@@ -11,13 +11,13 @@ use Rattle.peers_msg.specs.declared.name_field.NameField.{NameField}
 use Rattle.peers_msg.specs.Fitting.{name_fits}
 use Rattle.peers_msg.specs.Received.{selected_table}
 use Rattle.peers_msg.specs.Spelling.{spelled, stream_of, size_of, size_of_all}
-use Rattle.known_state.specs.State.{Step, Teaches, IsOwn, Legal}
+use Rattle.known_state.specs.Known.{IsTakenBy}
+use Rattle.known_state.specs.State.{Step, Teaches, IsOwn, Legal, name_of, reads_empty}
 use Rattle.known_state.specs.LastNumbers.{last_of}
 use Rattle.peers_msg.proofs.DataLaws.{row_small}
-use Rattle.known_state.specs.Resolving.{name_of, reads_empty}
 use Rattle.known_state.specs.Cost.{number_sent, sent_as, KnowsLess, with_selected, knowledge_of, knowledge_after, selection_cost, written_cost, written_field, is_named_table, cost, cost_from, IsOfRoster}
 use Rattle.teach_writer.specs.Retained.{IsNameField}
-use Rattle.teach_writer.specs.Sending.{IsTaken, IsSent, is_stored, selection, update_sent}
+use Rattle.teach_writer.specs.Sending.{IsSent, is_stored, selection, update_sent}
 use Rattle.teach_writer.proofs.MarksAreReads.{selection_slots}
 use Rattle.teach_writer.proofs.UpdateStepsAreLegal.{sent_taken, sent_carries, sent_legal, stream-one, stream-append}
 use Rattle.known_state.proofs.KnownLemmas.{table_at-id}
@@ -48,7 +48,7 @@ write_message-requires c =
     let field_fits : name_fits d field ≡ true = each_fits d (ap (λ (r : List Definition). table_at r u.table) same_roster ∙ listed) in
     let reads : reads_empty k.state.slots field ≡ false = search rules in
     let word : is_optional_word (number_sent c.last.result u.number) ≡ true = c.update_sent.ensures.word in
-    subst (λ (t : UpdateFields). IsTaken k (messages.Update t)) (sym sent_is) (sent_taken k d u c.last.result field last_is (selected ∙ listed) (each d listed) field_fits reads c.requires.2 word)
+    subst (λ (t : UpdateFields). IsTakenBy k (messages.Update t)) (sym sent_is) (sent_taken k d u c.last.result field last_is (selected ∙ listed) (each d listed) field_fits reads c.requires.2 word)
 
 pub returns-clause-written : goal.returns-clause-written
 returns-clause-written c =
