@@ -8,7 +8,7 @@ use Rattle.table_types.specs.declared.update.Value.{Value}
 use Rattle.table_types.specs.DataTypes.{shape_of}
 use Rattle.table_types.specs.Updates.{is_name_shape}
 use Rattle.peers_msg.specs.declared.fault.Breach.{Breach}
-use Rattle.peers_msg.specs.Borrowed.{is_read, list_read}
+use Rattle.peers_msg.specs.Borrowed.{is_read, list_read, with_values}
 use Rattle.peers_msg.specs.Reading.{◌>>=◌, value_at, values_at, period_at, types_at}
 
 -- what was read before, and what is still read
@@ -77,6 +77,26 @@ unfolding values_at
 values_done front ts i bytes total le so_far =
     let none : with_front front (values_at [] bytes) ≡ total = ap (λ us. with_front front (values_at us bytes)) (sym (drop_all i ts le)) ∙ so_far in
     sym none ∙ ap (λ (vs : List Value). Ok (vs, bytes)) (append-nil front)
+
+pub name_passed : (ts : List (DataType × Option ℕ)) (i : ℕ) (d : DataType × Option ℕ) (bytes : List ℕ) (shape : Shape) → i < length ts → shape ≡ shape_of (get_or ts i d).0 → is_name_shape shape ≡ true → values_at (drop i ts) bytes ≡ values_at (drop (i + 1) ts) bytes
+unfolding values_at
+name_passed ts i d bytes shape lt shaped is =
+    let t = get_or ts i d in
+    let name : is_name_shape (shape_of t.0) ≡ true = ap is_name_shape (sym shaped) ∙ is in
+    let one : values_at (t ∷ drop (i + 1) ts) bytes ≡ values_at (drop (i + 1) ts) bytes = rw name refl in
+    at_drop_more (λ us. values_at us bytes) ts i d lt ∙ one
+
+pub value_first : (ts : List (DataType × Option ℕ)) (i : ℕ) (d : DataType × Option ℕ) (bytes : List ℕ) (shape : Shape) → i < length ts → shape ≡ shape_of (get_or ts i d).0 → is_name_shape shape ≡ false → values_at (drop i ts) bytes ≡ with_values (drop (i + 1) ts) (value_at shape bytes)
+unfolding values_at
+value_first ts i d bytes shape lt shaped isnt =
+    let t = get_or ts i d in
+    let none : is_name_shape (shape_of t.0) ≡ false = ap is_name_shape (sym shaped) ∙ isnt in
+    let one : values_at (t ∷ drop (i + 1) ts) bytes ≡ with_values (drop (i + 1) ts) (value_at (shape_of t.0) bytes) = rw none refl in
+    at_drop_more (λ us. values_at us bytes) ts i d lt ∙ one ∙ ap (λ (s : Shape). with_values (drop (i + 1) ts) (value_at s bytes)) (sym shaped)
+
+pub no_value : (ts : List (DataType × Option ℕ)) (i : ℕ) (bytes : List ℕ) → length ts ≤ i → values_at (drop i ts) bytes ≡ Ok ([], bytes)
+unfolding values_at
+no_value ts i bytes le = ap (λ us. values_at us bytes) (drop_all i ts le)
 
 -- ---- types
 

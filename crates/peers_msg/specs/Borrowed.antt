@@ -1,5 +1,7 @@
 -- What is borrowed of the bytes of a message, and the values that it is.
-use Rattle.std.specs.Prelude.{◌≡◌, ℕ, Bool, true, false, List, [], Result, Ok, Err}
+use Rattle.std.specs.Prelude.{◌≡◌, ℕ, Bool, true, false, List, [], ◌∷◌, Option, Result, Ok, Err}
+use Rattle.table_types.specs.declared.data_type.DataType.{DataType}
+use Rattle.table_types.specs.declared.update.Value.{Value}
 use Rattle.table_types.specs.declared.key.Key.{Key}
 use Rattle.table_types.specs.declared.key.Key.TheVariants as keys
 use Rattle.table_types.specs.Names.{is_name}
@@ -10,6 +12,7 @@ use Rattle.peers_msg.specs.declared.name_field_ref.NameFieldRef.TheVariants as f
 use Rattle.peers_msg.specs.declared.borrowed.key_ref.KeyRef.{KeyRef}
 use Rattle.peers_msg.specs.declared.borrowed.key_ref.KeyRef.TheVariants as borrowed
 use Rattle.peers_msg.specs.declared.fault.Breach.{Breach}
+use Rattle.peers_msg.specs.Reading.{◌>>=◌, values_at}
 
 -- what was returned, seen so, is what reading gives
 abbrev pub Reads : {X Y : Type 0} → (X → Y) → Result X Breach → Result Y Breach → Type 0
@@ -25,6 +28,10 @@ is_read (Err breach) = false
 abbrev pub list_read : {A : Type 0} → Result (List A × List ℕ) Breach → List A
 list_read (Ok x) = x.0
 list_read (Err breach) = []
+
+-- a value, and those of the types after it
+abbrev pub with_values : List (DataType × Option ℕ) → Result (Value × List ℕ) Breach → Result (List Value × List ℕ) Breach
+with_values types first = first >>= λ value. (values_at types value.1 >>= λ others. Ok (value.0 ∷ others.0, others.1))
 
 -- the key that a borrowed key is
 abbrev pub owned_key : KeyRef → Key

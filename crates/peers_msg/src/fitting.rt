@@ -5,7 +5,7 @@ ghost use Rattle.table_types.specs.Updates.{is_optional_word, is_word};
 ghost use Rattle.table_types.specs.SlotIds.{is_slot};
 ghost use Rattle.peers_msg.specs.Fitting.{name_fits, update_fits, IsPlain, has_shape, fits};
 
-use crate::message::{Message, UpdateMsg};
+use crate::message::{MOST_DATA, Message, UpdateMsg};
 use crate::name_field::NameField;
 use crate::received::Received;
 use crate::sizes::{definition_size, update_size};
@@ -70,15 +70,15 @@ impl Message {
     {
         match self {
             Message::Control(_) | Message::Error(_) => true,
-            Message::Define(table) => definition_size(table) <= 16_384,
-            Message::Switch(id) => received.table(*id).is_some() && len(*id) <= 16_384,
+            Message::Define(table) => definition_size(table) <= MOST_DATA,
+            Message::Switch(id) => received.table(*id).is_some() && len(*id) <= MOST_DATA,
             Message::Ack { table, number } => is_acknowledgement(*table, *number)
                 && len(*table) <= 10,
             Message::Update(update) => match received.selected_table() {
-                Some(table) => update.fits(table) && update_size(update) <= 16_384,
+                Some(table) => update.fits(table) && update_size(update) <= MOST_DATA,
                 None => false,
             },
-            Message::Other(other) => other.body().len() <= 16_384,
+            Message::Other(other) => other.body().len() <= MOST_DATA,
         }
     }
 }

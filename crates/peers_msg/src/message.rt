@@ -8,6 +8,9 @@ use crate::name_field::NameField;
 use std::marker::Model;
 use table_types::{Items, Key, TableDef, Value};
 
+/// How many bytes the data of a message may have (profile).
+pub(crate) const MOST_DATA: usize = 16_384;
+
 /// An update of a row of the selected table (HAProxy, doc/peers-v2.0.txt, "Update Messages").
 ///
 /// It has a key of at most 8,192 bytes and at most 20 values, as each update of any table does.
@@ -150,7 +153,7 @@ impl Other {
         ensures made { IfSome result (λ o. o ≡ record { class = class; kind = kind; body = body.items }) }
         ensures exactly { IsSome result ↔ (is_other (record { class = class; kind = kind; body = body.items }) ≡ true) }
     {
-        let most = if kind < 128 { 0 } else { 16_384 };
+        let most = if kind < 128 { 0 } else { MOST_DATA };
         if is_known_pair(class, kind) || body.len() > most {
             return None;
         }

@@ -1,13 +1,13 @@
 //! The values of an update, borrowed.
 
-ghost use Rattle.std.specs.Prelude.{◌≡◌, true, IfOk};
-ghost use Rattle.peers_msg.specs.Borrowed.{is_read, list_read};
-ghost use Rattle.peers_msg.specs.Reading.{values_at};
+ghost use Rattle.std.specs.Prelude.{◌≡◌, ℕ, true, List, [], ◌∷◌, None, Ok, IfOk, IfSome};
+ghost use Rattle.peers_msg.specs.Borrowed.{is_read, list_read, with_values};
+ghost use Rattle.peers_msg.specs.Reading.{value_at, values_at};
 
 use crate::reading::{is_name_shape, value_at};
 use std::alloc::Global;
 use std::marker::Model;
-use table_types::{DataType, Items, Memory, Value};
+use table_types::{DataType, Items, Memory, Shape, Value};
 
 /// The values of an update: bytes that were found to hold one for each of the table's types but the server's name.
 #[derive(Debug, Drop)]
@@ -57,6 +57,20 @@ fn values_of(
     Ok(values)
 }
 
+/// The shape of the first value and the types after it; `None` where no type has a value.
+fn first_shape(types: &[(DataType, Option<u32>)]) -> Option<(Shape, &[(DataType, Option<u32>)])>
+    ensures first { IfSome result (λ x. (bytes : List ℕ) → values_at types.now bytes ≡ with_values x.1.now (value_at x.0 bytes)) }
+    ensures none { result ≡ None → (bytes : List ℕ) → values_at types.now bytes ≡ Ok ([], bytes) }
+{
+    for (index, entry) in types.iter().enumerate() {
+        let shape = entry.0.shape();
+        if !is_name_shape(shape) {
+            return Some((shape, &types[index + 1..]));
+        }
+    }
+    None
+}
+
 impl<'a> ValuesRef<'a> {
     /// The values of these types that the bytes begin with.
     pub(crate) fn new(types: &'a [(DataType, Option<u32>)], bytes: &'a [u8]) -> ValuesRef<'a>
@@ -73,6 +87,24 @@ impl<'a> ValuesRef<'a> {
         ValuesRef {
             types: self.types,
             bytes: self.bytes,
+        }
+    }
+
+    /// The first value, in rising id, and `None` after the last. The values after it are left. Takes no memory.
+    pub fn next(&mut self) -> Option<Value>
+        ensures value { IfSome result (λ value. self.old ≡ value ∷ self.new) }
+        ensures none { result ≡ None → (self.old ≡ []) × (self.new ≡ []) }
+    {
+        match first_shape(self.types) {
+            Some((shape, others)) => match value_at(shape, self.bytes) {
+                Ok((value, rest)) => {
+                    self.types = others;
+                    self.bytes = rest;
+                    Some(value)
+                }
+                Err(_) => unreachable!(),
+            },
+            None => None,
         }
     }
 

@@ -15,6 +15,7 @@ use crate::borrowed::{MessageRef, OtherRef};
 use crate::control::{Control, ErrorKind};
 use crate::fault::Breach;
 use crate::meaning::Meaning;
+use crate::message::MOST_DATA;
 use crate::received::Received;
 use peers_encint::{Read, get};
 
@@ -153,7 +154,7 @@ fn data_at(kind: u8, bytes: &[u8]) -> Result<Option<(&[u8], &[u8])>, Breach>
         Read::Short => return Ok(None),
         Read::Over => return Err(Breach::BadInteger),
     };
-    if count > 16_384 {
+    if count > MOST_DATA as u64 {
         return Err(Breach::SizeLimit);
     }
     if (rest.len() as u64) < count {
