@@ -1,7 +1,7 @@
 -- The state of one direction of a session, and the step that each message makes (HAProxy, doc/peers-v2.0.txt,
 -- "Stick Table Messages"; an incremental update only after a numbered one, what becomes of last numbers at
 -- definitions, and reading a slot only where a name was written, are the profile's choices).
-use Rattle.std.specs.Prelude.{◌≡◌, ℕ, ◌+◌, ◌-◌, ◌%◌, ◌^◌, Bool, true, false, not, is_none, ◌==◌, nat_lt, List, [], ◌∷◌, ◌++◌, filter, slice_set, Option, Some, None, if◌then◌else◌}
+use Rattle.std.specs.Prelude.{◌≡◌, ℕ, ◌+◌, ◌-◌, ◌%◌, ◌^◌, Bool, true, false, is_none, List, [], ◌∷◌, ◌++◌, filter, slice_set, Option, Some, None}
 use Rattle.std.specs.List.{AllByRecursion}
 use Rattle.table_types.specs.declared.update.Update.{Update}
 use Rattle.table_types.specs.Tables.{Definition}

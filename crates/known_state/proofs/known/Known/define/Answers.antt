@@ -1,4 +1,4 @@
-use Rattle.std.proofs.Common.{◌≡◌, ap, rules}
+use Rattle.std.proofs.Common.{ap, rules}
 use Rattle.table_types.specs.Tables.{Definition}
 use Rattle.known_state.specs.declared.effect.Effect.TheVariants as effects
 use Rattle.known_state.proofs.StepLemmas.{define_fits}

@@ -1,10 +1,9 @@
-use Rattle.std.proofs.Common.{◌≡◌, ℕ, List, Option, rules, refl, sym, ap, subst, ◌∙◌, drop}
+use Rattle.std.proofs.Common.{◌≡◌, ℕ, List, Option, rules, sym, subst, ◌∙◌}
 use Rattle.table_types.specs.declared.update.Update.{Update}
-use Rattle.peers_msg.specs.declared.name_field.NameField.{NameField}
 use Rattle.peers_msg.specs.declared.message.Message.TheVariants as messages
 use Rattle.known_state.specs.State.{name_of}
 use Rattle.learner.specs.LocalTables.{local_id}
-use Rattle.learner.specs.Intake.{Taking, Takes, remembered}
+use Rattle.learner.specs.Intake.{Taking, Takes}
 use Rattle.learner.proofs.IntakeLemmas.{update_taken, selected_so, answer_rows, answer_tells}
 use Rattle.learner.proofs.intake.Intake.learn.Goals as goal
 
