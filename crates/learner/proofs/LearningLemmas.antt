@@ -10,7 +10,7 @@ use Rattle.peers_msg.specs.declared.message.Message.{Message}
 use Rattle.learner.specs.declared.fault.Fault.{Fault}
 use Rattle.learner.specs.declared.fault.Fault.TheVariants as faults
 use Rattle.learner.specs.Intake.{Taking, Takes, Stops, Gives, rows_of, begun}
-use Rattle.learner.specs.declared.intake.Taken.{Taken}
+use Rattle.learner.specs.declared.taken.Taken.{Taken}
 use Rattle.learner.specs.Rows.{put}
 use Rattle.learner.specs.Learning.{Learning, unlearned, Learns, AreLearned, LearnsOne, LearnsAll}
 

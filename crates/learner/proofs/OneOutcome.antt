@@ -12,8 +12,8 @@ use Rattle.peers_msg.specs.Decoding.{fault_of}
 use Rattle.peers_msg.proofs.Pieces.{found}
 use Rattle.learner.specs.declared.fault.Fault.{Fault}
 use Rattle.learner.specs.declared.fault.Fault.TheVariants as faults
-use Rattle.learner.specs.declared.intake.Taken.{Taken}
-use Rattle.learner.specs.declared.intake.Taken.TheVariants as taken
+use Rattle.learner.specs.declared.taken.Taken.{Taken}
+use Rattle.learner.specs.declared.taken.Taken.TheVariants as taken
 use Rattle.learner.specs.Faults.{fault_like}
 use Rattle.learner.specs.Intake.{Taking, Takes, Stops, IntakeFeeds, IntakeNext, Tells, lacks_number, rows_of, told_of, fed, shut}
 use Rattle.learner.specs.Learning.{Learning, AreLearned, IsWaiting, LearnerFeeds, with_piece}

@@ -12,13 +12,10 @@ use Rattle.peers_msg.specs.Decoding.{fault_of}
 use Rattle.peers_msg.specs.Fitting.{fits}
 use Rattle.known_state.specs.State.{State, Step, fresh, last_numbers_after, resolved_number, resolved, reads_empty}
 use Rattle.known_state.specs.LastNumbers.{last_of}
-use Rattle.known_state.specs.Effects.{made}
-use Rattle.known_state.specs.declared.effect.Effect.TheVariants as effects
-use Rattle.known_state.specs.declared.effect.ResolvedUpdate.{ResolvedUpdate}
 use Rattle.learner.specs.declared.fault.Fault.{Fault}
 use Rattle.learner.specs.declared.fault.Fault.TheVariants as faults
-use Rattle.learner.specs.declared.intake.Taken.{Taken}
-use Rattle.learner.specs.declared.intake.Taken.TheVariants as taken
+use Rattle.learner.specs.declared.taken.Taken.{Taken}
+use Rattle.learner.specs.declared.taken.Taken.TheVariants as taken
 use Rattle.learner.specs.Faults.{fault_like}
 use Rattle.learner.specs.LocalTables.{local_table, local_updates}
 
@@ -58,10 +55,6 @@ due_after s (messages.Update u) due = with_due s.received.selected due
 due_after s (messages.Define d) due = filter (λ id. is_some (last_of (last_numbers_after s (messages.Define d)) id)) due
 due_after s m due = due
 
--- the number of an update and the name that it writes are remembered, and its table is due
-abbrev pub remembered : Taking → ResolvedUpdate → Taking
-remembered t update = record t { state = made t.state (effects.Update update); due = with_due (Some update.table) t.due }
-
 -- The message m stands at the front and makes its step, which leads to e; of what it carries the updates of own tables
 -- are local_updates.
 abbrev pub Takes : Taking → Message → List Update → Taking → Type 0
@@ -82,8 +75,25 @@ lacks_number s u = is_none (option_and_then (λ table. resolved_number u.number 
 abbrev pub IsNext : Taking → UpdateFields → Type 0
 IsNext t u = (rest : List ℕ) × (message_at t.state.received t.unread ≡ Ok (Some (messages.Update u, rest)))
 
+-- no number lacks, and no slot that is read is empty
+abbrev pub IsResolvable : State → Message → Type 0
+IsResolvable s (messages.Update u) = (lacks_number s u ≡ false) × (reads_empty s.slots u.name ≡ false)
+IsResolvable s m = Unit {0}
+
+-- a whole message without a fault stands at the front
+abbrev pub IsTakable : Taking → Type 0
+IsTakable t = (m : Message) × (rest : List ℕ) × (message_at t.state.received t.unread ≡ Ok (Some (m, rest))) × IsResolvable t.state m
+
+-- why a message that is whole isn't taken
+abbrev pub IsRefused : State → Message → Fault → Type 0
+IsRefused s (messages.Update u) faults.NoNumber = lacks_number s u ≡ true
+IsRefused s (messages.Update u) faults.EmptySlot = (lacks_number s u ≡ false) × (reads_empty s.slots u.name ≡ true)
+IsRefused s m faults.Memory = IsResolvable s m
+IsRefused s m fault = ⊥
+
 -- Why no message is taken. What stands at the front is an update without a number, or else one that reads an empty
--- slot, or no message: it closes. Want of memory changes nothing, and what is closed stays so.
+-- slot, or no message: it closes. Memory is wanted only for a whole message without a fault, and changes nothing; what is
+-- closed stays so.
 abbrev pub Stops : Taking → Fault → Taking → Type 0
 Stops t faults.NoNumber e =
     (t.closed ≡ false)
@@ -98,7 +108,7 @@ Stops t faults.EmptySlot e =
     × (lacks_number t.state u ≡ false)
     × (reads_empty t.state.slots u.name ≡ true)
     × (e ≡ shut t)
-Stops t faults.Memory e = (t.closed ≡ false) × (e ≡ t)
+Stops t faults.Memory e = (t.closed ≡ false) × IsTakable t × (e ≡ t)
 Stops t faults.Closed e = (t.closed ≡ true) × (e ≡ t)
 Stops t fault e =
     (t.closed ≡ false)
@@ -113,11 +123,6 @@ Stops t fault e =
 abbrev pub rows_of : Taken → List Update
 rows_of (taken.Row u) = u ∷ []
 rows_of t = []
-
--- what an update gives, by the own table that it is of
-abbrev pub answer_of : Option ℕ → ℕ → Option (List ℕ) → UpdateFields → Taken
-answer_of None number name u = taken.Passed
-answer_of (Some table) number name u = taken.Row (resolved u table number name)
 
 -- what an answer tells of a message that gives no row
 abbrev pub told_of : Message → Taken

@@ -12,7 +12,7 @@ use Rattle.known_state.specs.Known.{KnownState, AreOwn, known_of}
 use Rattle.known_state.specs.LastNumbers.{AreRising}
 use Rattle.learner.specs.declared.fault.Fault.{Fault}
 use Rattle.learner.specs.declared.fault.Fault.TheVariants as faults
-use Rattle.learner.specs.Intake.{Taking, Takes, Stops, begun, fed, shut}
+use Rattle.learner.specs.Intake.{Taking, Takes, Stops, IsTakable, begun, fed, shut}
 use Rattle.learner.specs.Rows.{put_all}
 
 -- what was taken of the stream, and the rows of each own table, in the order of the roster
@@ -51,9 +51,10 @@ IsWaiting t = (t.closed ≡ false) × (message_at t.state.received t.unread ≡ 
 abbrev pub IsStateAfter : Taking → State → Type 0
 IsStateAfter t s = (s ≡ t.state) ⊎ ((m : Message) × (us : List Update) × (next : Taking) × Takes t m us next × (s ≡ next.state))
 
--- What is left where memory is wanted: the rows are those of whole messages, none in part.
+-- What is left where memory is wanted for the message at the front, which is whole and has no fault: the rows are those of
+-- whole messages, none in part.
 abbrev pub IsCutShort : Learning → Learning → Type 0
-IsCutShort l e = (e.rows ≡ l.rows) × (e.intake.roster ≡ l.intake.roster) × IsStateAfter l.intake e.intake.state
+IsCutShort l e = IsTakable l.intake × (e.rows ≡ l.rows) × (e.intake.roster ≡ l.intake.roster) × IsStateAfter l.intake e.intake.state
 
 -- what learning one message does, where the answer is how many rows were put
 abbrev pub LearnsOne : ℕ → Learning → Result (Option ℕ) Fault → Learning → Type 0
@@ -89,6 +90,11 @@ LearnsAll now l (Err fault) e =
 abbrev pub shut_off : Learning → Learning
 shut_off l = record { intake = shut l.intake; rows = l.rows }
 
+-- what is left where memory is wanted: the learner as it was, where the piece can't be held, or what its whole messages
+-- lead to
+abbrev pub IsLeft : ℕ → Learning → List ℕ → Learning → Type 0
+IsLeft now l piece left = (left ≡ l) ⊎ LearnsAll now (with_piece l piece) (Err faults.Memory) left
+
 -- What feeding bytes at the moment now does: what is whole then is learned. After a fault it is closed, and so it is
 -- where memory was wanted; what is closed takes no bytes.
 abbrev pub LearnerFeeds : ℕ → Learning → List ℕ → Result ℕ Fault → Learning → Type 0
@@ -96,13 +102,14 @@ LearnerFeeds now l piece (Err faults.Closed) e = (l.intake.closed ≡ true) × (
 LearnerFeeds now l piece (Err faults.Memory) e =
     (l.intake.closed ≡ false)
     × (left : Learning)
-    × LearnsAll now (with_piece l piece) (Err faults.Memory) left
+    × IsLeft now l piece left
     × (e ≡ shut_off left)
 LearnerFeeds now l piece result e = (l.intake.closed ≡ false) × LearnsAll now (with_piece l piece) result e
 
 -- the same before it is closed for want of memory
 abbrev pub FedAndOpen : ℕ → Learning → List ℕ → Result ℕ Fault → Learning → Type 0
 FedAndOpen now l piece (Err faults.Closed) e = (l.intake.closed ≡ true) × (e ≡ l)
+FedAndOpen now l piece (Err faults.Memory) e = (l.intake.closed ≡ false) × IsLeft now l piece e
 FedAndOpen now l piece result e = (l.intake.closed ≡ false) × LearnsAll now (with_piece l piece) result e
 
 -- ---- streams in pieces

@@ -6,3 +6,5 @@ pub mod Learning
 pub mod Moments
 pub mod Acks
 pub mod Cutting
+pub mod Front
+pub mod NewRows

@@ -3,7 +3,7 @@ use Rattle.std.specs.Prelude.{ℕ, List, [], ◌∷◌, filter_map, Option, Some
 use Rattle.table_types.specs.declared.update.Update.{Update}
 use Rattle.table_types.specs.Tables.{Definition}
 use Rattle.table_types.specs.Rosters.{table_at}
-use Rattle.peers_msg.specs.Received.{Received}
+use Rattle.peers_msg.specs.Received.{Received, selected_table}
 use Rattle.peers_msg.specs.OwnTables.{is_shape_of}
 
 -- the own table that a table received is: the one of its shape
@@ -22,3 +22,7 @@ local_update roster received u = option_map (λ id. record { table = id; number 
 -- the updates of own tables, each under its own table's id
 abbrev pub local_updates : List Definition → Received → List Update → List Update
 local_updates roster received us = filter_map (local_update roster received) us
+
+-- the id of the local table that the selected table is
+abbrev pub selected_local : List Definition → Received → Option ℕ
+selected_local roster received = option_map (λ d. d.id) (option_and_then (local_table roster) (selected_table received))

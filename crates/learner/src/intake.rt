@@ -1,46 +1,28 @@
 //! What is taken of a stream, message by message.
 
-ghost use Rattle.std.specs.Prelude.{◌≡◌, ◌<◌, ◌≤◌, [], true, IfOk, OnOk, OnErr, IsSome, IfSome, length, drop, option_map, option_and_then};
-ghost use Rattle.std.specs.Option.{option_to_list};
-ghost use Rattle.table_types.specs.declared.update.Update.{Update};
+ghost use Rattle.std.specs.Prelude.{◌≡◌, ◌<◌, ◌≤◌, [], true, IfOk, IfErr, OnOk, OnErr, IsSome, length};
 ghost use Rattle.peers_msg.specs.declared.message.Message.TheVariants as messages;
-ghost use Rattle.table_types.specs.Names.{is_name};
-ghost use Rattle.peers_msg.specs.Received.{selected_table};
-ghost use Rattle.known_state.specs.Effects.{Resolves};
-ghost use Rattle.learner.specs.LocalTables.{local_table};
+ghost use Rattle.peers_msg.specs.BorrowedMessages.{owned_message};
+ghost use Rattle.peers_msg.specs.Fitting.{fits};
+ghost use Rattle.known_state.specs.Effects.{IsEffect, made};
+ghost use Rattle.known_state.specs.declared.effect.Effect.TheVariants as effects;
+ghost use Rattle.learner.specs.LocalTables.{selected_local};
 ghost use Rattle.learner.specs.Acks.{AreRisingAcks};
-ghost use Rattle.learner.specs.Intake.{begun, shut, IntakeFeeds, IntakeNext, Gives, IsFront, answer_of, remembered, rows_of, ack_of, acks_of};
+ghost use Rattle.learner.specs.Intake.{begun, shut, IntakeFeeds, IntakeNext, IsRefused, ack_of, acks_of};
+ghost use Rattle.learner.specs.Front.{Looks, Shows, due_made, passed, stopped};
 
+use crate::advance::Advance;
 use crate::due::{add_due, holds, still_due};
 use crate::fault::Fault;
 use crate::local_tables::local_table;
-use known_state::{Effect, Refusal, ResolvedUpdate, State};
-use peers_msg::{Control, ErrorKind, Message, Unread, UpdateMsg};
+use crate::taken::{LocalUpdateRef, Taken, TakenRef};
+use known_state::{Effect, ResolvedUpdate, State};
+use peers_msg::{Message, MessageRef, Received, Unread, UpdateRef};
 use std::alloc::Global;
 use std::marker::Model;
-use table_types::{Memory, Name, Roster, TableDef, Update};
+use table_types::{Memory, Roster, TableDef};
 
-/// What a message gives one who keeps the rows of a roster.
-#[derive(Debug, Drop)]
-pub enum Taken {
-    /// An update of an own table, under the own table's id, with its number and its name resolved.
-    Row(Update),
-    /// A definition, a switch, an update of another table, or a message without meaning here.
-    Passed,
-    /// A control message.
-    Said(Control),
-    /// An error message.
-    Failed(ErrorKind),
-    /// An acknowledgement.
-    Acked {
-        /// The id that the sender of the updates gave the table.
-        table: u64,
-        /// The number of the last update taken.
-        number: u32,
-    },
-}
-
-/// Takes the messages of a stream that comes in pieces, cut anywhere, and resolves what they tell of the own tables
+/// Takes the messages of a stream that comes in pieces, cut anywhere, and resolves what they say of the local tables
 /// (HAProxy, doc/peers-v2.0.txt, "Stick Table Messages").
 #[derive(Drop)]
 pub struct Intake {
@@ -48,77 +30,39 @@ pub struct Intake {
     roster: Roster,
     state: State,
     due: Vec<u64>,
+    /// The id of the local table that the selected table is.
+    local: Option<u64>,
     unread: Unread,
     closed: bool,
 }
 
 impl Model for Intake {
+    ghost use Rattle.std.specs.Prelude.{◌≡◌};
     ghost use Rattle.learner.specs.Intake.{Taking};
+    ghost use Rattle.learner.specs.LocalTables.{selected_local};
 
     ghost Value = { Taking };
 
     ghost view = { λ i. record { roster = i.roster; state = i.state; due = i.due.items; unread = i.unread; closed = i.closed } };
+
+    ghost invariant = { λ i. i.local ≡ selected_local i.roster i.state.received };
 }
 
-/// The id of the own table that a table received is.
-fn local_id(roster: &Roster, received: &TableDef) -> Option<u64>
-    ensures { result ≡ option_map (λ d. d.id) (local_table roster.now received.now) }
+/// The id of the local table that the selected table is.
+fn selected_local(roster: &Roster, received: &Received) -> Option<u64>
+    ensures { result ≡ selected_local roster.now received.now }
 {
-    match local_table(roster.tables(), received) {
-        Some(table) => Some(table.id()),
+    match received.selected_table() {
+        Some(table) => match local_table(roster.tables(), table) {
+            Some(local) => Some(local.id()),
+            None => None,
+        },
         None => None,
     }
 }
 
-fn copy_of(name: Option<&[u8]>, alloc: Global) -> Result<Option<Name>, Memory>
-    requires { IfSome name (λ name. is_name name.now ≡ true) }
-    ensures { IfOk result (λ copy. copy ≡ option_map (λ name. name.now) name.entry) }
-{
-    match name {
-        Some(name) => Ok(Some(Name::from_slice(alloc, name)?)),
-        None => Ok(None),
-    }
-}
-
-/// What an update gives whose table is that own one, or none.
-fn answer_of(own: Option<u64>, number: u32, name: Option<Name>, update: UpdateMsg) -> Taken
-    ensures { result ≡ answer_of own number name update }
-{
-    let Some(table) = own else {
-        return Taken::Passed;
-    };
-    let life = update.life();
-    let (key, values, _) = update.into_parts();
-    Taken::Row(Update {
-        table,
-        number,
-        life,
-        key,
-        values,
-        name,
-    })
-}
-
-impl Taken {
-    /// The update of an own table that it gives, if any.
-    pub fn row(self) -> Option<Update>
-        ensures { option_to_list result ≡ rows_of self }
-    {
-        match self {
-            Taken::Row(update) => Some(update),
-            Taken::Passed
-            | Taken::Said(_)
-            | Taken::Failed(_)
-            | Taken::Acked {
-                table: _,
-                number: _,
-            } => None,
-        }
-    }
-}
-
 impl Intake {
-    /// An intake that keeps what is told of the roster's tables, and was told nothing. Takes no memory.
+    /// An intake that keeps the rows of the roster's tables, and was fed nothing. Takes no memory.
     pub fn new(alloc: Global, roster: Roster) -> Intake
         ensures { result ≡ begun roster }
     {
@@ -127,12 +71,13 @@ impl Intake {
             roster,
             state: State::new(alloc),
             due: Vec::new(alloc),
+            local: None,
             unread: Unread::new(alloc),
             closed: false,
         }
     }
 
-    /// The own tables.
+    /// The local tables.
     pub fn roster(&self) -> &Roster
         ensures { result.now ≡ self.now.roster }
     {
@@ -171,135 +116,116 @@ impl Intake {
         Ok(())
     }
 
-    /// What the next message gives, and `None` while it isn't whole. After a fault it answers `Closed`; after `Memory`
-    /// nothing has changed.
-    pub fn next(&mut self) -> Result<Option<Taken>, Fault>
-        ensures next { IntakeNext self.old result self.new }
-        ensures fewer { IfOk result (λ found. IsSome found → length self.new.unread < length self.old.unread) }
+    /// What the message at the front gives, and what moves past it; `None` while it isn't whole. Nothing changes yet.
+    ///
+    /// Memory is wanted only for a definition and for a name that an update writes.
+    pub(crate) fn look(&self) -> Result<Option<(TakenRef<'_>, Advance)>, Fault>
+        ensures looks { Looks self.now result }
     {
         if self.closed {
             return Err(Fault::Closed);
         }
         match self.unread.front(self.state.received()) {
-            Ok(Some((found, used))) => {
-                let message = found.to_owned(self.alloc)?;
-                Ok(Some(self.take(message, used)?))
-            }
+            Ok(Some((message, used))) => match self.shown(message) {
+                Ok((taken, effect)) => Ok(Some((taken, Advance { effect, used }))),
+                Err(fault) => Err(fault),
+            },
             Ok(None) => Ok(None),
-            Err(fault) => {
-                self.close();
-                Err(Fault::from(fault))
-            }
+            Err(fault) => Err(Fault::from(fault)),
         }
     }
 
-    /// Takes the message at the front.
-    fn take(&mut self, message: Message, used: usize) -> Result<Taken, Fault>
-        requires { IsFront self.old message used }
-        ensures gives { Gives self.old result self.new }
-        ensures fewer { OnOk result (self.new.unread ≡ drop used self.old.unread) }
+    /// What a message gives, and what it does to the state.
+    fn shown<'a>(&'a self, message: MessageRef<'a>) -> Result<(TakenRef<'a>, Effect), Fault>
+        requires { fits self.now.state.received (owned_message message) ≡ true }
+        ensures effect { IfOk result (λ shown. IsEffect self.now.state (owned_message message.entry) shown.1) }
+        ensures shows { IfOk result (λ shown. Shows self.now (owned_message message.entry) shown.1 shown.0) }
+        ensures refused { IfErr result (λ fault. IsRefused self.now.state (owned_message message.entry) fault) }
     {
         match message {
-            Message::Update(update) => self.update(update, used),
-            Message::Define(table) => self.define(table, used),
-            Message::Switch(id) => self.select(id, used),
-            Message::Control(control) => {
-                self.skip(used);
-                Ok(Taken::Said(control))
+            MessageRef::Update(update) => self.update(update),
+            MessageRef::Define(table) => {
+                let table = table.to_owned(self.alloc)?;
+                Ok((TakenRef::Passed, Effect::Define(table)))
             }
-            Message::Error(kind) => {
-                self.skip(used);
-                Ok(Taken::Failed(kind))
+            MessageRef::Switch(id) => Ok((TakenRef::Passed, Effect::Select(id))),
+            MessageRef::Control(control) => Ok((TakenRef::Said(control), Effect::Nothing)),
+            MessageRef::Error(error) => Ok((TakenRef::Failed(error), Effect::Nothing)),
+            MessageRef::Ack { table, number } => {
+                Ok((TakenRef::Acked { table, number }, Effect::Nothing))
             }
-            Message::Ack { table, number } => {
-                self.skip(used);
-                Ok(Taken::Acked { table, number })
-            }
-            Message::Other(_) => {
-                self.skip(used);
-                Ok(Taken::Passed)
-            }
+            MessageRef::Other(_) => Ok((TakenRef::Passed, Effect::Nothing)),
         }
     }
 
-    /// Drops the bytes of a message that changes nothing.
-    fn skip(&mut self, used: usize)
-        requires { used ≤ length self.old.unread }
-        ensures { self.new ≡ record self.old { unread = drop used self.old.unread } }
+    fn update<'a>(&'a self, update: UpdateRef<'a>) -> Result<(TakenRef<'a>, Effect), Fault>
+        ensures effect { IfOk result (λ shown. IsEffect self.now.state (messages.Update update.entry) shown.1) }
+        ensures shows { IfOk result (λ shown. Shows self.now (messages.Update update.entry) shown.1 shown.0) }
+        ensures refused { IfErr result (λ fault. IsRefused self.now.state (messages.Update update.entry) fault) }
     {
-        self.unread.advance(used);
+        let name = self.state.name(update.name());
+        match self.state.resolve(update.number(), update.name()) {
+            Ok(resolved) => {
+                let taken = match self.local {
+                    Some(table) => {
+                        TakenRef::Row(LocalUpdateRef::new(table, resolved.number, update, name))
+                    }
+                    None => TakenRef::Passed,
+                };
+                Ok((taken, Effect::Update(resolved)))
+            }
+            Err(refusal) => Err(Fault::from(refusal)),
+        }
     }
 
-    fn select(&mut self, id: u64, used: usize) -> Result<Taken, Fault>
-        requires { IsFront self.old (messages.Switch id) used }
-        ensures gives { Gives self.old result self.new }
-        ensures fewer { OnOk result (self.new.unread ≡ drop used self.old.unread) }
+    /// Moves past the message at the front. After `Memory` nothing has changed.
+    pub(crate) fn pass(&mut self, advance: Advance) -> Result<(), Memory>
+        requires { advance.used ≤ length self.old.unread }
+        ensures passed { OnOk result (self.new ≡ passed self.old advance) }
+        ensures stays { OnErr result (self.new ≡ self.old) }
     {
-        self.state.make(Effect::Select(id))?;
+        let Advance { effect, used } = advance;
+        self.make(effect)?;
         self.unread.advance(used);
-        Ok(Taken::Passed)
+        Ok(())
     }
 
-    fn define(&mut self, table: TableDef, used: usize) -> Result<Taken, Fault>
-        requires { IsFront self.old (messages.Define table) used }
-        ensures gives { Gives self.old result self.new }
-        ensures fewer { OnOk result (self.new.unread ≡ drop used self.old.unread) }
+    /// Makes an effect on the state and on what is due. After `Memory` nothing has changed.
+    fn make(&mut self, effect: Effect) -> Result<(), Memory>
+        ensures made { OnOk result (self.new ≡ record self.old { state = made self.old.state effect; due = due_made self.old.state effect self.old.due }) }
+        ensures stays { OnErr result (self.new ≡ self.old) }
+    {
+        match effect {
+            Effect::Update(update) => self.remember(update),
+            Effect::Define(table) => self.define(table),
+            Effect::Select(id) => self.select(id),
+            Effect::Nothing => Ok(()),
+        }
+    }
+
+    fn define(&mut self, table: TableDef) -> Result<(), Memory>
+        ensures made { OnOk result (self.new ≡ record self.old { state = made self.old.state (effects.Define table); due = due_made self.old.state (effects.Define table) self.old.due }) }
+        ensures stays { OnErr result (self.new ≡ self.old) }
     {
         self.state.make(Effect::Define(table))?;
         still_due(&mut self.due, self.state.last_numbers());
-        self.unread.advance(used);
-        Ok(Taken::Passed)
+        self.local = selected_local(&self.roster, self.state.received());
+        Ok(())
     }
 
-    fn update(&mut self, update: UpdateMsg, used: usize) -> Result<Taken, Fault>
-        requires { IsFront self.old (messages.Update update) used }
-        ensures gives { Gives self.old result self.new }
-        ensures fewer { OnOk result (self.new.unread ≡ drop used self.old.unread) }
+    fn select(&mut self, id: u64) -> Result<(), Memory>
+        ensures made { OnOk result (self.new ≡ record self.old { state = made self.old.state (effects.Select id) }) }
+        ensures stays { OnErr result (self.new ≡ self.old) }
     {
-        match self.state.resolve(update.number(), update.name().lend()) {
-            Ok(resolved) => self.learn(update, resolved, used),
-            Err(Refusal::Memory) => Err(Fault::Memory),
-            Err(refusal) => {
-                self.close();
-                Err(Fault::from(refusal))
-            }
-        }
-    }
-
-    /// Takes an update that is resolved so.
-    fn learn(
-        &mut self,
-        update: UpdateMsg,
-        resolved: ResolvedUpdate,
-        used: usize,
-    ) -> Result<Taken, Fault>
-        requires front { IsFront self.old (messages.Update update) used }
-        requires resolved { Resolves self.old.state update.number update.name resolved }
-        ensures gives { Gives self.old result self.new }
-        ensures fewer { OnOk result (self.new.unread ≡ drop used self.old.unread) }
-    {
-        let own = self.selected_local();
-        let name = copy_of(self.state.name(update.name().lend()), self.alloc)?;
-        let number = resolved.number;
-        self.remember(resolved)?;
-        self.skip(used);
-        Ok(answer_of(own, number, name, update))
-    }
-
-    /// The id of the own table that is selected.
-    fn selected_local(&self) -> Option<u64>
-        ensures { result ≡ option_map (λ d. d.id) (option_and_then (local_table self.now.roster) (selected_table self.now.state.received)) }
-    {
-        match self.state.received().selected_table() {
-            Some(table) => local_id(&self.roster, table),
-            None => None,
-        }
+        self.state.make(Effect::Select(id))?;
+        self.local = selected_local(&self.roster, self.state.received());
+        Ok(())
     }
 
     /// Remembers the number of an update and the name that it writes, and makes its table due. After `Memory` nothing has
     /// changed.
     fn remember(&mut self, update: ResolvedUpdate) -> Result<(), Memory>
-        ensures remembered { OnOk result (self.new ≡ remembered self.old update) }
+        ensures made { OnOk result (self.new ≡ record self.old { state = made self.old.state (effects.Update update); due = due_made self.old.state (effects.Update update) self.old.due }) }
         ensures stays { OnErr result (self.new ≡ self.old) }
     {
         self.due.reserve(1)?;
@@ -307,6 +233,36 @@ impl Intake {
         self.state.make(Effect::Update(update))?;
         add_due(&mut self.due, table);
         Ok(())
+    }
+
+    /// Closes at a fault, but not for want of memory.
+    pub(crate) fn stop(&mut self, fault: Fault)
+        ensures { self.new ≡ stopped self.old fault }
+    {
+        match fault {
+            Fault::Memory | Fault::Closed => {}
+            _ => self.close(),
+        }
+    }
+
+    /// What the next message gives, and `None` while it isn't whole. After a fault it answers `Closed`. It answers `Memory`
+    /// only where a whole message without a fault stands at the front, and then nothing has changed.
+    pub fn next(&mut self) -> Result<Option<Taken>, Fault>
+        ensures next { IntakeNext self.old result self.new }
+        ensures fewer { IfOk result (λ found. IsSome found → length self.new.unread < length self.old.unread) }
+    {
+        match self.look() {
+            Ok(Some((taken, advance))) => {
+                let taken = taken.to_owned(self.alloc)?;
+                self.pass(advance)?;
+                Ok(Some(taken))
+            }
+            Ok(None) => Ok(None),
+            Err(fault) => {
+                self.stop(fault);
+                Err(fault)
+            }
+        }
     }
 
     fn ack(&self, table: &TableDef) -> Option<Message>
@@ -326,10 +282,10 @@ impl Intake {
         }
     }
 
-    /// The acknowledgements that are due: one for each own table with a last number and an update since the last call,
+    /// The acknowledgements that are due: one for each local table with a last number and an update since the last call,
     /// in rising id of the sender's. Then none is due. After `Memory` nothing has changed.
     pub fn acks(&mut self) -> Result<Vec<Message>, Memory>
-        ensures told { IfOk result (λ acks. acks.items ≡ acks_of self.old) }
+        ensures due { IfOk result (λ acks. acks.items ≡ acks_of self.old) }
         ensures rising { IfOk result (λ acks. AreRisingAcks acks.items) }
         ensures done { OnOk result (self.new ≡ record self.old { due = [] }) }
         ensures stays { OnErr result (self.new ≡ self.old) }

@@ -16,7 +16,7 @@ ghost use Rattle.known_state.specs.LastNumbers.{AreRising};
 ghost use Rattle.known_state.specs.Lessons.{IsLessonFor};
 ghost use Rattle.learner.specs.declared.fault.Fault.{Fault};
 ghost use Rattle.learner.specs.declared.fault.Fault.TheVariants as faults;
-ghost use Rattle.learner.specs.declared.intake.Taken.{Taken};
+ghost use Rattle.learner.specs.declared.taken.Taken.{Taken};
 ghost use Rattle.learner.specs.Intake.{Taking, IntakeFeeds, IntakeNext};
 ghost use Rattle.learner.specs.Cutting.{IsStopped};
 ghost use Rattle.learner.specs.Rows.{put, put_all, row_at, rows_at, AreOfOthers};

@@ -1,6 +1,8 @@
 //! Learners.
 
-ghost use Rattle.std.specs.Prelude.{◌≡◌, ◌≢◌, ◌<◌, ◌≤◌, [], false, IfOk, IfErr, OnOk, OnErr, IsNone, IsSome, IfSome, length, option_copied};
+ghost use Rattle.std.specs.Prelude.{◌≡◌, ◌≢◌, ◌<◌, ◌≤◌, ℕ, [], false, IfOk, IfErr, OnOk, OnErr, IsNone, IsSome, IfSome, Some, length, map, option_copied};
+ghost use Rattle.table_types.specs.declared.update.Update.{Update};
+ghost use Rattle.table_types.specs.Rows.{cell_of, row_of};
 ghost use Rattle.std.specs.Map.{keys_of};
 ghost use Rattle.std.specs.List.Sorted.{IsStrictlySortedBy};
 ghost use Rattle.known_state.specs.Known.{known_of};
@@ -10,19 +12,21 @@ ghost use Rattle.learner.specs.Acks.{AreRisingAcks};
 ghost use Rattle.learner.specs.Intake.{acks_of};
 ghost use Rattle.table_types.specs.Keys.{key_cmp};
 ghost use Rattle.learner.specs.Rows.{row_at, rows_at, index_of, put};
+ghost use Rattle.learner.specs.NewRows.{IsRowOf};
 ghost use Rattle.learner.specs.Learning.{unlearned, LearnsOne, LearnsAll, FedAndOpen, LearnerFeeds};
 
 use crate::fault::Fault;
 use crate::intake::Intake;
 use crate::table_rows::TableRows;
+use crate::taken::{LocalUpdateRef, TakenRef};
 use known_state::Known;
-use peers_msg::Message;
+use peers_msg::{Message, ValuesRef};
 use std::alloc::Global;
 use std::collections::BTreeMap;
 use std::marker::Model;
-use table_types::{Key, Memory, Moment, Roster, Row, TableDef, Update, table_at};
+use table_types::{Cell, Key, Memory, Moment, Roster, Row, TableDef};
 
-/// A learner: takes the bytes of a stream in any pieces, and keeps the rows of its own tables (HAProxy,
+/// A learner: takes the bytes of a stream in any pieces, and keeps the rows of its local tables (HAProxy,
 /// doc/peers-v2.0.txt, "Update Messages").
 ///
 /// A table that the sender defines is an own one where it has its name, and the same kind of keys, key length, data
@@ -58,27 +62,57 @@ fn index_of(tables: &[TableDef], id: u64) -> Option<usize>
     None
 }
 
-/// Puts an update among the rows of its table. After `Memory` nothing has changed.
-fn put(
+/// The cells of a row that an update of these values teaches at that moment.
+fn cells_of(alloc: Global, mut values: ValuesRef<'_>, now: Moment) -> Result<Vec<Cell>, Memory>
+    ensures { IfOk result (λ cells. cells.items ≡ map (cell_of now) values.entry) }
+{
+    let mut cells = Vec::new(alloc);
+    while let Some(value) = values.next() {
+        cells.push(Cell::of(value, now))?;
+    }
+    Ok(cells)
+}
+
+/// The row that an update teaches at that moment, with its key, in a table whose rows expire so.
+fn learned(
+    alloc: Global,
+    update: &LocalUpdateRef<'_>,
+    expire: u32,
+    now: Moment,
+) -> Result<(Key, Row), Memory>
+    ensures { IfOk result (λ pair. (pair.0 ≡ update.now.key) × (pair.1 ≡ row_of now expire update.now)) }
+{
+    let cells = cells_of(alloc, update.values(), now)?;
+    let name = update.name(alloc)?;
+    let key = update.key().to_owned(alloc)?;
+    let ends = Row::end(update.life(), expire, now);
+    Ok((key, Row::learned_with(update.number(), ends, cells, name)))
+}
+
+/// A row to be put in the table of an index.
+#[derive(Debug, Drop)]
+struct NewRow {
+    index: usize,
+    key: Key,
+    row: Row,
+}
+
+/// The row that an update teaches at that moment; `None` where there is no table of its id.
+fn new_row(
     alloc: Global,
     tables: &[TableDef],
-    rows_of_tables: &mut Vec<TableRows>,
-    update: Update,
+    update: &LocalUpdateRef<'_>,
     now: Moment,
-) -> Result<(), Memory>
-    requires { length rows_of_tables.old.items ≡ length tables.now }
-    ensures put { OnOk result (rows_of_tables.new.items ≡ put now tables.now rows_of_tables.old.items update) }
-    ensures stays { OnErr result (rows_of_tables.new.items ≡ rows_of_tables.old.items) }
-    ensures size { length rows_of_tables.new.items ≡ length rows_of_tables.old.items }
+) -> Result<Option<NewRow>, Memory>
+    ensures { IfOk result (λ row. IsRowOf now tables.now update.now row) }
 {
-    let Some(table) = table_at(tables, update.table) else {
-        return Ok(());
-    };
-    let Some(place) = index_of(tables, update.table) else {
-        return Ok(());
-    };
-    let (key, row) = Row::learned(alloc, update, table.expire(), now)?;
-    rows_of_tables[place].put(key, row)
+    match index_of(tables, update.table()) {
+        Some(index) => {
+            let (key, row) = learned(alloc, update, tables[index].expire(), now)?;
+            Ok(Some(NewRow { index, key, row }))
+        }
+        None => Ok(None),
+    }
 }
 
 /// Copies of rows with their keys, in rising key.
@@ -109,7 +143,7 @@ impl Learner {
         })
     }
 
-    /// The learner's own tables.
+    /// The learner's local tables.
     pub fn roster(&self) -> &Roster
         ensures { result.now ≡ self.now.intake.roster }
     {
@@ -169,35 +203,51 @@ impl Learner {
         ensures one { IfOk result (λ found. IfSome found (λ rows. rows ≤ 1)) }
         ensures fewer { IfOk result (λ found. IsSome found → length self.new.intake.unread < length self.old.intake.unread) }
     {
-        let Some(taken) = self.intake.next()? else {
-            return Ok(None);
-        };
-        match taken.row() {
-            Some(update) => {
-                self.put(update, now)?;
+        match self.intake.look() {
+            Ok(Some((TakenRef::Row(update), advance))) => {
+                let row = new_row(self.alloc, self.intake.roster().tables(), &update, now)?;
+                self.intake.pass(advance)?;
+                self.put(row)?;
                 Ok(Some(1))
             }
-            None => Ok(Some(0)),
+            Ok(Some((_, advance))) => {
+                self.intake.pass(advance)?;
+                Ok(Some(0))
+            }
+            Ok(None) => Ok(None),
+            Err(fault) => {
+                self.intake.stop(fault);
+                Err(fault)
+            }
         }
     }
 
-    fn put(&mut self, update: Update, now: Moment) -> Result<(), Memory>
-        ensures put { OnOk result (self.new ≡ record self.old { rows = put now self.old.intake.roster self.old.rows update }) }
+    /// Puts a row that an update teaches. After `Memory` nothing has changed.
+    fn put(&mut self, row: Option<NewRow>) -> Result<(), Memory>
+        requires { IfSome row (λ row. row.index < length self.old.intake.roster) }
+        ensures put { OnOk result ((u : Update) (now : ℕ) → IsRowOf now self.old.intake.roster u row →
+            self.new ≡ record self.old { rows = put now self.old.intake.roster self.old.rows u }) }
         ensures stays { OnErr result (self.new ≡ self.old) }
     {
-        put(
-            self.alloc,
-            self.intake.roster().tables(),
-            &mut self.rows_of_tables,
-            update,
-            now,
-        )
+        match row {
+            Some(row) => self.put_at(row.index, row.key, row.row),
+            None => Ok(()),
+        }
     }
 
-    /// The acknowledgements that are due: one for each own table with a last number and an update since the last call,
+    fn put_at(&mut self, index: usize, key: Key, row: Row) -> Result<(), Memory>
+        requires { index < length self.old.intake.roster }
+        ensures put { OnOk result ((u : Update) (now : ℕ) → IsRowOf now self.old.intake.roster u (Some (record { index = index; key = key; row = row })) →
+            self.new ≡ record self.old { rows = put now self.old.intake.roster self.old.rows u }) }
+        ensures stays { OnErr result (self.new ≡ self.old) }
+    {
+        self.rows_of_tables[index].put(key, row)
+    }
+
+    /// The acknowledgements that are due: one for each local table with a last number and an update since the last call,
     /// in rising id of the sender's. Then none is due. After `Memory` nothing has changed.
     pub fn acks(&mut self) -> Result<Vec<Message>, Memory>
-        ensures told { IfOk result (λ acks. acks.items ≡ acks_of self.old.intake) }
+        ensures due { IfOk result (λ acks. acks.items ≡ acks_of self.old.intake) }
         ensures rising { IfOk result (λ acks. AreRisingAcks acks.items) }
         ensures done { OnOk result (self.new ≡ record self.old { intake = record self.old.intake { due = [] } }) }
         ensures stays { OnErr result (self.new ≡ self.old) }
@@ -205,7 +255,7 @@ impl Learner {
         self.intake.acks()
     }
 
-    /// The row of a key in the own table of that id.
+    /// The row of a key in the local table of that id.
     pub fn row(&self, table: u64, key: &Key) -> Option<&Row>
         ensures { option_copied result ≡ row_at key.now (rows_at self.now.intake.roster table self.now.rows) }
     {

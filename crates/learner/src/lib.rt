@@ -1,6 +1,7 @@
 //! A learner: takes the bytes of a stream in any pieces, and keeps the rows of its own tables.
 #![tactic(auto)]
 
+mod advance;
 mod due;
 mod fault;
 mod intake;
@@ -8,10 +9,13 @@ mod laws;
 mod learner;
 mod local_tables;
 mod table_rows;
+mod taken;
 
 pub use fault::Fault;
+pub use intake::Intake;
 pub use laws::{
     a_legal_stream, a_lesson, any_pieces, numbers_stay_rising, one_fault, one_outcome, others_stay,
     the_last_stands,
 };
 pub use learner::Learner;
+pub use taken::Taken;

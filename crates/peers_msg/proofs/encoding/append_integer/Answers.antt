@@ -1,4 +1,4 @@
-use Rattle.std.proofs.Common.{◌∷◌, [], ◌++◌, List, ℕ, sym, ap, ◌∙◌, arith}
+use Rattle.std.proofs.Common.{◌++◌, List, ℕ, sym, ap, ◌∙◌, arith}
 use Rattle.peers_encint.proofs.SpellingLaws.{spelling-low, length-low}
 use Rattle.peers_msg.proofs.encoding.append_integer.Goals as goal
 

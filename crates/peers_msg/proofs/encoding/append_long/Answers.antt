@@ -1,4 +1,4 @@
-use Rattle.std.proofs.Common.{◌≡◌, ℕ, ◌+◌, ◌≤◌, ◌++◌, ◌∷◌, [], ◌-◌, ◌/◌, List, length, vec_len, sym, ap, ◌∙◌, subst, rules, arith}
+use Rattle.std.proofs.Common.{ℕ, ◌+◌, ◌++◌, ◌-◌, ◌/◌, List, length, vec_len, sym, ◌∙◌, subst, arith}
 use Rattle.peers_encint.specs.Integers.{spelling}
 use Rattle.peers_encint.proofs.SpellingLaws.{within}
 use Rattle.peers_encint.proofs.SpellingSteps.{first_byte, later_byte}

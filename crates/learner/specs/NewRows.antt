@@ -1,0 +1,17 @@
+-- The row that an update teaches.
+use Rattle.std.specs.Prelude.{◌≡◌, ℕ, List, Option, Some, None}
+use Rattle.table_types.specs.declared.update.Update.{Update}
+use Rattle.table_types.specs.Tables.{Definition}
+use Rattle.table_types.specs.Rosters.{table_at}
+use Rattle.table_types.specs.Rows.{row_of}
+use Rattle.learner.specs.declared.learner.NewRow.{NewRow}
+use Rattle.learner.specs.Rows.{index_of}
+
+-- the index of the update's table, its key, and the row; none where no table has its id
+abbrev pub IsRowOf : ℕ → List Definition → Update → Option NewRow → Type 0
+IsRowOf now tables u None = index_of tables u.table ≡ None
+IsRowOf now tables u (Some new) =
+    (index_of tables u.table ≡ Some new.index)
+    × (d : Definition) × (table_at tables u.table ≡ Some d)
+    × (new.key ≡ u.key)
+    × (new.row ≡ row_of now d.expire u)
