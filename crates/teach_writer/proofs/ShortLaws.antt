@@ -13,8 +13,8 @@ use Rattle.peers_msg.specs.declared.message.Message.{Message}
 use Rattle.peers_msg.specs.declared.message.Message.TheVariants as messages
 use Rattle.peers_msg.specs.Received.{Received, received_after, defined, selected_table}
 use Rattle.peers_msg.specs.Spelling.{size_of, size_of_all}
-use Rattle.known_state.specs.State.{State, Step, Legal, keeps_last, resolved}
-use Rattle.known_state.specs.LastNumbers.{last_of, set_last}
+use Rattle.known_state.specs.State.{State, Step, Legal, resolved}
+use Rattle.known_state.specs.LastNumbers.{last_of, set_last, keeps_last}
 use Rattle.table_types.specs.Batches.{IsBatchFor}
 use Rattle.known_state.specs.Known.{KnownState, AreOwn}
 use Rattle.known_state.specs.Shortest.{Shortest}
