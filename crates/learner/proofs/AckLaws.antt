@@ -1,5 +1,5 @@
 -- Acknowledgements come in ascending order of id.
-use Rattle.std.proofs.Common.{◌≡◌, ℕ, Bool, true, false, ◌&&◌, cond, List, [], ◌∷◌, Option, Some, None, refl, sym, ap, subst, ◌∙◌}
+use Rattle.std.proofs.Common.{◌≡◌, ℕ, Bool, true, false, ◌&&◌, cond, List, [], ◌∷◌, Option, Some, None, refl, sym}
 use Rattle.std.specs.Prelude.{filter_map, is_some, option_map}
 use Rattle.std.specs.List.{AllByRecursion}
 use Rattle.table_types.specs.Tables.{Definition}

@@ -1,5 +1,6 @@
 -- However a stream is cut into pieces, the same fault comes.
-use Rattle.std.proofs.Common.{◌≡◌, ◌≢◌, ℕ, Bool, true, false, List, [], ◌∷◌, ◌++◌, Option, Some, None, Result, Ok, Err, refl, sym, ap, subst, ◌∙◌, inl, inr, append_assoc}
+use Rattle.std.proofs.Common.{◌≡◌, ◌≢◌, ℕ, ◌+◌, ◌⊎◌, true, false, List, [], ◌∷◌, ◌++◌, Result, Ok, Err, refl, sym, ap, subst, ◌∙◌, inl, inr, append_assoc}
+use Rattle.std.specs.List.{AllByRecursion}
 use Rattle.peers_msg.specs.Integers.{IsBytes}
 use Rattle.table_types.specs.declared.update.Update.{Update}
 use Rattle.peers_msg.specs.declared.message.Message.{Message}
@@ -11,7 +12,7 @@ use Rattle.learner.specs.declared.fault.Fault.{Fault}
 use Rattle.learner.specs.declared.fault.Fault.TheVariants as faults
 use Rattle.learner.specs.Intake.{Taking, Stops, fed}
 use Rattle.learner.specs.Learning.{Learning, AreLearned, LearnerFeeds, AreFed, with_piece}
-use Rattle.learner.specs.Cutting.{IsStopped}
+use Rattle.learner.specs.Cutting.{IsStopped, AreAnswered}
 use Rattle.learner.proofs.LearningLemmas.{stays_open}
 use Rattle.learner.proofs.LessonLaws.{apart}
 use Rattle.learner.proofs.PieceLaws.{joined, learns_on, left_good, whole}
@@ -192,3 +193,61 @@ stays_shut now l e bytes (Err faults.Trailing) shut (is_open, all) = absurd (apa
 
 pub closed_then : (now after : ℕ) (l e x : Learning) (piece bytes : List ℕ) (fault : Fault) (answer : Result ℕ Fault) → LearnerFeeds now l piece (Err fault) e → LearnerFeeds after e bytes answer x → (answer ≡ Err faults.Closed) × (x ≡ e)
 closed_then now after l e x piece bytes fault answer fed later = stays_shut after e x bytes answer (shut_by now l e piece fault fed) later
+
+-- ---- all the pieces of a cutting
+
+all_shut : (now : ℕ) (pieces : List (List ℕ)) (l e : Learning) (answers : List (Result ℕ Fault)) → l.intake.closed ≡ true → AreAnswered now l pieces answers e → e ≡ l
+all_shut now [] l e answers shut (none, here) = here
+all_shut now (p ∷ ps) l e answers shut (one, rest, mid, is, fed, later) =
+    let same : mid ≡ l = (stays_shut now l mid p one shut fed).1 in
+    all_shut now ps mid e rest (ap (λ (x : Learning). x.intake.closed) same ∙ shut) later ∙ same
+
+abbrev NoneWants : List (Result ℕ Fault) → Type 0
+NoneWants answers = AllByRecursion (λ answer. answer ≢ Err faults.Memory) answers
+
+-- pieces go through, or a fault stops them
+abbrev GoesThrough : ℕ → Learning → List (List ℕ) → Learning → Type 0
+GoesThrough now l pieces e = (count : ℕ) × AreFed now l pieces count e
+
+abbrev StopsWithin : ℕ → Learning → List (List ℕ) → Learning → Type 0
+StopsWithin now l pieces e =
+    (begins : List (List ℕ))
+    × (end : List ℕ)
+    × (rest : List (List ℕ))
+    × (fault : Fault)
+    × (pieces ≡ begins ++ (end ∷ rest))
+    × IsStopped now l begins end fault e
+    × (fault ≢ faults.Memory)
+
+through_or_stopped : (now : ℕ) (pieces : List (List ℕ)) (l e : Learning) (answers : List (Result ℕ Fault)) → AreAnswered now l pieces answers e → NoneWants answers → GoesThrough now l pieces e ⊎ StopsWithin now l pieces e
+through_or_stopped now [] l e answers (none, here) fine = inl (0, (refl, here))
+through_or_stopped now (p ∷ ps) l e answers (one, rest, mid, is, fed, later) fine =
+    let all : NoneWants (one ∷ rest) = subst NoneWants is fine in
+    by one rest mid fed all.0 later (through_or_stopped now ps mid e rest later all.1)
+  where
+    by : (one : Result ℕ Fault) (rest : List (Result ℕ Fault)) (mid : Learning) → LearnerFeeds now l p one mid → one ≢ Err faults.Memory → AreAnswered now mid ps rest e → GoesThrough now mid ps e ⊎ StopsWithin now mid ps e → GoesThrough now l (p ∷ ps) e ⊎ StopsWithin now l (p ∷ ps) e
+    by (Ok n) rest mid fed fine later (inl (count, goes)) = inl (n + count, (n, count, mid, refl, fed, goes))
+    by (Ok n) rest mid fed fine later (inr (begins, end, others, fault, cut, (count, last, goes, stops), wanted)) =
+        inr (p ∷ begins, end, others, fault, ap (λ (xs : List (List ℕ)). p ∷ xs) cut, (n + count, last, (n, count, mid, refl, fed, goes), stops), wanted)
+    by (Err fault) rest mid fed fine later others =
+        let same : e ≡ mid = all_shut now ps mid e rest (shut_by now l mid p fault fed) later in
+        let stops : LearnerFeeds now l p (Err fault) e = subst (λ (x : Learning). LearnerFeeds now l p (Err fault) x) (sym same) fed in
+        inr ([], p, ps, fault, refl, (0, l, (refl, refl), stops), λ memory. fine (ap (λ (f : Fault). Err f) memory))
+
+together-append : (xs ys : List (List ℕ)) → together (xs ++ ys) ≡ together xs ++ together ys
+together-append [] ys = refl
+together-append (x ∷ xs) ys =
+    let grouped : x ++ (together xs ++ together ys) ≡ (x ++ together xs) ++ together ys = simp append_assoc in
+    ap (λ (bytes : List ℕ). x ++ bytes) (together-append xs ys) ∙ grouped
+
+-- a fault that comes in one cutting comes in every other
+pub it_comes : (now : ℕ) (l a b : Learning) (before others : List (List ℕ)) (last first more : List ℕ) (fault : Fault) (answers : List (Result ℕ Fault)) → l.intake.closed ≡ false → IsBytes (l.intake.unread ++ (together before ++ (last ++ more))) → together before ++ (last ++ more) ≡ together (first ∷ others) → IsStopped now l before last fault a → fault ≢ faults.Memory → AreAnswered now l (first ∷ others) answers b → AllByRecursion (λ answer. answer ≢ Err faults.Memory) answers
+    → (begins : List (List ℕ)) × (end : List ℕ) × (rest : List (List ℕ)) × (first ∷ others ≡ begins ++ (end ∷ rest)) × IsStopped now l begins end fault b × (with_piece a more ≡ with_piece b (together rest))
+it_comes now l a b before others last first more fault answers is_open good cut stopped wanted fed fine =
+    elim (through_or_stopped now (first ∷ others) l b answers fed fine) [
+      | inl goes ↦ absurd (never_through now l a b before others last first more goes.0 fault good cut stopped wanted goes.1)
+      | inr one ↦
+          let pieces : together (first ∷ others) ≡ together one.0 ++ (one.1 ++ together one.2) = ap together one.4 ∙ together-append one.0 (one.1 ∷ one.2) in
+          let same = same_stop now l a b before one.0 last one.1 more (together one.2) fault one.3 is_open good (cut ∙ pieces) stopped one.5 wanted one.6 in
+          (one.0, one.1, one.2, one.4, subst (λ (f : Fault). IsStopped now l one.0 one.1 f b) (sym same.0) one.5, same.1)
+    ]

@@ -1,5 +1,5 @@
 -- A learner does one thing, but where memory runs out.
-use Rattle.std.proofs.Common.{◌≡◌, ◌≢◌, ℕ, Bool, true, false, cond, List, [], ◌∷◌, ◌++◌, length, Option, Some, None, Result, Ok, Err, refl, sym, ap, subst, ◌∙◌, inl, inr, ◌⊎◌}
+use Rattle.std.proofs.Common.{◌≡◌, ◌≢◌, ℕ, Bool, true, false, cond, List, [], ◌∷◌, Option, Some, None, Result, Ok, Err, refl, sym, ap, subst, ◌∙◌, inl, inr, ◌⊎◌}
 use Rattle.table_types.specs.declared.key.Key.{Key}
 use Rattle.table_types.specs.declared.update.Update.{Update}
 use Rattle.table_types.specs.Rows.{StoredRow}
@@ -15,8 +15,8 @@ use Rattle.learner.specs.declared.fault.Fault.TheVariants as faults
 use Rattle.learner.specs.declared.taken.Taken.{Taken}
 use Rattle.learner.specs.declared.taken.Taken.TheVariants as taken
 use Rattle.learner.specs.Faults.{fault_like}
-use Rattle.learner.specs.Intake.{Taking, Takes, Stops, IntakeFeeds, IntakeNext, Tells, lacks_number, rows_of, told_of, fed, shut}
-use Rattle.learner.specs.Learning.{Learning, AreLearned, IsWaiting, LearnerFeeds, with_piece}
+use Rattle.learner.specs.Intake.{Taking, Takes, Stops, IntakeFeeds, IntakeNext, Tells, lacks_number, rows_of, fed, shut}
+use Rattle.learner.specs.Learning.{Learning, AreLearned, LearnerFeeds, with_piece}
 use Rattle.learner.proofs.PieceLaws.{one_learned, one_message, one_taking, same_fed}
 use Rattle.learner.proofs.LessonLaws.{apart, goes_on, no_fault, waits_on}
 

@@ -283,7 +283,7 @@ impl Intake {
     }
 
     /// The acknowledgements that are due: one for each local table with a last number and an update since the last call,
-    /// in rising id of the sender's. Then none is due. After `Memory` nothing has changed.
+    /// in ascending order of the sender's id. Then none is due. After `Memory` nothing has changed.
     pub fn acks(&mut self) -> Result<Vec<Message>, Memory>
         ensures due { IfOk result (λ acks. acks.items ≡ acks_of self.old) }
         ensures rising { IfOk result (λ acks. AreRisingAcks acks.items) }

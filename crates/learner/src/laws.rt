@@ -1,6 +1,7 @@
 //! What holds of the definitions, whatever the program does.
 
 ghost use Rattle.std.specs.Prelude.{◌≡◌, ◌≢◌, ◌+◌, ◌∷◌, ◌++◌, ℕ, List, Result, Ok, Err, Option, Some, None, false, length};
+ghost use Rattle.std.specs.List.{AllByRecursion};
 ghost use Rattle.peers_msg.specs.Integers.{IsBytes};
 ghost use Rattle.table_types.specs.declared.key.Key.{Key};
 ghost use Rattle.table_types.specs.declared.update.Update.{Update};
@@ -18,7 +19,7 @@ ghost use Rattle.learner.specs.declared.fault.Fault.{Fault};
 ghost use Rattle.learner.specs.declared.fault.Fault.TheVariants as faults;
 ghost use Rattle.learner.specs.declared.taken.Taken.{Taken};
 ghost use Rattle.learner.specs.Intake.{Taking, IntakeFeeds, IntakeNext};
-ghost use Rattle.learner.specs.Cutting.{IsStopped};
+ghost use Rattle.learner.specs.Cutting.{IsStopped, AreAnswered};
 ghost use Rattle.learner.specs.Rows.{put, put_all, row_at, rows_at, AreOfOthers};
 ghost use Rattle.learner.specs.Moments.{Piece, stream_in, AreFedInTime, HasLearnedInTime};
 ghost use Rattle.learner.specs.Learning.{Learning, unlearned, with_piece, LearnerFeeds, AreFed, IsReady, IsReadyIn, IsTaught, HasLearned};
@@ -51,18 +52,22 @@ pub fn one_outcome()
 /// However a stream is cut into pieces that are fed at one moment, the same fault comes, but for running out of memory.
 /// Where two ways to cut it each stop at a fault, it is the same fault, with the same rows and the same state, and the
 /// same bytes are left up to what each was fed: with what was still to come of the stream they are one and the same.
-/// Where a fault stops one way, no other goes through without one. After a fault every piece is answered `Closed`, and
-/// changes nothing.
+/// Where a fault stops one way, it stops every other way too at one of its pieces, where all of them are fed. After a
+/// fault every piece is answered `Closed`, and changes nothing.
 pub fn one_fault()
     ensures same { (now : ℕ) (l a b : Learning) (before others : List (List ℕ)) (last end more rest : List ℕ) (fault other : Fault) →
         l.intake.closed ≡ false → IsBytes (l.intake.unread ++ (together before ++ (last ++ more))) →
         together before ++ (last ++ more) ≡ together others ++ (end ++ rest) →
         IsStopped now l before last fault a → IsStopped now l others end other b → fault ≢ faults.Memory → other ≢ faults.Memory →
         (fault ≡ other) × (with_piece a more ≡ with_piece b rest) }
-    ensures through { (now : ℕ) (l a b : Learning) (before others : List (List ℕ)) (last first more : List ℕ) (count : ℕ) (fault : Fault) →
-        IsBytes (l.intake.unread ++ (together before ++ (last ++ more))) →
+    ensures comes { (now : ℕ) (l a b : Learning) (before others : List (List ℕ)) (last first more : List ℕ) (fault : Fault) (answers : List (Result ℕ Fault)) →
+        l.intake.closed ≡ false → IsBytes (l.intake.unread ++ (together before ++ (last ++ more))) →
         together before ++ (last ++ more) ≡ together (first ∷ others) →
-        IsStopped now l before last fault a → fault ≢ faults.Memory → AreFed now l (first ∷ others) count b → ⊥ }
+        IsStopped now l before last fault a → fault ≢ faults.Memory →
+        AreAnswered now l (first ∷ others) answers b → AllByRecursion (λ answer. answer ≢ Err faults.Memory) answers →
+        (begins : List (List ℕ)) × (end : List ℕ) × (rest : List (List ℕ))
+        × (first ∷ others ≡ begins ++ (end ∷ rest)) × IsStopped now l begins end fault b
+        × (with_piece a more ≡ with_piece b (together rest)) }
     ensures closed { (now after : ℕ) (l e x : Learning) (piece bytes : List ℕ) (fault : Fault) (answer : Result ℕ Fault) →
         LearnerFeeds now l piece (Err fault) e → LearnerFeeds after e bytes answer x → (answer ≡ Err faults.Closed) × (x ≡ e) }
 {}

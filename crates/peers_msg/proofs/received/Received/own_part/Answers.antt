@@ -1,4 +1,4 @@
-use Rattle.std.proofs.Common.{◌≡◌, ◌≤◌, ◌++◌, [], List, rules, arith, sym, ap, subst, ◌∙◌, drop, length}
+use Rattle.std.proofs.Common.{◌≡◌, ◌≤◌, ◌++◌, [], List, arith, sym, ap, subst, ◌∙◌, drop, length}
 use Rattle.std.proofs.lemmas.List.{append-nil, drop_all}
 use Rattle.std.specs.Prelude.{filter}
 use Rattle.table_types.specs.Tables.{Definition}
