@@ -1,5 +1,5 @@
 //! Writing bytes to a device, all of them.
-ghost use Rattle.std.specs.Prelude.{◌≡◌, ℕ, ◌≤◌, IfErr, OnOk, length, take};
+ghost use Rattle.std.specs.Prelude.{◌≡◌, ℕ, ◌<◌, IfErr, OnOk, length, take};
 ghost use Rattle.std.specs.Io.KnownBytes.{Appends};
 ghost use Rattle.peers_devices.specs.Failures.{Rose, sent_of};
 
@@ -10,7 +10,7 @@ use thiserror::Error;
 /// The most writes that may fail uncounted before an output is given up.
 const MOST_RETRIES: u32 = 1_000_000;
 
-/// Why not all bytes were written. Exactly the first `sent` of them went out.
+/// Why not all bytes were written. Exactly the first `sent` of them went out, and at least one didn't.
 #[derive(Clone, Copy, Debug, PartialEq, Eq, Error)]
 pub enum WriteError {
     /// A write failed, and the device counted it.
@@ -34,7 +34,7 @@ pub fn write_all<W: Write + Faults>(output: &mut W, bytes: &[u8]) -> Result<(), 
     ensures ok { OnOk result (Appends (W.contents output.old) (W.contents output.new) bytes.now) }
     ensures failed { (sent : ℕ) → result ≡ Err (WriteError.Failed sent) → Rose (W.failed output.old) (W.failed output.new) }
     ensures sent { IfErr result (λ error. Appends (W.contents output.old) (W.contents output.new) (take (sent_of error) bytes.now)) }
-    ensures within { IfErr result (λ error. sent_of error ≤ length bytes.now) }
+    ensures within { IfErr result (λ error. sent_of error < length bytes.now) }
 {
     let earlier = output.failures();
     let mut sent = 0;

@@ -24,10 +24,16 @@ met name Lesson = refl
 met name Learn = refl
 
 pub choice_taken : (words : List (List ℕ)) (chosen : Options) → Chooses words chosen → takes program words ≡ true
-choice_taken words chosen (name, is) = ap (takes program) is ∙ taken name chosen
+choice_taken [] chosen is = elim is [ ]
+choice_taken (name ∷ []) chosen is = elim is [ ]
+choice_taken (name ∷ (word ∷ (_ ∷ _))) chosen is = elim is [ ]
+choice_taken (name ∷ word ∷ []) chosen is = ap (λ w. takes program (name ∷ w ∷ [])) is ∙ taken name chosen
 
 pub choice_met : (words : List (List ℕ)) (chosen : Options) → Chooses words chosen → subcommand_named words ≡ Some (name_of chosen)
-choice_met words chosen (name, is) = ap subcommand_named is ∙ met name chosen
+choice_met [] chosen is = elim is [ ]
+choice_met (name ∷ []) chosen is = elim is [ ]
+choice_met (name ∷ (word ∷ (_ ∷ _))) chosen is = elim is [ ]
+choice_met (name ∷ word ∷ []) chosen is = ap (λ w. subcommand_named (name ∷ w ∷ [])) is ∙ met name chosen
 
 -- the name of the subcommand that was met, by its name and rows
 named : (m : ArgMatches) → subcommand_name_of m ≡ option_map (λ found. found.0) (subcommand_rows_of m)

@@ -23,7 +23,8 @@ name_of Learn = codes "learn"
 
 -- the words are the program's name and then this choice's
 abbrev pub Chooses : List (List ℕ) → Options → Type 0
-Chooses words chosen = (program : List ℕ) × (words ≡ program ∷ name_of chosen ∷ [])
+Chooses (program ∷ name ∷ []) chosen = name ≡ name_of chosen
+Chooses _ chosen = ⊥
 
 -- the program as the parser of command lines sees it: with a version, and nothing without a subcommand
 abbrev pub program : App

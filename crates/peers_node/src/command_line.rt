@@ -12,15 +12,46 @@ use std::alloc::{AllocError, Global};
 
 /// Reads the words of a command line, the program's name first.
 ///
-/// `Words` stands for every command line that isn't one of this program, a call for help or the version among them;
-/// `Memory` only for want of memory.
+/// `Words` stands for every command line that isn't one of this program, a call for help or the version among them.
+/// `Memory` stands for want of memory, and only where the words are a command line: whether they are is decided without
+/// memory where the parser has none.
 pub fn options<'a>(alloc: Global, words: &'a [&'a str]) -> Result<Options, OptionsError>
     ensures ok { IfOk result (λ chosen. (subcommand_named (texts words.now) ≡ Some (name_of chosen)) × (faults_of (texts words.now) ≡ [])) }
     ensures words { result ≡ Err OptionsError.Words → (chosen : Options) → Chooses (texts words.now) chosen → ⊥ }
+    ensures memory { result ≡ Err OptionsError.Memory → (chosen : Options) × Chooses (texts words.now) chosen }
 {
     match read_words(alloc, words) {
         Ok(chosen) => Ok(chosen),
-        Err(refusal) => Err(refusal.cause()),
+        Err(refusal) => match refusal.cause() {
+            OptionsError::Words => Err(OptionsError::Words),
+            OptionsError::Memory => match choice_of(words) {
+                Some(_) => Err(OptionsError::Memory),
+                None => Err(OptionsError::Words),
+            },
+        },
+    }
+}
+
+/// What words choose, decided without memory: those that are the program's name and then a subcommand's.
+pub fn choice_of(words: &[&str]) -> Option<Options>
+    ensures some { IfSome result (λ chosen. Chooses (texts words.now) chosen) }
+    ensures none { result ≡ None → (chosen : Options) → Chooses (texts words.now) chosen → ⊥ }
+{
+    match words {
+        [_, name] => named(*name),
+        _ => None,
+    }
+}
+
+/// The choice of this name.
+fn named(name: &str) -> Option<Options>
+    ensures some { IfSome result (λ chosen. name.now ≡ name_of chosen) }
+    ensures none { result ≡ None → (chosen : Options) → name.now ≡ name_of chosen → ⊥ }
+{
+    match name {
+        "lesson" => Some(Options::Lesson),
+        "learn" => Some(Options::Learn),
+        _ => None,
     }
 }
 
@@ -107,8 +138,7 @@ fn chosen(matches: &ArgMatches<'_>) -> Option<Options>
     ensures none { result ≡ None → (chosen : Options) → subcommand_name_of matches.now ≡ Some (name_of chosen) → ⊥ }
 {
     match matches.subcommand_name() {
-        Some("lesson") => Some(Options::Lesson),
-        Some("learn") => Some(Options::Learn),
-        _ => None,
+        Some(name) => named(name),
+        None => None,
     }
 }

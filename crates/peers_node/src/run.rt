@@ -1,7 +1,7 @@
 //! From the words of the command line to the exit status.
 
 use crate::choice::Options;
-use crate::command_line::{Refusal, read_words};
+use crate::command_line::{Refusal, choice_of, read_words};
 use crate::options_error::OptionsError;
 use peers_devices::{Counting, Faults, write_all};
 use scene_commands::{Ending, learn, lesson};
@@ -11,6 +11,9 @@ use std::io::{ErrorKind, Write};
 
 /// The exit status of a command line that is refused, or asks for help.
 const WORDS: u8 = 2;
+
+/// What is said of words that are no command line where there is no memory for more.
+const NO_COMMAND_LINE: &str = "error: not a command line of this program\n";
 
 /// Runs the subcommand that the command line chooses, and answers the exit status.
 pub fn status(rt: HostRuntime) -> u8 {
@@ -53,15 +56,24 @@ fn dispatched<'a, E: Write + Faults>(rt: &HostRuntime, words: &'a [&'a str], err
     match read_words(alloc, words) {
         Ok(Options::Lesson) => lesson(alloc, &mut input, &mut output, errors).status(),
         Ok(Options::Learn) => learn(alloc, &mut input, &mut output, errors).status(),
-        Err(refusal) => refused(alloc, &refusal, errors),
+        Err(refusal) => refused(alloc, words, &refusal, errors),
     }
 }
 
-/// Says why words are refused.
-fn refused<E: Write + Faults>(alloc: Global, refusal: &Refusal, errors: &mut E) -> u8 {
-    match (refusal.cause(), refusal.text(alloc)) {
-        (OptionsError::Words, Ok(text)) => said(text.as_str(), errors),
-        _ => Ending::Memory.said(alloc, errors).status(),
+/// Says why words are refused. Want of memory is the cause only where they are a command line.
+fn refused<E: Write + Faults>(
+    alloc: Global,
+    words: &[&str],
+    refusal: &Refusal,
+    errors: &mut E,
+) -> u8 {
+    match (refusal.cause(), choice_of(words)) {
+        (OptionsError::Memory, Some(_)) => Ending::Memory.said(alloc, errors).status(),
+        (OptionsError::Memory, None) => said(NO_COMMAND_LINE, errors),
+        (OptionsError::Words, _) => match refusal.text(alloc) {
+            Ok(text) => said(text.as_str(), errors),
+            Err(_) => said(NO_COMMAND_LINE, errors),
+        },
     }
 }
 

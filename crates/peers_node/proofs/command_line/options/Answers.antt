@@ -2,7 +2,7 @@ use Rattle.std.proofs.Common.{◌≡◌, ◌∙◌, sym}
 use Rattle.peers_node.specs.declared.options_error.OptionsError.TheVariants.{Words}
 use Rattle.peers_node.proofs.command_line.options.Goals as goal
 
-pub returns-in-Err-clause-words : goal.returns-in-Err-clause-words
-returns-in-Err-clause-words c = λ refused.
+pub returns-in-Words-clause-words : goal.returns-in-Words-clause-words
+returns-in-Words-clause-words c = λ refused.
     let words : c.cause.result ≡ Words = cc in
     c.in-Err.ensures.refused (sym c.cause.ensures ∙ words)
