@@ -30,7 +30,8 @@ stops_on t e more faults.NoNumber good (is_open, u, (rest, at), lacks, is) =
     (is_open, u, (rest ++ more, read_on t.state.received (messages.Update u) t.unread rest more good at), lacks, ap (λ (x : Taking). fed x more) is)
 stops_on t e more faults.EmptySlot good (is_open, u, (rest, at), has, reads, is) =
     (is_open, u, (rest ++ more, read_on t.state.received (messages.Update u) t.unread rest more good at), has, reads, ap (λ (x : Taking). fed x more) is)
-stops_on t e more faults.Memory good (is_open, is) = (is_open, ap (λ (x : Taking). fed x more) is)
+stops_on t e more faults.Memory good (is_open, (m, rest, at, resolvable), is) =
+    (is_open, (m, rest ++ more, read_on t.state.received m t.unread rest more good at, resolvable), ap (λ (x : Taking). fed x more) is)
 stops_on t e more faults.Closed good (shut, is) = (shut, ap (λ (x : Taking). fed x more) is)
 stops_on t e more faults.BadInteger good stops = breached_on t e more faults.BadInteger good stops
 stops_on t e more faults.SizeLimit good stops = breached_on t e more faults.SizeLimit good stops

@@ -34,7 +34,7 @@ learned_rise now l e (m ∷ ms) us rise (one, rest, next, all, begins, later) =
 stopped_state : (t e : Taking) (fault : Fault) → Stops t fault e → e.state ≡ t.state
 stopped_state t e faults.NoNumber (is_open, u, next, lacks, is) = ap (λ (x : Taking). x.state) is
 stopped_state t e faults.EmptySlot (is_open, u, next, has, reads, is) = ap (λ (x : Taking). x.state) is
-stopped_state t e faults.Memory (is_open, is) = ap (λ (x : Taking). x.state) is
+stopped_state t e faults.Memory (is_open, takable, is) = ap (λ (x : Taking). x.state) is
 stopped_state t e faults.Closed (shut, is) = ap (λ (x : Taking). x.state) is
 stopped_state t e faults.BadInteger (is_open, breach, at, named, is) = ap (λ (x : Taking). x.state) is
 stopped_state t e faults.SizeLimit (is_open, breach, at, named, is) = ap (λ (x : Taking). x.state) is
@@ -46,7 +46,7 @@ stopped_state t e faults.BadValue (is_open, breach, at, named, is) = ap (λ (x :
 stopped_state t e faults.Trailing (is_open, breach, at, named, is) = ap (λ (x : Taking). x.state) is
 
 cut_rise : (l e : Learning) → AreRising l.intake.state.last_numbers → IsCutShort l e → AreRising e.intake.state.last_numbers
-cut_rise l e rise (rows, roster, behind) = elim behind [
+cut_rise l e rise (takable, rows, roster, behind) = elim behind [
   | inl same ↦ subst (λ (x : State). AreRising x.last_numbers) (sym same) rise
   | inr one ↦ subst (λ (x : State). AreRising x.last_numbers) (sym one.4) (rising-step l.intake.state one.2.state one.0 one.3.3 rise one.3.4)
 ]
@@ -62,7 +62,9 @@ fed_rise now l e piece result rise = by result
     by : (result : Result ℕ Fault) → LearnerFeeds now l piece result e → AreRising e.intake.state.last_numbers
     by (Ok count) (is_open, (ms, us, learned, waits, is)) = learned_rise now (with_piece l piece) e ms us rise learned
     by (Err faults.Closed) (shut, is) = subst (λ (x : Learning). AreRising x.intake.state.last_numbers) (sym is) rise
-    by (Err faults.Memory) (is_open, left, (ms, us, mid, learned, cut), is) =
+    by (Err faults.Memory) (is_open, left, inl same, is) =
+        subst (λ (x : Learning). AreRising x.intake.state.last_numbers) (sym is) (subst (λ (x : Learning). AreRising x.intake.state.last_numbers) (sym same) rise)
+    by (Err faults.Memory) (is_open, left, inr (ms, us, mid, learned, cut), is) =
         subst (λ (x : Learning). AreRising x.intake.state.last_numbers) (sym is) (cut_rise mid left (learned_rise now (with_piece l piece) mid ms us rise learned) cut)
     by (Err faults.NoNumber) (is_open, all) = stopped faults.NoNumber all
     by (Err faults.EmptySlot) (is_open, all) = stopped faults.EmptySlot all

@@ -1,5 +1,5 @@
 -- Messages learned one after another.
-use Rattle.std.proofs.Common.{◌≡◌, ◌≢◌, ℕ, true, false, List, [], ◌∷◌, ◌++◌, Some, Ok, Err, refl, sym, ap, ◌∙◌, subst, append_assoc, inl, inr}
+use Rattle.std.proofs.Common.{◌≡◌, ◌≢◌, ℕ, true, false, List, [], ◌∷◌, ◌++◌, Some, Ok, Err, refl, sym, ap, ◌∙◌, subst, append_assoc, inl, inr, length}
 use Rattle.std.proofs.lemmas.List.{append-nil}
 use Rattle.std.specs.Prelude.{map}
 use Rattle.table_types.specs.declared.key.Key.{Key}
@@ -9,9 +9,9 @@ use Rattle.table_types.specs.declared.update.Update.{Update}
 use Rattle.peers_msg.specs.declared.message.Message.{Message}
 use Rattle.learner.specs.declared.fault.Fault.{Fault}
 use Rattle.learner.specs.declared.fault.Fault.TheVariants as faults
-use Rattle.learner.specs.Intake.{Taking, Takes, Stops, Gives, rows_of, begun}
+use Rattle.learner.specs.Intake.{Taking, IsTakable, Takes, Stops, Gives, rows_of, begun}
 use Rattle.learner.specs.declared.taken.Taken.{Taken}
-use Rattle.learner.specs.Rows.{put}
+use Rattle.learner.specs.Rows.{put_all}
 use Rattle.learner.specs.Learning.{Learning, unlearned, Learns, AreLearned, LearnsOne, LearnsAll}
 
 -- one message more
@@ -37,7 +37,7 @@ roster_stays now l e (m ∷ ms) us (first, rest, next, all, begins, later) =
 
 -- a fault at the front, told as learning one message does
 pub stops_one : (now : ℕ) (l e : Learning) (fault : Fault) → Stops l.intake fault e.intake → e.rows ≡ l.rows → LearnsOne now l (Err fault) e
-stops_one now l e faults.Memory stops rows = (rows, ap (λ (x : Taking). x.roster) stops.1, inl (ap (λ (x : Taking). x.state) stops.1))
+stops_one now l e faults.Memory stops rows = (stops.1, rows, ap (λ (x : Taking). x.roster) stops.2, inl (ap (λ (x : Taking). x.state) stops.2))
 stops_one now l e faults.Closed stops rows = (stops, rows)
 stops_one now l e faults.NoNumber stops rows = (stops, rows)
 stops_one now l e faults.EmptySlot stops rows = (stops, rows)
@@ -72,18 +72,18 @@ begins_so roster t rows is held =
 
 -- ---- one message
 
--- what gives no row leaves the rows
-pub gives_none : (now : ℕ) (l : Learning) (e : Taking) (answer : Taken) → Gives l.intake (Ok answer) e → rows_of answer ≡ [] → LearnsOne now l (Ok (Some 0)) (record { intake = e; rows = l.rows })
-gives_none now l e answer (m, takes, tells) none = (m, [], (subst (λ (us : List Update). Takes l.intake m us e) none takes, refl), refl)
+-- the rows that it gives are put
+pub gives_rows : (now : ℕ) (l : Learning) (e : Taking) (answer : Taken) (rows : List (List (Key × StoredRow))) (count : ℕ) → Gives l.intake (Ok answer) e → rows ≡ put_all now e.roster (rows_of answer) l.rows → count ≡ length (rows_of answer) → LearnsOne now l (Ok (Some count)) (record { intake = e; rows = rows })
+gives_rows now l e answer rows count (m, takes, tells) is counted =
+    (m, rows_of answer, (takes, is ∙ ap (λ (ds : List Definition). put_all now ds (rows_of answer) l.rows) (ap (λ (t : Taking). t.roster) takes.6)), counted)
 
--- a row is put
-pub gives_one : (now : ℕ) (l : Learning) (e : Taking) (answer : Taken) (u : Update) (rows : List (List (Key × StoredRow))) → Gives l.intake (Ok answer) e → rows_of answer ≡ u ∷ [] → rows ≡ put now e.roster l.rows u → LearnsOne now l (Ok (Some 1)) (record { intake = e; rows = rows })
-gives_one now l e answer u rows (m, takes, tells) one is =
-    (m, u ∷ [], (subst (λ (us : List Update). Takes l.intake m us e) one takes, is ∙ ap (λ (ds : List Definition). put now ds l.rows u) (ap (λ (t : Taking). t.roster) takes.6)), refl)
+-- memory is wanted before anything changes
+pub cut_here : (now : ℕ) (l : Learning) → IsTakable l.intake → LearnsOne now l (Err faults.Memory) l
+cut_here now l takable = (takable, refl, refl, inl refl)
 
 -- memory is wanted for a row
-pub gives_cut : (now : ℕ) (l : Learning) (e : Taking) (answer : Taken) → Gives l.intake (Ok answer) e → LearnsOne now l (Err faults.Memory) (record { intake = e; rows = l.rows })
-gives_cut now l e answer (m, takes, tells) = (refl, ap (λ (t : Taking). t.roster) takes.6, inr (m, rows_of answer, e, takes, refl))
+pub gives_cut : (now : ℕ) (l : Learning) (e : Taking) (answer : Taken) → IsTakable l.intake → Gives l.intake (Ok answer) e → LearnsOne now l (Err faults.Memory) (record { intake = e; rows = l.rows })
+gives_cut now l e answer takable (m, takes, tells) = (takable, refl, ap (λ (t : Taking). t.roster) takes.6, inr (m, rows_of answer, e, takes, refl))
 
 -- what is open isn't told to be closed
 pub not_closed : (now : ℕ) (l e : Learning) (fault : Fault) → l.intake.closed ≡ false → LearnsOne now l (Err fault) e → fault ≢ faults.Closed

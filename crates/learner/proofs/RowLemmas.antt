@@ -16,7 +16,10 @@ use Rattle.table_types.specs.Tables.{Definition}
 use Rattle.table_types.specs.Rosters.{table_at}
 use Rattle.table_types.specs.Rows.{StoredRow, row_of}
 use Rattle.table_types.specs.Keys.{key_cmp}
-use Rattle.learner.specs.Rows.{put_row, put, rows_at, index_of}
+use Rattle.std.specs.Prelude.{IfSome}
+use Rattle.learner.specs.declared.learner.NewRow.{NewRow}
+use Rattle.learner.specs.NewRows.{AreRowsOf}
+use Rattle.learner.specs.Rows.{put_row, put, put_all, rows_at, index_of}
 
 abbrev pub derived_cmp : Key → Key → Ordering
 derived_cmp = (key_ord.ghosts).cmp
@@ -204,3 +207,24 @@ put_in_table now ds p expire tables u d held after key row size at is_table is_s
     ∙ ap (λ (k : Key). insert_entry key_cmp held k row) is_key
     ∙ ap (λ (r : StoredRow). insert_entry key_cmp held u.key r) (is_row ∙ ap (λ (n : ℕ). row_of now n u) is_expire) in
     ap (λ (rows : List (Key × StoredRow)). set tables p rows) stored ∙ put_placed now ds p tables u d held size at is_table is_shelf
+
+-- a row that is taught is put in its table, and where none is taught nothing changes
+pub put_new : (now : ℕ) (ds : List Definition) (p : ℕ) (tables : List (List (Key × StoredRow))) (us : List Update) (held after : List (Key × StoredRow)) (key : Key) (row : StoredRow)
+    → length tables ≡ length ds → held ≡ get_or tables p held → AreRowsOf now ds us (Some (record { index = p; key = key; row = row })) → after ≡ insert_entry key_cmp held key row
+    → set tables p after ≡ put_all now ds us tables
+put_new now ds p tables [] held after key row size is_held rows is = absurd cc
+put_new now ds p tables (u ∷ []) held after key row size is_held (at, d, is_table, is_key, is_row) is =
+    put_in_table now ds p d.expire tables u d held after key row size at is_table is_held refl is_key is_row is
+put_new now ds p tables (u ∷ v ∷ us) held after key row size is_held rows is = absurd rows
+
+pub put_none : (now : ℕ) (ds : List Definition) (tables : List (List (Key × StoredRow))) (us : List Update) → AreRowsOf now ds us None → tables ≡ put_all now ds us tables
+put_none now ds tables [] rows = refl
+put_none now ds tables (u ∷ []) (inl unfound) = sym (put_unfound now ds tables u unfound)
+put_none now ds tables (u ∷ []) (inr unplaced) = sym (put_unplaced now ds tables u unplaced)
+put_none now ds tables (u ∷ v ∷ us) rows = absurd rows
+
+pub row_within : (now : ℕ) (ds : List Definition) (us : List Update) (row : Option NewRow) → AreRowsOf now ds us row → IfSome row (λ new. new.index < length ds)
+row_within now ds us None rows = tt
+row_within now ds [] (Some new) rows = absurd cc
+row_within now ds (u ∷ []) (Some new) (at, d, is_table, is_key, is_row) = place_within ds u.table new.index at
+row_within now ds (u ∷ v ∷ us) (Some new) rows = absurd rows

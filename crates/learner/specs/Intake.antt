@@ -84,10 +84,20 @@ IsResolvable s m = Unit {0}
 abbrev pub IsTakable : Taking → Type 0
 IsTakable t = (m : Message) × (rest : List ℕ) × (message_at t.state.received t.unread ≡ Ok (Some (m, rest))) × IsResolvable t.state m
 
+-- an update whose number lacks
+abbrev pub IsNumberless : State → Message → Type 0
+IsNumberless s (messages.Update u) = lacks_number s u ≡ true
+IsNumberless s m = ⊥
+
+-- an update that reads an empty slot, and whose number doesn't lack
+abbrev pub IsEmptied : State → Message → Type 0
+IsEmptied s (messages.Update u) = (lacks_number s u ≡ false) × (reads_empty s.slots u.name ≡ true)
+IsEmptied s m = ⊥
+
 -- why a message that is whole isn't taken
 abbrev pub IsRefused : State → Message → Fault → Type 0
-IsRefused s (messages.Update u) faults.NoNumber = lacks_number s u ≡ true
-IsRefused s (messages.Update u) faults.EmptySlot = (lacks_number s u ≡ false) × (reads_empty s.slots u.name ≡ true)
+IsRefused s m faults.NoNumber = IsNumberless s m
+IsRefused s m faults.EmptySlot = IsEmptied s m
 IsRefused s m faults.Memory = IsResolvable s m
 IsRefused s m fault = ⊥
 

@@ -1,6 +1,6 @@
 //! Learners.
 
-ghost use Rattle.std.specs.Prelude.{◌≡◌, ◌≢◌, ◌<◌, ◌≤◌, ℕ, [], false, IfOk, IfErr, OnOk, OnErr, IsNone, IsSome, IfSome, Some, length, map, option_copied};
+ghost use Rattle.std.specs.Prelude.{◌≡◌, ◌≢◌, ◌<◌, ◌≤◌, ℕ, List, [], false, IfOk, IfErr, OnOk, OnErr, IsNone, IsSome, IfSome, Some, length, map, option_copied};
 ghost use Rattle.table_types.specs.declared.update.Update.{Update};
 ghost use Rattle.table_types.specs.Rows.{cell_of, row_of};
 ghost use Rattle.std.specs.Map.{keys_of};
@@ -9,10 +9,11 @@ ghost use Rattle.known_state.specs.Known.{known_of};
 ghost use Rattle.known_state.specs.LastNumbers.{AreRising};
 ghost use Rattle.learner.specs.declared.fault.Fault.TheVariants as faults;
 ghost use Rattle.learner.specs.Acks.{AreRisingAcks};
-ghost use Rattle.learner.specs.Intake.{acks_of};
+ghost use Rattle.learner.specs.Intake.{acks_of, rows_of};
 ghost use Rattle.table_types.specs.Keys.{key_cmp};
-ghost use Rattle.learner.specs.Rows.{row_at, rows_at, index_of, put};
-ghost use Rattle.learner.specs.NewRows.{IsRowOf};
+ghost use Rattle.learner.specs.Rows.{row_at, rows_at, index_of, put_all};
+ghost use Rattle.learner.specs.Front.{owned};
+ghost use Rattle.learner.specs.NewRows.{AreRowsOf, IsRowOf};
 ghost use Rattle.learner.specs.Learning.{unlearned, LearnsOne, LearnsAll, FedAndOpen, LearnerFeeds};
 
 use crate::fault::Fault;
@@ -24,7 +25,7 @@ use peers_msg::{Message, ValuesRef};
 use std::alloc::Global;
 use std::collections::BTreeMap;
 use std::marker::Model;
-use table_types::{Cell, Key, Memory, Moment, Roster, Row, TableDef};
+use table_types::{Cell, Key, Memory, Moment, Roster, Row, TableDef, table_at};
 
 /// A learner: takes the bytes of a stream in any pieces, and keeps the rows of its local tables (HAProxy,
 /// doc/peers-v2.0.txt, "Update Messages").
@@ -106,12 +107,34 @@ fn new_row(
 ) -> Result<Option<NewRow>, Memory>
     ensures { IfOk result (λ row. IsRowOf now tables.now update.now row) }
 {
-    match index_of(tables, update.table()) {
-        Some(index) => {
-            let (key, row) = learned(alloc, update, tables[index].expire(), now)?;
-            Ok(Some(NewRow { index, key, row }))
-        }
-        None => Ok(None),
+    let Some(table) = table_at(tables, update.table()) else {
+        return Ok(None);
+    };
+    let Some(index) = index_of(tables, update.table()) else {
+        return Ok(None);
+    };
+    let (key, row) = learned(alloc, update, table.expire(), now)?;
+    Ok(Some(NewRow { index, key, row }))
+}
+
+/// The row that what a message gives teaches at that moment, if it is one.
+fn taught(
+    alloc: Global,
+    tables: &[TableDef],
+    taken: &TakenRef<'_>,
+    now: Moment,
+) -> Result<Option<NewRow>, Memory>
+    ensures { IfOk result (λ row. AreRowsOf now tables.now (rows_of (owned taken.now)) row) }
+{
+    match taken {
+        TakenRef::Row(update) => new_row(alloc, tables, update, now),
+        TakenRef::Passed
+        | TakenRef::Said(_)
+        | TakenRef::Failed(_)
+        | TakenRef::Acked {
+            table: _,
+            number: _,
+        } => Ok(None),
     }
 }
 
@@ -204,15 +227,12 @@ impl Learner {
         ensures fewer { IfOk result (λ found. IsSome found → length self.new.intake.unread < length self.old.intake.unread) }
     {
         match self.intake.look() {
-            Ok(Some((TakenRef::Row(update), advance))) => {
-                let row = new_row(self.alloc, self.intake.roster().tables(), &update, now)?;
+            Ok(Some((taken, advance))) => {
+                let count = taken.rows();
+                let row = taught(self.alloc, self.intake.roster().tables(), &taken, now)?;
                 self.intake.pass(advance)?;
                 self.put(row)?;
-                Ok(Some(1))
-            }
-            Ok(Some((_, advance))) => {
-                self.intake.pass(advance)?;
-                Ok(Some(0))
+                Ok(Some(count))
             }
             Ok(None) => Ok(None),
             Err(fault) => {
@@ -222,11 +242,11 @@ impl Learner {
         }
     }
 
-    /// Puts a row that an update teaches. After `Memory` nothing has changed.
+    /// Puts the row that is taught, if one is. After `Memory` nothing has changed.
     fn put(&mut self, row: Option<NewRow>) -> Result<(), Memory>
         requires { IfSome row (λ row. row.index < length self.old.intake.roster) }
-        ensures put { OnOk result ((u : Update) (now : ℕ) → IsRowOf now self.old.intake.roster u row →
-            self.new ≡ record self.old { rows = put now self.old.intake.roster self.old.rows u }) }
+        ensures put { OnOk result ((us : List Update) (now : ℕ) → AreRowsOf now self.old.intake.roster us row →
+            self.new ≡ record self.old { rows = put_all now self.old.intake.roster us self.old.rows }) }
         ensures stays { OnErr result (self.new ≡ self.old) }
     {
         match row {
@@ -237,8 +257,8 @@ impl Learner {
 
     fn put_at(&mut self, index: usize, key: Key, row: Row) -> Result<(), Memory>
         requires { index < length self.old.intake.roster }
-        ensures put { OnOk result ((u : Update) (now : ℕ) → IsRowOf now self.old.intake.roster u (Some (record { index = index; key = key; row = row })) →
-            self.new ≡ record self.old { rows = put now self.old.intake.roster self.old.rows u }) }
+        ensures put { OnOk result ((us : List Update) (now : ℕ) → AreRowsOf now self.old.intake.roster us (Some (record { index = index; key = key; row = row })) →
+            self.new ≡ record self.old { rows = put_all now self.old.intake.roster us self.old.rows }) }
         ensures stays { OnErr result (self.new ≡ self.old) }
     {
         self.rows_of_tables[index].put(key, row)
@@ -260,7 +280,7 @@ impl Learner {
         ensures { option_copied result ≡ row_at key.now (rows_at self.now.intake.roster table self.now.rows) }
     {
         match index_of(self.roster().tables(), table) {
-            Some(place) => self.rows_of_tables[place].row(key),
+            Some(index) => self.rows_of_tables[index].row(key),
             None => None,
         }
     }

@@ -1,6 +1,6 @@
 //! What a message gives one who keeps the rows of local tables.
 
-ghost use Rattle.std.specs.Prelude.{◌≡◌, true, IfOk, IfSome, option_map};
+ghost use Rattle.std.specs.Prelude.{◌≡◌, true, IfOk, IfSome, length, option_map};
 ghost use Rattle.std.specs.Option.{option_to_list};
 ghost use Rattle.table_types.specs.Names.{is_name};
 ghost use Rattle.table_types.specs.declared.update.Update.{Update};
@@ -182,6 +182,22 @@ pub enum TakenRef<'a> {
 }
 
 impl<'a> TakenRef<'a> {
+    /// How many rows it gives: one or none.
+    pub fn rows(&self) -> usize
+        ensures { result ≡ length (rows_of (owned self.now)) }
+    {
+        match self {
+            TakenRef::Row(_) => 1,
+            TakenRef::Passed
+            | TakenRef::Said(_)
+            | TakenRef::Failed(_)
+            | TakenRef::Acked {
+                table: _,
+                number: _,
+            } => 0,
+        }
+    }
+
     /// The same with an update of its own.
     pub fn to_owned(&self, alloc: Global) -> Result<Taken, Memory>
         ensures { IfOk result (λ taken. taken ≡ owned self.now) }

@@ -8,15 +8,15 @@ use Rattle.learner.proofs.learner.Learner.row.Goals as goal
 
 pub index-requires : goal.index-requires
 index-requires c =
-    let at : index_of c.args.self.now.intake.roster c.args.table ≡ Some c.in-Some.place = cc in
-    let within = table_rows_within c.args.self.now.intake.roster c.self.inside.intake.roster c.args.table c.in-Some.place c.self.inside.rows_of_tables.items at (ap (λ (x : Learning). x.intake.roster) c.self.view_is) c.self.invariant in
+    let at : index_of c.args.self.now.intake.roster c.args.table ≡ Some c.in-Some.index = cc in
+    let within = table_rows_within c.args.self.now.intake.roster c.self.inside.intake.roster c.args.table c.in-Some.index c.self.inside.rows_of_tables.items at (ap (λ (x : Learning). x.intake.roster) c.self.view_is) c.self.invariant in
     omega (arith, c.self.inside.rows_of_tables.ok.0)
 
 pub returns-in-Some : goal.returns-in-Some
 returns-in-Some c =
-    let at : index_of c.args.self.now.intake.roster c.args.table ≡ Some c.in-Some.place = cc in
-    let inner : index_of c.self.inside.intake.roster c.args.table ≡ Some c.in-Some.place = ap (λ (ds : List Definition). index_of ds c.args.table) (ap (λ (x : Learning). x.intake.roster) c.self.view_is) ∙ at in
-    let held = rows_placed c.self.inside.intake.roster c.args.table c.in-Some.place c.self.inside.rows_of_tables.items c.index.result.now c.self.invariant inner c.index.ensures in
+    let at : index_of c.args.self.now.intake.roster c.args.table ≡ Some c.in-Some.index = cc in
+    let inner : index_of c.self.inside.intake.roster c.args.table ≡ Some c.in-Some.index = ap (λ (ds : List Definition). index_of ds c.args.table) (ap (λ (x : Learning). x.intake.roster) c.self.view_is) ∙ at in
+    let held = rows_placed c.self.inside.intake.roster c.args.table c.in-Some.index c.self.inside.rows_of_tables.items c.index.result.now c.self.invariant inner c.index.ensures in
     subst (λ (l : Learning). option_copied c.row.result ≡ row_at c.args.key.now (rows_at l.intake.roster c.args.table l.rows)) c.self.view_is (c.row.ensures ∙ ap (row_at c.args.key.now) (sym held))
 
 pub returns-in-None : goal.returns-in-None
