@@ -5,7 +5,6 @@ ghost use Rattle.peers_msg.specs.Decoding.{begun, DecoderFeeds, DecoderNext};
 ghost use Rattle.peers_msg.specs.Reading.{message_at};
 ghost use Rattle.peers_msg.specs.Received.{nothing_received, received_after, resumed};
 
-use crate::borrowed::MessageRef;
 use crate::fault::Fault;
 use crate::message::Message;
 use crate::received::Received;
@@ -115,19 +114,9 @@ impl Decoder {
             return Err(Fault::Closed);
         }
         match self.unread.front(&self.received) {
-            Ok(Some((found, used))) => match found {
-                // What a stream mostly carries, and tells nothing of the tables.
-                MessageRef::Update(update) => match update.to_owned(self.alloc) {
-                    Ok(update) => {
-                        self.unread.advance(used);
-                        Ok(Some(Message::Update(update)))
-                    }
-                    Err(Memory) => Err(Fault::Memory),
-                },
-                other => match other.to_owned(self.alloc) {
-                    Ok(message) => self.given(message, used),
-                    Err(Memory) => Err(Fault::Memory),
-                },
+            Ok(Some((found, used))) => match found.to_owned(self.alloc) {
+                Ok(message) => self.given(message, used),
+                Err(Memory) => Err(Fault::Memory),
             },
             Ok(None) => Ok(None),
             Err(fault) => {
