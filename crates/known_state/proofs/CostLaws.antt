@@ -22,7 +22,7 @@ use Rattle.peers_msg.specs.Fitting.{name_fits}
 use Rattle.known_state.specs.State.{Named, resolved_number}
 use Rattle.known_state.specs.LastNumbers.{last_of, set_last}
 use Rattle.peers_msg.specs.Messages.{UpdateFields}
-use Rattle.peers_msg.specs.Spelling.{spelled, size_of, framed, counted, definition_text, update_text, update_kind, optional_word, word, key_text, value_text, name_text}
+use Rattle.peers_msg.specs.Spelling.{spelled, size_of, framed, counted, definition_text, update_text, update_type, optional_word, word, key_text, value_text, name_text}
 use Rattle.known_state.proofs.KnownLemmas.{table_at-id}
 use Rattle.known_state.proofs.StepLemmas.{has_id-table_at}
 use Rattle.known_state.specs.Cost.{Knowledge, KnowsLess, with_selected, knowledge_after, follows, number_sent, sent_as, written_field, is_named_table, written_cost, is_selected, definition_cost, selection_cost, cost_from, saving, is_held, IsOfRoster}
@@ -42,7 +42,7 @@ pub incremental_shorter : (n : ℕ) (u : UpdateFields) → size_of (messages.Upd
 unfolding size_of spelled
 incremental_shorter n u =
     let rest : List ℕ = optional_word u.life ++ (key_text u.key ++ (flat_map value_text u.values ++ name_text u.name)) in
-    framed_longer 10 (update_kind (record u { number = None })) 10 (update_kind (record u { number = Some n })) rest (word n ++ rest) (omega (arith, length-append (word n) rest))
+    framed_longer 10 (update_type (record u { number = None })) 10 (update_type (record u { number = Some n })) rest (word n ++ rest) (omega (arith, length-append (word n) rest))
 
 -- an update in its shortest number form is no longer than with its number
 pub told_shorter : (last : Option ℕ) (field : NameField) (u : Update) → size_of (messages.Update (sent_as last field u)) ≤ size_of (messages.Update (sent_as None field u))
@@ -275,7 +275,7 @@ unfolding size_of spelled
 written_alike number life key values slot name is =
     let one : UpdateFields = record { number = number; life = life; key = key; values = values; name = names.Written 1 name } in
     let two : UpdateFields = record { number = number; life = life; key = key; values = values; name = names.Written slot name } in
-    framed_longer 10 (update_kind one) 10 (update_kind two) (update_text one) (update_text two)
+    framed_longer 10 (update_type one) 10 (update_type two) (update_text one) (update_text two)
     (rows_alike (optional_word number) (optional_word life) (key_text key) (flat_map value_text values) (name_text (names.Written 1 name)) (name_text (names.Written slot name)) (name_alike slot name is))
   where
     rows_alike : (a b c d x y : List ℕ) → length x ≡ length y → length (a ++ (b ++ (c ++ (d ++ x)))) ≤ length (a ++ (b ++ (c ++ (d ++ y))))

@@ -16,7 +16,7 @@ use Rattle.peers_msg.specs.declared.message.Message.{Message}
 use Rattle.peers_msg.specs.declared.message.Message.TheVariants as messages
 use Rattle.peers_msg.specs.Messages.{UpdateFields}
 use Rattle.peers_msg.specs.Received.{Received, received_after, defined, selected_table}
-use Rattle.peers_msg.specs.Spelling.{size_of, size_of_all, spelled, counted, update_kind, update_text, optional_word, key_text, value_text, name_text}
+use Rattle.peers_msg.specs.Spelling.{size_of, size_of_all, spelled, counted, update_type, update_text, optional_word, key_text, value_text, name_text}
 use Rattle.known_state.specs.State.{State, Step, Teaches, Named, IsOwn, Legal, resolved}
 use Rattle.known_state.specs.LastNumbers.{keeps_last, last_of, set_last}
 use Rattle.known_state.specs.Known.{AreOwn}
@@ -134,7 +134,7 @@ unfolding size_of spelled
 held_least number life key values slot =
     let one : UpdateFields = record { number = number; life = life; key = key; values = values; name = names.Held 1 } in
     let other : UpdateFields = record { number = number; life = life; key = key; values = values; name = names.Held slot } in
-    framed_longer 10 (update_kind one) 10 (update_kind other) (update_text one) (update_text other)
+    framed_longer 10 (update_type one) 10 (update_type other) (update_text one) (update_text other)
     (rows_longer (optional_word number) (optional_word life) (key_text key) (flat_map value_text values) (name_text (names.Held 1)) (name_text (names.Held slot)) (counted_longer (spelling 1) (spelling slot) slots))
   where
     slots : length (spelling 1) ≤ length (spelling slot)

@@ -16,7 +16,7 @@ use Rattle.peers_msg.specs.Messages.{UpdateFields}
 use Rattle.peers_msg.specs.Received.{Received, selected_table}
 use Rattle.peers_msg.specs.Spelling.{data_of, update_text, definition_text}
 use Rattle.peers_msg.specs.Fitting.{fits, update_fits, name_fits}
-use Rattle.peers_msg.proofs.DataLaws.{update_small, definition_small}
+use Rattle.peers_msg.proofs.DataLimits.{update_small, definition_small}
 use Rattle.known_state.specs.declared.known.StepError.TheVariants as step_errors
 use Rattle.known_state.specs.Known.{KnownState, AreOwn, stores_no_name, switch_refusal, update_refusal}
 use Rattle.known_state.proofs.KnownLemmas.{table_at-id, table_at-passes, table_at-nameless}

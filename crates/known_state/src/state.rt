@@ -239,11 +239,6 @@ impl State {
     {
         let received = self.received.copy(alloc)?;
         let last_numbers = self.last_numbers.copy(alloc)?;
-        Ok(State::of(
-            alloc,
-            received,
-            last_numbers,
-            self.slots.copy(alloc)?,
-        ))
+        Ok(State::of(alloc, received, last_numbers, self.slots.copy(alloc)?))
     }
 }

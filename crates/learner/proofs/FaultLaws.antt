@@ -6,7 +6,7 @@ use Rattle.table_types.specs.declared.update.Update.{Update}
 use Rattle.peers_msg.specs.declared.message.Message.{Message}
 use Rattle.peers_msg.specs.declared.message.Message.TheVariants as messages
 use Rattle.peers_msg.specs.Decoding.{together}
-use Rattle.peers_msg.proofs.Pieces.{front_good, read_on}
+use Rattle.peers_msg.proofs.CuttingIndependence.{front_good, read_on}
 use Rattle.peers_msg.proofs.CuttingLaws.{breach_on}
 use Rattle.learner.specs.declared.fault.Fault.{Fault}
 use Rattle.learner.specs.declared.fault.Fault.TheVariants as faults

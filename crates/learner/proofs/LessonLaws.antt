@@ -23,8 +23,8 @@ use Rattle.peers_msg.specs.Reading.{message_at, frame_at}
 use Rattle.peers_msg.specs.OwnTables.{is_shape_of}
 use Rattle.peers_msg.specs.Decoding.{together}
 use Rattle.known_state.specs.State.{State, Step, Teaches, IsOwn, Legal, resolved}
-use Rattle.peers_msg.proofs.Pieces.{found, found_is}
-use Rattle.peers_msg.proofs.MessagesAgain.{message_again}
+use Rattle.peers_msg.proofs.CuttingIndependence.{found, found_is}
+use Rattle.peers_msg.proofs.MessageRoundTrip.{message_again}
 use Rattle.peers_msg.proofs.ShapeLaws.{means_shape, shape_means}
 use Rattle.known_state.specs.Known.{AreOwn}
 use Rattle.known_state.proofs.KnownLemmas.{table_at-id, table_at-passes}

@@ -17,11 +17,11 @@ use Rattle.peers_msg.specs.Fitting.{fits}
 use Rattle.peers_msg.specs.Spelling.{spelled, stream_of}
 use Rattle.peers_msg.specs.Reading.{message_at, with_more}
 use Rattle.known_state.specs.State.{State, Step, Teaches, IsOwn}
-use Rattle.peers_msg.proofs.FieldsTake.{IsBytes-drop}
-use Rattle.peers_msg.proofs.Pieces.{found, found_is, front_good}
+use Rattle.peers_msg.proofs.FieldCanonical.{IsBytes-drop}
+use Rattle.peers_msg.proofs.CuttingIndependence.{found, found_is, front_good}
 use Rattle.peers_msg.proofs.ReadingStays.{message_stays}
-use Rattle.peers_msg.proofs.MessagesTake.{message_takes}
-use Rattle.peers_msg.proofs.MessagesAgain.{message_again}
+use Rattle.peers_msg.proofs.MessageCanonical.{message_takes}
+use Rattle.peers_msg.proofs.MessageRoundTrip.{message_again}
 use Rattle.known_state.proofs.StepIsDeterministic.{one_step}
 use Rattle.known_state.specs.Known.{AreOwn}
 use Rattle.known_state.proofs.InStepLaws.{own_stays}

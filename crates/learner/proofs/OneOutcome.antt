@@ -9,7 +9,7 @@ use Rattle.peers_msg.specs.declared.message.Message.TheVariants as messages
 use Rattle.peers_msg.specs.Messages.{UpdateFields}
 use Rattle.peers_msg.specs.Reading.{message_at}
 use Rattle.peers_msg.specs.Decoding.{fault_of}
-use Rattle.peers_msg.proofs.Pieces.{found}
+use Rattle.peers_msg.proofs.CuttingIndependence.{found}
 use Rattle.learner.specs.declared.fault.Fault.{Fault}
 use Rattle.learner.specs.declared.fault.Fault.TheVariants as faults
 use Rattle.learner.specs.declared.taken.Taken.{Taken}

@@ -6,7 +6,7 @@ use Rattle.table_types.specs.declared.update.Update.{Update}
 use Rattle.peers_msg.specs.declared.message.Message.{Message}
 use Rattle.peers_msg.specs.Decoding.{together}
 use Rattle.known_state.specs.State.{State}
-use Rattle.peers_msg.proofs.Pieces.{found, found_is, read_on, rest_good, front_good}
+use Rattle.peers_msg.proofs.CuttingIndependence.{found, found_is, read_on, rest_good, front_good}
 use Rattle.known_state.proofs.StepIsDeterministic.{one_step}
 use Rattle.learner.specs.LocalTables.{local_updates}
 use Rattle.learner.specs.Intake.{Taking, Takes, due_after, fed}

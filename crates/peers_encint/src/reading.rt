@@ -14,6 +14,7 @@ pub enum Read {
 }
 
 /// Reads the number at the front of the bytes.
+#[inline(always)]
 pub fn get(b: &[u8]) -> Read
     ensures read { Reads b.now result }
     // No other answer is right.
@@ -23,6 +24,7 @@ pub fn get(b: &[u8]) -> Read
     answer(b)
 }
 
+#[inline(always)]
 #[tactic(auto, unfolding(crate::specs::Integers::read_of))]
 fn answer(bytes: &[u8]) -> Read
     ensures { result ≡ read_of bytes.now }
@@ -35,6 +37,7 @@ fn answer(bytes: &[u8]) -> Read
 }
 
 // What a first byte of 240 or more and the bytes after it say.
+#[inline(never)]
 fn read_long(first: u8, later: &[u8]) -> Read
     ensures { result ≡ long_of first later.now (tail_length 8 later.now) }
 {

@@ -7,7 +7,7 @@ use Rattle.peers_msg.specs.Received.{Received}
 use Rattle.peers_msg.specs.Reading.{message_at, with_more}
 use Rattle.peers_msg.specs.Decoding.{AreRead, AreReadInPieces, IsEnd, together}
 use Rattle.peers_msg.proofs.ReadingStays.{message_stays}
-use Rattle.peers_msg.proofs.Pieces.{found, any_cutting, front_good, left_good, reads_on, same, whole}
+use Rattle.peers_msg.proofs.CuttingIndependence.{found, any_cutting, front_good, left_good, reads_on, same, whole}
 
 abbrev breached : Breach → Result (Option (Message × List ℕ)) Breach
 breached breach = Err breach

@@ -8,7 +8,7 @@ use Rattle.table_types.specs.DataTypes.{id_of, all_types, is_same_type}
 use Rattle.table_types.specs.Tables.{Definition, is_definition, is_id, has_its_period, rise_from, stores, repeats, entry_of, in_rising_id, fault_of}
 use Rattle.table_types.specs.Names.{is_name}
 use Rattle.table_types.specs.Keys.{fits_length}
-use Rattle.peers_msg.proofs.TypesAgain.{AreFrom, all_are}
+use Rattle.peers_msg.proofs.TypeRoundTrip.{AreFrom, all_are}
 
 id_below : (t : DataType) → id_of t < 20
 id_below t = grind (arith)

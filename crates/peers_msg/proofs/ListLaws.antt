@@ -8,9 +8,9 @@ use Rattle.peers_msg.specs.Spelling.{spelled, stream_of}
 use Rattle.peers_msg.specs.Reading.{message_at}
 use Rattle.peers_msg.specs.Stream.{AllFit}
 use Rattle.peers_msg.specs.Decoding.{AreRead}
-use Rattle.peers_msg.proofs.MessagesTake.{message_takes}
-use Rattle.peers_msg.proofs.MessagesAgain.{message_again}
-use Rattle.peers_msg.proofs.Pieces.{rest_good}
+use Rattle.peers_msg.proofs.MessageCanonical.{message_takes}
+use Rattle.peers_msg.proofs.MessageRoundTrip.{message_again}
+use Rattle.peers_msg.proofs.CuttingIndependence.{rest_good}
 
 pub read_spelled : (h g : Received) (bytes rest : List ℕ) (ms : List Message) → IsBytes bytes → AreRead h bytes ms g rest → (bytes ≡ stream_of ms ++ rest) × AllFit h ms × (g ≡ fold received_after h ms)
 read_spelled h g bytes rest [] good (received, left) = (sym left, tt, received)

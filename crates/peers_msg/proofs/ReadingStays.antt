@@ -12,7 +12,7 @@ use Rattle.peers_msg.specs.Received.{Received}
 use Rattle.peers_msg.specs.Spelling.{spelled}
 use Rattle.peers_msg.specs.Fitting.{fits}
 use Rattle.peers_msg.specs.Reading.{◌>>=◌, Frame, whole_data, data_from, data_at, frame_with, frame_at, body_at, message_in, message_at, with_more}
-use Rattle.peers_msg.proofs.MessagesAgain.{message_again}
+use Rattle.peers_msg.proofs.MessageRoundTrip.{message_again}
 
 whole_stays : (n : ℕ) (bytes more : List ℕ) → whole_data n bytes ≢ Ok None → whole_data n (bytes ++ more) ≡ with_more more (whole_data n bytes)
 whole_stays n bytes more some =
@@ -35,10 +35,10 @@ data_from_stays bytes more Over good read some = refl
 no_short : (bytes : List ℕ) → data_from bytes (read_of bytes) ≢ Ok None → read_of bytes ≢ Short
 no_short bytes some e = some (ap (data_from bytes) e)
 
-data_stays : (kind : ℕ) (bytes more : List ℕ) → IsBytes bytes → data_at kind bytes ≢ Ok None → data_at kind (bytes ++ more) ≡ with_more more (data_at kind bytes)
+data_stays : (message_type : ℕ) (bytes more : List ℕ) → IsBytes bytes → data_at message_type bytes ≢ Ok None → data_at message_type (bytes ++ more) ≡ with_more more (data_at message_type bytes)
 unfolding data_at
-data_stays kind bytes more good some =
-    elim (cases_Bool (ltb kind 128)) [
+data_stays message_type bytes more good some =
+    elim (cases_Bool (ltb message_type 128)) [
       | inl low ↦ rw low refl
       | inr high ↦
           let found : data_from bytes (read_of bytes) ≢ Ok None = λ e. some (rw high e) in
@@ -46,24 +46,24 @@ data_stays kind bytes more good some =
     ]
 
 abbrev framed_with : ℕ → ℕ → Result (Option (List ℕ × List ℕ)) Breach → Result (Option (Frame × List ℕ)) Breach
-framed_with class kind read = read >>= λ found. Ok (frame_with class kind found)
+framed_with class message_type read = read >>= λ found. Ok (frame_with class message_type found)
 
-framed_more : (class kind : ℕ) (more : List ℕ) (read : Result (Option (List ℕ × List ℕ)) Breach) → framed_with class kind (with_more more read) ≡ with_more more (framed_with class kind read)
-framed_more class kind more (Ok None) = refl
-framed_more class kind more (Ok (Some found)) = refl
-framed_more class kind more (Err breach) = refl
+framed_more : (class message_type : ℕ) (more : List ℕ) (read : Result (Option (List ℕ × List ℕ)) Breach) → framed_with class message_type (with_more more read) ≡ with_more more (framed_with class message_type read)
+framed_more class message_type more (Ok None) = refl
+framed_more class message_type more (Ok (Some found)) = refl
+framed_more class message_type more (Err breach) = refl
 
 pub frame_stays : (bytes more : List ℕ) → IsBytes bytes → frame_at bytes ≢ Ok None → frame_at (bytes ++ more) ≡ with_more more (frame_at bytes)
 unfolding frame_at
 frame_stays [] more good some = absurd (some refl)
 frame_stays (class ∷ []) more good some = absurd (some refl)
-frame_stays (class ∷ (kind ∷ bytes)) more good some =
-    let found : data_at kind bytes ≢ Ok None = λ e. some (ap (framed_with class kind) e) in
-    ap (framed_with class kind) (data_stays kind bytes more (λ i. good (suc (suc i))) found) ∙ framed_more class kind more (data_at kind bytes)
+frame_stays (class ∷ (message_type ∷ bytes)) more good some =
+    let found : data_at message_type bytes ≢ Ok None = λ e. some (ap (framed_with class message_type) e) in
+    ap (framed_with class message_type) (data_stays message_type bytes more (λ i. good (suc (suc i))) found) ∙ framed_more class message_type more (data_at message_type bytes)
 
 message_more : (h : Received) (more : List ℕ) (read : Result (Option (Frame × List ℕ)) Breach) → (with_more more read >>= message_in h) ≡ with_more more (read >>= message_in h)
 message_more h more (Ok None) = refl
-message_more h more (Ok (Some found)) = body_more (body_at h found.0.class found.0.kind found.0.body)
+message_more h more (Ok (Some found)) = body_more (body_at h found.0.class found.0.message_type found.0.body)
   where
     body_more : (read : Result Message Breach) → (read >>= λ m. Ok (Some (m, found.1 ++ more))) ≡ with_more more (read >>= λ m. Ok (Some (m, found.1)))
     body_more (Ok m) = refl

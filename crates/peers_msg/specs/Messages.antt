@@ -17,18 +17,18 @@ pub record UpdateFields : Type 0 where
 -- a message of a pair of class and type that has no other meaning here
 pub record OtherFields : Type 0 where
   pub class : ℕ
-  pub kind : ℕ
+  pub message_type : ℕ
   pub body : List ℕ
 
 -- the pairs of class and type that have a meaning: control messages 0 to 4, errors 0 and 1, and the messages of
 -- stick tables 128 to 134
 abbrev pub is_known_pair : ℕ → ℕ → Bool
-is_known_pair class kind = class == 0 && nat_le kind 4 || class == 1 && nat_le kind 1 || class == 10 && (nat_le 128 kind && nat_le kind 134)
+is_known_pair class message_type = class == 0 && nat_le message_type 4 || class == 1 && nat_le message_type 1 || class == 10 && (nat_le 128 message_type && nat_le message_type 134)
 
 -- a message of another pair: its class and type are bytes, it has data only where the type is 128 or more,
 -- and then at most 16,384 bytes
 abbrev pub is_other : OtherFields → Bool
-is_other o = nat_lt o.class 256 && nat_lt o.kind 256 && not (is_known_pair o.class o.kind) && (if nat_lt o.kind 128 then length o.body == 0 else nat_le (length o.body) 16384)
+is_other o = nat_lt o.class 256 && nat_lt o.message_type 256 && not (is_known_pair o.class o.message_type) && (if nat_lt o.message_type 128 then length o.body == 0 else nat_le (length o.body) 16384)
 
 -- how many bytes a key has, without a length before them
 abbrev pub key_bytes : Key → ℕ

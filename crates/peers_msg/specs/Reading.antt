@@ -244,60 +244,60 @@ update_of (Some d) numbered timed bytes = do
   Ok (messages.Update u)
 
 abbrev pub control_meant : ℕ → Meaning
-control_meant kind =
-    if kind == 0 then meanings.Control ResyncRequest
-    else (if kind == 1 then meanings.Control ResyncFinished
-    else (if kind == 2 then meanings.Control ResyncPartial
-    else (if kind == 3 then meanings.Control ResyncConfirmed
-    else (if kind == 4 then meanings.Control Heartbeat
+control_meant message_type =
+    if message_type == 0 then meanings.Control ResyncRequest
+    else (if message_type == 1 then meanings.Control ResyncFinished
+    else (if message_type == 2 then meanings.Control ResyncPartial
+    else (if message_type == 3 then meanings.Control ResyncConfirmed
+    else (if message_type == 4 then meanings.Control Heartbeat
     else meanings.Other))))
 
 abbrev pub error_meant : ℕ → Meaning
-error_meant kind =
-    if kind == 0 then meanings.Error errors.Protocol
-    else (if kind == 1 then meanings.Error errors.SizeLimit
+error_meant message_type =
+    if message_type == 0 then meanings.Error errors.Protocol
+    else (if message_type == 1 then meanings.Error errors.SizeLimit
     else meanings.Other)
 
 abbrev pub table_meant : ℕ → Meaning
-table_meant kind =
-    if kind == 128 then meanings.Update true false
-    else (if kind == 129 then meanings.Update false false
-    else (if kind == 130 then meanings.Define
-    else (if kind == 131 then meanings.Switch
-    else (if kind == 132 then meanings.Ack
-    else (if kind == 133 then meanings.Update true true
-    else (if kind == 134 then meanings.Update false true
+table_meant message_type =
+    if message_type == 128 then meanings.Update true false
+    else (if message_type == 129 then meanings.Update false false
+    else (if message_type == 130 then meanings.Define
+    else (if message_type == 131 then meanings.Switch
+    else (if message_type == 132 then meanings.Ack
+    else (if message_type == 133 then meanings.Update true true
+    else (if message_type == 134 then meanings.Update false true
     else meanings.Other))))))
 
 -- what a pair of class and type stands for
 unfoldable pub meant : ℕ → ℕ → Meaning
-meant class kind =
-    if class == 0 then control_meant kind
-    else (if class == 1 then error_meant kind
-    else (if class == 10 then table_meant kind
+meant class message_type =
+    if class == 0 then control_meant message_type
+    else (if class == 1 then error_meant message_type
+    else (if class == 10 then table_meant message_type
     else meanings.Other))
 
 -- the message whose data are these bytes
 abbrev pub message_of : Received → Meaning → ℕ → ℕ → List ℕ → Result Message Breach
-message_of h (meanings.Control c) class kind body = Ok (messages.Control c)
-message_of h (meanings.Error e) class kind body = Ok (messages.Error e)
-message_of h meanings.Define class kind body = do
+message_of h (meanings.Control c) class message_type body = Ok (messages.Control c)
+message_of h (meanings.Error e) class message_type body = Ok (messages.Error e)
+message_of h meanings.Define class message_type body = do
   d ← definition_at body
   Ok (messages.Define d)
-message_of h meanings.Switch class kind body = switch_at h body
-message_of h meanings.Ack class kind body = ack_at body
-message_of h (meanings.Update numbered timed) class kind body = update_of (selected_table h) numbered timed body
-message_of h meanings.Other class kind body = Ok (messages.Other (record { class = class; kind = kind; body = body }))
+message_of h meanings.Switch class message_type body = switch_at h body
+message_of h meanings.Ack class message_type body = ack_at body
+message_of h (meanings.Update numbered timed) class message_type body = update_of (selected_table h) numbered timed body
+message_of h meanings.Other class message_type body = Ok (messages.Other (record { class = class; message_type = message_type; body = body }))
 
 unfoldable pub body_at : Received → ℕ → ℕ → List ℕ → Result Message Breach
-body_at h class kind body = message_of h (meant class kind) class kind body
+body_at h class message_type body = message_of h (meant class message_type) class message_type body
 
 -- ---- the bytes of a message, of which some may still be to come
 
 -- class, type and data
 pub record Frame : Type 0 where
   pub class : ℕ
-  pub kind : ℕ
+  pub message_type : ℕ
   pub body : List ℕ
 
 -- so many bytes of data, once they all stand
@@ -314,24 +314,24 @@ data_from bytes Over = Err BadInteger
 
 -- the data after a type: none below 128, else so many bytes as an encoded length says
 unfoldable pub data_at : ℕ → List ℕ → Result (Option (List ℕ × List ℕ)) Breach
-data_at kind bytes = if nat_lt kind 128 then Ok (Some ([], bytes)) else data_from bytes (read_of bytes)
+data_at message_type bytes = if nat_lt message_type 128 then Ok (Some ([], bytes)) else data_from bytes (read_of bytes)
 
 abbrev pub frame_with : ℕ → ℕ → Option (List ℕ × List ℕ) → Option (Frame × List ℕ)
-frame_with class kind None = None
-frame_with class kind (Some found) = Some (record { class = class; kind = kind; body = found.0 }, found.1)
+frame_with class message_type None = None
+frame_with class message_type (Some found) = Some (record { class = class; message_type = message_type; body = found.0 }, found.1)
 
 -- class, type and data at the front; None while they aren't whole
 unfoldable pub frame_at : List ℕ → Result (Option (Frame × List ℕ)) Breach
 frame_at [] = Ok None
 frame_at (class ∷ []) = Ok None
-frame_at (class ∷ (kind ∷ bytes)) = do
-  found ← data_at kind bytes
-  Ok (frame_with class kind found)
+frame_at (class ∷ (message_type ∷ bytes)) = do
+  found ← data_at message_type bytes
+  Ok (frame_with class message_type found)
 
 abbrev pub message_in : Received → Option (Frame × List ℕ) → Result (Option (Message × List ℕ)) Breach
 message_in h None = Ok None
 message_in h (Some found) = do
-  m ← body_at h found.0.class found.0.kind found.0.body
+  m ← body_at h found.0.class found.0.message_type found.0.body
   Ok (Some (m, found.1))
 
 -- the message at the front, and the bytes after it; None while it isn't whole

@@ -35,7 +35,7 @@ counted bytes = spelling (length bytes) ++ bytes
 
 -- class, type, and counted data
 abbrev pub framed : ℕ → ℕ → List ℕ → List ℕ
-framed class kind body = class ∷ (kind ∷ counted body)
+framed class message_type body = class ∷ (message_type ∷ counted body)
 
 abbrev pub key_text : Key → List ℕ
 key_text (keys.Int n) = word n
@@ -60,14 +60,14 @@ abbrev pub update_text : UpdateFields → List ℕ
 update_text u = optional_word u.number ++ (optional_word u.life ++ (key_text u.key ++ (flat_map value_text u.values ++ name_text u.name)))
 
 -- 128 has a number, 129 none; with a life they are 133 and 134
-abbrev pub update_kind : UpdateFields → ℕ
-update_kind u = kind_for u.number u.life
+abbrev pub update_type : UpdateFields → ℕ
+update_type u = type_for u.number u.life
   where
-    kind_for : Option ℕ → Option ℕ → ℕ
-    kind_for (Some number) None = 128
-    kind_for None None = 129
-    kind_for (Some number) (Some life) = 133
-    kind_for None (Some life) = 134
+    type_for : Option ℕ → Option ℕ → ℕ
+    type_for (Some number) None = 128
+    type_for None None = 129
+    type_for (Some number) (Some life) = 133
+    type_for None (Some life) = 134
 
 -- one bit for each data type
 abbrev pub bits_of : List (DataType × Option ℕ) → ℕ
@@ -84,16 +84,16 @@ period_text t = for_period t.0 t.1
 abbrev pub definition_text : Definition → List ℕ
 definition_text d = spelling d.id ++ (counted d.name ++ (spelling (number_of d.kind) ++ (spelling d.key_length ++ (spelling (bits_of d.types) ++ (spelling d.expire ++ flat_map period_text d.types)))))
 
-abbrev pub control_kind : Control → ℕ
-control_kind controls.ResyncRequest = 0
-control_kind controls.ResyncFinished = 1
-control_kind controls.ResyncPartial = 2
-control_kind controls.ResyncConfirmed = 3
-control_kind controls.Heartbeat = 4
+abbrev pub control_type : Control → ℕ
+control_type controls.ResyncRequest = 0
+control_type controls.ResyncFinished = 1
+control_type controls.ResyncPartial = 2
+control_type controls.ResyncConfirmed = 3
+control_type controls.Heartbeat = 4
 
-abbrev pub error_kind : ErrorKind → ℕ
-error_kind errors.Protocol = 0
-error_kind errors.SizeLimit = 1
+abbrev pub error_type : ErrorKind → ℕ
+error_type errors.Protocol = 0
+error_type errors.SizeLimit = 1
 
 -- the data of a message: what its length counts
 unfoldable pub data_of : Message → List ℕ
@@ -107,13 +107,13 @@ data_of (messages.Other o) = o.body
 
 -- the bytes of a message
 unfoldable pub spelled : Message → List ℕ
-spelled (messages.Control c) = 0 ∷ (control_kind c ∷ [])
-spelled (messages.Error e) = 1 ∷ (error_kind e ∷ [])
+spelled (messages.Control c) = 0 ∷ (control_type c ∷ [])
+spelled (messages.Error e) = 1 ∷ (error_type e ∷ [])
 spelled (messages.Define d) = framed 10 130 (definition_text d)
 spelled (messages.Switch id) = framed 10 131 (spelling id)
 spelled (messages.Ack table number) = framed 10 132 (spelling table ++ word number)
-spelled (messages.Update u) = framed 10 (update_kind u) (update_text u)
-spelled (messages.Other o) = if nat_lt o.kind 128 then o.class ∷ (o.kind ∷ []) else framed o.class o.kind o.body
+spelled (messages.Update u) = framed 10 (update_type u) (update_text u)
+spelled (messages.Other o) = if nat_lt o.message_type 128 then o.class ∷ (o.message_type ∷ []) else framed o.class o.message_type o.body
 
 -- the bytes b are the message m
 abbrev pub Spells : Message → List ℕ → Type 0

@@ -5,7 +5,7 @@ ghost use Rattle.std.specs.Prelude.{◌≡◌, ◌≤◌, ◌<◌, ◌+◌, ◌^
 ghost use Rattle.peers_encint.specs.Integers.{spelling};
 ghost use Rattle.table_types.specs.Tables.{rise_from};
 ghost use Rattle.peers_msg.specs.declared.message.Message.TheVariants as messages;
-ghost use Rattle.peers_msg.specs.Spelling.{word, optional_word, counted, key_text, value_text, name_text, update_text, update_kind, bits_of, period_text, definition_text, control_kind, error_kind, spelled, Spells};
+ghost use Rattle.peers_msg.specs.Spelling.{word, optional_word, counted, key_text, value_text, name_text, update_text, update_type, bits_of, period_text, definition_text, control_type, error_type, spelled, Spells};
 
 use crate::control::{Control, ErrorKind};
 use crate::message::{Message, Other, UpdateMsg};
@@ -207,22 +207,22 @@ fn append_definition(out: &mut Vec<u8>, table: &TableDef)
 }
 
 /// The type of a control message.
-fn control_kind(control: Control) -> u8
-    ensures { result ≡ control_kind control }
+fn control_type(control: Control) -> u8
+    ensures { result ≡ control_type control }
 {
     control as u8
 }
 
 /// The type of an error message.
-fn error_kind(error: ErrorKind) -> u8
-    ensures { result ≡ error_kind error }
+fn error_type(error: ErrorKind) -> u8
+    ensures { result ≡ error_type error }
 {
     error as u8
 }
 
 /// The type of an update.
-fn update_kind(update: &UpdateMsg) -> u8
-    ensures { result ≡ update_kind update.now }
+fn update_type(update: &UpdateMsg) -> u8
+    ensures { result ≡ update_type update.now }
 {
     match (update.number(), update.life()) {
         (Some(_), None) => 128,
@@ -263,10 +263,10 @@ fn append_other(out: &mut Vec<u8>, other: &Other) -> Result<(), Memory>
     ensures appended { OnOk result (out.new.items ≡ out.old.items ++ spelled (messages.Other other.now)) }
     ensures stays { OnErr result (out.new.items ≡ out.old.items) }
 {
-    if other.kind() < 128 {
-        append_pair(out, other.class(), other.kind())
+    if other.message_type() < 128 {
+        append_pair(out, other.class(), other.message_type())
     } else {
-        append_header(out, other.class(), other.kind(), other.body().len())?;
+        append_header(out, other.class(), other.message_type(), other.body().len())?;
         append_bytes(out, other.body());
         Ok(())
     }
@@ -282,8 +282,8 @@ pub fn append(out: &mut Vec<u8>, message: &Message) -> Result<(), Memory>
     ensures stays { OnErr result (out.new.items ≡ out.old.items) }
 {
     match message {
-        Message::Control(control) => append_pair(out, 0, control_kind(*control))?,
-        Message::Error(error) => append_pair(out, 1, error_kind(*error))?,
+        Message::Control(control) => append_pair(out, 0, control_type(*control))?,
+        Message::Error(error) => append_pair(out, 1, error_type(*error))?,
         Message::Define(table) => {
             append_header(out, 10, 130, definition_size(table))?;
             append_definition(out, table);
@@ -298,7 +298,7 @@ pub fn append(out: &mut Vec<u8>, message: &Message) -> Result<(), Memory>
             append_word(out, *number);
         }
         Message::Update(update) => {
-            append_header(out, 10, update_kind(update), update_size(update))?;
+            append_header(out, 10, update_type(update), update_size(update))?;
             append_update(out, update);
         }
         Message::Other(other) => append_other(out, other)?,

@@ -114,24 +114,24 @@ impl UpdateMsg {
 }
 
 /// Whether a pair of class and type has a meaning of its own.
-fn is_known_pair(class: u8, kind: u8) -> bool
-    ensures { result ≡ is_known_pair class kind }
+fn is_known_pair(class: u8, message_type: u8) -> bool
+    ensures { result ≡ is_known_pair class message_type }
 {
     match class {
-        0 => kind <= 4,
-        1 => kind <= 1,
-        10 => 128 <= kind && kind <= 134,
+        0 => message_type <= 4,
+        1 => message_type <= 1,
+        10 => 128 <= message_type && message_type <= 134,
         _ => false,
     }
 }
 
 /// A message of a pair of class and type that has no meaning here. A learner passes it over (profile).
 ///
-/// Its body is empty where `kind` is below 128, and has at most 16,384 bytes.
+/// Its body is empty where `message_type` is below 128, and has at most 16,384 bytes.
 #[derive(Debug, Drop)]
 pub struct Other {
     class: u8,
-    kind: u8,
+    message_type: u8,
     body: Items<u8>,
 }
 
@@ -141,25 +141,25 @@ impl Model for Other {
 
     ghost Value = { OtherFields };
 
-    ghost view = { λ o. record { class = o.class; kind = o.kind; body = o.body } };
+    ghost view = { λ o. record { class = o.class; message_type = o.message_type; body = o.body } };
 
-    ghost invariant = { λ o. is_other (record { class = o.class; kind = o.kind; body = o.body }) ≡ true };
+    ghost invariant = { λ o. is_other (record { class = o.class; message_type = o.message_type; body = o.body }) ≡ true };
 }
 
 impl Other {
     /// The message of that class and type with these data. `None` where the pair has a meaning of its own, where
     /// data stand after a type below 128, and above 16,384 bytes.
-    pub fn new(class: u8, kind: u8, body: Vec<u8>) -> Option<Other>
-        ensures made { IfSome result (λ o. o ≡ record { class = class; kind = kind; body = body.items }) }
-        ensures exactly { IsSome result ↔ (is_other (record { class = class; kind = kind; body = body.items }) ≡ true) }
+    pub fn new(class: u8, message_type: u8, body: Vec<u8>) -> Option<Other>
+        ensures made { IfSome result (λ o. o ≡ record { class = class; message_type = message_type; body = body.items }) }
+        ensures exactly { IsSome result ↔ (is_other (record { class = class; message_type = message_type; body = body.items }) ≡ true) }
     {
-        let most = if kind < 128 { 0 } else { MOST_DATA };
-        if is_known_pair(class, kind) || body.len() > most {
+        let most = if message_type < 128 { 0 } else { MOST_DATA };
+        if is_known_pair(class, message_type) || body.len() > most {
             return None;
         }
         Some(Other {
             class,
-            kind,
+            message_type,
             body: Items::new(body),
         })
     }
@@ -173,10 +173,10 @@ impl Other {
     }
 
     /// Its type.
-    pub fn kind(&self) -> u8
-        ensures { result ≡ self.now.kind }
+    pub fn message_type(&self) -> u8
+        ensures { result ≡ self.now.message_type }
     {
-        self.kind
+        self.message_type
     }
 
     /// Its data.

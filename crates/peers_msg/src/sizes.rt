@@ -202,7 +202,7 @@ pub fn size(message: &Message) -> usize
         Message::Switch(id) => framed_size(len(*id)),
         Message::Ack { table, .. } => framed_size(len(*table) + 4),
         Message::Update(update) => framed_size(update_size(update)),
-        Message::Other(other) if other.kind() < 128 => 2,
+        Message::Other(other) if other.message_type() < 128 => 2,
         Message::Other(other) => framed_size(other.body().len()),
     }
 }

@@ -4,7 +4,7 @@ use Rattle.std.proofs.lemmas.List.{flat_map_more, take_more}
 use Rattle.std.proofs.lemmas.List.Folds.{flat_map-map}
 use Rattle.peers_msg.specs.declared.message.Message.{Message}
 use Rattle.std.specs.List.{AllByRecursion}
-use Rattle.peers_msg.proofs.FrameLaws.{is_frame}
+use Rattle.peers_msg.proofs.FrameEnds.{is_frame}
 use Rattle.peers_msg.specs.Framing.{IsFrame}
 use Rattle.peers_msg.specs.Spelling.{spelled, stream_of}
 use Rattle.scene_text.specs.Lessons.{joined, line_of, price_text}

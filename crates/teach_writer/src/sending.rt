@@ -94,11 +94,7 @@ fn update_sent(
 }
 
 /// Writes a message: its bytes are appended, and the learner's state moves by it.
-fn write_message(
-    known: &mut Known,
-    message: Message,
-    bytes: &mut Vec<u8>,
-) -> Result<(), Memory>
+fn write_message(known: &mut Known, message: Message, bytes: &mut Vec<u8>) -> Result<(), Memory>
     requires { IsTakenBy known.old message }
     ensures appended { OnOk result (bytes.new.items ≡ bytes.old.items ++ spelled message) }
     ensures step { OnOk result ((us : List Update) × Step known.old.state message us known.new.state

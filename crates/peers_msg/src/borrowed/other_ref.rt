@@ -22,16 +22,16 @@ impl<'a> Model for OtherRef<'a> {
 
     ghost Value = { OtherFields };
 
-    ghost view = { λ o. record { class = o.class; kind = o.message_type; body = o.body.now } };
+    ghost view = { λ o. record { class = o.class; message_type = o.message_type; body = o.body.now } };
 
-    ghost invariant = { λ o. is_other (record { class = o.class; kind = o.message_type; body = o.body.now }) ≡ true };
+    ghost invariant = { λ o. is_other (record { class = o.class; message_type = o.message_type; body = o.body.now }) ≡ true };
 }
 
 impl<'a> OtherRef<'a> {
     /// The message of that class and type with these data.
     pub(crate) fn new(class: u8, message_type: u8, body: &'a [u8]) -> OtherRef<'a>
-        requires { is_other (record { class = class; kind = message_type; body = body.now }) ≡ true }
-        ensures { result ≡ record { class = class; kind = message_type; body = body.now } }
+        requires { is_other (record { class = class; message_type = message_type; body = body.now }) ≡ true }
+        ensures { result ≡ record { class = class; message_type = message_type; body = body.now } }
     {
         OtherRef {
             class,
@@ -50,7 +50,7 @@ impl<'a> OtherRef<'a> {
 
     /// Its type.
     pub fn message_type(&self) -> u8
-        ensures { result ≡ self.now.kind }
+        ensures { result ≡ self.now.message_type }
     {
         self.message_type
     }

@@ -9,6 +9,7 @@ use crate::fault::Breach;
 use peers_encint::{Read, get};
 
 /// A test in its place among the fields.
+#[inline(always)]
 pub(crate) fn wanted(holds: bool, breach: Breach) -> Result<(), Breach>
     ensures { Reads (λ _. true) result (wanted holds breach) }
 {
@@ -16,6 +17,7 @@ pub(crate) fn wanted(holds: bool, breach: Breach) -> Result<(), Breach>
 }
 
 /// The data end with their last field.
+#[inline(always)]
 pub(crate) fn ended(rest: &[u8]) -> Result<(), Breach>
     ensures { Reads (λ _. true) result (ended true rest.now) }
 {
@@ -23,6 +25,7 @@ pub(crate) fn ended(rest: &[u8]) -> Result<(), Breach>
 }
 
 /// An encoded integer, with what it is when the bytes end before it does.
+#[inline(always)]
 #[tactic(auto, unfolding(crate::specs::Reading::integer_at))]
 pub(crate) fn integer_at(short: Breach, bytes: &[u8]) -> Result<(u64, &[u8]), Breach>
     ensures { Reads (λ x. (x.0, x.1.now)) result (integer_at short bytes.now) }
@@ -35,6 +38,7 @@ pub(crate) fn integer_at(short: Breach, bytes: &[u8]) -> Result<(u64, &[u8]), Br
 }
 
 /// Four bytes, the big end first.
+#[inline(always)]
 #[tactic(auto, unfolding(crate::specs::Reading::word_at))]
 pub(crate) fn word_at(short: Breach, bytes: &[u8]) -> Result<(u32, &[u8]), Breach>
     ensures { Reads (λ x. (x.0, x.1.now)) result (word_at short bytes.now) }
@@ -46,6 +50,7 @@ pub(crate) fn word_at(short: Breach, bytes: &[u8]) -> Result<(u32, &[u8]), Breac
 }
 
 /// So many bytes.
+#[inline(always)]
 #[tactic(auto, unfolding(crate::specs::Reading::bytes_at))]
 pub(crate) fn bytes_at(short: Breach, count: u64, bytes: &[u8]) -> Result<(&[u8], &[u8]), Breach>
     ensures { Reads (λ x. (x.0.now, x.1.now)) result (bytes_at short count bytes.now) }

@@ -56,10 +56,10 @@ fn update_of<'a>(
     }
 }
 
-fn control_meant(kind: u8) -> Meaning
-    ensures { result ≡ control_meant kind }
+fn control_meant(message_type: u8) -> Meaning
+    ensures { result ≡ control_meant message_type }
 {
-    match kind {
+    match message_type {
         0 => Meaning::Control(Control::ResyncRequest),
         1 => Meaning::Control(Control::ResyncFinished),
         2 => Meaning::Control(Control::ResyncPartial),
@@ -69,10 +69,10 @@ fn control_meant(kind: u8) -> Meaning
     }
 }
 
-fn error_meant(kind: u8) -> Meaning
-    ensures { result ≡ error_meant kind }
+fn error_meant(message_type: u8) -> Meaning
+    ensures { result ≡ error_meant message_type }
 {
-    match kind {
+    match message_type {
         0 => Meaning::Error(ErrorKind::Protocol),
         1 => Meaning::Error(ErrorKind::SizeLimit),
         _ => Meaning::Other,
@@ -85,10 +85,10 @@ fn update_meant(numbered: bool, timed: bool) -> Meaning
     Meaning::Update { numbered, timed }
 }
 
-fn table_meant(kind: u8) -> Meaning
-    ensures { result ≡ table_meant kind }
+fn table_meant(message_type: u8) -> Meaning
+    ensures { result ≡ table_meant message_type }
 {
-    match kind {
+    match message_type {
         128 => update_meant(true, false),
         129 => update_meant(false, false),
         130 => Meaning::Define,
@@ -101,13 +101,13 @@ fn table_meant(kind: u8) -> Meaning
 }
 
 #[tactic(auto, unfolding(crate::specs::Reading::meant))]
-fn meant(class: u8, kind: u8) -> Meaning
-    ensures { result ≡ meant class kind }
+fn meant(class: u8, message_type: u8) -> Meaning
+    ensures { result ≡ meant class message_type }
 {
     match class {
-        0 => control_meant(kind),
-        1 => error_meant(kind),
-        10 => table_meant(kind),
+        0 => control_meant(message_type),
+        1 => error_meant(message_type),
+        10 => table_meant(message_type),
         _ => Meaning::Other,
     }
 }
@@ -116,7 +116,7 @@ fn meant(class: u8, kind: u8) -> Meaning
 #[derive(Clone, Copy)]
 struct Frame<'a> {
     class: u8,
-    kind: u8,
+    message_type: u8,
     body: &'a [u8],
 }
 
@@ -124,11 +124,11 @@ fn message_of<'a>(
     received: &'a Received,
     meaning: Meaning,
     class: u8,
-    kind: u8,
+    message_type: u8,
     body: &'a [u8],
 ) -> Result<MessageRef<'a>, Breach>
-    requires { meaning ≡ meanings.Other → is_other (record { class = class; kind = kind; body = body.now }) ≡ true }
-    ensures { Reads (λ message. owned_message message) result (message_of received.now meaning class kind body.now) }
+    requires { meaning ≡ meanings.Other → is_other (record { class = class; message_type = message_type; body = body.now }) ≡ true }
+    ensures { Reads (λ message. owned_message message) result (message_of received.now meaning class message_type body.now) }
 {
     match meaning {
         Meaning::Control(control) => Ok(MessageRef::Control(control)),
@@ -137,16 +137,16 @@ fn message_of<'a>(
         Meaning::Switch => switch_at(received, body),
         Meaning::Ack => ack_at(body),
         Meaning::Update { numbered, timed } => update_of(received, numbered, timed, body),
-        Meaning::Other => Ok(MessageRef::Other(OtherRef::new(class, kind, body))),
+        Meaning::Other => Ok(MessageRef::Other(OtherRef::new(class, message_type, body))),
     }
 }
 
 /// The data after a type, once they all stand.
 #[tactic(auto, unfolding(crate::specs::Reading::data_at))]
-fn data_at(kind: u8, bytes: &[u8]) -> Result<Option<(&[u8], &[u8])>, Breach>
-    ensures { Reads (option_map (λ x. (x.0.now, x.1.now))) result (data_at kind bytes.now) }
+fn data_at(message_type: u8, bytes: &[u8]) -> Result<Option<(&[u8], &[u8])>, Breach>
+    ensures { Reads (option_map (λ x. (x.0.now, x.1.now))) result (data_at message_type bytes.now) }
 {
-    if kind < 128 {
+    if message_type < 128 {
         return Ok(Some(bytes.split_at(0)));
     }
     let (count, rest) = match get(bytes) {
@@ -166,16 +166,16 @@ fn data_at(kind: u8, bytes: &[u8]) -> Result<Option<(&[u8], &[u8])>, Breach>
 /// Class, type and data at the front, once they all stand. While they don't, no byte of the data is looked at.
 #[tactic(auto, unfolding(crate::specs::Reading::frame_at))]
 fn frame_at(bytes: &[u8]) -> Result<Option<(Frame<'_>, &[u8])>, Breach>
-    ensures { Reads (option_map (λ x. (record { class = x.0.class; kind = x.0.kind; body = x.0.body.now }, x.1.now))) result (frame_at bytes.now) }
+    ensures { Reads (option_map (λ x. (record { class = x.0.class; message_type = x.0.message_type; body = x.0.body.now }, x.1.now))) result (frame_at bytes.now) }
 {
-    let [class, kind, behind @ ..] = bytes else {
+    let [class, message_type, behind @ ..] = bytes else {
         return Ok(None);
     };
-    Ok(match data_at(*kind, behind)? {
+    Ok(match data_at(*message_type, behind)? {
         Some((body, rest)) => {
             let frame = Frame {
                 class: *class,
-                kind: *kind,
+                message_type: *message_type,
                 body,
             };
             Some((frame, rest))
@@ -195,7 +195,13 @@ pub(crate) fn message_at<'a>(
     let Some((frame, rest)) = frame_at(bytes)? else {
         return Ok(None);
     };
-    let meaning = meant(frame.class, frame.kind);
-    let message = message_of(received, meaning, frame.class, frame.kind, frame.body)?;
+    let meaning = meant(frame.class, frame.message_type);
+    let message = message_of(
+        received,
+        meaning,
+        frame.class,
+        frame.message_type,
+        frame.body,
+    )?;
     Ok(Some((message, rest)))
 }

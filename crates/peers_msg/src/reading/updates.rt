@@ -11,6 +11,7 @@ use crate::fault::Breach;
 use crate::name_field_ref::NameFieldRef;
 use table_types::{DataType, KeyKind, Shape, TableDef, Value};
 
+#[inline(always)]
 #[tactic(auto, unfolding(crate::specs::Reading::optional_at))]
 fn optional_at(stands: bool, bytes: &[u8]) -> Result<(Option<u32>, &[u8]), Breach>
     ensures { Reads (λ x. (x.0, x.1.now)) result (optional_at stands bytes.now) }
@@ -53,6 +54,7 @@ fn key_at(kind: KeyKind, key_length: u64, bytes: &[u8]) -> Result<(KeyRef<'_>, &
 }
 
 /// A count below 2^32.
+#[inline(always)]
 #[tactic(auto, unfolding(crate::specs::Reading::count_at))]
 fn count_at(bytes: &[u8]) -> Result<(u32, &[u8]), Breach>
     ensures { Reads (λ x. (x.0, x.1.now)) result (count_at bytes.now) }
@@ -62,6 +64,7 @@ fn count_at(bytes: &[u8]) -> Result<(u32, &[u8]), Breach>
     Ok((count as u32, rest))
 }
 
+#[inline(always)]
 #[tactic(auto, unfolding(crate::specs::Reading::value_at))]
 pub(crate) fn value_at(shape: Shape, bytes: &[u8]) -> Result<(Value, &[u8]), Breach>
     ensures { Reads (λ x. (x.0, x.1.now)) result (value_at shape bytes.now) }

@@ -2,7 +2,7 @@ use Rattle.std.proofs.Common.{◌≡◌, ◌++◌, true, Some, [], ◌∷◌, Li
 use Rattle.table_types.specs.Tables.{Definition}
 use Rattle.table_types.specs.Updates.{fits}
 use Rattle.table_types.specs.Rosters.{table_at}
-use Rattle.peers_msg.proofs.DataLaws.{row_small}
+use Rattle.peers_msg.proofs.DataLimits.{row_small}
 use Rattle.known_state.specs.Cost.{knowledge_of}
 use Rattle.known_state.specs.Requests.{Asked, asked, knowledge_after_all}
 use Rattle.known_state.proofs.KnownLemmas.{table_at-id}

@@ -1,6 +1,6 @@
 use Rattle.std.proofs.Common.{◌-◌, ◌≤◌, ap, arith, length, sym}
 use Rattle.std.specs.Prelude.{Some}
-use Rattle.peers_msg.proofs.FrameLaws.{counted_front, counted_size, never_unread}
+use Rattle.peers_msg.proofs.FrameEnds.{counted_front, counted_size, never_unread}
 use Rattle.peers_msg.proofs.framing.counted_length.Goals as goal
 
 pub returns-then-length-bytes-clause-counted : goal.returns-then-length-bytes-clause-counted

@@ -1,7 +1,7 @@
 use Rattle.std.proofs.Common.{◌≡◌, ◌∙◌, ap, drop, length, sym, take}
 use Rattle.std.specs.Prelude.{Some}
 use Rattle.peers_msg.specs.Spelling.{spelled}
-use Rattle.peers_msg.proofs.FrameLaws.{frame_parts, is_frame}
+use Rattle.peers_msg.proofs.FrameEnds.{frame_parts, is_frame}
 use Rattle.peers_msg.proofs.framing.split_message.Goals as goal
 
 pub returns-in-Some-clause-found : goal.returns-in-Some-clause-found

@@ -1,4 +1,4 @@
-use Rattle.peers_msg.proofs.Pieces.{whole}
+use Rattle.peers_msg.proofs.CuttingIndependence.{whole}
 use Rattle.peers_msg.proofs.CuttingLaws.{same_end, same_breach}
 use Rattle.peers_msg.proofs.laws.any_cutting.Goals as goal
 

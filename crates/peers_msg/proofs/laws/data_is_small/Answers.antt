@@ -1,4 +1,4 @@
-use Rattle.peers_msg.proofs.DataLaws.{update_small, definition_small, row_small}
+use Rattle.peers_msg.proofs.DataLimits.{update_small, definition_small, row_small}
 use Rattle.peers_msg.proofs.laws.data_is_small.Goals as goal
 
 pub returns-clause-updates : goal.returns-clause-updates

@@ -1,4 +1,4 @@
-use Rattle.peers_msg.proofs.OneSpelling.{no_prefix}
+use Rattle.peers_msg.proofs.UniqueDecoding.{no_prefix}
 use Rattle.peers_msg.proofs.laws.no_prefix.Goals as goal
 
 pub returns : goal.returns

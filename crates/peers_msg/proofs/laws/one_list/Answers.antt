@@ -1,4 +1,4 @@
-use Rattle.peers_msg.proofs.OneSpelling.{one_list}
+use Rattle.peers_msg.proofs.UniqueDecoding.{one_list}
 use Rattle.peers_msg.proofs.laws.one_list.Goals as goal
 
 pub returns : goal.returns

@@ -1,4 +1,4 @@
-use Rattle.peers_msg.proofs.OneSpelling.{one_message, apart}
+use Rattle.peers_msg.proofs.UniqueDecoding.{one_message, apart}
 use Rattle.peers_msg.proofs.laws.one_message.Goals as goal
 
 pub returns-clause-same : goal.returns-clause-same

@@ -1,4 +1,4 @@
-use Rattle.peers_msg.proofs.MessagesTake.{message_takes}
+use Rattle.peers_msg.proofs.MessageCanonical.{message_takes}
 use Rattle.peers_msg.proofs.laws.read_is_spelled.Goals as goal
 
 pub returns : goal.returns

@@ -1,4 +1,4 @@
-use Rattle.peers_msg.proofs.MessagesAgain.{message_again}
+use Rattle.peers_msg.proofs.MessageRoundTrip.{message_again}
 use Rattle.peers_msg.proofs.ReadingStays.{cut_is_not_whole}
 use Rattle.peers_msg.proofs.laws.spelled_is_read.Goals as goal
 

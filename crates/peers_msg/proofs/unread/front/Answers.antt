@@ -3,7 +3,7 @@ use Rattle.peers_msg.specs.declared.message.Message.{Message}
 use Rattle.peers_msg.specs.declared.fault.Breach.{Breach}
 use Rattle.peers_msg.specs.BorrowedMessages.{owned_message}
 use Rattle.peers_msg.specs.Reading.{message_at}
-use Rattle.peers_msg.proofs.MessagesTake.{rest_is_end, message_takes}
+use Rattle.peers_msg.proofs.MessageCanonical.{rest_is_end, message_takes}
 use Rattle.peers_msg.proofs.unread.front.Goals as goal
 
 pub overflow_sub-used : goal.overflow_sub-used

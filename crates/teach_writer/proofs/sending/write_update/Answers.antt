@@ -14,7 +14,7 @@ use Rattle.peers_msg.specs.Spelling.{spelled, stream_of, size_of, size_of_all}
 use Rattle.known_state.specs.Known.{IsTakenBy}
 use Rattle.known_state.specs.State.{Step, Teaches, IsOwn, Legal, name_of, reads_empty}
 use Rattle.known_state.specs.LastNumbers.{last_of}
-use Rattle.peers_msg.proofs.DataLaws.{row_small}
+use Rattle.peers_msg.proofs.DataLimits.{row_small}
 use Rattle.known_state.specs.Cost.{number_sent, sent_as, KnowsLess, with_selected, knowledge_of, knowledge_after, selection_cost, written_cost, written_field, is_named_table, cost, cost_from, IsOfRoster}
 use Rattle.teach_writer.specs.Retained.{IsNameField}
 use Rattle.teach_writer.specs.Sending.{IsSent, is_stored, selection, update_sent}

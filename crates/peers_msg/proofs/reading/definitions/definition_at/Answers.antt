@@ -2,7 +2,7 @@ use Rattle.std.proofs.Common.{arith}
 use Rattle.table_types.specs.DataTypes.{all_types}
 use Rattle.peers_msg.specs.Borrowed.{list_read}
 use Rattle.peers_msg.specs.Reading.{types_at}
-use Rattle.peers_msg.proofs.ReadingUses.{definition_made}
+use Rattle.peers_msg.proofs.ValidWhenRead.{definition_made}
 use Rattle.peers_msg.proofs.reading.definitions.definition_at.Goals as goal
 
 pub new-requires-clause-defined : goal.new-requires-clause-defined

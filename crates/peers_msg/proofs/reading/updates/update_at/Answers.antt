@@ -2,7 +2,7 @@ use Rattle.std.proofs.Common.{arith, ap, ◌∙◌}
 use Rattle.peers_msg.specs.Borrowed.{list_read, owned_key}
 use Rattle.peers_msg.specs.Messages.{is_small}
 use Rattle.peers_msg.specs.Reading.{values_at}
-use Rattle.peers_msg.proofs.ReadingUses.{update_made, rest_is_bytes}
+use Rattle.peers_msg.proofs.ValidWhenRead.{update_made, rest_is_bytes}
 use Rattle.peers_msg.proofs.reading.updates.update_at.Goals as goal
 
 pub new-requires-clause-small : goal.new-requires-clause-small

@@ -9,14 +9,14 @@ use Rattle.peers_msg.specs.Spelling.{spelled, stream_of}
 use Rattle.peers_msg.specs.Fitting.{fits}
 use Rattle.peers_msg.specs.Stream.{AllFit}
 use Rattle.peers_msg.specs.Reading.{Frame, body_at, frame_at}
-use Rattle.peers_msg.proofs.MessagesAgain.{frame_of, frame_again, body_again}
+use Rattle.peers_msg.proofs.MessageRoundTrip.{frame_of, frame_again, body_again}
 
 -- ---- one message
 
 -- class, type and data of a message are no other's
 one_frame : (h : Received) (m n : Message) → fits h m ≡ true → fits h n ≡ true → frame_of m ≡ frame_of n → m ≡ n
 one_frame h m n p q e =
-    let read : ◌≡◌ {A = Result Message Breach} (Ok m) (Ok n) = sym (body_again h m p) ∙ ap (λ (f : Frame). body_at h f.class f.kind f.body) e ∙ body_again h n q in
+    let read : ◌≡◌ {A = Result Message Breach} (Ok m) (Ok n) = sym (body_again h m p) ∙ ap (λ (f : Frame). body_at h f.class f.message_type f.body) e ∙ body_again h n q in
     cc
 
 -- what stands at the front of the same bytes is the same

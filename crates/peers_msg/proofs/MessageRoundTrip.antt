@@ -29,12 +29,12 @@ use Rattle.peers_msg.specs.declared.meaning.Meaning.TheVariants as meanings
 use Rattle.peers_msg.specs.declared.fault.Breach.TheVariants.{BadInteger, BadDefinition}
 use Rattle.peers_msg.specs.Messages.{UpdateFields, OtherFields, is_known_pair, is_other}
 use Rattle.peers_msg.specs.Received.{Received, selected_table}
-use Rattle.peers_msg.specs.Spelling.{word, optional_word, counted, framed, key_text, value_text, name_text, update_text, update_kind, bits_of, period_text, definition_text, control_kind, error_kind, data_of, spelled}
+use Rattle.peers_msg.specs.Spelling.{word, optional_word, counted, framed, key_text, value_text, name_text, update_text, update_type, bits_of, period_text, definition_text, control_type, error_type, data_of, spelled}
 use Rattle.table_types.specs.SlotIds.{is_slot}
 use Rattle.peers_msg.specs.Fitting.{name_fits, update_fits, fits_table, has_shape, fits}
 use Rattle.peers_msg.specs.Reading.{integer_at, word_at, name_at, update_at, kind_of, named_at, keyed_at, stored_at, definition_at, switch_at, ack_at, update_of, control_meant, error_meant, table_meant, meant, message_of, body_at, Frame, data_at, frame_at, message_at}
-use Rattle.peers_msg.proofs.FieldsAgain.{then, integer_again, word_again, bytes_again, is_there, optional_again, key_again, values_again, not_stored_again, no_name_again, held_field_again, written_field_again, name_below}
-use Rattle.peers_msg.proofs.TypesAgain.{all_are, bits_within, types_again}
+use Rattle.peers_msg.proofs.FieldRoundTrip.{then, integer_again, word_again, bytes_again, is_there, optional_again, key_again, values_again, not_stored_again, no_name_again, held_field_again, written_field_again, name_below}
+use Rattle.peers_msg.proofs.TypeRoundTrip.{all_are, bits_within, types_again}
 
 -- ---- updates
 
@@ -172,15 +172,15 @@ meaning_of (messages.Other o) = meanings.Other
 
 -- class, type and data of a message
 abbrev pub frame_of : Message → Frame
-frame_of (messages.Control c) = record { class = 0; kind = control_kind c; body = [] }
-frame_of (messages.Error e) = record { class = 1; kind = error_kind e; body = [] }
-frame_of (messages.Define d) = record { class = 10; kind = 130; body = definition_text d }
-frame_of (messages.Switch id) = record { class = 10; kind = 131; body = spelling id }
-frame_of (messages.Ack table number) = record { class = 10; kind = 132; body = spelling table ++ word number }
-frame_of (messages.Update u) = record { class = 10; kind = update_kind u; body = update_text u }
-frame_of (messages.Other o) = record { class = o.class; kind = o.kind; body = o.body }
+frame_of (messages.Control c) = record { class = 0; message_type = control_type c; body = [] }
+frame_of (messages.Error e) = record { class = 1; message_type = error_type e; body = [] }
+frame_of (messages.Define d) = record { class = 10; message_type = 130; body = definition_text d }
+frame_of (messages.Switch id) = record { class = 10; message_type = 131; body = spelling id }
+frame_of (messages.Ack table number) = record { class = 10; message_type = 132; body = spelling table ++ word number }
+frame_of (messages.Update u) = record { class = 10; message_type = update_type u; body = update_text u }
+frame_of (messages.Other o) = record { class = o.class; message_type = o.message_type; body = o.body }
 
-control_means : (c : Control) → meant 0 (control_kind c) ≡ meanings.Control c
+control_means : (c : Control) → meant 0 (control_type c) ≡ meanings.Control c
 unfolding meant
 control_means controls.ResyncRequest = refl
 control_means controls.ResyncFinished = refl
@@ -188,65 +188,65 @@ control_means controls.ResyncPartial = refl
 control_means controls.ResyncConfirmed = refl
 control_means controls.Heartbeat = refl
 
-error_means : (e : ErrorKind) → meant 1 (error_kind e) ≡ meanings.Error e
+error_means : (e : ErrorKind) → meant 1 (error_type e) ≡ meanings.Error e
 unfolding meant
 error_means errors.Protocol = refl
 error_means errors.SizeLimit = refl
 
-update_means : (u : UpdateFields) (number life : Option ℕ) → u.number ≡ number → u.life ≡ life → meant 10 (update_kind u) ≡ meanings.Update (is_there number) (is_there life)
+update_means : (u : UpdateFields) (number life : Option ℕ) → u.number ≡ number → u.life ≡ life → meant 10 (update_type u) ≡ meanings.Update (is_there number) (is_there life)
 unfolding meant
 update_means u (Some number) None p q = rw (p, q) refl
 update_means u None None p q = rw (p, q) refl
 update_means u (Some number) (Some life) p q = rw (p, q) refl
 update_means u None (Some life) p q = rw (p, q) refl
 
-pub update_has_data : (u : UpdateFields) (number life : Option ℕ) → u.number ≡ number → u.life ≡ life → ltb (update_kind u) 128 ≡ false
+pub update_has_data : (u : UpdateFields) (number life : Option ℕ) → u.number ≡ number → u.life ≡ life → ltb (update_type u) 128 ≡ false
 update_has_data u (Some number) None p q = rw (p, q) refl
 update_has_data u None None p q = rw (p, q) refl
 update_has_data u (Some number) (Some life) p q = rw (p, q) refl
 update_has_data u None (Some life) p q = rw (p, q) refl
 
-no_control : (kind : ℕ) → 4 < kind → control_meant kind ≡ meanings.Other
-no_control kind h =
-    rw (ne_eqb kind 0 (λ e. omega arith), ne_eqb kind 1 (λ e. omega arith), ne_eqb kind 2 (λ e. omega arith), ne_eqb kind 3 (λ e. omega arith), ne_eqb kind 4 (λ e. omega arith)) refl
+no_control : (message_type : ℕ) → 4 < message_type → control_meant message_type ≡ meanings.Other
+no_control message_type h =
+    rw (ne_eqb message_type 0 (λ e. omega arith), ne_eqb message_type 1 (λ e. omega arith), ne_eqb message_type 2 (λ e. omega arith), ne_eqb message_type 3 (λ e. omega arith), ne_eqb message_type 4 (λ e. omega arith)) refl
 
-no_error : (kind : ℕ) → 1 < kind → error_meant kind ≡ meanings.Other
-no_error kind h = rw (ne_eqb kind 0 (λ e. omega arith), ne_eqb kind 1 (λ e. omega arith)) refl
+no_error : (message_type : ℕ) → 1 < message_type → error_meant message_type ≡ meanings.Other
+no_error message_type h = rw (ne_eqb message_type 0 (λ e. omega arith), ne_eqb message_type 1 (λ e. omega arith)) refl
 
-no_table_message : (kind : ℕ) → (128 ≤ kind → kind ≤ 134 → ⊥) → table_meant kind ≡ meanings.Other
-no_table_message kind h =
-    let apart : (n : ℕ) → 128 ≤ n → n ≤ 134 → eqb kind n ≡ false = λ n low high. ne_eqb kind n (λ e. h (omega arith) (omega arith)) in
+no_table_message : (message_type : ℕ) → (128 ≤ message_type → message_type ≤ 134 → ⊥) → table_meant message_type ≡ meanings.Other
+no_table_message message_type h =
+    let apart : (n : ℕ) → 128 ≤ n → n ≤ 134 → eqb message_type n ≡ false = λ n low high. ne_eqb message_type n (λ e. h (omega arith) (omega arith)) in
     rw (apart 128 (omega arith) (omega arith), apart 129 (omega arith) (omega arith), apart 130 (omega arith) (omega arith), apart 131 (omega arith) (omega arith), apart 132 (omega arith) (omega arith), apart 133 (omega arith) (omega arith), apart 134 (omega arith) (omega arith)) refl
 
-other_means : (class kind : ℕ) → is_known_pair class kind ≡ false → meant class kind ≡ meanings.Other
+other_means : (class message_type : ℕ) → is_known_pair class message_type ≡ false → meant class message_type ≡ meanings.Other
 unfolding meant
-other_means class kind h =
-    let table = or_parts (eqb class 0 && leb kind 4 || eqb class 1 && leb kind 1) (eqb class 10 && (leb 128 kind && leb kind 134)) h in
-    let others = or_parts (eqb class 0 && leb kind 4) (eqb class 1 && leb kind 1) table.0 in
+other_means class message_type h =
+    let table = or_parts (eqb class 0 && leb message_type 4 || eqb class 1 && leb message_type 1) (eqb class 10 && (leb 128 message_type && leb message_type 134)) h in
+    let others = or_parts (eqb class 0 && leb message_type 4) (eqb class 1 && leb message_type 1) table.0 in
     elim (cases_eq class 0) [
       | inl is ↦
-          let beyond : leb kind 4 ≡ false = rw (eq-eqb class 0 is) at others.0 in
-          rw (eq-eqb class 0 is) (no_control kind (leb-false kind 4 beyond))
+          let beyond : leb message_type 4 ≡ false = rw (eq-eqb class 0 is) at others.0 in
+          rw (eq-eqb class 0 is) (no_control message_type (leb-false message_type 4 beyond))
       | inr not_0 ↦ elim (cases_eq class 1) [
         | inl is ↦
-            let beyond : leb kind 1 ≡ false = rw (eq-eqb class 1 is) at others.1 in
-            rw (ne_eqb class 0 not_0, eq-eqb class 1 is) (no_error kind (leb-false kind 1 beyond))
+            let beyond : leb message_type 1 ≡ false = rw (eq-eqb class 1 is) at others.1 in
+            rw (ne_eqb class 0 not_0, eq-eqb class 1 is) (no_error message_type (leb-false message_type 1 beyond))
         | inr not_1 ↦ elim (cases_eq class 10) [
           | inl is ↦
-              let beyond : (leb 128 kind && leb kind 134) ≡ false = rw (eq-eqb class 10 is) at table.1 in
-              let apart : 128 ≤ kind → kind ≤ 134 → ⊥ = λ low high. let wrong : true ≡ false = rw (le-leb 128 kind low, le-leb kind 134 high) at beyond in absurd cc in
-              rw (ne_eqb class 0 not_0, ne_eqb class 1 not_1, eq-eqb class 10 is) (no_table_message kind apart)
+              let beyond : (leb 128 message_type && leb message_type 134) ≡ false = rw (eq-eqb class 10 is) at table.1 in
+              let apart : 128 ≤ message_type → message_type ≤ 134 → ⊥ = λ low high. let wrong : true ≡ false = rw (le-leb 128 message_type low, le-leb message_type 134 high) at beyond in absurd cc in
+              rw (ne_eqb class 0 not_0, ne_eqb class 1 not_1, eq-eqb class 10 is) (no_table_message message_type apart)
           | inr not_10 ↦ rw (ne_eqb class 0 not_0, ne_eqb class 1 not_1, ne_eqb class 10 not_10) refl
         ]
       ]
     ]
 
-other_parts : (o : OtherFields) → is_other o ≡ true → (is_known_pair o.class o.kind ≡ false) × (cond (ltb o.kind 128) (eqb (length o.body) 0) (leb (length o.body) 16384) ≡ true)
+other_parts : (o : OtherFields) → is_other o ≡ true → (is_known_pair o.class o.message_type ≡ false) × (cond (ltb o.message_type 128) (eqb (length o.body) 0) (leb (length o.body) 16384) ≡ true)
 other_parts o h =
-    let a = and_parts (ltb o.class 256 && ltb o.kind 256 && not (is_known_pair o.class o.kind)) (cond (ltb o.kind 128) (eqb (length o.body) 0) (leb (length o.body) 16384)) h in
-    (not-true (is_known_pair o.class o.kind) (and_parts (ltb o.class 256 && ltb o.kind 256) (not (is_known_pair o.class o.kind)) a.0).1, a.1)
+    let a = and_parts (ltb o.class 256 && ltb o.message_type 256 && not (is_known_pair o.class o.message_type)) (cond (ltb o.message_type 128) (eqb (length o.body) 0) (leb (length o.body) 16384)) h in
+    (not-true (is_known_pair o.class o.message_type) (and_parts (ltb o.class 256 && ltb o.message_type 256) (not (is_known_pair o.class o.message_type)) a.0).1, a.1)
 
-pub meaning_again : (h : Received) (m : Message) → has_shape h m ≡ true → meant (frame_of m).class (frame_of m).kind ≡ meaning_of m
+pub meaning_again : (h : Received) (m : Message) → has_shape h m ≡ true → meant (frame_of m).class (frame_of m).message_type ≡ meaning_of m
 unfolding meant
 meaning_again h (messages.Control c) is = control_means c
 meaning_again h (messages.Error e) is = error_means e
@@ -254,31 +254,31 @@ meaning_again h (messages.Define d) is = refl
 meaning_again h (messages.Switch id) is = refl
 meaning_again h (messages.Ack table number) is = refl
 meaning_again h (messages.Update u) is = update_means u u.number u.life refl refl
-meaning_again h (messages.Other o) is = other_means o.class o.kind (other_parts o is).0
+meaning_again h (messages.Other o) is = other_means o.class o.message_type (other_parts o is).0
 
 -- ---- frames
 
-pub short_frame_again : (class kind : ℕ) (rest : List ℕ) → kind < 128 → frame_at (class ∷ (kind ∷ rest)) ≡ Ok (Some (record { class = class; kind = kind; body = [] }, rest))
+pub short_frame_again : (class message_type : ℕ) (rest : List ℕ) → message_type < 128 → frame_at (class ∷ (message_type ∷ rest)) ≡ Ok (Some (record { class = class; message_type = message_type; body = [] }, rest))
 unfolding frame_at data_at
-short_frame_again class kind rest less = rw (lt-ltb kind 128 less) refl
+short_frame_again class message_type rest less = rw (lt-ltb message_type 128 less) refl
 
-pub long_frame_again : (class kind : ℕ) (body rest : List ℕ) → ltb kind 128 ≡ false → length body ≤ 16384 → frame_at (framed class kind body ++ rest) ≡ Ok (Some (record { class = class; kind = kind; body = body }, rest))
+pub long_frame_again : (class message_type : ℕ) (body rest : List ℕ) → ltb message_type 128 ≡ false → length body ≤ 16384 → frame_at (framed class message_type body ++ rest) ≡ Ok (Some (record { class = class; message_type = message_type; body = body }, rest))
 unfolding frame_at data_at
-long_frame_again class kind body rest has_data short =
+long_frame_again class message_type body rest has_data short =
     let read : read_of (spelling (length body) ++ (body ++ rest)) ≡ Value (length body) (length (spelling (length body))) = again (length body) (body ++ rest) (omega arith) in
     let within : ltb 16384 (length body) ≡ false = le-ltb _ _ short in
     let whole : ltb (length (body ++ rest)) (length body) ≡ false = le-ltb _ _ (omega (arith, length-append body rest)) in
-    ap (λ (x : List ℕ). frame_at (class ∷ (kind ∷ x))) (append_assoc (spelling (length body)) body rest)
+    ap (λ (x : List ℕ). frame_at (class ∷ (message_type ∷ x))) (append_assoc (spelling (length body)) body rest)
     ∙ rw (has_data, read, drop_at (spelling (length body)) (body ++ rest) (length (spelling (length body))) refl, within, whole, take_at body rest (length body) refl, drop_at body rest (length body) refl) refl
 
-pub control_below : (c : Control) → control_kind c < 128
+pub control_below : (c : Control) → control_type c < 128
 control_below controls.ResyncRequest = omega arith
 control_below controls.ResyncFinished = omega arith
 control_below controls.ResyncPartial = omega arith
 control_below controls.ResyncConfirmed = omega arith
 control_below controls.Heartbeat = omega arith
 
-pub error_below : (e : ErrorKind) → error_kind e < 128
+pub error_below : (e : ErrorKind) → error_type e < 128
 error_below errors.Protocol = omega arith
 error_below errors.SizeLimit = omega arith
 
@@ -286,23 +286,23 @@ error_below errors.SizeLimit = omega arith
 other_frame_again : (o : OtherFields) (rest : List ℕ) → length o.body ≤ 16384 → is_other o ≡ true → frame_at (spelled (messages.Other o) ++ rest) ≡ Ok (Some (frame_of (messages.Other o), rest))
 unfolding spelled
 other_frame_again o rest short is =
-    let sizes : cond (ltb o.kind 128) (eqb (length o.body) 0) (leb (length o.body) 16384) ≡ true = (other_parts o is).1 in
-    elim (cases_Bool (ltb o.kind 128)) [
+    let sizes : cond (ltb o.message_type 128) (eqb (length o.body) 0) (leb (length o.body) 16384) ≡ true = (other_parts o is).1 in
+    elim (cases_Bool (ltb o.message_type 128)) [
       | inl low ↦
           let no_data : eqb (length o.body) 0 ≡ true = rw low at sizes in
           let empty : o.body ≡ [] = nil_from_length o.body (eqb-true _ _ no_data) in
-          rw (low, empty) (short_frame_again o.class o.kind rest (ltb-true _ _ low))
-      | inr high ↦ rw high (long_frame_again o.class o.kind o.body rest high short)
+          rw (low, empty) (short_frame_again o.class o.message_type rest (ltb-true _ _ low))
+      | inr high ↦ rw high (long_frame_again o.class o.message_type o.body rest high short)
     ]
 
 pub frame_again : (h : Received) (m : Message) (rest : List ℕ) → fits h m ≡ true → frame_at (spelled m ++ rest) ≡ Ok (Some (frame_of m, rest))
 unfolding fits spelled data_of
-frame_again h (messages.Control c) rest is = short_frame_again 0 (control_kind c) rest (control_below c)
-frame_again h (messages.Error e) rest is = short_frame_again 1 (error_kind e) rest (error_below e)
+frame_again h (messages.Control c) rest is = short_frame_again 0 (control_type c) rest (control_below c)
+frame_again h (messages.Error e) rest is = short_frame_again 1 (error_type e) rest (error_below e)
 frame_again h (messages.Define d) rest is = long_frame_again 10 130 (definition_text d) rest refl (leb-true _ _ (and_parts _ _ is).1)
 frame_again h (messages.Switch id) rest is = long_frame_again 10 131 (spelling id) rest refl (leb-true _ _ (and_parts _ _ is).1)
 frame_again h (messages.Ack table number) rest is = long_frame_again 10 132 (spelling table ++ word number) rest refl (leb-true _ _ (and_parts _ _ is).1)
-frame_again h (messages.Update u) rest is = long_frame_again 10 (update_kind u) (update_text u) rest (update_has_data u u.number u.life refl refl) (leb-true _ _ (and_parts _ _ is).1)
+frame_again h (messages.Update u) rest is = long_frame_again 10 (update_type u) (update_text u) rest (update_has_data u u.number u.life refl refl) (leb-true _ _ (and_parts _ _ is).1)
 frame_again h (messages.Other o) rest is = other_frame_again o rest (leb-true _ _ (and_parts _ _ is).1) (and_parts _ _ is).0
 
 -- ---- messages
@@ -311,7 +311,7 @@ update_of_again : (table : Option Definition) (u : UpdateFields) → length (upd
 update_of_again None u short is = absurd cc
 update_of_again (Some d) u short is = then _ _ _ (update_again d u short is)
 
-pub data_again : (h : Received) (m : Message) → fits h m ≡ true → message_of h (meaning_of m) (frame_of m).class (frame_of m).kind (frame_of m).body ≡ Ok m
+pub data_again : (h : Received) (m : Message) → fits h m ≡ true → message_of h (meaning_of m) (frame_of m).class (frame_of m).message_type (frame_of m).body ≡ Ok m
 unfolding fits data_of
 data_again h (messages.Control c) is = refl
 data_again h (messages.Error e) is = refl
@@ -329,7 +329,7 @@ pub shape : (h : Received) (m : Message) → fits h m ≡ true → has_shape h m
 unfolding fits
 shape h m is = (and_parts _ _ is).0
 
-pub body_again : (h : Received) (m : Message) → fits h m ≡ true → body_at h (frame_of m).class (frame_of m).kind (frame_of m).body ≡ Ok m
+pub body_again : (h : Received) (m : Message) → fits h m ≡ true → body_at h (frame_of m).class (frame_of m).message_type (frame_of m).body ≡ Ok m
 unfolding body_at
 body_again h m is = rw (meaning_again h m (shape h m is)) (data_again h m is)
 

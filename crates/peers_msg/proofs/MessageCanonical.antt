@@ -27,14 +27,14 @@ use Rattle.peers_msg.specs.declared.fault.Breach.{Breach}
 use Rattle.peers_msg.specs.declared.fault.Breach.TheVariants.{BadInteger, BadDefinition, NoTable, UnknownDataType, SizeLimit, Trailing}
 use Rattle.peers_msg.specs.Messages.{UpdateFields, OtherFields, is_known_pair}
 use Rattle.peers_msg.specs.Received.{Received, selected_table}
-use Rattle.peers_msg.specs.Spelling.{word, optional_word, counted, key_text, value_text, name_text, update_text, update_kind, bits_of, period_text, definition_text, control_kind, error_kind, data_of, spelled}
+use Rattle.peers_msg.specs.Spelling.{word, optional_word, counted, key_text, value_text, name_text, update_text, update_type, bits_of, period_text, definition_text, control_type, error_type, data_of, spelled}
 use Rattle.peers_msg.specs.Fitting.{update_fits, has_shape, fits}
 use Rattle.peers_msg.specs.Reading.{integer_at, word_at, bytes_at, ended, optional_at, key_at, values_at, name_at, update_at, kind_of, types_at, named_at, keyed_at, stored_at, definition_at, switch_at, ack_at, update_of, control_meant, error_meant, table_meant, meant, message_of, body_at, Frame, whole_data, data_from, data_at, frame_with, frame_at, message_in, message_at}
-use Rattle.peers_msg.proofs.FieldsAgain.{is_there}
-use Rattle.peers_msg.proofs.TypesAgain.{all_are}
-use Rattle.peers_msg.proofs.MessagesAgain.{frame_of, control_below, error_below, update_has_data}
-use Rattle.peers_msg.proofs.FieldsTake.{IsBytes-drop, IsBytes-take, Takes, Takes-then, bind_ok, wanted_ok, ok_is, chosen, integer_takes, word_takes, bytes_take, optional_takes, key_takes, values_take, name_takes}
-use Rattle.peers_msg.proofs.TypesTake.{types_take}
+use Rattle.peers_msg.proofs.FieldRoundTrip.{is_there}
+use Rattle.peers_msg.proofs.TypeRoundTrip.{all_are}
+use Rattle.peers_msg.proofs.MessageRoundTrip.{frame_of, control_below, error_below, update_has_data}
+use Rattle.peers_msg.proofs.FieldCanonical.{IsBytes-drop, IsBytes-take, Takes, Takes-then, bind_ok, wanted_ok, ok_is, chosen, integer_takes, word_takes, bytes_take, optional_takes, key_takes, values_take, name_takes}
+use Rattle.peers_msg.proofs.TypeCanonical.{types_take}
 
 -- what was read whole
 abbrev read_whole : {A : Type 0} → A → Result (Option A) Breach
@@ -221,86 +221,86 @@ ack_takes bytes m fits e =
 -- ---- pairs of class and type
 
 -- the type of an update with a number or none, and with a life or none
-abbrev pub kind_of_update : Bool → Bool → ℕ
-kind_of_update true false = 128
-kind_of_update false false = 129
-kind_of_update true true = 133
-kind_of_update false true = 134
+abbrev pub type_of_update : Bool → Bool → ℕ
+type_of_update true false = 128
+type_of_update false false = 129
+type_of_update true true = 133
+type_of_update false true = 134
 
 -- the pairs that have a meaning
 abbrev pub IsPair : Meaning → ℕ → ℕ → Type 0
-IsPair (meanings.Control c) class kind = (class ≡ 0) × (kind ≡ control_kind c)
-IsPair (meanings.Error e) class kind = (class ≡ 1) × (kind ≡ error_kind e)
-IsPair meanings.Define class kind = (class ≡ 10) × (kind ≡ 130)
-IsPair meanings.Switch class kind = (class ≡ 10) × (kind ≡ 131)
-IsPair meanings.Ack class kind = (class ≡ 10) × (kind ≡ 132)
-IsPair (meanings.Update numbered timed) class kind = (class ≡ 10) × (kind ≡ kind_of_update numbered timed)
-IsPair meanings.Other class kind = is_known_pair class kind ≡ false
+IsPair (meanings.Control c) class message_type = (class ≡ 0) × (message_type ≡ control_type c)
+IsPair (meanings.Error e) class message_type = (class ≡ 1) × (message_type ≡ error_type e)
+IsPair meanings.Define class message_type = (class ≡ 10) × (message_type ≡ 130)
+IsPair meanings.Switch class message_type = (class ≡ 10) × (message_type ≡ 131)
+IsPair meanings.Ack class message_type = (class ≡ 10) × (message_type ≡ 132)
+IsPair (meanings.Update numbered timed) class message_type = (class ≡ 10) × (message_type ≡ type_of_update numbered timed)
+IsPair meanings.Other class message_type = is_known_pair class message_type ≡ false
 
-control_pair : (kind : ℕ) (mean : Meaning) → control_meant kind ≡ mean → IsPair mean 0 kind
-control_pair kind mean e =
-    elim (chosen (eqb kind 0) (meanings.Control controls.ResyncRequest) _ mean e) [
-      | inl c ↦ subst (λ (m : Meaning). IsPair m 0 kind) c.1 (refl, eqb-true kind 0 c.0)
-      | inr c0 ↦ elim (chosen (eqb kind 1) (meanings.Control controls.ResyncFinished) _ mean c0.1) [
-        | inl c ↦ subst (λ (m : Meaning). IsPair m 0 kind) c.1 (refl, eqb-true kind 1 c.0)
-        | inr c1 ↦ elim (chosen (eqb kind 2) (meanings.Control controls.ResyncPartial) _ mean c1.1) [
-          | inl c ↦ subst (λ (m : Meaning). IsPair m 0 kind) c.1 (refl, eqb-true kind 2 c.0)
-          | inr c2 ↦ elim (chosen (eqb kind 3) (meanings.Control controls.ResyncConfirmed) _ mean c2.1) [
-            | inl c ↦ subst (λ (m : Meaning). IsPair m 0 kind) c.1 (refl, eqb-true kind 3 c.0)
-            | inr c3 ↦ elim (chosen (eqb kind 4) (meanings.Control controls.Heartbeat) meanings.Other mean c3.1) [
-              | inl c ↦ subst (λ (m : Meaning). IsPair m 0 kind) c.1 (refl, eqb-true kind 4 c.0)
+control_pair : (message_type : ℕ) (mean : Meaning) → control_meant message_type ≡ mean → IsPair mean 0 message_type
+control_pair message_type mean e =
+    elim (chosen (eqb message_type 0) (meanings.Control controls.ResyncRequest) _ mean e) [
+      | inl c ↦ subst (λ (m : Meaning). IsPair m 0 message_type) c.1 (refl, eqb-true message_type 0 c.0)
+      | inr c0 ↦ elim (chosen (eqb message_type 1) (meanings.Control controls.ResyncFinished) _ mean c0.1) [
+        | inl c ↦ subst (λ (m : Meaning). IsPair m 0 message_type) c.1 (refl, eqb-true message_type 1 c.0)
+        | inr c1 ↦ elim (chosen (eqb message_type 2) (meanings.Control controls.ResyncPartial) _ mean c1.1) [
+          | inl c ↦ subst (λ (m : Meaning). IsPair m 0 message_type) c.1 (refl, eqb-true message_type 2 c.0)
+          | inr c2 ↦ elim (chosen (eqb message_type 3) (meanings.Control controls.ResyncConfirmed) _ mean c2.1) [
+            | inl c ↦ subst (λ (m : Meaning). IsPair m 0 message_type) c.1 (refl, eqb-true message_type 3 c.0)
+            | inr c3 ↦ elim (chosen (eqb message_type 4) (meanings.Control controls.Heartbeat) meanings.Other mean c3.1) [
+              | inl c ↦ subst (λ (m : Meaning). IsPair m 0 message_type) c.1 (refl, eqb-true message_type 4 c.0)
               | inr c4 ↦
-                  let above : 4 < kind = omega (arith, eqb-false kind 0 c0.0, eqb-false kind 1 c1.0, eqb-false kind 2 c2.0, eqb-false kind 3 c3.0, eqb-false kind 4 c4.0) in
-                  let unknown : is_known_pair 0 kind ≡ false = rw (lt-leb kind 4 above) refl in
-                  subst (λ (m : Meaning). IsPair m 0 kind) c4.1 unknown
+                  let above : 4 < message_type = omega (arith, eqb-false message_type 0 c0.0, eqb-false message_type 1 c1.0, eqb-false message_type 2 c2.0, eqb-false message_type 3 c3.0, eqb-false message_type 4 c4.0) in
+                  let unknown : is_known_pair 0 message_type ≡ false = rw (lt-leb message_type 4 above) refl in
+                  subst (λ (m : Meaning). IsPair m 0 message_type) c4.1 unknown
             ]
           ]
         ]
       ]
     ]
 
-error_pair : (kind : ℕ) (mean : Meaning) → error_meant kind ≡ mean → IsPair mean 1 kind
-error_pair kind mean e =
-    elim (chosen (eqb kind 0) (meanings.Error errors.Protocol) _ mean e) [
-      | inl c ↦ subst (λ (m : Meaning). IsPair m 1 kind) c.1 (refl, eqb-true kind 0 c.0)
-      | inr c0 ↦ elim (chosen (eqb kind 1) (meanings.Error errors.SizeLimit) meanings.Other mean c0.1) [
-        | inl c ↦ subst (λ (m : Meaning). IsPair m 1 kind) c.1 (refl, eqb-true kind 1 c.0)
+error_pair : (message_type : ℕ) (mean : Meaning) → error_meant message_type ≡ mean → IsPair mean 1 message_type
+error_pair message_type mean e =
+    elim (chosen (eqb message_type 0) (meanings.Error errors.Protocol) _ mean e) [
+      | inl c ↦ subst (λ (m : Meaning). IsPair m 1 message_type) c.1 (refl, eqb-true message_type 0 c.0)
+      | inr c0 ↦ elim (chosen (eqb message_type 1) (meanings.Error errors.SizeLimit) meanings.Other mean c0.1) [
+        | inl c ↦ subst (λ (m : Meaning). IsPair m 1 message_type) c.1 (refl, eqb-true message_type 1 c.0)
         | inr c1 ↦
-            let above : 1 < kind = omega (arith, eqb-false kind 0 c0.0, eqb-false kind 1 c1.0) in
-            let unknown : is_known_pair 1 kind ≡ false = rw (lt-leb kind 1 above) refl in
-            subst (λ (m : Meaning). IsPair m 1 kind) c1.1 unknown
+            let above : 1 < message_type = omega (arith, eqb-false message_type 0 c0.0, eqb-false message_type 1 c1.0) in
+            let unknown : is_known_pair 1 message_type ≡ false = rw (lt-leb message_type 1 above) refl in
+            subst (λ (m : Meaning). IsPair m 1 message_type) c1.1 unknown
       ]
     ]
 
-no_table_pair : (kind : ℕ) → (128 ≤ kind → kind ≤ 134 → ⊥) → is_known_pair 10 kind ≡ false
-no_table_pair kind h =
-    elim (cases_lt kind 128) [
-      | inl low ↦ rw (lt-leb 128 kind low) refl
-      | inr high ↦ elim (cases_lt 134 kind) [
-        | inl above ↦ rw (lt-leb kind 134 above, le-leb 128 kind high) refl
+no_table_pair : (message_type : ℕ) → (128 ≤ message_type → message_type ≤ 134 → ⊥) → is_known_pair 10 message_type ≡ false
+no_table_pair message_type h =
+    elim (cases_lt message_type 128) [
+      | inl low ↦ rw (lt-leb 128 message_type low) refl
+      | inr high ↦ elim (cases_lt 134 message_type) [
+        | inl above ↦ rw (lt-leb message_type 134 above, le-leb 128 message_type high) refl
         | inr within ↦ absurd (h high within)
       ]
     ]
 
-table_pair : (kind : ℕ) (mean : Meaning) → table_meant kind ≡ mean → IsPair mean 10 kind
-table_pair kind mean e =
-    elim (chosen (eqb kind 128) (meanings.Update true false) _ mean e) [
-      | inl c ↦ subst (λ (m : Meaning). IsPair m 10 kind) c.1 (refl, eqb-true kind 128 c.0)
-      | inr c0 ↦ elim (chosen (eqb kind 129) (meanings.Update false false) _ mean c0.1) [
-        | inl c ↦ subst (λ (m : Meaning). IsPair m 10 kind) c.1 (refl, eqb-true kind 129 c.0)
-        | inr c1 ↦ elim (chosen (eqb kind 130) meanings.Define _ mean c1.1) [
-          | inl c ↦ subst (λ (m : Meaning). IsPair m 10 kind) c.1 (refl, eqb-true kind 130 c.0)
-          | inr c2 ↦ elim (chosen (eqb kind 131) meanings.Switch _ mean c2.1) [
-            | inl c ↦ subst (λ (m : Meaning). IsPair m 10 kind) c.1 (refl, eqb-true kind 131 c.0)
-            | inr c3 ↦ elim (chosen (eqb kind 132) meanings.Ack _ mean c3.1) [
-              | inl c ↦ subst (λ (m : Meaning). IsPair m 10 kind) c.1 (refl, eqb-true kind 132 c.0)
-              | inr c4 ↦ elim (chosen (eqb kind 133) (meanings.Update true true) _ mean c4.1) [
-                | inl c ↦ subst (λ (m : Meaning). IsPair m 10 kind) c.1 (refl, eqb-true kind 133 c.0)
-                | inr c5 ↦ elim (chosen (eqb kind 134) (meanings.Update false true) meanings.Other mean c5.1) [
-                  | inl c ↦ subst (λ (m : Meaning). IsPair m 10 kind) c.1 (refl, eqb-true kind 134 c.0)
+table_pair : (message_type : ℕ) (mean : Meaning) → table_meant message_type ≡ mean → IsPair mean 10 message_type
+table_pair message_type mean e =
+    elim (chosen (eqb message_type 128) (meanings.Update true false) _ mean e) [
+      | inl c ↦ subst (λ (m : Meaning). IsPair m 10 message_type) c.1 (refl, eqb-true message_type 128 c.0)
+      | inr c0 ↦ elim (chosen (eqb message_type 129) (meanings.Update false false) _ mean c0.1) [
+        | inl c ↦ subst (λ (m : Meaning). IsPair m 10 message_type) c.1 (refl, eqb-true message_type 129 c.0)
+        | inr c1 ↦ elim (chosen (eqb message_type 130) meanings.Define _ mean c1.1) [
+          | inl c ↦ subst (λ (m : Meaning). IsPair m 10 message_type) c.1 (refl, eqb-true message_type 130 c.0)
+          | inr c2 ↦ elim (chosen (eqb message_type 131) meanings.Switch _ mean c2.1) [
+            | inl c ↦ subst (λ (m : Meaning). IsPair m 10 message_type) c.1 (refl, eqb-true message_type 131 c.0)
+            | inr c3 ↦ elim (chosen (eqb message_type 132) meanings.Ack _ mean c3.1) [
+              | inl c ↦ subst (λ (m : Meaning). IsPair m 10 message_type) c.1 (refl, eqb-true message_type 132 c.0)
+              | inr c4 ↦ elim (chosen (eqb message_type 133) (meanings.Update true true) _ mean c4.1) [
+                | inl c ↦ subst (λ (m : Meaning). IsPair m 10 message_type) c.1 (refl, eqb-true message_type 133 c.0)
+                | inr c5 ↦ elim (chosen (eqb message_type 134) (meanings.Update false true) meanings.Other mean c5.1) [
+                  | inl c ↦ subst (λ (m : Meaning). IsPair m 10 message_type) c.1 (refl, eqb-true message_type 134 c.0)
                   | inr c6 ↦
-                      let outside : 128 ≤ kind → kind ≤ 134 → ⊥ = λ low high. omega (arith, eqb-false kind 128 c0.0, eqb-false kind 129 c1.0, eqb-false kind 130 c2.0, eqb-false kind 131 c3.0, eqb-false kind 132 c4.0, eqb-false kind 133 c5.0, eqb-false kind 134 c6.0) in
-                      subst (λ (m : Meaning). IsPair m 10 kind) c6.1 (no_table_pair kind outside)
+                      let outside : 128 ≤ message_type → message_type ≤ 134 → ⊥ = λ low high. omega (arith, eqb-false message_type 128 c0.0, eqb-false message_type 129 c1.0, eqb-false message_type 130 c2.0, eqb-false message_type 131 c3.0, eqb-false message_type 132 c4.0, eqb-false message_type 133 c5.0, eqb-false message_type 134 c6.0) in
+                      subst (λ (m : Meaning). IsPair m 10 message_type) c6.1 (no_table_pair message_type outside)
                 ]
               ]
             ]
@@ -309,43 +309,43 @@ table_pair kind mean e =
       ]
     ]
 
-pub meant_pair : (class kind : ℕ) (mean : Meaning) → meant class kind ≡ mean → IsPair mean class kind
+pub meant_pair : (class message_type : ℕ) (mean : Meaning) → meant class message_type ≡ mean → IsPair mean class message_type
 unfolding meant
-meant_pair class kind mean e =
-    elim (chosen (eqb class 0) (control_meant kind) _ mean e) [
-      | inl c ↦ subst (λ (n : ℕ). IsPair mean n kind) (sym (eqb-true class 0 c.0)) (control_pair kind mean c.1)
-      | inr c0 ↦ elim (chosen (eqb class 1) (error_meant kind) _ mean c0.1) [
-        | inl c ↦ subst (λ (n : ℕ). IsPair mean n kind) (sym (eqb-true class 1 c.0)) (error_pair kind mean c.1)
-        | inr c1 ↦ elim (chosen (eqb class 10) (table_meant kind) meanings.Other mean c1.1) [
-          | inl c ↦ subst (λ (n : ℕ). IsPair mean n kind) (sym (eqb-true class 10 c.0)) (table_pair kind mean c.1)
+meant_pair class message_type mean e =
+    elim (chosen (eqb class 0) (control_meant message_type) _ mean e) [
+      | inl c ↦ subst (λ (n : ℕ). IsPair mean n message_type) (sym (eqb-true class 0 c.0)) (control_pair message_type mean c.1)
+      | inr c0 ↦ elim (chosen (eqb class 1) (error_meant message_type) _ mean c0.1) [
+        | inl c ↦ subst (λ (n : ℕ). IsPair mean n message_type) (sym (eqb-true class 1 c.0)) (error_pair message_type mean c.1)
+        | inr c1 ↦ elim (chosen (eqb class 10) (table_meant message_type) meanings.Other mean c1.1) [
+          | inl c ↦ subst (λ (n : ℕ). IsPair mean n message_type) (sym (eqb-true class 10 c.0)) (table_pair message_type mean c.1)
           | inr c2 ↦
-              let unknown : is_known_pair class kind ≡ false = rw (c0.0, c1.0, c2.0) refl in
-              subst (λ (m : Meaning). IsPair m class kind) c2.1 unknown
+              let unknown : is_known_pair class message_type ≡ false = rw (c0.0, c1.0, c2.0) refl in
+              subst (λ (m : Meaning). IsPair m class message_type) c2.1 unknown
         ]
       ]
     ]
 
-pub update_kind_is : (u : UpdateFields) (number life : Option ℕ) → u.number ≡ number → u.life ≡ life → update_kind u ≡ kind_of_update (is_there number) (is_there life)
-update_kind_is u (Some number) None p q = rw (p, q) refl
-update_kind_is u None None p q = rw (p, q) refl
-update_kind_is u (Some number) (Some life) p q = rw (p, q) refl
-update_kind_is u None (Some life) p q = rw (p, q) refl
+pub update_type_is : (u : UpdateFields) (number life : Option ℕ) → u.number ≡ number → u.life ≡ life → update_type u ≡ type_of_update (is_there number) (is_there life)
+update_type_is u (Some number) None p q = rw (p, q) refl
+update_type_is u None None p q = rw (p, q) refl
+update_type_is u (Some number) (Some life) p q = rw (p, q) refl
+update_type_is u None (Some life) p q = rw (p, q) refl
 
 -- ---- frames
 
 -- what stands after class and type
 abbrev pub data_text : ℕ → List ℕ → List ℕ
-data_text kind body = cond (ltb kind 128) [] (counted body)
+data_text message_type body = cond (ltb message_type 128) [] (counted body)
 
 -- the data that a type has: none below 128
 abbrev pub has_size : ℕ → List ℕ → Bool
-has_size kind body = cond (ltb kind 128) (eqb (length body) 0) (leb (length body) 16384)
+has_size message_type body = cond (ltb message_type 128) (eqb (length body) 0) (leb (length body) 16384)
 
 abbrev IsData : ℕ → List ℕ → List ℕ × List ℕ → Type 0
-IsData kind bytes y = (bytes ≡ data_text kind y.0 ++ y.1) × IsBytes y.0 × (has_size kind y.0 ≡ true) × (length y.0 ≤ 16384)
+IsData message_type bytes y = (bytes ≡ data_text message_type y.0 ++ y.1) × IsBytes y.0 × (has_size message_type y.0 ≡ true) × (length y.0 ≤ 16384)
 
-whole_takes : (kind n used : ℕ) (bytes : List ℕ) (y : List ℕ × List ℕ) → ltb kind 128 ≡ false → IsBytes bytes → bytes ≡ spelling n ++ drop used bytes → whole_data n (drop used bytes) ≡ Ok (Some y) → IsData kind bytes y
-whole_takes kind n used bytes y high good parts e =
+whole_takes : (message_type n used : ℕ) (bytes : List ℕ) (y : List ℕ × List ℕ) → ltb message_type 128 ≡ false → IsBytes bytes → bytes ≡ spelling n ++ drop used bytes → whole_data n (drop used bytes) ≡ Ok (Some y) → IsData message_type bytes y
+whole_takes message_type n used bytes y high good parts e =
     let rest : List ℕ = drop used bytes in
     elim (chosen (ltb 16384 n) (Err SizeLimit) _ (Ok (Some y)) e) [
       | inl c ↦ let wrong = c.1 in absurd cc
@@ -362,89 +362,89 @@ whole_takes kind n used bytes y high good parts e =
             ∙ sym (append_assoc (spelling n) (take n rest) (drop n rest))
             ∙ ap (λ (k : ℕ). (spelling k ++ take n rest) ++ drop n rest) (sym size)
             in
-            let taken : IsData kind bytes found = (rw high split, IsBytes-take n rest (IsBytes-drop used bytes good), rw high (le-leb _ _ short), short) in
-            subst (IsData kind bytes) is taken
+            let taken : IsData message_type bytes found = (rw high split, IsBytes-take n rest (IsBytes-drop used bytes good), rw high (le-leb _ _ short), short) in
+            subst (IsData message_type bytes) is taken
       ]
     ]
 
-data_from_takes : (kind : ℕ) (bytes : List ℕ) (r : Read) (y : List ℕ × List ℕ) → ltb kind 128 ≡ false → IsBytes bytes → read_of bytes ≡ r → data_from bytes r ≡ Ok (Some y) → IsData kind bytes y
-data_from_takes kind bytes (Value n used) y high good read e = whole_takes kind n used bytes y high good (takes bytes n used good read).0 e
-data_from_takes kind bytes Short y high good read e = absurd cc
-data_from_takes kind bytes Over y high good read e = absurd cc
+data_from_takes : (message_type : ℕ) (bytes : List ℕ) (r : Read) (y : List ℕ × List ℕ) → ltb message_type 128 ≡ false → IsBytes bytes → read_of bytes ≡ r → data_from bytes r ≡ Ok (Some y) → IsData message_type bytes y
+data_from_takes message_type bytes (Value n used) y high good read e = whole_takes message_type n used bytes y high good (takes bytes n used good read).0 e
+data_from_takes message_type bytes Short y high good read e = absurd cc
+data_from_takes message_type bytes Over y high good read e = absurd cc
 
-data_takes : (kind : ℕ) (bytes : List ℕ) (y : List ℕ × List ℕ) → IsBytes bytes → data_at kind bytes ≡ Ok (Some y) → IsData kind bytes y
+data_takes : (message_type : ℕ) (bytes : List ℕ) (y : List ℕ × List ℕ) → IsBytes bytes → data_at message_type bytes ≡ Ok (Some y) → IsData message_type bytes y
 unfolding data_at
-data_takes kind bytes y good e =
-    elim (chosen (ltb kind 128) (Ok (Some ([], bytes))) _ (Ok (Some y)) e) [
+data_takes message_type bytes y good e =
+    elim (chosen (ltb message_type 128) (Ok (Some ([], bytes))) _ (Ok (Some y)) e) [
       | inl low ↦
           let found : List ℕ × List ℕ = ([], bytes) in
-          let taken : IsData kind bytes found = (rw low.0 refl, λ i. omega arith, rw low.0 refl, omega arith) in
-          subst (IsData kind bytes) (some_is found y low.1) taken
-      | inr high ↦ data_from_takes kind bytes (read_of bytes) y high.0 good refl high.1
+          let taken : IsData message_type bytes found = (rw low.0 refl, λ i. omega arith, rw low.0 refl, omega arith) in
+          subst (IsData message_type bytes) (some_is found y low.1) taken
+      | inr high ↦ data_from_takes message_type bytes (read_of bytes) y high.0 good refl high.1
     ]
 
 -- the bytes of class, type and data
 abbrev pub frame_text : Frame → List ℕ
-frame_text f = f.class ∷ (f.kind ∷ data_text f.kind f.body)
+frame_text f = f.class ∷ (f.message_type ∷ data_text f.message_type f.body)
 
 abbrev pub IsFrame : List ℕ → Frame × List ℕ → Type 0
 IsFrame bytes x =
     (bytes ≡ frame_text x.0 ++ x.1)
     × IsBytes x.0.body
-    × (has_size x.0.kind x.0.body ≡ true)
+    × (has_size x.0.message_type x.0.body ≡ true)
     × (length x.0.body ≤ 16384)
     × (x.0.class < 256)
-    × (x.0.kind < 256)
+    × (x.0.message_type < 256)
 
-frame_with_takes : (class kind : ℕ) (bytes : List ℕ) (found : Option (List ℕ × List ℕ)) (x : Frame × List ℕ) → IsBytes (class ∷ (kind ∷ bytes)) → data_at kind bytes ≡ Ok found → frame_with class kind found ≡ Some x → IsFrame (class ∷ (kind ∷ bytes)) x
-frame_with_takes class kind bytes None x good read e = absurd cc
-frame_with_takes class kind bytes (Some y) x good read e =
-    let taken = data_takes kind bytes y (λ i. good (suc (suc i))) read in
-    let found : Frame × List ℕ = (record { class = class; kind = kind; body = y.0 }, y.1) in
+frame_with_takes : (class message_type : ℕ) (bytes : List ℕ) (found : Option (List ℕ × List ℕ)) (x : Frame × List ℕ) → IsBytes (class ∷ (message_type ∷ bytes)) → data_at message_type bytes ≡ Ok found → frame_with class message_type found ≡ Some x → IsFrame (class ∷ (message_type ∷ bytes)) x
+frame_with_takes class message_type bytes None x good read e = absurd cc
+frame_with_takes class message_type bytes (Some y) x good read e =
+    let taken = data_takes message_type bytes y (λ i. good (suc (suc i))) read in
+    let found : Frame × List ℕ = (record { class = class; message_type = message_type; body = y.0 }, y.1) in
     let is : found ≡ x = cc in
-    let all : IsFrame (class ∷ (kind ∷ bytes)) found = (ap (λ (t : List ℕ). class ∷ (kind ∷ t)) taken.0, taken.1, taken.2, taken.3, good 0, good 1) in
-    subst (IsFrame (class ∷ (kind ∷ bytes))) is all
+    let all : IsFrame (class ∷ (message_type ∷ bytes)) found = (ap (λ (t : List ℕ). class ∷ (message_type ∷ t)) taken.0, taken.1, taken.2, taken.3, good 0, good 1) in
+    subst (IsFrame (class ∷ (message_type ∷ bytes))) is all
 
 pub frame_takes : (bytes : List ℕ) (x : Frame × List ℕ) → IsBytes bytes → frame_at bytes ≡ Ok (Some x) → IsFrame bytes x
 unfolding frame_at
 frame_takes [] x good e = absurd cc
 frame_takes (class ∷ []) x good e = absurd cc
-frame_takes (class ∷ (kind ∷ bytes)) x good e =
-    let found = bind_ok (data_at kind bytes) _ _ e in
-    frame_with_takes class kind bytes found.0 x good found.1 (ok_is _ _ found.2)
+frame_takes (class ∷ (message_type ∷ bytes)) x good e =
+    let found = bind_ok (data_at message_type bytes) _ _ e in
+    frame_with_takes class message_type bytes found.0 x good found.1 (ok_is _ _ found.2)
 
 -- ---- messages
 
-same_frame : (a b : Frame) → a.class ≡ b.class → a.kind ≡ b.kind → a.body ≡ b.body → a ≡ b
+same_frame : (a b : Frame) → a.class ≡ b.class → a.message_type ≡ b.message_type → a.body ≡ b.body → a ≡ b
 same_frame a b p q r =
-    ap (λ (n : ℕ). record { class = n; kind = a.kind; body = a.body }) p
-    ∙ ap (λ (n : ℕ). record { class = b.class; kind = n; body = a.body }) q
-    ∙ ap (λ (x : List ℕ). record { class = b.class; kind = b.kind; body = x }) r
+    ap (λ (n : ℕ). record { class = n; message_type = a.message_type; body = a.body }) p
+    ∙ ap (λ (n : ℕ). record { class = b.class; message_type = n; body = a.body }) q
+    ∙ ap (λ (x : List ℕ). record { class = b.class; message_type = b.message_type; body = x }) r
 
-no_body : (kind : ℕ) (body : List ℕ) → kind < 128 → has_size kind body ≡ true → body ≡ []
-no_body kind body low h =
-    let none : eqb (length body) 0 ≡ true = rw (lt-ltb kind 128 low) at h in
+no_body : (message_type : ℕ) (body : List ℕ) → message_type < 128 → has_size message_type body ≡ true → body ≡ []
+no_body message_type body low h =
+    let none : eqb (length body) 0 ≡ true = rw (lt-ltb message_type 128 low) at h in
     nil_from_length body (eqb-true _ _ none)
 
 -- the message has that class, type and data, and the shape and ranges
 abbrev pub IsMessage : Received → Frame → Message → Type 0
 IsMessage h f m = (frame_of m ≡ f) × (has_shape h m ≡ true)
 
-update_of_takes : (h : Received) (f : Frame) (table : Option Definition) (numbered timed : Bool) (m : Message) → selected_table h ≡ table → f.class ≡ 10 → f.kind ≡ kind_of_update numbered timed → IsBytes f.body → update_of table numbered timed f.body ≡ Ok m → IsMessage h f m
+update_of_takes : (h : Received) (f : Frame) (table : Option Definition) (numbered timed : Bool) (m : Message) → selected_table h ≡ table → f.class ≡ 10 → f.message_type ≡ type_of_update numbered timed → IsBytes f.body → update_of table numbered timed f.body ≡ Ok m → IsMessage h f m
 update_of_takes h f None numbered timed m at p q good e = absurd cc
 update_of_takes h f (Some d) numbered timed m at p q good e =
     let u = bind_ok (update_at d numbered timed f.body) _ _ e in
     let t = update_takes d numbered timed f.body u.0 good u.1 in
-    let kind : update_kind u.0 ≡ f.kind = update_kind_is u.0 u.0.number u.0.life refl refl ∙ ap (λ (b : Bool). kind_of_update b (is_there u.0.life)) t.2 ∙ ap (kind_of_update numbered) t.3 ∙ sym q in
+    let message_type : update_type u.0 ≡ f.message_type = update_type_is u.0 u.0.number u.0.life refl refl ∙ ap (λ (b : Bool). type_of_update b (is_there u.0.life)) t.2 ∙ ap (type_of_update numbered) t.3 ∙ sym q in
     let shape : has_shape h (messages.Update u.0) ≡ true = rw at t.1 in
-    subst (IsMessage h f) (ok_is (messages.Update u.0) m u.2) (same_frame (frame_of (messages.Update u.0)) f (sym p) kind (sym t.0), shape)
+    subst (IsMessage h f) (ok_is (messages.Update u.0) m u.2) (same_frame (frame_of (messages.Update u.0)) f (sym p) message_type (sym t.0), shape)
 
-data_takes_message : (h : Received) (f : Frame) (mean : Meaning) (m : Message) → IsPair mean f.class f.kind → IsBytes f.body → has_size f.kind f.body ≡ true → f.class < 256 → f.kind < 256 → message_of h mean f.class f.kind f.body ≡ Ok m → IsMessage h f m
+data_takes_message : (h : Received) (f : Frame) (mean : Meaning) (m : Message) → IsPair mean f.class f.message_type → IsBytes f.body → has_size f.message_type f.body ≡ true → f.class < 256 → f.message_type < 256 → message_of h mean f.class f.message_type f.body ≡ Ok m → IsMessage h f m
 data_takes_message h f (meanings.Control c) m pair good size cl kl e =
-    let empty : f.body ≡ [] = no_body f.kind f.body (omega (arith, pair.1, control_below c)) size in
+    let empty : f.body ≡ [] = no_body f.message_type f.body (omega (arith, pair.1, control_below c)) size in
     subst (IsMessage h f) (ok_is (messages.Control c) m e) (same_frame (frame_of (messages.Control c)) f (sym pair.0) (sym pair.1) (sym empty), refl)
 data_takes_message h f (meanings.Error r) m pair good size cl kl e =
-    let empty : f.body ≡ [] = no_body f.kind f.body (omega (arith, pair.1, error_below r)) size in
+    let empty : f.body ≡ [] = no_body f.message_type f.body (omega (arith, pair.1, error_below r)) size in
     subst (IsMessage h f) (ok_is (messages.Error r) m e) (same_frame (frame_of (messages.Error r)) f (sym pair.0) (sym pair.1) (sym empty), refl)
 data_takes_message h f meanings.Define m pair good size cl kl e =
     let d = bind_ok (definition_at f.body) _ _ e in
@@ -459,28 +459,28 @@ data_takes_message h f meanings.Ack m pair good size cl kl e =
 data_takes_message h f (meanings.Update numbered timed) m pair good size cl kl e =
     update_of_takes h f (selected_table h) numbered timed m refl pair.0 pair.1 good e
 data_takes_message h f meanings.Other m pair good size cl kl e =
-    let o : OtherFields = record { class = f.class; kind = f.kind; body = f.body } in
+    let o : OtherFields = record { class = f.class; message_type = f.message_type; body = f.body } in
     let shape : has_shape h (messages.Other o) ≡ true = and_from _ _ (and_from _ _ (and_from _ _ (lt-ltb _ _ cl) (lt-ltb _ _ kl)) (ap not pair)) size in
     subst (IsMessage h f) (ok_is (messages.Other o) m e) (refl, shape)
 
-pub body_takes : (h : Received) (f : Frame) (m : Message) → IsBytes f.body → has_size f.kind f.body ≡ true → f.class < 256 → f.kind < 256 → body_at h f.class f.kind f.body ≡ Ok m → IsMessage h f m
+pub body_takes : (h : Received) (f : Frame) (m : Message) → IsBytes f.body → has_size f.message_type f.body ≡ true → f.class < 256 → f.message_type < 256 → body_at h f.class f.message_type f.body ≡ Ok m → IsMessage h f m
 unfolding body_at
-body_takes h f m good size cl kl e = data_takes_message h f (meant f.class f.kind) m (meant_pair f.class f.kind (meant f.class f.kind) refl) good size cl kl e
+body_takes h f m good size cl kl e = data_takes_message h f (meant f.class f.message_type) m (meant_pair f.class f.message_type (meant f.class f.message_type) refl) good size cl kl e
 
 -- the bytes of a message are those of its class, type and data
-either : (b : Bool) (class kind : ℕ) (x : List ℕ) → cond b (class ∷ (kind ∷ [])) (class ∷ (kind ∷ x)) ≡ class ∷ (kind ∷ cond b [] x)
-either true class kind x = refl
-either false class kind x = refl
+either : (b : Bool) (class message_type : ℕ) (x : List ℕ) → cond b (class ∷ (message_type ∷ [])) (class ∷ (message_type ∷ x)) ≡ class ∷ (message_type ∷ cond b [] x)
+either true class message_type x = refl
+either false class message_type x = refl
 
 pub spelled_frame : (m : Message) → spelled m ≡ frame_text (frame_of m)
 unfolding spelled
-spelled_frame (messages.Control c) = rw (lt-ltb (control_kind c) 128 (control_below c)) refl
-spelled_frame (messages.Error e) = rw (lt-ltb (error_kind e) 128 (error_below e)) refl
+spelled_frame (messages.Control c) = rw (lt-ltb (control_type c) 128 (control_below c)) refl
+spelled_frame (messages.Error e) = rw (lt-ltb (error_type e) 128 (error_below e)) refl
 spelled_frame (messages.Define d) = refl
 spelled_frame (messages.Switch id) = refl
 spelled_frame (messages.Ack table number) = refl
 spelled_frame (messages.Update u) = rw (update_has_data u u.number u.life refl refl) refl
-spelled_frame (messages.Other o) = either (ltb o.kind 128) o.class o.kind (counted o.body)
+spelled_frame (messages.Other o) = either (ltb o.message_type 128) o.class o.message_type (counted o.body)
 
 data_of_frame : (m : Message) → data_of m ≡ (frame_of m).body
 unfolding data_of
@@ -502,7 +502,7 @@ message_in_takes : (h : Received) (bytes rest : List ℕ) (m : Message) (found :
 message_in_takes h bytes rest m None good read e = absurd cc
 message_in_takes h bytes rest m (Some x) good read e =
     let frame = frame_takes bytes x good read in
-    let made = bind_ok (body_at h x.0.class x.0.kind x.0.body) _ _ e in
+    let made = bind_ok (body_at h x.0.class x.0.message_type x.0.body) _ _ e in
     let is = body_takes h x.0 made.0 frame.1 frame.2 frame.4 frame.5 made.1 in
     let one : Message × List ℕ = (made.0, x.1) in
     let two : Message × List ℕ = (m, rest) in

@@ -12,8 +12,8 @@ use Rattle.table_types.specs.Tables.{is_period, has_its_period, rise_from}
 use Rattle.peers_msg.specs.declared.fault.Breach.TheVariants.{BadDefinition}
 use Rattle.peers_msg.specs.Spelling.{bits_of, period_text}
 use Rattle.peers_msg.specs.Reading.{integer_at, period_at, types_at}
-use Rattle.peers_msg.proofs.FieldsTake.{Takes, Takes-then, nothing_taken, bind_ok, wanted_ok, ok_is, chosen, integer_takes}
-use Rattle.peers_msg.proofs.TypesAgain.{AreFrom}
+use Rattle.peers_msg.proofs.FieldCanonical.{Takes, Takes-then, nothing_taken, bind_ok, wanted_ok, ok_is, chosen, integer_takes}
+use Rattle.peers_msg.proofs.TypeRoundTrip.{AreFrom}
 
 -- a type with its period, or with none
 abbrev IsEntry : DataType → List ℕ → Option ℕ × List ℕ → Type 0

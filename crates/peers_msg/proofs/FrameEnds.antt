@@ -15,21 +15,21 @@ use Rattle.peers_msg.specs.declared.control.ErrorKind.TheVariants as errors
 use Rattle.peers_msg.specs.declared.message.Message.{Message}
 use Rattle.peers_msg.specs.declared.message.Message.TheVariants as messages
 use Rattle.peers_msg.specs.Messages.{OtherFields, UpdateFields}
-use Rattle.peers_msg.specs.Spelling.{control_kind, definition_text, error_kind, framed, spelled, update_kind, update_text, word}
+use Rattle.peers_msg.specs.Spelling.{control_type, definition_text, error_type, framed, spelled, update_type, update_text, word}
 use Rattle.peers_msg.specs.Framing.{IsCounted, IsFrame}
 
-control_below : (c : Control) → control_kind c < 128
+control_below : (c : Control) → control_type c < 128
 control_below controls.ResyncRequest = omega arith
 control_below controls.ResyncFinished = omega arith
 control_below controls.ResyncPartial = omega arith
 control_below controls.ResyncConfirmed = omega arith
 control_below controls.Heartbeat = omega arith
 
-error_below : (e : ErrorKind) → error_kind e < 128
+error_below : (e : ErrorKind) → error_type e < 128
 error_below errors.Protocol = omega arith
 error_below errors.SizeLimit = omega arith
 
-update_above : (u : UpdateFields) (number life : Option ℕ) → u.number ≡ number → u.life ≡ life → 128 ≤ update_kind u
+update_above : (u : UpdateFields) (number life : Option ℕ) → u.number ≡ number → u.life ≡ life → 128 ≤ update_type u
 update_above u (Some n) (Some l) number life = rw (number, life) (omega arith)
 update_above u (Some n) None number life = rw (number, life) (omega arith)
 update_above u None (Some l) number life = rw (number, life) (omega arith)
@@ -41,10 +41,10 @@ test_below a b is = grind arith
 test_above : (a b : ℕ) → nat_lt a b ≡ false → b ≤ a
 test_above a b is = grind arith
 
-other_frame : (o : OtherFields) (low : Bool) → nat_lt o.kind 128 ≡ low
-    → IsFrame (if low then o.class ∷ (o.kind ∷ []) else framed o.class o.kind o.body)
-other_frame o true is = inl (test_below o.kind 128 is, refl)
-other_frame o false is = inr (test_above o.kind 128 is, (o.body, refl))
+other_frame : (o : OtherFields) (low : Bool) → nat_lt o.message_type 128 ≡ low
+    → IsFrame (if low then o.class ∷ (o.message_type ∷ []) else framed o.class o.message_type o.body)
+other_frame o true is = inl (test_below o.message_type 128 is, refl)
+other_frame o false is = inr (test_above o.message_type 128 is, (o.body, refl))
 
 -- a message is one frame
 pub is_frame : (m : Message) → IsFrame (spelled m)
@@ -55,7 +55,7 @@ is_frame (messages.Define d) = inr (omega arith, (definition_text d, refl))
 is_frame (messages.Switch id) = inr (omega arith, (spelling id, refl))
 is_frame (messages.Ack table number) = inr (omega arith, (spelling table ++ word number, refl))
 is_frame (messages.Update u) = inr (update_above u u.number u.life refl refl, (update_text u, refl))
-is_frame (messages.Other o) = other_frame o (nat_lt o.kind 128) refl
+is_frame (messages.Other o) = other_frame o (nat_lt o.message_type 128) refl
 
 -- what is read of an encoded length with that many bytes, whatever comes after
 read_counted : (front rest : List ℕ) → (is : IsCounted front) → length (front ++ rest) < 2 ^ 64

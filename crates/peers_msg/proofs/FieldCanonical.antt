@@ -32,7 +32,7 @@ use Rattle.peers_msg.specs.Spelling.{word, optional_word, counted, key_text, val
 use Rattle.table_types.specs.SlotIds.{is_slot}
 use Rattle.peers_msg.specs.Fitting.{name_fits}
 use Rattle.peers_msg.specs.Reading.{◌>>=◌, wanted, integer_from, integer_at, word_at, bytes_at, optional_at, key_at, count_at, value_at, values_at, slot_holds, field_of, name_at}
-use Rattle.peers_msg.proofs.FieldsAgain.{is_there}
+use Rattle.peers_msg.proofs.FieldRoundTrip.{is_there}
 
 -- the value of a step that did not fail
 pub bind_ok : {A B : Type 0} (r : Result A Breach) (f : A → Result B Breach) (y : B) → (r >>= f) ≡ Ok y → (x : A) × (r ≡ Ok x) × (f x ≡ Ok y)

@@ -14,15 +14,15 @@ use Rattle.peers_msg.specs.declared.fault.Breach.TheVariants.{Trailing}
 use Rattle.peers_msg.specs.declared.meaning.Meaning.TheVariants as meanings
 use Rattle.peers_msg.specs.Messages.{is_other, is_small}
 use Rattle.peers_msg.specs.Reading.{Frame, frame_at, meant, ended, optional_at, key_at, values_at, named_at, keyed_at, stored_at, definition_at}
-use Rattle.peers_msg.proofs.MessagesTake.{frame_takes, meant_pair, definition_takes}
-use Rattle.peers_msg.proofs.FieldsTake.{optional_takes, key_takes, values_take}
-use Rattle.peers_msg.proofs.DataLaws.{row_small}
+use Rattle.peers_msg.proofs.MessageCanonical.{frame_takes, meant_pair, definition_takes}
+use Rattle.peers_msg.proofs.FieldCanonical.{optional_takes, key_takes, values_take}
+use Rattle.peers_msg.proofs.DataLimits.{row_small}
 
-pub other_made : (bytes : List ℕ) (x : Frame × List ℕ) → IsBytes bytes → frame_at bytes ≡ Ok (Some x) → meant x.0.class x.0.kind ≡ meanings.Other → is_other (record { class = x.0.class; kind = x.0.kind; body = x.0.body }) ≡ true
+pub other_made : (bytes : List ℕ) (x : Frame × List ℕ) → IsBytes bytes → frame_at bytes ≡ Ok (Some x) → meant x.0.class x.0.message_type ≡ meanings.Other → is_other (record { class = x.0.class; message_type = x.0.message_type; body = x.0.body }) ≡ true
 other_made bytes x good read other =
     let f = frame_takes bytes x good read in
-    let unknown = meant_pair x.0.class x.0.kind meanings.Other other in
-    rw (lt-ltb x.0.class 256 f.4, lt-ltb x.0.kind 256 f.5, unknown) f.2
+    let unknown = meant_pair x.0.class x.0.message_type meanings.Other other in
+    rw (lt-ltb x.0.class 256 f.4, lt-ltb x.0.message_type 256 f.5, unknown) f.2
 
 ends : (b : Bool) → ◌≡◌ {A = Result Bool Breach} (if b then Ok true else Err Trailing) (Ok true) → b ≡ true
 ends true e = refl

@@ -14,7 +14,7 @@ use Rattle.table_types.specs.Tables.{is_period, has_its_period, rise_from}
 use Rattle.peers_msg.specs.declared.fault.Breach.TheVariants.{BadDefinition}
 use Rattle.peers_msg.specs.Spelling.{bits_of, period_text}
 use Rattle.peers_msg.specs.Reading.{◌>>=◌, period_at, types_at}
-use Rattle.peers_msg.proofs.FieldsAgain.{integer_again}
+use Rattle.peers_msg.proofs.FieldRoundTrip.{integer_again}
 
 -- ---- types and their ids
 

@@ -7,8 +7,8 @@ use Rattle.peers_msg.specs.declared.message.Message.{Message}
 use Rattle.peers_msg.specs.Received.{Received, received_after}
 use Rattle.peers_msg.specs.Reading.{message_at, with_more}
 use Rattle.peers_msg.specs.Decoding.{AreRead, AreReadInPieces, IsEnd, together}
-use Rattle.peers_msg.proofs.MessagesTake.{rest_is_end}
-use Rattle.peers_msg.proofs.FieldsTake.{IsBytes-drop, IsBytes-take}
+use Rattle.peers_msg.proofs.MessageCanonical.{rest_is_end}
+use Rattle.peers_msg.proofs.FieldCanonical.{IsBytes-drop, IsBytes-take}
 use Rattle.peers_msg.proofs.ReadingStays.{message_stays}
 
 abbrev pub found : Message → List ℕ → Result (Option (Message × List ℕ)) Breach
