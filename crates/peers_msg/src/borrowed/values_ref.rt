@@ -39,7 +39,7 @@ fn values_of(
     requires { is_read (values_at types.now bytes.now) ≡ true }
     ensures { IfOk result (λ values. values.items ≡ list_read (values_at types.now bytes.now)) }
 {
-    let mut values = Vec::with_capacity(alloc, types.len())?;
+    let mut values = Vec::new(alloc);
     let mut rest = bytes;
     for entry in types {
         let shape = entry.0.shape();
