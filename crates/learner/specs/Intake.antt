@@ -19,7 +19,7 @@ use Rattle.learner.specs.declared.taken.Taken.TheVariants as taken
 use Rattle.learner.specs.Faults.{fault_like}
 use Rattle.learner.specs.LocalTables.{local_table, local_updates}
 
--- the own tables; the state in which the messages read leave it; the ids of which an update came since the last
+-- the local tables; the state in which the messages read leave it; the ids of which an update came since the last
 -- acknowledgements; the bytes that weren't read yet; and whether there was a fault
 pub record Taking : Type 0 where
   pub roster : List Definition
@@ -55,8 +55,8 @@ due_after s (messages.Update u) due = with_due s.received.selected due
 due_after s (messages.Define d) due = filter (λ id. is_some (last_of (last_numbers_after s (messages.Define d)) id)) due
 due_after s m due = due
 
--- The message m stands at the front and makes its step, which leads to e; of what it carries the updates of own tables
--- are local_updates.
+-- The message m stands at the front and makes its step, which leads to e; own are those of
+-- the updates that it carries which are of local tables.
 abbrev pub Takes : Taking → Message → List Update → Taking → Type 0
 Takes t m own e =
     (t.closed ≡ false)
@@ -129,7 +129,7 @@ Stops t fault e =
 
 -- ---- what is answered
 
--- the updates of own tables that an answer gives
+-- the updates of local tables that an answer gives
 abbrev pub rows_of : Taken → List Update
 rows_of (taken.Row u) = u ∷ []
 rows_of t = []
@@ -174,7 +174,7 @@ IsFront t m used =
 
 -- ---- acknowledgements
 
--- the acknowledgement of a table received: of its last number, where it is an own table and is due
+-- the acknowledgement of a table received: of its last number, where it is a local table and is due
 abbrev pub ack_of : Taking → Definition → Option Message
 ack_of t d =
     if is_some (local_table t.roster d) && holds d.id t.due then option_map (λ n. messages.Ack d.id n) (last_of t.state.last_numbers d.id)
