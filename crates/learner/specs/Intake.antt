@@ -55,8 +55,8 @@ due_after s (messages.Update u) due = with_due s.received.selected due
 due_after s (messages.Define d) due = filter (λ id. is_some (last_of (last_numbers_after s (messages.Define d)) id)) due
 due_after s m due = due
 
--- The message m stands at the front and makes its step, which leads to e; own are those of
--- the updates that it carries which are of local tables.
+-- The message m stands at the front and makes its step, which leads to e; own are those of the updates
+-- that it carries which are of local tables.
 abbrev pub Takes : Taking → Message → List Update → Taking → Type 0
 Takes t m own e =
     (t.closed ≡ false)
@@ -75,7 +75,7 @@ lacks_number s u = is_none (option_and_then (λ table. resolved_number u.number 
 abbrev pub IsNext : Taking → UpdateFields → Type 0
 IsNext t u = (rest : List ℕ) × (message_at t.state.received t.unread ≡ Ok (Some (messages.Update u, rest)))
 
--- no number lacks, and no slot that is read is empty
+-- no number is missing, and no empty slot is read
 abbrev pub IsResolvable : State → Message → Type 0
 IsResolvable s (messages.Update u) = (lacks_number s u ≡ false) × (reads_empty s.slots u.name ≡ false)
 IsResolvable s m = Unit {0}
@@ -84,12 +84,12 @@ IsResolvable s m = Unit {0}
 abbrev pub IsTakable : Taking → Type 0
 IsTakable t = (m : Message) × (rest : List ℕ) × (message_at t.state.received t.unread ≡ Ok (Some (m, rest))) × IsResolvable t.state m
 
--- an update whose number lacks
+-- an update whose number is missing
 abbrev pub IsNumberless : State → Message → Type 0
 IsNumberless s (messages.Update u) = lacks_number s u ≡ true
 IsNumberless s m = ⊥
 
--- an update that reads an empty slot, and whose number doesn't lack
+-- an update that reads an empty slot, and whose number isn't missing
 abbrev pub IsEmptied : State → Message → Type 0
 IsEmptied s (messages.Update u) = (lacks_number s u ≡ false) × (reads_empty s.slots u.name ≡ true)
 IsEmptied s m = ⊥
