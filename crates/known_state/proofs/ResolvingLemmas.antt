@@ -1,4 +1,4 @@
--- The name that a field tells, and the slots after it, are those of a step.
+-- The name that a field gives, and the slots after it, are those of a step.
 use Rattle.std.proofs.Common.{◌≡◌, ℕ, ◌∙◌, true, false, List, Option, Some, None, refl, sym}
 use Rattle.dict_slots.specs.Slots.{slot_at}
 use Rattle.peers_msg.specs.declared.name_field.NameField.{NameField}

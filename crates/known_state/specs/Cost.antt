@@ -46,7 +46,7 @@ abbrev pub follows : Option ℕ → ℕ → Bool
 follows None number = false
 follows (Some last) number = (last + 1) % 2 ^ 32 == number
 
--- the number that is told: none where the learner finds it by itself
+-- the number that is sent: none where the learner finds it by itself
 abbrev pub number_sent : Option ℕ → ℕ → Option ℕ
 number_sent last number = if follows last number then None else Some number
 
@@ -87,7 +87,7 @@ selecting roster k id =
     else (if k.is_defined id then messages.Switch id ∷ [] else defining (table_at roster id))
 
 -- The lesson with every name written: the updates one after another, each after what selects its table, in its shortest
--- number form. Nothing is kept in a slot, so each name is written to the first.
+-- number form. No slot is retained, so each name is written to the first.
 abbrev pub written_lesson : List Definition → Knowledge → List Update → List Message
 written_lesson roster k [] = []
 written_lesson roster k (u ∷ us) = selecting roster k u.table ++ (written roster k u ∷ written_lesson roster (knowledge_after k u) us)
@@ -132,8 +132,8 @@ saving roster k m us = 0
 abbrev pub IsOfRoster : List Definition → Update → Type 0
 IsOfRoster roster u = (d : Definition) × (table_at roster u.table ≡ Some d)
 
--- A step pays for what it saves: what is to be told costs no more before the message than its size, the saving of
--- its read, and what is left to tell after it.
+-- A step pays for what it saves: what is to be sent costs no more before the message than its size, the saving of
+-- its read, and what is left to send after it.
 abbrev pub Pays : List Definition → State → Message → List Update → List Update → State → Type 0
 Pays roster s m one rest mid = full roster s (one ++ rest) ≤ size_of m + saving roster (knowledge_of s) m one + full roster mid rest
 

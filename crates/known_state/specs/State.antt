@@ -50,7 +50,7 @@ abbrev pub reads_empty : List (Option (List ℕ)) → NameField → Bool
 reads_empty slots (names.Held slot) = is_none (slot_at slots slot)
 reads_empty slots field = false
 
--- the name that a field tells: none, the one written, or what its slot holds
+-- the name that a field gives: none, the one written, or what its slot holds
 abbrev pub name_of : List (Option (List ℕ)) → NameField → Option (List ℕ)
 name_of slots (names.Held slot) = slot_at slots slot
 name_of slots (names.Written slot name) = Some name

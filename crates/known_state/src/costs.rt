@@ -16,7 +16,7 @@ use peers_msg::named_sizes;
 use std::alloc::Global;
 use table_types::{Batch, Memory, Name, Update};
 
-/// The number that an update tells after that last number of its table: none where it is one more, modulo 2^32,
+/// The number that is sent with an update after that last number of its table: none where it is one more, modulo 2^32,
 /// which the learner finds by itself.
 pub fn number_sent(last: Option<u32>, number: u32) -> Option<u32>
     ensures told { result ≡ number_sent last number }

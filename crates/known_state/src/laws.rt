@@ -65,8 +65,8 @@ pub fn full_adds_up()
     ensures { (roster : List Definition) (s : State) (us : List Update) → full roster s us ≡ cost roster s us }
 {}
 
-/// A step pays for what it saves: with every name written, what is to be told costs no more before a message than
-/// the message's size, the saving of its read, and what is left to tell after it. So for every message: early
+/// A step pays for what it saves: with every name written, what is to be sent costs no more before a message than
+/// the message's size, the saving of its read, and what is left to send after it. So for every message: early
 /// definitions, second definitions, switches, reads and writes of names, acknowledgements and spare messages.
 pub fn a_step_pays()
     ensures { (roster : List Definition) (s mid : State) (m : Message) (one rest : List Update) →

@@ -1,5 +1,5 @@
-//! What a teacher knows of its learner: the roster, the tables defined, the one selected, the last numbers and the
-//! slots; and what a batch costs from there.
+//! The state of one direction of a session, and the step that each message makes; what a teacher knows of its learner:
+//! the roster, the tables defined, the one selected, the last numbers and the slots; and what a batch costs from there.
 #![tactic(auto)]
 
 mod costs;

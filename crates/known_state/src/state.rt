@@ -152,7 +152,7 @@ impl State {
         }
     }
 
-    /// The name that a field tells: the one written, or what its slot holds, which is `None` where the field reads an
+    /// The name that a field gives: the one written, or what its slot holds, which is `None` where the field reads an
     /// empty slot.
     pub fn name<'a>(&'a self, field: NameFieldRef<'a>) -> Option<&'a [u8]>
         requires { is_named (owned_name field) ≡ true }

@@ -1,4 +1,4 @@
--- A learner of a roster that is told a legal stream.
+-- A learner of a roster that is fed a legal stream.
 use Rattle.std.proofs.Common.{◌≡◌, ◌≢◌, ℕ, Bool, true, false, not, ◌&&◌, ◌||◌, cond, List, [], ◌∷◌, ◌++◌, length, Option, Some, None, Result, Ok, Err, refl, sym, ap, subst, ◌∙◌, inl, inr}
 use Rattle.std.specs.Prelude.{nat_le}
 use Rattle.std.specs.List.{AllByRecursion}
@@ -38,7 +38,7 @@ use Rattle.learner.specs.Rows.{put, put_all}
 use Rattle.learner.specs.Learning.{Learning, AreLearned, IsWaiting, LearnerFeeds, AreFed, IsReady, IsTaught, with_piece}
 use Rattle.learner.proofs.PieceLaws.{one_learned, waits_for_more, same, whole}
 
--- ---- own tables are their own
+-- ---- the local table of a roster's own definition is that definition
 
 or-left : (a b : Bool) → (a || b) ≡ false → a ≡ false
 or-left true b h = h
@@ -69,7 +69,7 @@ found_name (x ∷ xs) id d h = elim (cases_eq x.id id) [
     either true b h = refl
     either false b h = h
 
--- the own table of a roster's own definition is that one
+-- the local table of a roster's own definition is that definition
 pub own_found : (roster : List Definition) (d : Definition) → repeats_name roster ≡ false → table_at roster d.id ≡ Some d → local_table roster d ≡ Some d
 own_found [] d once h = cc
 own_found (x ∷ xs) d once h = elim (cases_eq x.id d.id) [
@@ -112,7 +112,7 @@ fits_found h u fit = at (selected_table h) refl
     at None e = let bad : false ≡ true = sym (rw e refl) ∙ fit in absurd cc
     at (Some d) e = (d, e)
 
--- what a legal message carries is local_updates as it is
+-- what a legal message carries is all of local tables, and stays as it is
 pub kept_own : (roster : List Definition) (s e : State) (m : Message) (us : List Update) → repeats_name roster ≡ false → AreOwn roster s.received.tables → Step s m us e → local_updates roster s.received us ≡ us
 kept_own roster s e (messages.Update u) us once own step =
     let selected = fits_found s.received u step.0 in
@@ -131,7 +131,7 @@ kept_own roster s e (messages.Switch id) us once own step = rw step.1 refl
 kept_own roster s e (messages.Ack table number) us once own step = rw step.1 refl
 kept_own roster s e (messages.Other o) us once own step = rw step.1 refl
 
--- a legal message that stands at the front is taken, and all that it carries is local_updates
+-- a legal message that stands at the front is taken, and all that it carries is of local tables
 pub takes_legal : (t : Taking) (m : Message) (us : List Update) (s : State) (rest : List ℕ) → repeats_name t.roster ≡ false → AreOwn t.roster t.state.received.tables → t.closed ≡ false → t.unread ≡ spelled m ++ rest → Step t.state m us s
     → Takes t m us (record { roster = t.roster; state = s; due = due_after t.state m t.due; unread = rest; closed = false })
 takes_legal t m us s rest once own going unread step =

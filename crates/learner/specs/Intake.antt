@@ -19,7 +19,7 @@ use Rattle.learner.specs.declared.taken.Taken.TheVariants as taken
 use Rattle.learner.specs.Faults.{fault_like}
 use Rattle.learner.specs.LocalTables.{local_table, local_updates}
 
--- the own tables; the state in which the messages read leave it; the ids of which an update came since the last
+-- the local tables; the state in which the messages read leave it; the ids of which an update came since the last
 -- acknowledgements; the bytes that weren't read yet; and whether there was a fault
 pub record Taking : Type 0 where
   pub roster : List Definition
@@ -55,8 +55,8 @@ due_after s (messages.Update u) due = with_due s.received.selected due
 due_after s (messages.Define d) due = filter (λ id. is_some (last_of (last_numbers_after s (messages.Define d)) id)) due
 due_after s m due = due
 
--- The message m stands at the front and makes its step, which leads to e; of what it carries the updates of own tables
--- are local_updates.
+-- The message m stands at the front and makes its step, which leads to e; own are those of the updates
+-- that it carries which are of local tables.
 abbrev pub Takes : Taking → Message → List Update → Taking → Type 0
 Takes t m own e =
     (t.closed ≡ false)
@@ -75,7 +75,7 @@ lacks_number s u = is_none (option_and_then (λ table. resolved_number u.number 
 abbrev pub IsNext : Taking → UpdateFields → Type 0
 IsNext t u = (rest : List ℕ) × (message_at t.state.received t.unread ≡ Ok (Some (messages.Update u, rest)))
 
--- no number lacks, and no slot that is read is empty
+-- no number is missing, and no empty slot is read
 abbrev pub IsResolvable : State → Message → Type 0
 IsResolvable s (messages.Update u) = (lacks_number s u ≡ false) × (reads_empty s.slots u.name ≡ false)
 IsResolvable s m = Unit {0}
@@ -84,12 +84,12 @@ IsResolvable s m = Unit {0}
 abbrev pub IsTakable : Taking → Type 0
 IsTakable t = (m : Message) × (rest : List ℕ) × (message_at t.state.received t.unread ≡ Ok (Some (m, rest))) × IsResolvable t.state m
 
--- an update whose number lacks
+-- an update whose number is missing
 abbrev pub IsNumberless : State → Message → Type 0
 IsNumberless s (messages.Update u) = lacks_number s u ≡ true
 IsNumberless s m = ⊥
 
--- an update that reads an empty slot, and whose number doesn't lack
+-- an update that reads an empty slot, and whose number isn't missing
 abbrev pub IsEmptied : State → Message → Type 0
 IsEmptied s (messages.Update u) = (lacks_number s u ≡ false) × (reads_empty s.slots u.name ≡ true)
 IsEmptied s m = ⊥
@@ -129,7 +129,7 @@ Stops t fault e =
 
 -- ---- what is answered
 
--- the updates of own tables that an answer gives
+-- the updates of local tables that an answer gives
 abbrev pub rows_of : Taken → List Update
 rows_of (taken.Row u) = u ∷ []
 rows_of t = []
@@ -174,7 +174,7 @@ IsFront t m used =
 
 -- ---- acknowledgements
 
--- the acknowledgement of a table received: of its last number, where it is an own table and is due
+-- the acknowledgement of a table received: of its last number, where it is a local table and is due
 abbrev pub ack_of : Taking → Definition → Option Message
 ack_of t d =
     if is_some (local_table t.roster d) && holds d.id t.due then option_map (λ n. messages.Ack d.id n) (last_of t.state.last_numbers d.id)

@@ -15,7 +15,7 @@ use Rattle.learner.specs.declared.fault.Fault.TheVariants as faults
 use Rattle.learner.specs.Intake.{Taking, Takes, Stops, IsTakable, begun, fed, shut}
 use Rattle.learner.specs.Rows.{put_all}
 
--- what was taken of the stream, and the rows of each own table, in the order of the roster
+-- what was taken of the stream, and the rows of each local table, in the order of the roster
 pub record Learning : Type 0 where
   pub intake : Taking
   pub rows : List (List (Key × StoredRow))
@@ -28,7 +28,8 @@ unlearned roster = record { intake = begun roster; rows = map (λ _. []) roster 
 abbrev pub with_piece : Learning → List ℕ → Learning
 with_piece l piece = record { intake = fed l.intake piece; rows = l.rows }
 
--- The message m is taken at the moment now, and the updates us that are local_updates of it are put among the rows.
+-- The message m is taken at the moment now, and the updates us, those of local tables that it carries, are put among the
+-- rows.
 abbrev pub Learns : ℕ → Learning → Message → List Update → Learning → Type 0
 Learns now l m us e = Takes l.intake m us e.intake × (e.rows ≡ put_all now l.intake.roster us l.rows)
 

@@ -6,20 +6,20 @@ use Rattle.table_types.specs.Rosters.{table_at}
 use Rattle.peers_msg.specs.Received.{Received, selected_table}
 use Rattle.peers_msg.specs.OwnTables.{is_shape_of}
 
--- the own table that a table received is: the one of its shape
+-- the local table that a table received is: the one of its shape
 abbrev pub local_table : List Definition → Definition → Option Definition
 local_table [] received = None
 local_table (d ∷ ds) received = if is_shape_of d received then Some d else local_table ds received
 
--- the id of the own table that an id received stands for
+-- the id of the local table that an id received stands for
 abbrev pub local_id : List Definition → Received → ℕ → Option ℕ
 local_id roster received id = option_map (λ d. d.id) (option_and_then (local_table roster) (table_at received.tables id))
 
--- an update under its own table's id
+-- an update under the local table's id
 abbrev pub local_update : List Definition → Received → Update → Option Update
 local_update roster received u = option_map (λ id. record { table = id; number = u.number; life = u.life; key = u.key; values = u.values; name = u.name }) (local_id roster received u.table)
 
--- the updates of own tables, each under its own table's id
+-- the updates of local tables, each under the local table's id
 abbrev pub local_updates : List Definition → Received → List Update → List Update
 local_updates roster received us = filter_map (local_update roster received) us
 

@@ -1,4 +1,4 @@
--- The rows of the own tables by their keys, and how an update is put among them (profile).
+-- The rows of the local tables by their keys, and how an update is put among them (profile).
 use Rattle.std.specs.Prelude.{ℕ, ◌≢◌, ◌⊎◌, ◌+◌, ◌==◌, List, [], ◌∷◌, fold, Option, Some, None, option_map, if◌then◌else◌}
 use Rattle.std.specs.List.{AllByRecursion}
 use Rattle.std.specs.Ordering.{is_eq}
@@ -36,7 +36,7 @@ put_all now roster us tables = fold (put now roster) tables us
 abbrev pub AreOfOthers : ℕ → Key → List Update → Type 0
 AreOfOthers id key us = AllByRecursion (λ u. (u.table ≢ id) ⊎ (u.key ≢ key)) us
 
--- the place of the table of that id, from 0
+-- the index of the table of that id
 abbrev pub index_of : List Definition → ℕ → Option ℕ
 index_of [] id = None
 index_of (d ∷ ds) id = if d.id == id then Some 0 else option_map (λ place. place + 1) (index_of ds id)

@@ -116,7 +116,7 @@ pub fn a_legal_stream()
 {}
 
 /// A lesson teaches what it says. A teacher knows of a learner that it is in the known state k, and not what else it
-/// holds. LearnerFeeds a lesson from k, every such learner puts all the updates that the lesson carries and nothing else; it is
+/// holds. Fed a lesson from k, every such learner puts all the updates that the lesson carries and nothing else; it is
 /// then in the known state in which the lesson ends, and ready for the next one from there; nothing is left unread; and
 /// no fault comes, but want of memory. So it is however the lesson is cut. With pieces at several moments a row takes
 /// the moment of the piece that ended its message: the updates fall into parts, one for each piece. A learner that was

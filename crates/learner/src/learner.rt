@@ -30,8 +30,8 @@ use table_types::{Cell, Key, Memory, Moment, Roster, Row, TableDef, table_at};
 /// A learner: takes the bytes of a stream in any pieces, and keeps the rows of its local tables (HAProxy,
 /// doc/peers-v2.0.txt, "Update Messages").
 ///
-/// A table that the sender defines is an own one where it has its name, and the same kind of keys, key length, data
-/// types and periods; the updates of any other are read and passed over (profile).
+/// A table that the sender defines is a local one where a table of the roster has its name, kind of keys, key length,
+/// data types and periods; the updates of any other are read and passed over (profile).
 #[derive(Drop)]
 pub struct Learner {
     alloc: Global,
@@ -51,7 +51,7 @@ impl Model for Learner {
     ghost invariant = { λ l. length l.rows_of_tables.items ≡ length l.intake.roster };
 }
 
-/// The place of the table of that id, from 0.
+/// The index of the table of that id.
 fn index_of(tables: &[TableDef], id: u64) -> Option<usize>
     ensures { result ≡ index_of tables.now id }
 {

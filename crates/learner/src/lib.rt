@@ -1,4 +1,4 @@
-//! A learner: takes the bytes of a stream in any pieces, and keeps the rows of its own tables.
+//! A learner: takes the bytes of a stream in any pieces, and keeps the rows of its local tables.
 #![tactic(auto)]
 
 mod advance;

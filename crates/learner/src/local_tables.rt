@@ -6,8 +6,8 @@ ghost use Rattle.learner.specs.LocalTables.{local_table};
 use peers_msg::is_shape_of;
 use table_types::TableDef;
 
-/// The own table that a table received is: the one of its name, where kind of keys, key length, data types and periods
-/// are the same.
+/// The local table that a table received is: the one of its name, where kind of keys, key length, data types and
+/// periods are the same.
 pub fn local_table<'a>(roster: &'a [TableDef], received: &TableDef) -> Option<&'a TableDef>
     ensures { option_copied result ≡ local_table roster.now received.now }
 {

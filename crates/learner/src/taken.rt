@@ -1,4 +1,4 @@
-//! What a message gives one who keeps the rows of local tables.
+//! What a message gives to whoever keeps the rows of local tables.
 
 ghost use Rattle.std.specs.Prelude.{◌≡◌, true, IfOk, IfSome, length, option_map};
 ghost use Rattle.std.specs.Option.{option_to_list};
@@ -14,7 +14,7 @@ use std::alloc::Global;
 use std::marker::Model;
 use table_types::{Memory, Name, Update};
 
-/// What a message gives one who keeps the rows of a roster.
+/// What a message gives to whoever keeps the rows of a roster's tables.
 #[derive(Debug, Drop)]
 pub enum Taken {
     /// An update of a local table, under the local table's id, with its number and its name resolved.

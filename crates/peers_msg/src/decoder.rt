@@ -15,7 +15,7 @@ use table_types::{Memory, Roster};
 
 /// Reads the messages of a stream that comes in pieces, cut anywhere.
 ///
-/// It holds the bytes that were fed and not read yet, and what the messages read told of the tables. While a message
+/// It holds the bytes that were fed and not read yet, and what was received of the tables. While a message
 /// isn't whole only its first bytes are looked at, 12 at most, so the work goes with the bytes fed and the calls.
 #[derive(Drop)]
 pub struct Decoder {
@@ -61,8 +61,8 @@ impl Decoder {
         }
     }
 
-    /// A decoder of what is said to one who received the roster's definitions of these ids, in this order, and that id
-    /// selected last. An id that the roster lacks is passed over.
+    /// A decoder of a stream on which the roster's definitions of these ids were received before, in this order, and that
+    /// id was selected last. An id that the roster lacks is passed over.
     pub fn resume(
         alloc: Global,
         roster: &Roster,

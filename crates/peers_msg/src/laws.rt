@@ -103,7 +103,7 @@ pub fn data_is_small()
     ensures rows { (d : Definition) (key : Key) (values : List Value) → is_definition d ≡ true → row_fits d key values ≡ true → is_small key values ≡ true }
 {}
 
-/// A table received has the shape of an own one exactly where both are the same definition but for id and expire.
+/// A table received has the shape of a local one exactly where both are the same definition but for id and expire.
 pub fn same_shape()
     ensures { (own received : Definition) → (is_shape_of own received ≡ true) ↔ (own ≡ record received { id = own.id; expire = own.expire }) }
 {}

@@ -177,7 +177,7 @@ impl Received {
         }
     }
 
-    /// An equal memory of what was received.
+    /// An equal copy.
     pub fn copy(&self, alloc: Global) -> Result<Received, Memory>
         ensures { IfOk result (λ copy. copy ≡ self.now) }
     {
