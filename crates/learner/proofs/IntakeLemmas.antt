@@ -129,4 +129,3 @@ refused_stops t m used faults.NoTable front refused = absurd refused
 refused_stops t m used faults.BadKey front refused = absurd refused
 refused_stops t m used faults.BadValue front refused = absurd refused
 refused_stops t m used faults.Trailing front refused = absurd refused
-
