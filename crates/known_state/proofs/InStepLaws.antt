@@ -16,7 +16,7 @@ use Rattle.peers_msg.specs.OwnTables.{is_own, is_own_one}
 use Rattle.peers_msg.specs.Fitting.{fits}
 use Rattle.known_state.specs.State.{State, Step, Teaches, IsOwn, Legal, last_numbers_after, resolved_number}
 use Rattle.known_state.specs.LastNumbers.{keeps_last, last_of, set_last, own_last_numbers, AreRising}
-use Rattle.peers_msg.proofs.ShapeLaws.{means_shape}
+use Rattle.table_types.proofs.ShapeLaws.{means_shape}
 use Rattle.known_state.specs.Known.{AreOwn, known_of}
 use Rattle.known_state.proofs.RosterLemmas.{has_put}
 use Rattle.known_state.proofs.KnownLemmas.{table_at-id, table_at-passes, define_selects, AreOwn-defined}

@@ -6,8 +6,8 @@ use Rattle.table_types.specs.declared.update.Update.{Update}
 use Rattle.table_types.specs.Tables.{Definition}
 use Rattle.table_types.specs.Rosters.{table_at, has_id}
 use Rattle.peers_msg.specs.declared.name_field.NameField.{NameField}
-use Rattle.peers_msg.specs.OwnTables.{is_same_definition}
-use Rattle.peers_msg.proofs.ShapeLaws.{means_shape, same_definition}
+use Rattle.table_types.specs.Shapes.{is_same_definition}
+use Rattle.table_types.proofs.ShapeLaws.{means_shape, same_definition}
 use Rattle.peers_msg.specs.declared.message.Message.{Message}
 use Rattle.peers_msg.specs.declared.message.Message.TheVariants as messages
 use Rattle.peers_msg.specs.Messages.{UpdateFields}

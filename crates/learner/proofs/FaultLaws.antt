@@ -16,13 +16,9 @@ use Rattle.learner.specs.Cutting.{IsStopped, AreAnswered}
 use Rattle.learner.proofs.LearningLemmas.{stays_open}
 use Rattle.learner.proofs.LessonLaws.{apart}
 use Rattle.learner.proofs.PieceLaws.{joined, learns_on, left_good, whole}
-use Rattle.learner.proofs.OneOutcome.{IsBreached, Runs, faulty, learner_fed_once}
+use Rattle.learner.proofs.OneOutcome.{Runs, faulty, learner_fed_once}
 
 -- ---- more bytes after a fault
-
-breached_on : (t e : Taking) (more : List ℕ) (fault : Fault) → IsBytes t.unread → IsBreached t fault e → IsBreached (fed t more) fault (fed e more)
-breached_on t e more fault good (is_open, breach, at, named, is) =
-    (is_open, breach, breach_on t.state.received t.unread more breach good at, named, ap (λ (x : Taking). fed x more) is)
 
 -- what stops an intake stops it with more bytes after
 stops_on : (t e : Taking) (more : List ℕ) (fault : Fault) → IsBytes t.unread → Stops t fault e → Stops (fed t more) fault (fed e more)
@@ -33,14 +29,8 @@ stops_on t e more faults.EmptySlot good (is_open, u, (rest, at), has, reads, is)
 stops_on t e more faults.Memory good (is_open, (m, rest, at, resolvable), is) =
     (is_open, (m, rest ++ more, read_on t.state.received m t.unread rest more good at, resolvable), ap (λ (x : Taking). fed x more) is)
 stops_on t e more faults.Closed good (shut, is) = (shut, ap (λ (x : Taking). fed x more) is)
-stops_on t e more faults.BadInteger good stops = breached_on t e more faults.BadInteger good stops
-stops_on t e more faults.SizeLimit good stops = breached_on t e more faults.SizeLimit good stops
-stops_on t e more faults.BadDefinition good stops = breached_on t e more faults.BadDefinition good stops
-stops_on t e more faults.UnknownDataType good stops = breached_on t e more faults.UnknownDataType good stops
-stops_on t e more faults.NoTable good stops = breached_on t e more faults.NoTable good stops
-stops_on t e more faults.BadKey good stops = breached_on t e more faults.BadKey good stops
-stops_on t e more faults.BadValue good stops = breached_on t e more faults.BadValue good stops
-stops_on t e more faults.Trailing good stops = breached_on t e more faults.Trailing good stops
+stops_on t e more (faults.Breach breach) good (is_open, at, is) =
+    (is_open, breach_on t.state.received t.unread more breach good at, ap (λ (x : Taking). fed x more) is)
 
 -- what is learned is learned with more bytes after
 learned_on : (now : ℕ) (l e : Learning) (more : List ℕ) (ms : List Message) (us : List Update) → IsBytes l.intake.unread → AreLearned now l ms us e → AreLearned now (with_piece l more) ms us (with_piece e more)
@@ -77,14 +67,7 @@ is_fed now l e piece faults.Closed is_open (ms, us, mid, learned, stops, rows) w
     absurd (apart (sym stops.0 ∙ stays_open now (with_piece l piece) mid ms us is_open learned))
 is_fed now l e piece faults.NoNumber is_open runs wanted = (is_open, runs)
 is_fed now l e piece faults.EmptySlot is_open runs wanted = (is_open, runs)
-is_fed now l e piece faults.BadInteger is_open runs wanted = (is_open, runs)
-is_fed now l e piece faults.SizeLimit is_open runs wanted = (is_open, runs)
-is_fed now l e piece faults.BadDefinition is_open runs wanted = (is_open, runs)
-is_fed now l e piece faults.UnknownDataType is_open runs wanted = (is_open, runs)
-is_fed now l e piece faults.NoTable is_open runs wanted = (is_open, runs)
-is_fed now l e piece faults.BadKey is_open runs wanted = (is_open, runs)
-is_fed now l e piece faults.BadValue is_open runs wanted = (is_open, runs)
-is_fed now l e piece faults.Trailing is_open runs wanted = (is_open, runs)
+is_fed now l e piece (faults.Breach breach) is_open runs wanted = (is_open, runs)
 
 -- ---- pieces
 
@@ -167,14 +150,7 @@ shut_by now l e piece faults.Memory (is_open, left, all, is) = ap (λ (x : Learn
 shut_by now l e piece faults.Closed (shut, is) = ap (λ (x : Learning). x.intake.closed) is ∙ shut
 shut_by now l e piece faults.NoNumber (is_open, (ms, us, mid, learned, (going, u, next, lacks, is), rows)) = ap (λ (x : Taking). x.closed) is
 shut_by now l e piece faults.EmptySlot (is_open, (ms, us, mid, learned, (going, u, next, has, reads, is), rows)) = ap (λ (x : Taking). x.closed) is
-shut_by now l e piece faults.BadInteger (is_open, (ms, us, mid, learned, (going, breach, at, named, is), rows)) = ap (λ (x : Taking). x.closed) is
-shut_by now l e piece faults.SizeLimit (is_open, (ms, us, mid, learned, (going, breach, at, named, is), rows)) = ap (λ (x : Taking). x.closed) is
-shut_by now l e piece faults.BadDefinition (is_open, (ms, us, mid, learned, (going, breach, at, named, is), rows)) = ap (λ (x : Taking). x.closed) is
-shut_by now l e piece faults.UnknownDataType (is_open, (ms, us, mid, learned, (going, breach, at, named, is), rows)) = ap (λ (x : Taking). x.closed) is
-shut_by now l e piece faults.NoTable (is_open, (ms, us, mid, learned, (going, breach, at, named, is), rows)) = ap (λ (x : Taking). x.closed) is
-shut_by now l e piece faults.BadKey (is_open, (ms, us, mid, learned, (going, breach, at, named, is), rows)) = ap (λ (x : Taking). x.closed) is
-shut_by now l e piece faults.BadValue (is_open, (ms, us, mid, learned, (going, breach, at, named, is), rows)) = ap (λ (x : Taking). x.closed) is
-shut_by now l e piece faults.Trailing (is_open, (ms, us, mid, learned, (going, breach, at, named, is), rows)) = ap (λ (x : Taking). x.closed) is
+shut_by now l e piece (faults.Breach breach) (is_open, (ms, us, mid, learned, (going, at, is), rows)) = ap (λ (x : Taking). x.closed) is
 
 -- what is closed takes nothing
 stays_shut : (now : ℕ) (l e : Learning) (bytes : List ℕ) (answer : Result ℕ Fault) → l.intake.closed ≡ true → LearnerFeeds now l bytes answer e → (answer ≡ Err faults.Closed) × (e ≡ l)
@@ -183,14 +159,7 @@ stays_shut now l e bytes (Err faults.Closed) shut (is, same) = (refl, same)
 stays_shut now l e bytes (Err faults.Memory) shut (is_open, left, all, is) = absurd (apart (sym shut ∙ is_open))
 stays_shut now l e bytes (Err faults.NoNumber) shut (is_open, all) = absurd (apart (sym shut ∙ is_open))
 stays_shut now l e bytes (Err faults.EmptySlot) shut (is_open, all) = absurd (apart (sym shut ∙ is_open))
-stays_shut now l e bytes (Err faults.BadInteger) shut (is_open, all) = absurd (apart (sym shut ∙ is_open))
-stays_shut now l e bytes (Err faults.SizeLimit) shut (is_open, all) = absurd (apart (sym shut ∙ is_open))
-stays_shut now l e bytes (Err faults.BadDefinition) shut (is_open, all) = absurd (apart (sym shut ∙ is_open))
-stays_shut now l e bytes (Err faults.UnknownDataType) shut (is_open, all) = absurd (apart (sym shut ∙ is_open))
-stays_shut now l e bytes (Err faults.NoTable) shut (is_open, all) = absurd (apart (sym shut ∙ is_open))
-stays_shut now l e bytes (Err faults.BadKey) shut (is_open, all) = absurd (apart (sym shut ∙ is_open))
-stays_shut now l e bytes (Err faults.BadValue) shut (is_open, all) = absurd (apart (sym shut ∙ is_open))
-stays_shut now l e bytes (Err faults.Trailing) shut (is_open, all) = absurd (apart (sym shut ∙ is_open))
+stays_shut now l e bytes (Err (faults.Breach breach)) shut (is_open, all) = absurd (apart (sym shut ∙ is_open))
 
 pub closed_then : (now after : ℕ) (l e x : Learning) (piece bytes : List ℕ) (fault : Fault) (answer : Result ℕ Fault) → LearnerFeeds now l piece (Err fault) e → LearnerFeeds after e bytes answer x → (answer ≡ Err faults.Closed) × (x ≡ e)
 closed_then now after l e x piece bytes fault answer fed later = stays_shut after e x bytes answer (shut_by now l e piece fault fed) later

@@ -2,20 +2,14 @@
 use Rattle.std.proofs.Common.{◌≡◌, ◌≢◌, ℕ, Bool, true, false, List, [], ◌∷◌, drop, Option, Some, None, Ok, Err, refl, sym, ap, subst, ◌∙◌}
 use Rattle.std.specs.Prelude.{is_none}
 use Rattle.std.specs.Option.{option_and_then}
-use Rattle.peers_msg.specs.declared.fault.Fault.{Fault as ReadFault}
-use Rattle.peers_msg.specs.declared.fault.Fault.TheVariants as reads
 use Rattle.peers_msg.specs.declared.message.Message.{Message}
 use Rattle.peers_msg.specs.declared.message.Message.TheVariants as messages
-use Rattle.peers_msg.specs.Decoding.{IsFrontOf, fault_of}
-use Rattle.peers_msg.specs.declared.fault.Breach.{Breach}
-use Rattle.peers_msg.specs.declared.fault.Breach.TheVariants as breaches
 use Rattle.table_types.specs.declared.update.Update.{Update}
 use Rattle.known_state.specs.State.{State, Step, resolved_number}
 use Rattle.known_state.specs.LastNumbers.{last_of}
 use Rattle.known_state.specs.Effects.{IsEffect, carried_by, made}
 use Rattle.known_state.specs.declared.effect.Effect.{Effect}
 use Rattle.known_state.proofs.EffectLemmas.{effect_steps}
-use Rattle.learner.specs.Faults.{fault_like}
 use Rattle.learner.specs.LocalTables.{local_updates}
 use Rattle.learner.specs.declared.fault.Fault.{Fault}
 use Rattle.learner.specs.declared.fault.Fault.TheVariants as faults
@@ -74,29 +68,6 @@ front_takable t m used front resolvable = (m, drop used t.unread, front.1, resol
 
 -- ---- faults
 
-never_closed : (breach : Breach) → reads.Closed ≡ fault_of breach → ⊥
-never_closed breaches.BadInteger is = cc
-never_closed breaches.SizeLimit is = cc
-never_closed breaches.BadDefinition is = cc
-never_closed breaches.UnknownDataType is = cc
-never_closed breaches.NoTable is = cc
-never_closed breaches.BadKey is = cc
-never_closed breaches.BadValue is = cc
-never_closed breaches.Trailing is = cc
-
--- what is wrong with the bytes at the front stops the intake
-pub stops_so : (t e : Taking) (fault : ReadFault) → t.closed ≡ false → IsFrontOf t.state.received t.unread (Err fault) → fault ≢ reads.Memory → e ≡ shut t → Stops t (fault_like fault) e
-stops_so t e reads.Memory is_open front other is = absurd (other refl)
-stops_so t e reads.Closed is_open front other is = absurd (never_closed front.0 front.2)
-stops_so t e reads.BadInteger is_open front other is = (is_open, front.0, front.1, ap fault_like front.2, is)
-stops_so t e reads.SizeLimit is_open front other is = (is_open, front.0, front.1, ap fault_like front.2, is)
-stops_so t e reads.BadDefinition is_open front other is = (is_open, front.0, front.1, ap fault_like front.2, is)
-stops_so t e reads.UnknownDataType is_open front other is = (is_open, front.0, front.1, ap fault_like front.2, is)
-stops_so t e reads.NoTable is_open front other is = (is_open, front.0, front.1, ap fault_like front.2, is)
-stops_so t e reads.BadKey is_open front other is = (is_open, front.0, front.1, ap fault_like front.2, is)
-stops_so t e reads.BadValue is_open front other is = (is_open, front.0, front.1, ap fault_like front.2, is)
-stops_so t e reads.Trailing is_open front other is = (is_open, front.0, front.1, ap fault_like front.2, is)
-
 numberless : (t : Taking) (m : Message) (used : ℕ) → IsFront t m used → IsNumberless t.state m → Stops t faults.NoNumber (shut t)
 numberless t (messages.Update u) used front lacks = (front.0, u, (drop used t.unread, front.1), lacks, refl)
 numberless t (messages.Define d) used front lacks = absurd lacks
@@ -121,11 +92,4 @@ refused_stops t m used faults.NoNumber front refused = numberless t m used front
 refused_stops t m used faults.EmptySlot front refused = emptied t m used front refused
 refused_stops t m used faults.Memory front refused = (front.0, front_takable t m used front refused, refl)
 refused_stops t m used faults.Closed front refused = absurd refused
-refused_stops t m used faults.BadInteger front refused = absurd refused
-refused_stops t m used faults.SizeLimit front refused = absurd refused
-refused_stops t m used faults.BadDefinition front refused = absurd refused
-refused_stops t m used faults.UnknownDataType front refused = absurd refused
-refused_stops t m used faults.NoTable front refused = absurd refused
-refused_stops t m used faults.BadKey front refused = absurd refused
-refused_stops t m used faults.BadValue front refused = absurd refused
-refused_stops t m used faults.Trailing front refused = absurd refused
+refused_stops t m used (faults.Breach breach) front refused = absurd refused

@@ -36,14 +36,7 @@ stopped_state t e faults.NoNumber (is_open, u, next, lacks, is) = ap (λ (x : Ta
 stopped_state t e faults.EmptySlot (is_open, u, next, has, reads, is) = ap (λ (x : Taking). x.state) is
 stopped_state t e faults.Memory (is_open, takable, is) = ap (λ (x : Taking). x.state) is
 stopped_state t e faults.Closed (shut, is) = ap (λ (x : Taking). x.state) is
-stopped_state t e faults.BadInteger (is_open, breach, at, named, is) = ap (λ (x : Taking). x.state) is
-stopped_state t e faults.SizeLimit (is_open, breach, at, named, is) = ap (λ (x : Taking). x.state) is
-stopped_state t e faults.BadDefinition (is_open, breach, at, named, is) = ap (λ (x : Taking). x.state) is
-stopped_state t e faults.UnknownDataType (is_open, breach, at, named, is) = ap (λ (x : Taking). x.state) is
-stopped_state t e faults.NoTable (is_open, breach, at, named, is) = ap (λ (x : Taking). x.state) is
-stopped_state t e faults.BadKey (is_open, breach, at, named, is) = ap (λ (x : Taking). x.state) is
-stopped_state t e faults.BadValue (is_open, breach, at, named, is) = ap (λ (x : Taking). x.state) is
-stopped_state t e faults.Trailing (is_open, breach, at, named, is) = ap (λ (x : Taking). x.state) is
+stopped_state t e (faults.Breach breach) (is_open, at, is) = ap (λ (x : Taking). x.state) is
 
 cut_rise : (l e : Learning) → AreRising l.intake.state.last_numbers → IsCutShort l e → AreRising e.intake.state.last_numbers
 cut_rise l e rise (takable, rows, roster, behind) = elim behind [
@@ -68,14 +61,7 @@ fed_rise now l e piece result rise = by result
         subst (λ (x : Learning). AreRising x.intake.state.last_numbers) (sym is) (cut_rise mid left (learned_rise now (with_piece l piece) mid ms us rise learned) cut)
     by (Err faults.NoNumber) (is_open, all) = stopped faults.NoNumber all
     by (Err faults.EmptySlot) (is_open, all) = stopped faults.EmptySlot all
-    by (Err faults.BadInteger) (is_open, all) = stopped faults.BadInteger all
-    by (Err faults.SizeLimit) (is_open, all) = stopped faults.SizeLimit all
-    by (Err faults.BadDefinition) (is_open, all) = stopped faults.BadDefinition all
-    by (Err faults.UnknownDataType) (is_open, all) = stopped faults.UnknownDataType all
-    by (Err faults.NoTable) (is_open, all) = stopped faults.NoTable all
-    by (Err faults.BadKey) (is_open, all) = stopped faults.BadKey all
-    by (Err faults.BadValue) (is_open, all) = stopped faults.BadValue all
-    by (Err faults.Trailing) (is_open, all) = stopped faults.Trailing all
+    by (Err (faults.Breach breach)) (is_open, all) = stopped (faults.Breach breach) all
 
 -- ---- lessons
 

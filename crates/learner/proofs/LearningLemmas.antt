@@ -41,14 +41,7 @@ stops_one now l e faults.Memory stops rows = (stops.1, rows, ap (λ (x : Taking)
 stops_one now l e faults.Closed stops rows = (stops, rows)
 stops_one now l e faults.NoNumber stops rows = (stops, rows)
 stops_one now l e faults.EmptySlot stops rows = (stops, rows)
-stops_one now l e faults.BadInteger stops rows = (stops, rows)
-stops_one now l e faults.SizeLimit stops rows = (stops, rows)
-stops_one now l e faults.BadDefinition stops rows = (stops, rows)
-stops_one now l e faults.UnknownDataType stops rows = (stops, rows)
-stops_one now l e faults.NoTable stops rows = (stops, rows)
-stops_one now l e faults.BadKey stops rows = (stops, rows)
-stops_one now l e faults.BadValue stops rows = (stops, rows)
-stops_one now l e faults.Trailing stops rows = (stops, rows)
+stops_one now l e (faults.Breach breach) stops rows = (stops, rows)
 
 -- a fault after messages that are learned
 pub stops_all : (now : ℕ) (l mid e : Learning) (ms : List Message) (us : List Update) (fault : Fault) → AreLearned now l ms us mid → LearnsOne now mid (Err fault) e → LearnsAll now l (Err fault) e
@@ -56,14 +49,7 @@ stops_all now l mid e ms us faults.Memory learned stops = (ms, us, mid, learned,
 stops_all now l mid e ms us faults.Closed learned stops = (ms, us, mid, learned, stops.0, stops.1)
 stops_all now l mid e ms us faults.NoNumber learned stops = (ms, us, mid, learned, stops.0, stops.1)
 stops_all now l mid e ms us faults.EmptySlot learned stops = (ms, us, mid, learned, stops.0, stops.1)
-stops_all now l mid e ms us faults.BadInteger learned stops = (ms, us, mid, learned, stops.0, stops.1)
-stops_all now l mid e ms us faults.SizeLimit learned stops = (ms, us, mid, learned, stops.0, stops.1)
-stops_all now l mid e ms us faults.BadDefinition learned stops = (ms, us, mid, learned, stops.0, stops.1)
-stops_all now l mid e ms us faults.UnknownDataType learned stops = (ms, us, mid, learned, stops.0, stops.1)
-stops_all now l mid e ms us faults.NoTable learned stops = (ms, us, mid, learned, stops.0, stops.1)
-stops_all now l mid e ms us faults.BadKey learned stops = (ms, us, mid, learned, stops.0, stops.1)
-stops_all now l mid e ms us faults.BadValue learned stops = (ms, us, mid, learned, stops.0, stops.1)
-stops_all now l mid e ms us faults.Trailing learned stops = (ms, us, mid, learned, stops.0, stops.1)
+stops_all now l mid e ms us (faults.Breach breach) learned stops = (ms, us, mid, learned, stops.0, stops.1)
 
 -- a learner that was fed nothing
 pub begins_so : (roster : List Definition) (t : Taking) (rows : List (List (Key × StoredRow))) → t ≡ begun roster → rows ≡ map (λ _. []) roster → record { intake = t; rows = rows } ≡ unlearned roster

@@ -20,12 +20,12 @@ use Rattle.peers_msg.specs.Received.{Received, selected_table}
 use Rattle.peers_msg.specs.Fitting.{fits}
 use Rattle.peers_msg.specs.Spelling.{spelled, stream_of}
 use Rattle.peers_msg.specs.Reading.{message_at, frame_at}
-use Rattle.peers_msg.specs.OwnTables.{is_shape_of}
+use Rattle.table_types.specs.Shapes.{is_shape_of}
 use Rattle.peers_msg.specs.Decoding.{together}
 use Rattle.known_state.specs.State.{State, Step, Teaches, IsOwn, Legal, resolved}
 use Rattle.peers_msg.proofs.CuttingIndependence.{found, found_is}
 use Rattle.peers_msg.proofs.MessageRoundTrip.{message_again}
-use Rattle.peers_msg.proofs.ShapeLaws.{means_shape, shape_means}
+use Rattle.table_types.proofs.ShapeLaws.{means_shape, shape_means}
 use Rattle.known_state.specs.Known.{AreOwn}
 use Rattle.known_state.proofs.KnownLemmas.{table_at-id, table_at-passes}
 use Rattle.known_state.proofs.InStepLaws.{own_stays}
@@ -193,14 +193,7 @@ goes_on t e x m own faults.EmptySlot (going, rest, at, us, step, keeps, is) (is_
     let again : Step t.state (messages.Update u) us e.state = subst (λ (k : Message). Step t.state k us e.state) same.0 step in
     let named = named_so t.state.slots u.name again.5 e.state.slots again.6 in
     apart (sym reads ∙ named.0)
-goes_on t e x m own faults.BadInteger takes stops wanted = never_err m takes.1 stops.1 (sym takes.2 ∙ stops.2)
-goes_on t e x m own faults.SizeLimit takes stops wanted = never_err m takes.1 stops.1 (sym takes.2 ∙ stops.2)
-goes_on t e x m own faults.BadDefinition takes stops wanted = never_err m takes.1 stops.1 (sym takes.2 ∙ stops.2)
-goes_on t e x m own faults.UnknownDataType takes stops wanted = never_err m takes.1 stops.1 (sym takes.2 ∙ stops.2)
-goes_on t e x m own faults.NoTable takes stops wanted = never_err m takes.1 stops.1 (sym takes.2 ∙ stops.2)
-goes_on t e x m own faults.BadKey takes stops wanted = never_err m takes.1 stops.1 (sym takes.2 ∙ stops.2)
-goes_on t e x m own faults.BadValue takes stops wanted = never_err m takes.1 stops.1 (sym takes.2 ∙ stops.2)
-goes_on t e x m own faults.Trailing takes stops wanted = never_err m takes.1 stops.1 (sym takes.2 ∙ stops.2)
+goes_on t e x m own (faults.Breach breach) takes stops wanted = never_err m takes.1 breach (sym takes.2 ∙ stops.1)
 
 -- nor does it stop while it waits
 pub waits_on : (t x : Taking) (fault : Fault) → IsWaiting t → Stops t fault x → fault ≢ faults.Memory → ⊥
@@ -208,14 +201,7 @@ waits_on t x faults.Memory waits stops wanted = wanted refl
 waits_on t x faults.Closed waits stops wanted = apart (sym stops.0 ∙ waits.0)
 waits_on t x faults.NoNumber waits stops wanted = never_none (messages.Update stops.1) stops.2.0 (sym stops.2.1 ∙ waits.1)
 waits_on t x faults.EmptySlot waits stops wanted = never_none (messages.Update stops.1) stops.2.0 (sym stops.2.1 ∙ waits.1)
-waits_on t x faults.BadInteger waits stops wanted = never_both stops.1 (sym stops.2 ∙ waits.1)
-waits_on t x faults.SizeLimit waits stops wanted = never_both stops.1 (sym stops.2 ∙ waits.1)
-waits_on t x faults.BadDefinition waits stops wanted = never_both stops.1 (sym stops.2 ∙ waits.1)
-waits_on t x faults.UnknownDataType waits stops wanted = never_both stops.1 (sym stops.2 ∙ waits.1)
-waits_on t x faults.NoTable waits stops wanted = never_both stops.1 (sym stops.2 ∙ waits.1)
-waits_on t x faults.BadKey waits stops wanted = never_both stops.1 (sym stops.2 ∙ waits.1)
-waits_on t x faults.BadValue waits stops wanted = never_both stops.1 (sym stops.2 ∙ waits.1)
-waits_on t x faults.Trailing waits stops wanted = never_both stops.1 (sym stops.2 ∙ waits.1)
+waits_on t x (faults.Breach breach) waits stops wanted = never_both breach (sym stops.1 ∙ waits.1)
 
 -- where messages are learned to an end at which it waits, no fault comes on the way
 pub no_fault : (now : ℕ) (l a mid : Learning) (x : Taking) (ms ns : List Message) (us vs : List Update) (fault : Fault) → AreLearned now l ms us a → IsWaiting a.intake → AreLearned now l ns vs mid → Stops mid.intake fault x → fault ≢ faults.Memory → ⊥
@@ -271,14 +257,7 @@ taught now l e ms us after result (sound, own, going, none) (all, teaches) fed w
     by (Err faults.Closed) (a, one, done) (shut, is) wanted = absurd (apart (sym shut ∙ going))
     by (Err faults.NoNumber) (a, one, done) (is_open, (ns, vs, mid, begun, stops, rows)) wanted = absurd (stopped faults.NoNumber a mid e.intake ns vs refl one done begun stops)
     by (Err faults.EmptySlot) (a, one, done) (is_open, (ns, vs, mid, begun, stops, rows)) wanted = absurd (stopped faults.EmptySlot a mid e.intake ns vs refl one done begun stops)
-    by (Err faults.BadInteger) (a, one, done) (is_open, (ns, vs, mid, begun, stops, rows)) wanted = absurd (stopped faults.BadInteger a mid e.intake ns vs refl one done begun stops)
-    by (Err faults.SizeLimit) (a, one, done) (is_open, (ns, vs, mid, begun, stops, rows)) wanted = absurd (stopped faults.SizeLimit a mid e.intake ns vs refl one done begun stops)
-    by (Err faults.BadDefinition) (a, one, done) (is_open, (ns, vs, mid, begun, stops, rows)) wanted = absurd (stopped faults.BadDefinition a mid e.intake ns vs refl one done begun stops)
-    by (Err faults.UnknownDataType) (a, one, done) (is_open, (ns, vs, mid, begun, stops, rows)) wanted = absurd (stopped faults.UnknownDataType a mid e.intake ns vs refl one done begun stops)
-    by (Err faults.NoTable) (a, one, done) (is_open, (ns, vs, mid, begun, stops, rows)) wanted = absurd (stopped faults.NoTable a mid e.intake ns vs refl one done begun stops)
-    by (Err faults.BadKey) (a, one, done) (is_open, (ns, vs, mid, begun, stops, rows)) wanted = absurd (stopped faults.BadKey a mid e.intake ns vs refl one done begun stops)
-    by (Err faults.BadValue) (a, one, done) (is_open, (ns, vs, mid, begun, stops, rows)) wanted = absurd (stopped faults.BadValue a mid e.intake ns vs refl one done begun stops)
-    by (Err faults.Trailing) (a, one, done) (is_open, (ns, vs, mid, begun, stops, rows)) wanted = absurd (stopped faults.Trailing a mid e.intake ns vs refl one done begun stops)
+    by (Err (faults.Breach breach)) (a, one, done) (is_open, (ns, vs, mid, begun, stops, rows)) wanted = absurd (stopped (faults.Breach breach) a mid e.intake ns vs refl one done begun stops)
 
 -- and so is one that is fed in pieces
 pub taught_in_pieces : (now : ℕ) (l e : Learning) (ms : List Message) (us : List Update) (after : State) (a : List ℕ) (pieces : List (List ℕ)) (count : ℕ) → IsReady l → Legal l.intake.roster l.intake.state ms us after → IsBytes (stream_of ms) → together (a ∷ pieces) ≡ stream_of ms → AreFed now l (a ∷ pieces) count e → (count ≡ length us) × IsTaught now l us after e

@@ -300,14 +300,7 @@ memory_is faults.Memory h = refl
 memory_is faults.Closed h = absurd (apart (sym h))
 memory_is faults.NoNumber h = absurd (apart (sym h))
 memory_is faults.EmptySlot h = absurd (apart (sym h))
-memory_is faults.BadInteger h = absurd (apart (sym h))
-memory_is faults.SizeLimit h = absurd (apart (sym h))
-memory_is faults.BadDefinition h = absurd (apart (sym h))
-memory_is faults.UnknownDataType h = absurd (apart (sym h))
-memory_is faults.NoTable h = absurd (apart (sym h))
-memory_is faults.BadKey h = absurd (apart (sym h))
-memory_is faults.BadValue h = absurd (apart (sym h))
-memory_is faults.Trailing h = absurd (apart (sym h))
+memory_is (faults.Breach breach) h = absurd (apart (sym h))
 
 -- a fault of a piece on the way is want of memory
 pub only_memory : (now : ℕ) (l e : Learning) (piece more : List ℕ) (ms : List Message) (us : List Update) (after : State) (fault : Fault) → IsOnItsWay l (piece ++ more) ms us after → LearnerFeeds now l piece (Err fault) e → fault ≡ faults.Memory
@@ -326,11 +319,4 @@ only_memory now l e piece more ms us after fault way fed = elim (cases_Bool (is_
     by faults.Closed other (shut, is) = apart (sym shut ∙ way.4)
     by faults.NoNumber other (is_open, all) = stopped faults.NoNumber refl all
     by faults.EmptySlot other (is_open, all) = stopped faults.EmptySlot refl all
-    by faults.BadInteger other (is_open, all) = stopped faults.BadInteger refl all
-    by faults.SizeLimit other (is_open, all) = stopped faults.SizeLimit refl all
-    by faults.BadDefinition other (is_open, all) = stopped faults.BadDefinition refl all
-    by faults.UnknownDataType other (is_open, all) = stopped faults.UnknownDataType refl all
-    by faults.NoTable other (is_open, all) = stopped faults.NoTable refl all
-    by faults.BadKey other (is_open, all) = stopped faults.BadKey refl all
-    by faults.BadValue other (is_open, all) = stopped faults.BadValue refl all
-    by faults.Trailing other (is_open, all) = stopped faults.Trailing refl all
+    by (faults.Breach breach) other (is_open, all) = stopped (faults.Breach breach) refl all

@@ -8,13 +8,11 @@ use Rattle.peers_msg.specs.declared.message.Message.{Message}
 use Rattle.peers_msg.specs.declared.message.Message.TheVariants as messages
 use Rattle.peers_msg.specs.Messages.{UpdateFields}
 use Rattle.peers_msg.specs.Reading.{message_at}
-use Rattle.peers_msg.specs.Decoding.{fault_of}
 use Rattle.peers_msg.proofs.CuttingIndependence.{found}
 use Rattle.learner.specs.declared.fault.Fault.{Fault}
 use Rattle.learner.specs.declared.fault.Fault.TheVariants as faults
 use Rattle.learner.specs.declared.taken.Taken.{Taken}
 use Rattle.learner.specs.declared.taken.Taken.TheVariants as taken
-use Rattle.learner.specs.Faults.{fault_like}
 use Rattle.learner.specs.Intake.{Taking, Takes, Stops, IntakeFeeds, IntakeNext, Tells, lacks_number, rows_of, fed, shut}
 use Rattle.learner.specs.Learning.{Learning, AreLearned, LearnerFeeds, with_piece}
 use Rattle.learner.proofs.PieceLaws.{one_learned, one_message, one_taking, same_fed}
@@ -28,7 +26,7 @@ parts {X} {Y} p q e = (ap (λ (r : X × Y). r.0) e, ap (λ (r : X × Y). r.1) e)
 -- what stops an intake, but want of memory, and what it is then
 abbrev stopping : Taking → Bool → Result (Option (Message × List ℕ)) Breach → Fault × Taking
 stopping t true read = (faults.Closed, t)
-stopping t false (Err breach) = (fault_like (fault_of breach), shut t)
+stopping t false (Err breach) = (faults.Breach breach, shut t)
 stopping t false (Ok None) = (faults.Memory, t)
 stopping t false (Ok (Some found)) = by_message found.0
   where
@@ -42,15 +40,6 @@ stopping_with t closed read is at = ap (λ (b : Bool). stopping t b (message_at 
 both_are : (f g : Fault) (x y : Taking) → f ≡ g → x ≡ y → ◌≡◌ {A = Fault × Taking} (f, x) (g, y)
 both_are f g x y faults takings = ap (λ (q : Fault). (q, x)) faults ∙ ap (λ (q : Taking). (g, q)) takings
 
--- a breach is at the front, and closes
-abbrev pub IsBreached : Taking → Fault → Taking → Type 0
-IsBreached t fault e =
-    (t.closed ≡ false) × (breach : Breach) × (message_at t.state.received t.unread ≡ Err breach) × (fault ≡ fault_like (fault_of breach)) × (e ≡ shut t)
-
-breach_so : (t e : Taking) (fault : Fault) → IsBreached t fault e → (fault, e) ≡ stopping t t.closed (message_at t.state.received t.unread)
-breach_so t e fault (is_open, breach, at, named, is) =
-    both_are fault (fault_like (fault_of breach)) e (shut t) named is ∙ sym (stopping_with t false (Err breach) is_open at)
-
 stops_so : (t e : Taking) (fault : Fault) → Stops t fault e → fault ≢ faults.Memory → (fault, e) ≡ stopping t t.closed (message_at t.state.received t.unread)
 stops_so t e faults.NoNumber (is_open, u, (rest, at), lacks, is) wanted =
     both_are faults.NoNumber (cond (lacks_number t.state u) faults.NoNumber faults.EmptySlot) e (shut t) (sym (ap (λ (b : Bool). cond b faults.NoNumber faults.EmptySlot) lacks)) is
@@ -61,14 +50,8 @@ stops_so t e faults.EmptySlot (is_open, u, (rest, at), has, reads, is) wanted =
 stops_so t e faults.Memory stops wanted = absurd (wanted refl)
 stops_so t e faults.Closed (shut, is) wanted =
     both_are faults.Closed faults.Closed e t refl is ∙ sym (ap (λ (b : Bool). stopping t b (message_at t.state.received t.unread)) shut)
-stops_so t e faults.BadInteger stops wanted = breach_so t e faults.BadInteger stops
-stops_so t e faults.SizeLimit stops wanted = breach_so t e faults.SizeLimit stops
-stops_so t e faults.BadDefinition stops wanted = breach_so t e faults.BadDefinition stops
-stops_so t e faults.UnknownDataType stops wanted = breach_so t e faults.UnknownDataType stops
-stops_so t e faults.NoTable stops wanted = breach_so t e faults.NoTable stops
-stops_so t e faults.BadKey stops wanted = breach_so t e faults.BadKey stops
-stops_so t e faults.BadValue stops wanted = breach_so t e faults.BadValue stops
-stops_so t e faults.Trailing stops wanted = breach_so t e faults.Trailing stops
+stops_so t e (faults.Breach breach) (is_open, at, is) wanted =
+    both_are (faults.Breach breach) (faults.Breach breach) e (shut t) refl is ∙ sym (stopping_with t false (Err breach) is_open at)
 
 -- from one state one fault stops an intake
 pub stops_once : (t a b : Taking) (fault other : Fault) → Stops t fault a → Stops t other b → fault ≢ faults.Memory → other ≢ faults.Memory → (fault ≡ other) × (a ≡ b)
@@ -87,14 +70,7 @@ fed_so t e piece (Err faults.Closed) (shut, is) wanted = ap (λ (x : Taking). (E
 fed_so t e piece (Err faults.Memory) feeds wanted = absurd (wanted refl)
 fed_so t e piece (Err faults.NoNumber) feeds wanted = absurd feeds
 fed_so t e piece (Err faults.EmptySlot) feeds wanted = absurd feeds
-fed_so t e piece (Err faults.BadInteger) feeds wanted = absurd feeds
-fed_so t e piece (Err faults.SizeLimit) feeds wanted = absurd feeds
-fed_so t e piece (Err faults.BadDefinition) feeds wanted = absurd feeds
-fed_so t e piece (Err faults.UnknownDataType) feeds wanted = absurd feeds
-fed_so t e piece (Err faults.NoTable) feeds wanted = absurd feeds
-fed_so t e piece (Err faults.BadKey) feeds wanted = absurd feeds
-fed_so t e piece (Err faults.BadValue) feeds wanted = absurd feeds
-fed_so t e piece (Err faults.Trailing) feeds wanted = absurd feeds
+fed_so t e piece (Err (faults.Breach breach)) feeds wanted = absurd feeds
 
 pub intake_fed_once : (t a b : Taking) (piece : List ℕ) (one other : Result (Unit {0}) Fault) → IntakeFeeds t piece one a → IntakeFeeds t piece other b → one ≢ Err faults.Memory → other ≢ Err faults.Memory → (one ≡ other) × (a ≡ b)
 intake_fed_once t a b piece one other feeds again p q = parts (one, a) (other, b) (fed_so t a piece one feeds p ∙ sym (fed_so t b piece other again q))
@@ -194,14 +170,7 @@ faulty now l e piece faults.Memory fed wanted = absurd (wanted refl)
 faulty now l e piece faults.Closed (shut, is) wanted = inl (shut, refl, is)
 faulty now l e piece faults.NoNumber fed wanted = inr fed
 faulty now l e piece faults.EmptySlot fed wanted = inr fed
-faulty now l e piece faults.BadInteger fed wanted = inr fed
-faulty now l e piece faults.SizeLimit fed wanted = inr fed
-faulty now l e piece faults.BadDefinition fed wanted = inr fed
-faulty now l e piece faults.UnknownDataType fed wanted = inr fed
-faulty now l e piece faults.NoTable fed wanted = inr fed
-faulty now l e piece faults.BadKey fed wanted = inr fed
-faulty now l e piece faults.BadValue fed wanted = inr fed
-faulty now l e piece faults.Trailing fed wanted = inr fed
+faulty now l e piece (faults.Breach breach) fed wanted = inr fed
 
 no_ok : (now : ℕ) (l a b : Learning) (piece : List ℕ) (count : ℕ) (fault : Fault) → LearnerFeeds now l piece (Ok count) a → LearnerFeeds now l piece (Err fault) b → fault ≢ faults.Memory → ⊥
 no_ok now l a b piece count fault (is_open, (ms, us, learned, waits, is)) fed wanted = elim (faulty now l b piece fault fed wanted) [

@@ -8,7 +8,6 @@ use Rattle.peers_msg.specs.declared.message.Message.{Message}
 use Rattle.peers_msg.specs.declared.message.Message.TheVariants as messages
 use Rattle.peers_msg.specs.Messages.{UpdateFields}
 use Rattle.peers_msg.specs.Reading.{message_at}
-use Rattle.peers_msg.specs.Decoding.{fault_of}
 use Rattle.peers_msg.specs.Fitting.{fits}
 use Rattle.known_state.specs.State.{State, Step, fresh, last_numbers_after, resolved_number, resolved, reads_empty}
 use Rattle.known_state.specs.LastNumbers.{last_of}
@@ -16,7 +15,6 @@ use Rattle.learner.specs.declared.fault.Fault.{Fault}
 use Rattle.learner.specs.declared.fault.Fault.TheVariants as faults
 use Rattle.learner.specs.declared.taken.Taken.{Taken}
 use Rattle.learner.specs.declared.taken.Taken.TheVariants as taken
-use Rattle.learner.specs.Faults.{fault_like}
 use Rattle.learner.specs.LocalTables.{local_table, local_updates}
 
 -- the local tables; the state in which the messages read leave it; the ids of which an update came since the last
@@ -120,11 +118,9 @@ Stops t faults.EmptySlot e =
     × (e ≡ shut t)
 Stops t faults.Memory e = (t.closed ≡ false) × IsTakable t × (e ≡ t)
 Stops t faults.Closed e = (t.closed ≡ true) × (e ≡ t)
-Stops t fault e =
+Stops t (faults.Breach breach) e =
     (t.closed ≡ false)
-    × (breach : Breach)
     × (message_at t.state.received t.unread ≡ Err breach)
-    × (fault ≡ fault_like (fault_of breach))
     × (e ≡ shut t)
 
 -- ---- what is answered

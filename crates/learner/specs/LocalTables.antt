@@ -4,7 +4,7 @@ use Rattle.table_types.specs.declared.update.Update.{Update}
 use Rattle.table_types.specs.Tables.{Definition}
 use Rattle.table_types.specs.Rosters.{table_at}
 use Rattle.peers_msg.specs.Received.{Received, selected_table}
-use Rattle.peers_msg.specs.OwnTables.{is_shape_of}
+use Rattle.table_types.specs.Shapes.{is_shape_of}
 
 -- the local table that a table received is: the one of its shape
 abbrev pub local_table : List Definition → Definition → Option Definition

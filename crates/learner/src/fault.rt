@@ -1,11 +1,11 @@
 //! Why a learner stops.
 
 ghost use Rattle.std.specs.Prelude.{◌≡◌};
-ghost use Rattle.learner.specs.Faults.{fault_like, fault_name, refused_as};
+ghost use Rattle.learner.specs.Faults.{fault_name, refused_as};
 ghost use Rattle.learner.specs.declared.fault.Fault.TheVariants.{Memory as NoMemory};
 
 use known_state::Refusal;
-use peers_msg::Fault as ReadFault;
+use peers_msg::Breach;
 use table_types::Memory;
 use thiserror::Error;
 
@@ -16,61 +16,21 @@ use thiserror::Error;
 /// takes bytes answers `Closed`.
 #[derive(Clone, Copy, Debug, PartialEq, Eq, Error)]
 pub enum Fault {
-    /// An encoded integer is 2^64 or more, or the data of a switch or an acknowledgement end inside a field.
-    #[error("no encoded integer stands where one has to")]
-    BadInteger,
-    /// The length of the data is above 16,384.
-    #[error("a message has more than 16384 bytes of data")]
-    SizeLimit,
-    /// A definition ends inside a field, or a field of it is out of its range.
-    #[error("a table is defined by what is no definition")]
-    BadDefinition,
-    /// A definition has a bit from 20 up.
-    #[error("a table stores a data type that isn't known")]
-    UnknownDataType,
-    /// An update comes while no table is selected, or a switch to an id that stands for no table.
-    #[error("no table stands for the id")]
-    NoTable,
-    /// An update ends inside its number, life or key, or its key is no key of the table.
-    #[error("an update has no key of its table")]
-    BadKey,
-    /// An update ends inside its values or its name field, or one of them is out of its range.
-    #[error("an update has no values of its table")]
-    BadValue,
-    /// Bytes are left after the last field of the data.
-    #[error("bytes are left after the last field")]
-    Trailing,
+    /// The bytes at the front are no message.
+    #[error("{0}")]
+    Breach(Breach),
     /// Memory was wanted, and the growth was refused.
-    #[error("memory")]
+    #[error("out of memory")]
     Memory,
     /// There was a fault before: nothing more is read.
-    #[error("there was a fault before")]
+    #[error("nothing more is read after a fault")]
     Closed,
     /// An update reads its name from a slot that holds none.
-    #[error("a name is read from an empty slot")]
+    #[error("an update reads its server name from an empty slot")]
     EmptySlot,
     /// An incremental update comes before its table has a number.
-    #[error("an incremental update of a table without a number")]
+    #[error("an incremental update comes before any number of its table")]
     NoNumber,
-}
-
-impl From<ReadFault> for Fault {
-    ghost from_gives = { λ fault e. e ≡ fault_like fault };
-
-    fn from(fault: ReadFault) -> Fault {
-        match fault {
-            ReadFault::BadInteger => Fault::BadInteger,
-            ReadFault::SizeLimit => Fault::SizeLimit,
-            ReadFault::BadDefinition => Fault::BadDefinition,
-            ReadFault::UnknownDataType => Fault::UnknownDataType,
-            ReadFault::NoTable => Fault::NoTable,
-            ReadFault::BadKey => Fault::BadKey,
-            ReadFault::BadValue => Fault::BadValue,
-            ReadFault::Trailing => Fault::Trailing,
-            ReadFault::Memory => Fault::Memory,
-            ReadFault::Closed => Fault::Closed,
-        }
-    }
 }
 
 impl From<Refusal> for Fault {
@@ -99,14 +59,7 @@ impl Fault {
         ensures { result.now ≡ fault_name self }
     {
         match self {
-            Fault::BadInteger => "BadInteger",
-            Fault::SizeLimit => "SizeLimit",
-            Fault::BadDefinition => "BadDefinition",
-            Fault::UnknownDataType => "UnknownDataType",
-            Fault::NoTable => "NoTable",
-            Fault::BadKey => "BadKey",
-            Fault::BadValue => "BadValue",
-            Fault::Trailing => "Trailing",
+            Fault::Breach(breach) => breach.name(),
             Fault::Memory => "Memory",
             Fault::Closed => "Closed",
             Fault::EmptySlot => "EmptySlot",

@@ -131,7 +131,7 @@ impl Intake {
                 Err(fault) => Err(fault),
             },
             Ok(None) => Ok(None),
-            Err(fault) => Err(Fault::from(fault)),
+            Err(breach) => Err(Fault::Breach(breach)),
         }
     }
 
@@ -241,7 +241,7 @@ impl Intake {
     {
         match fault {
             Fault::Memory | Fault::Closed => {}
-            _ => self.close(),
+            Fault::Breach(_) | Fault::NoNumber | Fault::EmptySlot => self.close(),
         }
     }
 

@@ -3,7 +3,6 @@
 ghost use Rattle.std.specs.Prelude.{◌≡◌, option_copied};
 ghost use Rattle.learner.specs.LocalTables.{local_table};
 
-use peers_msg::is_shape_of;
 use table_types::TableDef;
 
 /// The local table that a table received is: the one of its name, where kind of keys, key length, data types and
@@ -12,7 +11,7 @@ pub fn local_table<'a>(roster: &'a [TableDef], received: &TableDef) -> Option<&'
     ensures { option_copied result ≡ local_table roster.now received.now }
 {
     for table in roster {
-        if is_shape_of(table, received) {
+        if table.is_shape_of(received) {
             return Some(table);
         }
     }

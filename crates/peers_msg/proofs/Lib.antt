@@ -13,7 +13,6 @@ pub mod ReadingLoops
 pub mod DefinitionParts
 pub mod ValidWhenRead
 pub mod CuttingIndependence
-pub mod ShapeLaws
 pub mod FrameEnds
 pub mod ReceivedLaws
 pub mod ListLaws

@@ -12,7 +12,8 @@ use Rattle.table_types.specs.declared.data_type.DataType.{DataType}
 use Rattle.table_types.specs.declared.key.KeyKind.{KeyKind}
 use Rattle.table_types.specs.declared.key.KeyKind.TheVariants as kinds
 use Rattle.table_types.specs.Names.{is_name}
-use Rattle.table_types.specs.Keys.{number_of, fits_length}
+use Rattle.table_types.specs.Keys.{number_of, kind_at, fits_length}
+use Rattle.table_types.proofs.KindLaws.{kind_numbered}
 use Rattle.table_types.specs.DataTypes.{all_types}
 use Rattle.table_types.specs.Tables.{Definition, is_id, is_definition, has_its_period, rise_from}
 use Rattle.table_types.specs.Updates.{stores_name}
@@ -29,7 +30,7 @@ use Rattle.peers_msg.specs.Messages.{UpdateFields, OtherFields, is_known_pair}
 use Rattle.peers_msg.specs.Received.{Received, selected_table}
 use Rattle.peers_msg.specs.Spelling.{word, optional_word, counted, key_text, value_text, name_text, update_text, update_type, bits_of, period_text, definition_text, control_type, error_type, data_of, spelled}
 use Rattle.peers_msg.specs.Fitting.{update_fits, has_shape, fits}
-use Rattle.peers_msg.specs.Reading.{integer_at, word_at, bytes_at, ended, optional_at, key_at, values_at, name_at, update_at, kind_of, types_at, named_at, keyed_at, stored_at, definition_at, switch_at, ack_at, update_of, control_meant, error_meant, table_meant, meant, message_of, body_at, Frame, whole_data, data_from, data_at, frame_with, frame_at, message_in, message_at}
+use Rattle.peers_msg.specs.Reading.{integer_at, word_at, bytes_at, ended, optional_at, key_at, values_at, name_at, update_at, kind_of, known_kind, types_at, named_at, keyed_at, stored_at, definition_at, switch_at, ack_at, update_of, control_meant, error_meant, table_meant, meant, message_of, body_at, Frame, whole_data, data_from, data_at, frame_with, frame_at, message_in, message_at}
 use Rattle.peers_msg.proofs.FieldRoundTrip.{is_there}
 use Rattle.peers_msg.proofs.TypeRoundTrip.{all_are}
 use Rattle.peers_msg.proofs.MessageRoundTrip.{frame_of, control_below, error_below, update_has_data}
@@ -86,23 +87,11 @@ update_takes d numbered timed bytes u fits e =
 -- ---- definitions, switches and acknowledgements
 
 kind_takes : (n : ℕ) (kind : KeyKind) → kind_of n ≡ Ok kind → n ≡ number_of kind
-kind_takes n kind e =
-    elim (chosen (eqb n 2) (Ok kinds.Integer) _ (Ok kind) e) [
-      | inl c ↦ eqb-true n 2 c.0 ∙ ap number_of (ok_is kinds.Integer kind c.1)
-      | inr c ↦ elim (chosen (eqb n 4) (Ok kinds.Ip4) _ (Ok kind) c.1) [
-        | inl c ↦ eqb-true n 4 c.0 ∙ ap number_of (ok_is kinds.Ip4 kind c.1)
-        | inr c ↦ elim (chosen (eqb n 5) (Ok kinds.Ip6) _ (Ok kind) c.1) [
-          | inl c ↦ eqb-true n 5 c.0 ∙ ap number_of (ok_is kinds.Ip6 kind c.1)
-          | inr c ↦ elim (chosen (eqb n 6) (Ok kinds.String) _ (Ok kind) c.1) [
-            | inl c ↦ eqb-true n 6 c.0 ∙ ap number_of (ok_is kinds.String kind c.1)
-            | inr c ↦ elim (chosen (eqb n 7) (Ok kinds.Binary) (Err BadDefinition) (Ok kind) c.1) [
-              | inl c ↦ eqb-true n 7 c.0 ∙ ap number_of (ok_is kinds.Binary kind c.1)
-              | inr c ↦ let wrong = c.1 in absurd cc
-            ]
-          ]
-        ]
-      ]
-    ]
+kind_takes n kind e = by (kind_at n) refl e
+  where
+    by : (k : Option KeyKind) → kind_at n ≡ k → known_kind k ≡ Ok kind → n ≡ number_of kind
+    by None is e = absurd cc
+    by (Some k) is e = kind_numbered n k is ∙ ap number_of (ok_is k kind e)
 
 all_bits : (sum bits : ℕ) → sum ≡ 2 ^ 0 * bits → bits ≡ sum
 all_bits sum bits e = omega arith

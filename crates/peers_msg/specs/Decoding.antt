@@ -1,7 +1,6 @@
 -- What a decoder holds, and what it answers.
 use Rattle.std.specs.Prelude.{◌≡◌, ◌≢◌, ℕ, Bool, true, false, List, [], ◌∷◌, ◌++◌, drop, Option, Some, None, Result, Ok, Err}
 use Rattle.peers_msg.specs.declared.fault.Breach.{Breach}
-use Rattle.peers_msg.specs.declared.fault.Breach.TheVariants as breaches
 use Rattle.peers_msg.specs.declared.fault.Fault.{Fault}
 use Rattle.peers_msg.specs.declared.fault.Fault.TheVariants as faults
 use Rattle.peers_msg.specs.declared.message.Message.{Message}
@@ -20,22 +19,12 @@ pub record Decoding : Type 0 where
 abbrev pub begun : Received → Decoding
 begun received = record { received = received; unread = []; closed = false }
 
-abbrev pub fault_of : Breach → Fault
-fault_of breaches.BadInteger = faults.BadInteger
-fault_of breaches.SizeLimit = faults.SizeLimit
-fault_of breaches.BadDefinition = faults.BadDefinition
-fault_of breaches.UnknownDataType = faults.UnknownDataType
-fault_of breaches.NoTable = faults.NoTable
-fault_of breaches.BadKey = faults.BadKey
-fault_of breaches.BadValue = faults.BadValue
-fault_of breaches.Trailing = faults.Trailing
-
 -- What feeding bytes does. After a fault nothing is fed.
 abbrev pub DecoderFeeds : Decoding → List ℕ → Result (Unit {0}) Fault → Decoding → Type 0
 DecoderFeeds d piece (Ok _) e = (d.closed ≡ false) × (e ≡ record { received = d.received; unread = d.unread ++ piece; closed = false })
 DecoderFeeds d piece (Err faults.Memory) e = (d.closed ≡ false) × (e ≡ d)
 DecoderFeeds d piece (Err faults.Closed) e = (d.closed ≡ true) × (e ≡ d)
-DecoderFeeds d piece (Err fault) e = ⊥
+DecoderFeeds d piece (Err (faults.Breach breach)) e = ⊥
 
 -- a whole message without a breach stands at the front
 abbrev pub IsWhole : Decoding → Type 0
@@ -52,19 +41,17 @@ DecoderNext d (Ok (Some m)) e =
     × (e ≡ record { received = received_after d.received m; unread = rest; closed = false })
 DecoderNext d (Err faults.Memory) e = (d.closed ≡ false) × IsWhole d × (e ≡ d)
 DecoderNext d (Err faults.Closed) e = (d.closed ≡ true) × (e ≡ d)
-DecoderNext d (Err fault) e =
+DecoderNext d (Err (faults.Breach breach)) e =
     (d.closed ≡ false)
-    × (breach : Breach)
     × (message_at d.received d.unread ≡ Err breach)
-    × (fault ≡ fault_of breach)
     × (e ≡ record { received = d.received; unread = d.unread; closed = true })
 
 -- What looking at the front of bytes tells, by what was received: the message there and how many bytes it has, none, or
 -- what is wrong with it. It takes no memory.
-abbrev pub IsFrontOf : Received → List ℕ → Result (Option (MessageRef × ℕ)) Fault → Type 0
+abbrev pub IsFrontOf : Received → List ℕ → Result (Option (MessageRef × ℕ)) Breach → Type 0
 IsFrontOf received bytes (Ok None) = message_at received bytes ≡ Ok None
 IsFrontOf received bytes (Ok (Some found)) = message_at received bytes ≡ Ok (Some (owned_message found.0, drop found.1 bytes))
-IsFrontOf received bytes (Err fault) = (breach : Breach) × (message_at received bytes ≡ Err breach) × (fault ≡ fault_of breach)
+IsFrontOf received bytes (Err breach) = message_at received bytes ≡ Err breach
 
 -- ---- streams in pieces
 

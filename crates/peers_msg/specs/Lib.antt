@@ -5,6 +5,7 @@ pub mod OwnTables
 pub mod Borrowed
 pub mod Spelling
 pub mod Fitting
+pub mod Breaches
 pub mod Reading
 pub mod BorrowedMessages
 pub mod Stream

@@ -1,35 +1,9 @@
 -- Which of the tables received are a roster's (profile).
-use Rattle.std.specs.Prelude.{ℕ, Bool, true, false, ◌&&◌, ◌==◌, List, [], ◌∷◌, filter, Option, Some, None, if◌then◌else◌}
-use Rattle.table_types.specs.declared.data_type.DataType.{DataType}
-use Rattle.table_types.specs.Keys.{number_of}
-use Rattle.table_types.specs.DataTypes.{is_same_type}
+use Rattle.std.specs.Prelude.{Bool, false, List, filter, Option, Some, None, if◌then◌else◌}
 use Rattle.table_types.specs.Tables.{Definition}
-use Rattle.table_types.specs.Rosters.{is_same_name, table_at}
+use Rattle.table_types.specs.Rosters.{table_at}
+use Rattle.table_types.specs.Shapes.{is_same_definition}
 use Rattle.peers_msg.specs.Received.{Received, selected_table}
-
-abbrev pub is_same_period : Option ℕ → Option ℕ → Bool
-is_same_period (Some a) (Some b) = a == b
-is_same_period None None = true
-is_same_period a b = false
-
--- the same data types with the same periods
-abbrev pub are_same_types : List (DataType × Option ℕ) → List (DataType × Option ℕ) → Bool
-are_same_types [] [] = true
-are_same_types (t ∷ ts) (h ∷ hs) = is_same_type t.0 h.0 && is_same_period t.1 h.1 && are_same_types ts hs
-are_same_types ts hs = false
-
--- a table of another's shape: it has its name, and the same kind of keys, key length, data types and periods; id and
--- expire may differ
-abbrev pub is_shape_of : Definition → Definition → Bool
-is_shape_of own received =
-    is_same_name own.name received.name
-    && number_of own.kind == number_of received.kind
-    && own.key_length == received.key_length
-    && are_same_types own.types received.types
-
--- the very definition
-abbrev pub is_same_definition : Definition → Definition → Bool
-is_same_definition own received = own.id == received.id && own.expire == received.expire && is_shape_of own received
 
 abbrev pub is_found : Option Definition → Definition → Bool
 is_found None received = false

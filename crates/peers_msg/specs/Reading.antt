@@ -15,7 +15,7 @@ use Rattle.table_types.specs.declared.key.Key.TheVariants as keys
 use Rattle.table_types.specs.declared.update.Value.{Value as RowValue}
 use Rattle.table_types.specs.declared.update.Value.TheVariants as values
 use Rattle.table_types.specs.Names.{is_name}
-use Rattle.table_types.specs.Keys.{fits_length}
+use Rattle.table_types.specs.Keys.{fits_length, kind_at}
 use Rattle.table_types.specs.DataTypes.{id_of, all_types, shape_of, is_rate}
 use Rattle.table_types.specs.Tables.{Definition, is_id, is_period}
 use Rattle.table_types.specs.Updates.{is_word, is_name_type, stores_name}
@@ -161,14 +161,12 @@ update_at d numbered timed bytes = do
 
 -- ---- definitions
 
+abbrev pub known_kind : Option KeyKind → Result KeyKind Breach
+known_kind None = Err BadDefinition
+known_kind (Some kind) = Ok kind
+
 abbrev pub kind_of : ℕ → Result KeyKind Breach
-kind_of n =
-    if n == 2 then Ok kinds.Integer
-    else (if n == 4 then Ok kinds.Ip4
-    else (if n == 5 then Ok kinds.Ip6
-    else (if n == 6 then Ok kinds.String
-    else (if n == 7 then Ok kinds.Binary
-    else Err BadDefinition))))
+kind_of n = known_kind (kind_at n)
 
 -- the period of a rate after its id; nothing for any other type
 unfoldable pub period_at : DataType → List ℕ → Result (Option ℕ × List ℕ) Breach

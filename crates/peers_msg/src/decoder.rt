@@ -119,9 +119,9 @@ impl Decoder {
                 Err(Memory) => Err(Fault::Memory),
             },
             Ok(None) => Ok(None),
-            Err(fault) => {
+            Err(breach) => {
                 self.closed = true;
-                Err(fault)
+                Err(Fault::Breach(breach))
             }
         }
     }

@@ -1,65 +1,52 @@
 //! What is wrong with bytes that are no messages.
 
 ghost use Rattle.std.specs.Prelude.{◌≡◌};
-ghost use Rattle.peers_msg.specs.Decoding.{fault_of};
+ghost use Rattle.peers_msg.specs.Breaches.{breach_name};
 ghost use Rattle.peers_msg.specs.declared.fault.Fault.TheVariants as faults;
 
 use table_types::Memory;
 use thiserror::Error;
 
-/// The first thing that is wrong with the bytes where a message is to stand (profile).
-#[derive(Clone, Copy, Debug, PartialEq, Eq)]
+/// The first thing, from left to right, that is wrong with the bytes where a message is to stand (profile).
+#[derive(Clone, Copy, Debug, PartialEq, Eq, Error)]
 pub enum Breach {
     /// An encoded integer is 2^64 or more, or the data of a switch or an acknowledgement end inside a field.
-    BadInteger,
-    /// The length of the data is above 16,384.
-    SizeLimit,
-    /// A definition ends inside a field, or a field of it is out of its range.
-    BadDefinition,
-    /// A definition has a bit from 20 up.
-    UnknownDataType,
-    /// An update comes while no table is selected, or a switch to an id that stands for no table.
-    NoTable,
-    /// An update ends inside its number, life or key, or its key is no key of the table.
-    BadKey,
-    /// An update ends inside its values or its name field, or one of them is out of its range.
-    BadValue,
-    /// Bytes are left after the last field of the data.
-    Trailing,
-}
-
-/// Why a decoder answered no message. What is wrong with the bytes is the first breach from left to right (profile).
-#[derive(Clone, Copy, Debug, PartialEq, Eq, Error)]
-pub enum Fault {
-    /// An encoded integer is 2^64 or more, or the data of a switch or an acknowledgement end inside a field.
-    #[error("no encoded integer stands where one has to")]
+    #[error("an encoded integer is too large or cut short")]
     BadInteger,
     /// The length of the data is above 16,384.
     #[error("a message has more than 16384 bytes of data")]
     SizeLimit,
     /// A definition ends inside a field, or a field of it is out of its range.
-    #[error("a table is defined by what is no definition")]
+    #[error("a table's definition is malformed")]
     BadDefinition,
     /// A definition has a bit from 20 up.
-    #[error("a table stores a data type that isn't known")]
+    #[error("a table's definition has an unknown data type")]
     UnknownDataType,
     /// An update comes while no table is selected, or a switch to an id that stands for no table.
-    #[error("no table stands for the id")]
+    #[error("no table is selected, or none is defined under the id")]
     NoTable,
     /// An update ends inside its number, life or key, or its key is no key of the table.
-    #[error("an update has no key of its table")]
+    #[error("an update's key is malformed or doesn't fit its table")]
     BadKey,
     /// An update ends inside its values or its name field, or one of them is out of its range.
-    #[error("an update has no values of its table")]
+    #[error("an update's values are malformed or out of range")]
     BadValue,
     /// Bytes are left after the last field of the data.
-    #[error("bytes are left after the last field")]
+    #[error("bytes are left after the last field of a message")]
     Trailing,
+}
+
+/// Why a decoder returns no message, or takes no bytes (profile).
+#[derive(Clone, Copy, Debug, PartialEq, Eq, Error)]
+pub enum Fault {
+    /// The bytes at the front are no message.
+    #[error("{0}")]
+    Breach(Breach),
     /// Memory was wanted, and the growth was refused.
-    #[error("memory")]
+    #[error("out of memory")]
     Memory,
-    /// There was a fault before: nothing more is read.
-    #[error("there was a fault before")]
+    /// There was a breach before: nothing more is read.
+    #[error("nothing more is read after a fault")]
     Closed,
 }
 
@@ -72,19 +59,19 @@ impl From<Memory> for Fault {
 }
 
 impl Breach {
-    /// The breach as a decoder tells it.
-    pub(crate) fn fault(self) -> Fault
-        ensures { result ≡ fault_of self }
+    /// The breach's name, as the source writes it: `BadInteger`, `SizeLimit` and so on.
+    pub fn name(self) -> &'static str
+        ensures { result.now ≡ breach_name self }
     {
         match self {
-            Breach::BadInteger => Fault::BadInteger,
-            Breach::SizeLimit => Fault::SizeLimit,
-            Breach::BadDefinition => Fault::BadDefinition,
-            Breach::UnknownDataType => Fault::UnknownDataType,
-            Breach::NoTable => Fault::NoTable,
-            Breach::BadKey => Fault::BadKey,
-            Breach::BadValue => Fault::BadValue,
-            Breach::Trailing => Fault::Trailing,
+            Breach::BadInteger => "BadInteger",
+            Breach::SizeLimit => "SizeLimit",
+            Breach::BadDefinition => "BadDefinition",
+            Breach::UnknownDataType => "UnknownDataType",
+            Breach::NoTable => "NoTable",
+            Breach::BadKey => "BadKey",
+            Breach::BadValue => "BadValue",
+            Breach::Trailing => "Trailing",
         }
     }
 }

@@ -2,7 +2,6 @@
 
 ghost use Rattle.std.specs.Prelude.{◌≡◌, ◌^◌, ◌&&◌, nat_lt, IsTrue};
 ghost use Rattle.table_types.specs.Updates.{is_optional_word, is_word};
-ghost use Rattle.table_types.specs.SlotIds.{is_slot};
 ghost use Rattle.peers_msg.specs.Fitting.{name_fits, update_fits, IsPlain, has_shape, fits};
 
 use crate::message::{MOST_DATA, Message, UpdateMsg};
@@ -10,7 +9,7 @@ use crate::name_field::NameField;
 use crate::received::Received;
 use crate::sizes::{definition_size, update_size};
 use peers_encint::len;
-use table_types::TableDef;
+use table_types::{TableDef, is_slot};
 
 /// True of each number of 32 bits, as the wire's four bytes hold.
 fn is_optional_word(number: Option<u32>) -> bool
@@ -22,21 +21,15 @@ fn is_optional_word(number: Option<u32>) -> bool
     }
 }
 
-fn is_slot(slot: u8) -> bool
-    ensures { result ≡ is_slot slot }
-{
-    1 <= slot && slot <= 128
-}
-
 fn name_fits(table: &TableDef, field: &NameField) -> bool
     ensures { result ≡ name_fits table.now field.now }
 {
     match field {
         NameField::NotStored => !table.stores_name(),
         NameField::NoName => table.stores_name(),
-        NameField::Held(slot) => table.stores_name() && is_slot(*slot),
+        NameField::Held(slot) => table.stores_name() && is_slot(u64::from(*slot)),
         NameField::Written(slot, name) => {
-            table.stores_name() && is_slot(*slot) && !name.as_slice().is_empty()
+            table.stores_name() && is_slot(u64::from(*slot)) && !name.as_slice().is_empty()
         }
     }
 }

@@ -6,7 +6,7 @@ ghost use Rattle.peers_msg.specs.Reading.{message_at, with_more};
 ghost use Rattle.peers_msg.specs.Decoding.{Decoding, DecoderFeeds, DecoderNext, AreRead, AreReadInPieces, IsEnd, together};
 ghost use Rattle.peers_msg.specs.Stream.{AllFit};
 ghost use Rattle.peers_msg.specs.Received.{Received, AreDistinct, nothing_received, received_after, resumed};
-ghost use Rattle.peers_msg.specs.OwnTables.{is_shape_of, own_part};
+ghost use Rattle.peers_msg.specs.OwnTables.{own_part};
 ghost use Rattle.peers_msg.specs.Fitting.{update_fits, fits};
 ghost use Rattle.peers_msg.specs.Messages.{UpdateFields, is_small};
 ghost use Rattle.peers_msg.specs.Spelling.{update_text, definition_text, spelled, stream_of};
@@ -101,9 +101,4 @@ pub fn data_is_small()
     ensures updates { (d : Definition) (u : UpdateFields) → is_definition d ≡ true → update_fits d u ≡ true → length (update_text u) ≤ 16384 }
     ensures definitions { (d : Definition) → is_definition d ≡ true → length (definition_text d) ≤ 16384 }
     ensures rows { (d : Definition) (key : Key) (values : List Value) → is_definition d ≡ true → row_fits d key values ≡ true → is_small key values ≡ true }
-{}
-
-/// A table received has the shape of a local one exactly where both are the same definition but for id and expire.
-pub fn same_shape()
-    ensures { (own received : Definition) → (is_shape_of own received ≡ true) ↔ (own ≡ record received { id = own.id; expire = own.expire }) }
 {}

@@ -23,16 +23,16 @@ pub use borrowed::{DefinitionRef, KeyRef, MessageRef, OtherRef, UpdateRef, Value
 pub use control::{Control, ErrorKind};
 pub use decoder::Decoder;
 pub use encoding::{append, encode};
-pub use fault::Fault;
+pub use fault::{Breach, Fault};
 pub use framing::split_message;
 pub use laws::{
     any_cutting, data_is_small, lists_are_read, no_prefix, one_list, one_message, one_outcome,
-    read_is_spelled, reading_stays, same_shape, spelled_is_read, tables_stay_distinct,
+    read_is_spelled, reading_stays, spelled_is_read, tables_stay_distinct,
 };
 pub use message::{Message, Other, UpdateMsg};
 pub use name_field::NameField;
 pub use name_field_ref::NameFieldRef;
-pub use own_tables::{is_own, is_shape_of};
+pub use own_tables::is_own;
 pub use received::Received;
 pub use sizes::{named_sizes, size};
 pub use unread::Unread;

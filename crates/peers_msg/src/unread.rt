@@ -8,7 +8,7 @@ ghost use Rattle.peers_msg.specs.Fitting.{fits};
 ghost use Rattle.peers_msg.specs.Reading.{message_at};
 
 use crate::borrowed::MessageRef;
-use crate::fault::{Breach, Fault};
+use crate::fault::Breach;
 use crate::reading::message_at;
 use crate::received::Received;
 use bytes::BytesMut;
@@ -77,20 +77,16 @@ impl Unread {
     }
 
     /// The message at the front, by what was received before it, and how many bytes it has; `None` while it isn't whole.
-    /// It stays where it is, and no memory is taken. A fault tells what is wrong with the bytes; it is neither `Memory`
-    /// nor `Closed`.
+    /// It stays where it is, and no memory is taken.
     pub fn front<'a>(
         &'a self,
         received: &'a Received,
-    ) -> Result<Option<(MessageRef<'a>, usize)>, Fault>
+    ) -> Result<Option<(MessageRef<'a>, usize)>, Breach>
         ensures front { IsFrontOf received.now self.now result }
         ensures within { IfOk result (λ found. IfSome found (λ x. (1 ≤ x.1) × (x.1 ≤ length self.now))) }
         ensures fits { IfOk result (λ found. IfSome found (λ x. fits received.now (owned_message x.0) ≡ true)) }
     {
-        match front(received, self.bytes.as_slice()) {
-            Ok(found) => Ok(found),
-            Err(breach) => Err(breach.fault()),
-        }
+        front(received, self.bytes.as_slice())
     }
 
     /// Drops so many bytes at the front.

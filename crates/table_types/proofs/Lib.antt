@@ -1,2 +1,4 @@
 pub mod TableLemmas
 pub mod BatchLaws
+pub mod ShapeLaws
+pub mod KindLaws

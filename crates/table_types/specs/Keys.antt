@@ -1,6 +1,6 @@
 -- Kinds of keys, and the keys of each (HAProxy, doc/peers-v2.0.txt, "Table Definition Message", and the
 -- Configuration Manual, stick-table `type` and `len`; the bound 8192 and "below L" for a text are the profile's choices).
-use Rattle.std.specs.Prelude.{ℕ, ◌^◌, Bool, false, ◌&&◌, ◌==◌, nat_lt, nat_le, List, length, codes}
+use Rattle.std.specs.Prelude.{ℕ, ◌^◌, Bool, false, ◌&&◌, ◌==◌, nat_lt, nat_le, List, length, codes, Option, Some, None, if◌then◌else◌}
 use Rattle.std.specs.declared.cmp.Ordering.{Ordering}
 use Rattle.std.specs.Ordering.{nat_cmp}
 use Rattle.std.specs.Cmp.Lexicographic.{slice_cmp}
@@ -16,6 +16,16 @@ number_of kinds.Ip4 = 4
 number_of kinds.Ip6 = 5
 number_of kinds.String = 6
 number_of kinds.Binary = 7
+
+-- and the kind that has a number
+abbrev pub kind_at : ℕ → Option KeyKind
+kind_at n =
+    if n == 2 then Some kinds.Integer
+    else (if n == 4 then Some kinds.Ip4
+    else (if n == 5 then Some kinds.Ip6
+    else (if n == 6 then Some kinds.String
+    else (if n == 7 then Some kinds.Binary
+    else None))))
 
 -- the word for a kind (profile)
 abbrev pub kind_name : KeyKind → List ℕ

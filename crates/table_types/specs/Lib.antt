@@ -4,6 +4,7 @@ pub mod DataTypes
 pub mod Tables
 pub mod Updates
 pub mod Rosters
+pub mod Shapes
 pub mod Batches
 pub mod SlotIds
 pub mod Rows

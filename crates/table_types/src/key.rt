@@ -1,7 +1,7 @@
 //! The keys of stick tables.
 
 ghost use Rattle.std.specs.Prelude.{◌≡◌, IfOk, IfSome, IsTrue, Some, ◌↔◌};
-ghost use Rattle.table_types.specs.Keys.{number_of, kind_name, fits_length, key_fits};
+ghost use Rattle.table_types.specs.Keys.{number_of, kind_at, kind_name, fits_length, key_fits};
 
 use crate::items::Items;
 use crate::memory::Memory;
@@ -48,7 +48,8 @@ impl KeyKind {
 
     /// The kind of that number, and `None` where no kind has it.
     pub fn from_number(number: u64) -> Option<KeyKind>
-        ensures told { IfSome result (λ kind. number_of kind ≡ number) }
+        ensures kind { result ≡ kind_at number }
+        ensures number { IfSome result (λ kind. number_of kind ≡ number) }
         ensures exactly { (kind : KeyKind) → number_of kind ≡ number → result ≡ Some kind }
     {
         match number {

@@ -1,6 +1,6 @@
 //! Definitions of tables.
 
-ghost use Rattle.std.specs.Prelude.{◌≡◌, true, Some, None, Ok, IfOk, MatchResult, List, ℕ, ◌≢◌, ◌≤◌, length, ◌↔◌, IsTrue};
+ghost use Rattle.std.specs.Prelude.{◌≡◌, true, Some, None, Ok, IfOk, MatchResult, List, ℕ, ◌≢◌, ◌≤◌, length, ◌↔◌};
 ghost use Rattle.std.specs.List.{list_all};
 ghost use Rattle.table_types.specs.declared.table_def.DefError.{DefError};
 ghost use Rattle.table_types.specs.declared.table_def.DefError.TheVariants.{Memory as OutOfMemory};
@@ -141,24 +141,6 @@ fn in_rising_id(
     Ok(entries.collect(alloc)?)
 }
 
-fn is_same_name(one: &[u8], other: &[u8]) -> bool
-    ensures { IsTrue result ↔ (one.now ≡ other.now) }
-{
-    one == other
-}
-
-fn is_same_kind(one: KeyKind, other: KeyKind) -> bool
-    ensures { IsTrue result ↔ (one ≡ other) }
-{
-    one == other
-}
-
-fn are_same_types(one: &[(DataType, Option<u32>)], other: &[(DataType, Option<u32>)]) -> bool
-    ensures { IsTrue result ↔ (one.now ≡ other.now) }
-{
-    one == other
-}
-
 impl TableDef {
     /// The definition of these parts. The types may come in any order, each rate with its period in
     /// milliseconds, and are kept in rising id.
@@ -247,18 +229,6 @@ impl TableDef {
         ensures { result.now ≡ self.now.types }
     {
         self.types.as_slice()
-    }
-
-    /// Whether both are the same definition, part for part.
-    pub fn is_same(&self, other: &TableDef) -> bool
-        ensures { IsTrue result ↔ (self.now ≡ other.now) }
-    {
-        self.id == other.id
-            && is_same_name(self.name.as_slice(), other.name.as_slice())
-            && is_same_kind(self.kind, other.kind)
-            && self.key_length == other.key_length
-            && self.expire == other.expire
-            && are_same_types(self.types.as_slice(), other.types.as_slice())
     }
 
     /// An equal definition.

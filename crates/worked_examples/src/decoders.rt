@@ -1,7 +1,7 @@
 //! Streams of messages, cut anywhere, and how a decoder reads them.
 
 use example_parts::{T1, alone};
-use peers_msg::{Decoder, Fault};
+use peers_msg::{Breach, Decoder, Fault};
 use std::alloc::Global;
 
 /// Table 1 `t1`.
@@ -108,7 +108,7 @@ static STREAMS: [Stream; 16] = [
     },
     Stream {
         resumed: true,
-        parts: &[(&[0x0A, 0x85, 0xF1, 0xF1, 6], Err(Fault::SizeLimit))],
+        parts: &[(&[0x0A, 0x85, 0xF1, 0xF1, 6], Err(Fault::Breach(Breach::SizeLimit)))],
         waiting: 0,
     },
     Stream {
@@ -117,7 +117,7 @@ static STREAMS: [Stream; 16] = [
             &[
                 0x0A, 0x85, 0xFF, 0xF0, 0xFE, 0xFE, 0xFE, 0xFE, 0xFE, 0xFE, 0xFE, 0x0F,
             ],
-            Err(Fault::BadInteger),
+            Err(Fault::Breach(Breach::BadInteger)),
         )],
         waiting: 0,
     },
@@ -128,7 +128,7 @@ static STREAMS: [Stream; 16] = [
             &[
                 0x0A, 0x82, 0x0A, 1, 2, 0x74, 0x31, 2, 5, 4, 0xF0, 0xC4, 0x0D,
             ],
-            Err(Fault::BadDefinition),
+            Err(Fault::Breach(Breach::BadDefinition)),
         )],
         waiting: 0,
     },
@@ -139,20 +139,20 @@ static STREAMS: [Stream; 16] = [
             &[
                 0x0A, 0x82, 0x0D, 3, 2, 0x73, 0x74, 6, 0x21, 0xF0, 0xF1, 0xFE, 2, 0xF0, 0xC4, 0x0D,
             ],
-            Err(Fault::UnknownDataType),
+            Err(Fault::Breach(Breach::UnknownDataType)),
         )],
         waiting: 0,
     },
     Stream {
         resumed: true,
-        parts: &[(&[0x0A, 0x83, 1, 9], Err(Fault::NoTable))],
+        parts: &[(&[0x0A, 0x83, 1, 9], Err(Fault::Breach(Breach::NoTable)))],
         waiting: 0,
     },
     Stream {
         resumed: true,
         parts: &[(
             &[0x0A, 0x85, 9, 0, 0, 0, 1, 0, 0, 0x75, 0x30, 0],
-            Err(Fault::BadKey),
+            Err(Fault::Breach(Breach::BadKey)),
         )],
         waiting: 0,
     },
@@ -164,7 +164,7 @@ static STREAMS: [Stream; 16] = [
                 0x0A, 0x85, 0x11, 0, 0, 0, 1, 0, 0, 0x75, 0x30, 0, 0, 0, 7, 0xF0, 0xF1, 0xFE, 0xFE,
                 0x7E,
             ],
-            Err(Fault::BadValue),
+            Err(Fault::Breach(Breach::BadValue)),
         )],
         waiting: 0,
     },
@@ -176,7 +176,7 @@ static STREAMS: [Stream; 16] = [
                 &[
                     0x0A, 0x85, 0x0C, 0, 0, 0, 1, 0, 0, 0x75, 0x30, 1, 0x61, 1, 0x81,
                 ],
-                Err(Fault::BadValue),
+                Err(Fault::Breach(Breach::BadValue)),
             ),
         ],
         waiting: 0,
@@ -188,7 +188,7 @@ static STREAMS: [Stream; 16] = [
             &[
                 0x0A, 0x85, 0x0E, 0, 0, 0, 1, 0, 0, 0x75, 0x30, 0, 0, 0, 7, 5, 0,
             ],
-            Err(Fault::Trailing),
+            Err(Fault::Breach(Breach::Trailing)),
         )],
         waiting: 0,
     },

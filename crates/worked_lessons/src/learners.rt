@@ -2,7 +2,7 @@
 
 use example_parts::{ST, T1, TableParts, alone, is_called};
 use learner::{Fault, Learner};
-use peers_msg::Message;
+use peers_msg::{Breach, Message};
 use std::alloc::Global;
 use table_types::{Key, Moment, Row};
 
@@ -156,7 +156,7 @@ static STREAMS: [Stream; 9] = [
                     0x0A, 0x82, 0x0D, 3, 2, 0x73, 0x74, 6, 0x21, 0xF0, 0xF1, 0xFE, 2, 0xF0, 0xC4,
                     0x0D,
                 ],
-                Err(Fault::UnknownDataType),
+                Err(Fault::Breach(Breach::UnknownDataType)),
             ),
             (ST_DEFINED, Err(Fault::Closed)),
         ],

@@ -5,21 +5,17 @@ ghost use Rattle.table_types.specs.DataTypes.{all_types};
 ghost use Rattle.peers_msg.specs.Borrowed.{Reads, is_read, list_read};
 ghost use Rattle.peers_msg.specs.Reading.{kind_of, period_at, types_at, named_at, keyed_at, stored_at, definition_at};
 
-use super::fields::{bytes_at, ended, integer_at, is_name, wanted};
+use super::fields::{bytes_at, ended, integer_at, wanted};
 use crate::borrowed::DefinitionRef;
 use crate::fault::Breach;
-use table_types::{DataType, KeyKind};
+use table_types::{DataType, KeyKind, is_name};
 
 fn kind_of(number: u64) -> Result<KeyKind, Breach>
     ensures { Reads (λ kind. kind) result (kind_of number) }
 {
-    match number {
-        2 => Ok(KeyKind::Integer),
-        4 => Ok(KeyKind::Ip4),
-        5 => Ok(KeyKind::Ip6),
-        6 => Ok(KeyKind::String),
-        7 => Ok(KeyKind::Binary),
-        _ => Err(Breach::BadDefinition),
+    match KeyKind::from_number(number) {
+        Some(kind) => Ok(kind),
+        None => Err(Breach::BadDefinition),
     }
 }
 

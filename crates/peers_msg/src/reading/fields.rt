@@ -1,7 +1,6 @@
 //! The fields that data are made of.
 
 ghost use Rattle.std.specs.Prelude.{◌≡◌, ◌==◌, true, length};
-ghost use Rattle.table_types.specs.Names.{is_name};
 ghost use Rattle.peers_msg.specs.Borrowed.{Reads};
 ghost use Rattle.peers_msg.specs.Reading.{wanted, ended, integer_at, word_at, bytes_at};
 
@@ -59,11 +58,4 @@ pub(crate) fn bytes_at(short: Breach, count: u64, bytes: &[u8]) -> Result<(&[u8]
         return Err(short);
     }
     Ok(bytes.split_at(count as usize))
-}
-
-/// Whether bytes are a name: 1 to 255 of them, none NUL.
-pub(crate) fn is_name(bytes: &[u8]) -> bool
-    ensures { result ≡ is_name bytes.now }
-{
-    !bytes.is_empty() && bytes.len() <= 255 && !bytes.contains(&0)
 }

@@ -5,11 +5,11 @@ ghost use Rattle.table_types.specs.Updates.{is_name_shape};
 ghost use Rattle.peers_msg.specs.Borrowed.{Reads, list_read, owned_key, owned_name, is_named};
 ghost use Rattle.peers_msg.specs.Reading.{optional_at, key_at, count_at, value_at, values_at, slot_holds, field_of, name_at, update_at};
 
-use super::fields::{bytes_at, ended, integer_at, is_name, wanted, word_at};
+use super::fields::{bytes_at, ended, integer_at, wanted, word_at};
 use crate::borrowed::{KeyRef, UpdateRef, ValuesRef};
 use crate::fault::Breach;
 use crate::name_field_ref::NameFieldRef;
-use table_types::{DataType, KeyKind, Shape, TableDef, Value};
+use table_types::{DataType, KeyKind, Shape, TableDef, Value, is_name, is_slot};
 
 #[inline(always)]
 #[tactic(auto, unfolding(crate::specs::Reading::optional_at))]
@@ -143,7 +143,7 @@ fn field_of(bytes: &[u8]) -> Result<NameFieldRef<'_>, Breach>
         return Ok(NameFieldRef::NoName);
     }
     let (slot, rest) = integer_at(Breach::BadValue, bytes)?;
-    wanted(1 <= slot && slot <= 128, Breach::BadValue)?;
+    wanted(is_slot(slot), Breach::BadValue)?;
     slot_holds(slot as u8, rest)
 }
 

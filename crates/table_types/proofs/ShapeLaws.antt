@@ -1,5 +1,5 @@
 -- Tables of one shape are one but for id and expire.
-use Rattle.std.proofs.Common.{◌≡◌, ℕ, ◌<◌, length, length-drop, drop, Bool, true, false, ◌&&◌, eqb, List, [], ◌∷◌, get_or, Option, Some, None, refl, sym, ap, ◌∙◌, subst, arith, inl, inr}
+use Rattle.std.proofs.Common.{◌≡◌, ℕ, ◌<◌, length, length-drop, drop, Bool, true, false, IsTrue, ◌&&◌, eqb, List, [], ◌∷◌, get_or, Option, Some, None, refl, sym, ap, ◌∙◌, subst, arith, inl, inr}
 use Rattle.std.proofs.lemmas.Bool.{cases_eq, eq-eqb, ne_eqb}
 use Rattle.table_types.specs.declared.key.KeyKind.{KeyKind}
 use Rattle.table_types.specs.declared.key.KeyKind.TheVariants as kinds
@@ -9,7 +9,7 @@ use Rattle.table_types.specs.Keys.{number_of}
 use Rattle.table_types.specs.DataTypes.{id_of, all_types, is_same_type}
 use Rattle.table_types.specs.Tables.{Definition}
 use Rattle.table_types.specs.Rosters.{is_same_name}
-use Rattle.peers_msg.specs.OwnTables.{is_same_period, are_same_types, is_shape_of, is_same_definition}
+use Rattle.table_types.specs.Shapes.{is_same_period, are_same_types, is_shape_of, is_same_definition}
 
 and-left : (a b : Bool) → (a && b) ≡ true → a ≡ true
 and-left true b h = refl
@@ -144,6 +144,12 @@ same_definition own received h =
     grouped : (a b c : Bool) → (a && b && c) ≡ true → ((a && b) && c) ≡ true
     grouped a b c h = h
 
+-- and a definition is the same as itself
+pub definition_same : (own received : Definition) → own ≡ received → is_same_definition own received ≡ true
+definition_same own received is =
+    let shape : is_shape_of own received ≡ true = means_shape own received (is ∙ ap (λ (d : Definition). record received { id = d.id; expire = d.expire }) (sym is)) in
+    rw (eq-eqb own.id received.id (ap (λ (d : Definition). d.id) is), eq-eqb own.expire received.expire (ap (λ (d : Definition). d.expire) is), shape) refl
+
 first_differs : (xs : List (DataType × Option ℕ)) → 0 < length xs → are_same_types xs [] ≡ false
 first_differs [] lt = absurd (omega arith)
 first_differs (x ∷ xs) lt = refl
@@ -152,3 +158,7 @@ first_differs (x ∷ xs) lt = refl
 pub some_left : (ts hs : List (DataType × Option ℕ)) (i : ℕ) (r : Bool) → i < length ts → length hs ≡ 0 → are_same_types (drop i ts) hs ≡ r → false ≡ r
 some_left ts [] i r lt none e = sym (first_differs (drop i ts) (omega (arith, length-drop i ts))) ∙ e
 some_left ts (h ∷ hs) i r lt none e = absurd (omega arith)
+
+-- what a test that decides a definition says of it, both ways
+pub said_so : {P : Type 0} → (b test : Bool) → b ≡ test → (test ≡ true → P) → (P → test ≡ true) → (IsTrue b → P) × (P → IsTrue b)
+said_so b test is only if = ((λ t. only (sym is ∙ t)), (λ p. is ∙ if p))

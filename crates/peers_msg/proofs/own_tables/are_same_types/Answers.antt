@@ -1,7 +1,0 @@
-use Rattle.std.proofs.Common.{arith}
-use Rattle.peers_msg.proofs.ShapeLaws.{some_left}
-use Rattle.peers_msg.proofs.own_tables.are_same_types.Goals as goal
-
-pub returns-in_default : goal.returns-in_default
-returns-in_default c =
-    some_left c.args.own.now c.loop-entry.rest.now c.loop-entry.entry-index _ (omega arith) (omega (arith, c.in_default.ensures.cases)) c.loop-entry.invariant
