@@ -34,15 +34,6 @@ fn holds(place: &Option<Name>, name: &Name) -> bool
     }
 }
 
-fn copy_of(place: &Option<Name>, alloc: Global) -> Result<Option<Name>, Memory>
-    ensures { IfOk result (λ copy. copy ≡ place.now) }
-{
-    match place {
-        Some(name) => Ok(Some(name.copy(alloc)?)),
-        None => Ok(None),
-    }
-}
-
 fn no_names() -> [Option<Name>; 128]
     ensures { result ≡ no_names }
 {
@@ -107,7 +98,7 @@ impl Slots {
     {
         let mut copy = Slots::new(alloc);
         for (place, held) in self.places.iter().enumerate() {
-            copy.places[place] = copy_of(held, alloc)?;
+            copy.places[place] = Name::copy_of(alloc, held)?;
         }
         Ok(copy)
     }

@@ -19,7 +19,7 @@ use table_types::{Batch, Memory, Name, Update};
 /// The number that is sent with an update after that last number of its table: none where it is one more, modulo 2^32,
 /// which the learner finds by itself.
 pub fn number_sent(last: Option<u32>, number: u32) -> Option<u32>
-    ensures told { result ≡ number_sent last number }
+    ensures sent { result ≡ number_sent last number }
     ensures word { is_optional_word result ≡ true }
 {
     match last {

@@ -44,14 +44,14 @@ fn set_last(numbers: &mut Vec<(u64, u32)>, id: u64, number: u32) -> Result<(), M
     ensures set { OnOk result (numbers.new.items ≡ set_last id number numbers.old.items) }
     ensures stays { OnErr result (numbers.new.items ≡ numbers.old.items) }
 {
-    for place in 0..numbers.len() {
-        let last = numbers[place];
+    for index in 0..numbers.len() {
+        let last = numbers[index];
         if last.0 == id {
-            numbers[place] = (id, number);
+            numbers[index] = (id, number);
             return Ok(());
         }
         if id < last.0 {
-            numbers.insert(place, (id, number))?;
+            numbers.insert(index, (id, number))?;
             return Ok(());
         }
     }
@@ -75,13 +75,13 @@ fn keep_last_numbers(numbers: &mut Vec<(u64, u32)>, new: &TableDef, received: &R
     ensures { numbers.new.items
         ≡ filter (λ last. keeps_last new.now (table_at received.now.tables last.0) last.0) numbers.old.items }
 {
-    let mut place = 0;
-    while place < numbers.len() {
-        let id = numbers[place].0;
+    let mut index = 0;
+    while index < numbers.len() {
+        let id = numbers[index].0;
         if keeps_last(new, received.table(id), id) {
-            place += 1;
+            index += 1;
         } else {
-            numbers.remove(place);
+            numbers.remove(index);
         }
     }
 }

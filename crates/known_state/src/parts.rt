@@ -77,8 +77,8 @@ pub fn are_defined(selected: Option<u64>, defined: &[u64], last_numbers: &[(u64,
 pub fn repeats(ids: &[u64]) -> bool
     ensures { result ≡ repeats ids.now }
 {
-    for (place, id) in ids.iter().enumerate() {
-        if holds(&ids[place + 1..], *id) {
+    for (index, id) in ids.iter().enumerate() {
+        if holds(&ids[index + 1..], *id) {
             return true;
         }
     }
@@ -100,8 +100,8 @@ fn has_last(last_numbers: &[(u64, u32)], id: u64) -> bool
 pub fn repeats_last(last_numbers: &[(u64, u32)]) -> bool
     ensures { result ≡ repeats_last last_numbers.now }
 {
-    for (place, last) in last_numbers.iter().enumerate() {
-        if has_last(&last_numbers[place + 1..], last.0) {
+    for (index, last) in last_numbers.iter().enumerate() {
+        if has_last(&last_numbers[index + 1..], last.0) {
             return true;
         }
     }

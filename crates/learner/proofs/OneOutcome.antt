@@ -13,7 +13,7 @@ use Rattle.learner.specs.declared.fault.Fault.{Fault}
 use Rattle.learner.specs.declared.fault.Fault.TheVariants as faults
 use Rattle.learner.specs.declared.taken.Taken.{Taken}
 use Rattle.learner.specs.declared.taken.Taken.TheVariants as taken
-use Rattle.learner.specs.Intake.{Taking, Takes, Stops, IntakeFeeds, IntakeNext, Tells, lacks_number, rows_of, fed, shut}
+use Rattle.learner.specs.Intake.{Taking, Takes, Stops, IntakeFeeds, IntakeNext, Answers, lacks_number, rows_of, fed, shut}
 use Rattle.learner.specs.Learning.{Learning, AreLearned, LearnerFeeds, with_piece}
 use Rattle.learner.proofs.PieceLaws.{one_learned, one_message, one_taking, same_fed}
 use Rattle.learner.proofs.LessonLaws.{apart, goes_on, no_fault, waits_on}
@@ -78,7 +78,7 @@ intake_fed_once t a b piece one other feeds again p q = parts (one, a) (other, b
 no_row : (u : Update) (us : List Update) → u ∷ us ≡ [] → ⊥
 no_row u us e = cc
 
-passed : (u : UpdateFields) (answer : Taken) → rows_of answer ≡ [] → Tells (messages.Update u) answer → answer ≡ taken.Passed
+passed : (u : UpdateFields) (answer : Taken) → rows_of answer ≡ [] → Answers (messages.Update u) answer → answer ≡ taken.Passed
 passed u (taken.Row own) none tells = absurd (no_row own [] none)
 passed u taken.Passed none tells = tells
 passed u (taken.Said c) none tells = tells
@@ -93,7 +93,7 @@ gives_row (taken.Failed e) own is = absurd (no_row own [] (sym is))
 gives_row (taken.Acked table number) own is = absurd (no_row own [] (sym is))
 
 -- a message is told in one way
-one_answer : (m : Message) (a b : Taken) → rows_of a ≡ rows_of b → Tells m a → Tells m b → a ≡ b
+one_answer : (m : Message) (a b : Taken) → rows_of a ≡ rows_of b → Answers m a → Answers m b → a ≡ b
 one_answer (messages.Update u) (taken.Row own) b rows p q = sym (gives_row b own (sym rows))
 one_answer (messages.Update u) taken.Passed b rows p q = p ∙ sym (passed u b (sym rows) q)
 one_answer (messages.Update u) (taken.Said c) b rows p q = p ∙ sym (passed u b (sym rows) q)
@@ -121,7 +121,7 @@ intake_next_once t a b (Ok (Some answer)) (Ok None) next again p q = absurd (tak
 intake_next_once t a b (Ok (Some answer)) (Ok (Some other)) (m, takes, tells) (n, takes', tells') p q =
     let same : m ≡ n = one_message t a b m n (rows_of answer) (rows_of other) takes takes' in
     let takes_too : Takes t m (rows_of other) b = subst (λ (k : Message). Takes t k (rows_of other) b) (sym same) takes' in
-    let tells_too : Tells m other = subst (λ (k : Message). Tells k other) (sym same) tells' in
+    let tells_too : Answers m other = subst (λ (k : Message). Answers k other) (sym same) tells' in
     let both = one_taking t a b m (rows_of answer) (rows_of other) takes takes_too in
     (ap (λ (x : Taken). Ok (Some x)) (one_answer m answer other both.0 tells tells_too), both.1)
 intake_next_once t a b (Ok (Some answer)) (Err fault) next again p q = absurd (goes_on t a b next.0 (rows_of answer) fault next.1 again (not_wanted fault q))

@@ -16,7 +16,7 @@ use Rattle.learner.specs.declared.taken.Taken.TheVariants as taken
 use Rattle.learner.specs.declared.taken.TakenRef.{TakenRef}
 use Rattle.learner.specs.declared.taken.TakenRef.TheVariants as borrowed
 use Rattle.learner.specs.LocalTables.{local_updates}
-use Rattle.learner.specs.Intake.{Taking, IsFront, Stops, Tells, rows_of, shut, with_due}
+use Rattle.learner.specs.Intake.{Taking, IsFront, Stops, Answers, rows_of, shut, with_due}
 
 -- what is borrowed, as its own
 abbrev pub owned : TakenRef → Taken
@@ -28,7 +28,7 @@ owned (borrowed.Acked table number) = taken.Acked table number
 
 -- what a message gives that has that effect: of what it carries the updates of local tables, or what it says
 abbrev pub Shows : Taking → Message → Effect → TakenRef → Type 0
-Shows t m effect shown = (rows_of (owned shown) ≡ local_updates t.roster t.state.received (carried_by t.state m effect)) × Tells m (owned shown)
+Shows t m effect shown = (rows_of (owned shown) ≡ local_updates t.roster t.state.received (carried_by t.state m effect)) × Answers m (owned shown)
 
 -- what is left of an intake that a fault stops
 abbrev pub stopped : Taking → Fault → Taking

@@ -1,5 +1,5 @@
 -- What an intake holds, and what it makes of the bytes that it is fed (profile).
-use Rattle.std.specs.Prelude.{◌≡◌, ◌≤◌, ℕ, Bool, true, false, ◌==◌, ◌&&◌, is_none, is_some, List, [], ◌∷◌, ◌++◌, length, drop, filter, filter_map, Option, Some, None, option_map, option_and_then, Result, Ok, Err, if◌then◌else◌}
+use Rattle.std.specs.Prelude.{◌≡◌, ◌≤◌, ℕ, Bool, true, false, ◌==◌, ◌&&◌, is_none, is_some, List, [], ◌∷◌, ◌++◌, length, drop, filter, filter_map, Option, Some, None, option_map, Result, Ok, Err, if◌then◌else◌}
 use Rattle.std.specs.List.{list_any}
 use Rattle.table_types.specs.declared.update.Update.{Update}
 use Rattle.table_types.specs.Tables.{Definition}
@@ -9,8 +9,9 @@ use Rattle.peers_msg.specs.declared.message.Message.TheVariants as messages
 use Rattle.peers_msg.specs.Messages.{UpdateFields}
 use Rattle.peers_msg.specs.Reading.{message_at}
 use Rattle.peers_msg.specs.Fitting.{fits}
-use Rattle.known_state.specs.State.{State, Step, fresh, last_numbers_after, resolved_number, resolved, reads_empty}
+use Rattle.known_state.specs.State.{State, Step, fresh, last_numbers_after, resolved, reads_empty}
 use Rattle.known_state.specs.LastNumbers.{last_of}
+use Rattle.known_state.specs.Effects.{selected_number}
 use Rattle.learner.specs.declared.fault.Fault.{Fault}
 use Rattle.learner.specs.declared.fault.Fault.TheVariants as faults
 use Rattle.learner.specs.declared.taken.Taken.{Taken}
@@ -67,7 +68,7 @@ Takes t m own e =
 
 -- an update that is incremental, of a table without a last number
 abbrev pub lacks_number : State → UpdateFields → Bool
-lacks_number s u = is_none (option_and_then (λ table. resolved_number u.number (last_of s.last_numbers table)) s.received.selected)
+lacks_number s u = is_none (selected_number s u.number)
 
 -- the update u stands at the front
 abbrev pub IsNext : Taking → UpdateFields → Type 0
@@ -131,19 +132,19 @@ rows_of (taken.Row u) = u ∷ []
 rows_of t = []
 
 -- what an answer tells of a message that gives no row
-abbrev pub told_of : Message → Taken
-told_of (messages.Control c) = taken.Said c
-told_of (messages.Error e) = taken.Failed e
-told_of (messages.Ack table number) = taken.Acked table number
-told_of m = taken.Passed
+abbrev pub answer_of : Message → Taken
+answer_of (messages.Control c) = taken.Said c
+answer_of (messages.Error e) = taken.Failed e
+answer_of (messages.Ack table number) = taken.Acked table number
+answer_of m = taken.Passed
 
-abbrev pub Tells : Message → Taken → Type 0
-Tells (messages.Update u) (taken.Row own) = Unit {0}
-Tells m answer = answer ≡ told_of m
+abbrev pub Answers : Message → Taken → Type 0
+Answers (messages.Update u) (taken.Row own) = Unit {0}
+Answers m answer = answer ≡ answer_of m
 
 -- what taking the message at the front does
 abbrev pub Gives : Taking → Result Taken Fault → Taking → Type 0
-Gives t (Ok answer) e = (m : Message) × Takes t m (rows_of answer) e × Tells m answer
+Gives t (Ok answer) e = (m : Message) × Takes t m (rows_of answer) e × Answers m answer
 Gives t (Err fault) e = Stops t fault e
 
 -- what asking for a message does

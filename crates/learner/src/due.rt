@@ -27,12 +27,12 @@ pub fn add_due(due: &mut Vec<u64>, id: u64)
 pub fn still_due(due: &mut Vec<u64>, last_numbers: &LastNumbers)
     ensures { due.new.items ≡ filter (λ id. is_some (last_of last_numbers.now id)) due.old.items }
 {
-    let mut place = 0;
-    while place < due.len() {
-        if last_numbers.last(due[place]).is_some() {
-            place += 1;
+    let mut index = 0;
+    while index < due.len() {
+        if last_numbers.last(due[index]).is_some() {
+            index += 1;
         } else {
-            due.remove(place);
+            due.remove(index);
         }
     }
 }

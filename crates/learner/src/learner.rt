@@ -55,9 +55,9 @@ impl Model for Learner {
 fn index_of(tables: &[TableDef], id: u64) -> Option<usize>
     ensures { result ≡ index_of tables.now id }
 {
-    for (place, table) in tables.iter().enumerate() {
+    for (index, table) in tables.iter().enumerate() {
         if table.id() == id {
-            return Some(place);
+            return Some(index);
         }
     }
     None

@@ -43,12 +43,12 @@ fn keep_outliving(tables: &mut Vec<TableDef>, new: &TableDef)
     ensures fewer { vec_len tables.new ≤ vec_len tables.old }
     ensures room { vec_capacity tables.new ≡ vec_capacity tables.old }
 {
-    let mut place = 0;
-    while place < tables.len() {
-        if outlives(new, &tables[place]) {
-            place += 1;
+    let mut index = 0;
+    while index < tables.len() {
+        if outlives(new, &tables[index]) {
+            index += 1;
         } else {
-            tables.remove(place);
+            tables.remove(index);
         }
     }
 }
@@ -56,11 +56,11 @@ fn keep_outliving(tables: &mut Vec<TableDef>, new: &TableDef)
 /// Where a table of that id goes among tables in rising id.
 fn index_of(tables: &[TableDef], id: u64) -> usize
     ensures within { result ≤ length tables.now }
-    ensures place { (new : Definition) → new.id ≡ id → insert tables.now result new ≡ insert_table new tables.now }
+    ensures index { (new : Definition) → new.id ≡ id → insert tables.now result new ≡ insert_table new tables.now }
 {
-    for (place, table) in tables.iter().enumerate() {
+    for (index, table) in tables.iter().enumerate() {
         if id < table.id() {
-            return place;
+            return index;
         }
     }
     tables.len()
@@ -138,8 +138,8 @@ impl Received {
         self.tables.reserve(1)?;
         let id = table.id();
         keep_outliving(&mut self.tables, &table);
-        let place = index_of(self.tables.as_slice(), id);
-        self.tables.insert(place, table).unwrap();
+        let index = index_of(self.tables.as_slice(), id);
+        self.tables.insert(index, table).unwrap();
         self.selected = Some(id);
         Ok(())
     }

@@ -96,7 +96,7 @@ impl DataType {
 
     /// The data type of that id, and `None` where none has it.
     pub fn from_id(id: u64) -> Option<DataType>
-        ensures told { IfSome result (λ data_type. id_of data_type ≡ id) }
+        ensures id { IfSome result (λ data_type. id_of data_type ≡ id) }
         ensures exactly { (data_type : DataType) → id_of data_type ≡ id → result ≡ Some data_type }
     {
         Some(match id {
@@ -154,7 +154,7 @@ impl DataType {
 
     /// The data type of that name, and `None` where none has it.
     pub fn from_name(name: &str) -> Option<DataType>
-        ensures told { IfSome result (λ data_type. name_of data_type ≡ name.now) }
+        ensures name { IfSome result (λ data_type. name_of data_type ≡ name.now) }
         ensures exactly { (data_type : DataType) → name_of data_type ≡ name.now → result ≡ Some data_type }
     {
         Some(match name {

@@ -77,7 +77,7 @@ impl KeyKind {
 
     /// The kind that a word stands for, and `None` where it stands for none.
     pub fn from_name(name: &str) -> Option<KeyKind>
-        ensures told { IfSome result (λ kind. kind_name kind ≡ name.now) }
+        ensures name { IfSome result (λ kind. kind_name kind ≡ name.now) }
         ensures exactly { (kind : KeyKind) → kind_name kind ≡ name.now → result ≡ Some kind }
     {
         Some(match name {

@@ -27,7 +27,7 @@ impl Model for Moment {
 impl Moment {
     /// The moment so many milliseconds from the clock's beginning, and `None` below 2^32 or from 2^63 on.
     pub fn new(milliseconds: u64) -> Option<Moment>
-        ensures told { IfSome result (λ moment. moment ≡ milliseconds) }
+        ensures moment { IfSome result (λ moment. moment ≡ milliseconds) }
         ensures exactly { IsSome result ↔ ((2 ^ 32 ≤ milliseconds) × (milliseconds < 2 ^ 63)) }
     {
         if (1 << 32..1 << 63).contains(&milliseconds) {

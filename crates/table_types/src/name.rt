@@ -83,4 +83,14 @@ impl Name {
             bytes: self.bytes.copy(alloc)?,
         })
     }
+
+    /// An equal name, or none where there is none.
+    pub fn copy_of(alloc: Global, name: &Option<Name>) -> Result<Option<Name>, Memory>
+        ensures { IfOk result (λ copy. copy ≡ name.now) }
+    {
+        match name {
+            Some(name) => Ok(Some(name.copy(alloc)?)),
+            None => Ok(None),
+        }
+    }
 }

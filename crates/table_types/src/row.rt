@@ -175,10 +175,7 @@ impl Row {
     pub fn copy(&self, alloc: Global) -> Result<Row, Memory>
         ensures { IfOk result (λ copy. copy ≡ self.now) }
     {
-        let name = match &self.name {
-            Some(name) => Some(name.copy(alloc)?),
-            None => None,
-        };
+        let name = Name::copy_of(alloc, &self.name)?;
         Ok(Row {
             number: self.number,
             ends: self.ends,

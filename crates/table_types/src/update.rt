@@ -92,10 +92,7 @@ impl Update {
     pub fn copy(&self, alloc: Global) -> Result<Update, Memory>
         ensures { IfOk result (λ copy. copy ≡ self.now) }
     {
-        let name = match &self.name {
-            Some(name) => Some(name.copy(alloc)?),
-            None => None,
-        };
+        let name = Name::copy_of(alloc, &self.name)?;
         Ok(Update {
             table: self.table,
             number: self.number,

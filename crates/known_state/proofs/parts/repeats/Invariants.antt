@@ -2,5 +2,5 @@ use Rattle.std.proofs.Common.{◌≡◌, drop}
 use Rattle.known_state.specs.Known.{repeats}
 use Rattle.known_state.proofs.parts.repeats.Given as goal
 
-abbrev pub invariant-loop-place : goal.invariant-loop-place
-invariant-loop-place l = repeats (drop l.place l.ids) ≡ repeats l.ids
+abbrev pub invariant-loop-index : goal.invariant-loop-index
+invariant-loop-index l = repeats (drop l.index l.ids) ≡ repeats l.ids

@@ -3,5 +3,5 @@ use Rattle.std.specs.Prelude.{option_map}
 use Rattle.learner.specs.Rows.{index_of}
 use Rattle.learner.proofs.learner.index_of.Given as goal
 
-abbrev pub invariant-loop-place : goal.invariant-loop-place
-invariant-loop-place l = option_map (λ n. n + l.place) (index_of (drop l.place l.tables) l.id) ≡ index_of l.tables l.id
+abbrev pub invariant-loop-index : goal.invariant-loop-index
+invariant-loop-index l = option_map (λ n. n + l.index) (index_of (drop l.index l.tables) l.id) ≡ index_of l.tables l.id
