@@ -9,7 +9,7 @@ use Rattle.table_types.specs.declared.update.Update.{Update}
 use Rattle.peers_msg.specs.declared.message.Message.{Message}
 use Rattle.learner.specs.declared.fault.Fault.{Fault}
 use Rattle.learner.specs.declared.fault.Fault.TheVariants as faults
-use Rattle.learner.specs.Intake.{Taking, IsTakable, Takes, Stops, Gives, rows_of, begun}
+use Rattle.learner.specs.Intake.{Taking, IsTakable, Stops, Gives, rows_of, begun}
 use Rattle.learner.specs.declared.taken.Taken.{Taken}
 use Rattle.learner.specs.Rows.{put_all}
 use Rattle.learner.specs.Learning.{Learning, unlearned, Learns, AreLearned, LearnsOne, LearnsAll}

@@ -1,6 +1,5 @@
 -- The message at the front of the unread bytes: what it gives, and how an intake moves past it.
-use Rattle.std.specs.Prelude.{◌≡◌, ◌≤◌, ℕ, false, is_some, List, drop, length, filter, Option, Some, None, Result, Ok, Err}
-use Rattle.table_types.specs.declared.update.Update.{Update}
+use Rattle.std.specs.Prelude.{◌≡◌, ℕ, false, is_some, List, drop, filter, Option, Some, None, Result, Ok, Err}
 use Rattle.peers_msg.specs.declared.message.Message.{Message}
 use Rattle.peers_msg.specs.Reading.{message_at}
 use Rattle.known_state.specs.State.{State}

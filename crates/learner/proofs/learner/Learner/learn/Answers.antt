@@ -1,9 +1,9 @@
-use Rattle.std.proofs.Common.{rules, ◌≡◌, ◌<◌, ◌≤◌, ℕ, List, length, length-drop, drop, refl, sym, ap, subst, ◌∙◌, arith}
+use Rattle.std.proofs.Common.{rules, ◌≡◌, ◌<◌, ◌≤◌, List, length, length-drop, drop, refl, sym, ap, subst, ◌∙◌, arith}
 use Rattle.std.proofs.lemmas.Result.{err_from_is_err_and}
 use Rattle.table_types.specs.Tables.{Definition}
 use Rattle.table_types.specs.declared.update.Update.{Update}
 use Rattle.learner.specs.Intake.{Taking, rows_of}
-use Rattle.learner.specs.Front.{owned, passed}
+use Rattle.learner.specs.Front.{owned}
 use Rattle.learner.specs.NewRows.{AreRowsOf}
 use Rattle.learner.specs.Learning.{Learning}
 use Rattle.learner.proofs.IntakeLemmas.{shown_taken, effect_resolvable, front_takable}

@@ -1,4 +1,4 @@
-use Rattle.std.proofs.Common.{◌≡◌, List, None, Option, ap, subst}
+use Rattle.std.proofs.Common.{List, None, Option, ap, subst}
 use Rattle.table_types.specs.declared.key.Key.{Key}
 use Rattle.table_types.specs.Rows.{StoredRow}
 use Rattle.learner.specs.declared.learner.NewRow.{NewRow}

@@ -1,4 +1,4 @@
-use Rattle.std.proofs.Common.{◌≡◌, Some, None, List, [], sym, ap, subst, ◌∙◌, arith}
+use Rattle.std.proofs.Common.{◌≡◌, Some, None, List, sym, ap, subst, ◌∙◌, arith}
 use Rattle.table_types.specs.Tables.{Definition}
 use Rattle.learner.specs.Rows.{index_of, rows_at}
 use Rattle.learner.specs.Learning.{Learning}
