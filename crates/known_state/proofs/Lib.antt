@@ -21,3 +21,4 @@ pub mod ReadLaws
 pub mod BuiltLaws
 pub mod ResumingLaws
 pub mod FittingLaws
+pub mod LinkLaws
