@@ -13,7 +13,7 @@ use Rattle.known_state.specs.Cost.{full, knowledge_of, IsOfRoster}
 use Rattle.known_state.specs.Requests.{Asked, requests_of, reads_of}
 use Rattle.known_state.specs.Shortest.{Shortest}
 use Rattle.known_state.specs.Plans.{Plan, Accepts, all_links, bound, kept_savings, links, names_in}
-use Rattle.known_state.proofs.KnownLemmas.{table_at-id, table_at-passes}
+use Rattle.known_state.proofs.KnownLemmas.{table_at-passes}
 use Rattle.known_state.proofs.RefusalLaws.{selection}
 use Rattle.known_state.proofs.StepLemmas.{selected-id, selected-found}
 use Rattle.known_state.proofs.StepPays.{own_stays}
