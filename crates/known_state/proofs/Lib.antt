@@ -25,3 +25,5 @@ pub mod LinkLaws
 pub mod SlotsNeeded
 pub mod ReadsNeedSlots
 pub mod PlanLaws
+pub mod LinkPlaces
+pub mod NamesToKeep

@@ -48,9 +48,9 @@ price_by_place prices l = ahead prices 0 l.from l (omega arith)
 -- ---- no choice of links saves more than the bound
 
 -- the prices inside of kept links, from a place on, place by place
-abbrev kept_from : ℕ → List ℕ → List Link → ℕ
-kept_from place [] ls = 0
-kept_from place (p ∷ ps) ls = p * kept_over ls place + kept_from (place + 1) ps ls
+abbrev kept_prices : ℕ → List ℕ → List Link → ℕ
+kept_prices place [] ls = 0
+kept_prices place (p ∷ ps) ls = p * kept_over ls place + kept_prices (place + 1) ps ls
 
 -- one place more adds its price for each kept link that it is inside of
 one_place : (place p : ℕ) (f : Link → ℕ) (ls : List Link) → total (λ l. cond l.kept (cond (is_inside place l) p 0 + f l) 0) ls ≡ p * kept_over ls place + total (λ l. cond l.kept (f l) 0) ls
@@ -74,12 +74,12 @@ none_inside (l ∷ ls) = let later = none_inside ls in let here = by l.kept in o
     by true = refl
     by false = refl
 
-by_places : (place : ℕ) (ps : List ℕ) (ls : List Link) → total (λ l. cond l.kept (inside_from place ps l) 0) ls ≡ kept_from place ps ls
+by_places : (place : ℕ) (ps : List ℕ) (ls : List Link) → total (λ l. cond l.kept (inside_from place ps l) 0) ls ≡ kept_prices place ps ls
 by_places place [] ls = none_inside ls
 by_places place (p ∷ ps) ls = one_place place p (λ l. inside_from (place + 1) ps l) ls ∙ ap (λ (n : ℕ). p * kept_over ls place + n) (by_places (place + 1) ps ls)
 
 -- no more than so often each price, where no place is inside of more kept links
-at_most : (n place : ℕ) (ps : List ℕ) (ls : List Link) → ((q : ℕ) → kept_over ls q ≤ n) → kept_from place ps ls ≤ n * sum_of ps
+at_most : (n place : ℕ) (ps : List ℕ) (ls : List Link) → ((q : ℕ) → kept_over ls q ≤ n) → kept_prices place ps ls ≤ n * sum_of ps
 at_most n place [] ls room = omega arith
 at_most n place (p ∷ ps) ls room =
     let later = at_most n (place + 1) ps ls room in

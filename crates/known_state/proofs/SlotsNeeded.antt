@@ -39,7 +39,7 @@ or_not_first : (a b : Bool) → (a || b) ≡ true → a ≡ false → b ≡ true
 or_not_first true b h no_a = cc
 or_not_first false b h no_a = h
 
-turned : (a b : List ℕ) → is_same_name a b ≡ is_same_name b a
+pub turned : (a b : List ℕ) → is_same_name a b ≡ is_same_name b a
 turned a b = nat_list_eq_equiv.symm a b
 
 -- what a slot holds is in the slots
@@ -101,19 +101,19 @@ met_linked asking slots (r ∷ rs) (false ∷ keep) told met =
 
 -- ---- the names that are kept over a place
 
-abbrev is_before : ℕ → Option ℕ → Bool
+abbrev pub is_before : ℕ → Option ℕ → Bool
 is_before place None = false
 is_before place (Some from) = ltb from place
 
 -- the names of kept requests to come that were requested last before a place
-abbrev names_over : ℕ → Asking → List Asked → List Bool → List (List ℕ)
+abbrev pub names_over : ℕ → Asking → List Asked → List Bool → List (List ℕ)
 names_over place asking [] keep = []
 names_over place asking (r ∷ rs) [] = []
 names_over place asking (r ∷ rs) (true ∷ keep) = cond (is_before place (asking.last r.name)) (r.name ∷ names_over place (after_request asking r) rs keep) (names_over place (after_request asking r) rs keep)
 names_over place asking (r ∷ rs) (false ∷ keep) = names_over place (after_request asking r) rs keep
 
 -- they are as many as the kept links that the place is inside of
-as_many : (place : ℕ) (asking : Asking) (rs : List Asked) (keep : List Bool) → place ≤ asking.place → kept_over (links_from asking rs keep) place ≡ length (names_over place asking rs keep)
+pub as_many : (place : ℕ) (asking : Asking) (rs : List Asked) (keep : List Bool) → place ≤ asking.place → kept_over (links_from asking rs keep) place ≡ length (names_over place asking rs keep)
 as_many place asking [] keep le = refl
 as_many place asking (r ∷ rs) [] le = refl
 as_many place asking (r ∷ rs) (true ∷ keep) le = by (asking.last r.name) (links_from (after_request asking r) rs keep) (names_over place (after_request asking r) rs keep) (as_many place (after_request asking r) rs keep (omega arith))
@@ -214,7 +214,7 @@ length-slots (s ∷ slots) zero held = refl
 length-slots (s ∷ slots) (suc place) held = ap (λ (n : ℕ). suc n) (length-slots slots place held)
 
 -- a request's link ends at its place
-ends_here : (o : Option ℕ) (place to : ℕ) (r : Asked) (k : Bool) (rest : List Link) → to ≤ place → kept_over (link_of o to r k ++ rest) place ≡ kept_over rest place
+pub ends_here : (o : Option ℕ) (place to : ℕ) (r : Asked) (k : Bool) (rest : List Link) → to ≤ place → kept_over (link_of o to r k ++ rest) place ≡ kept_over rest place
 ends_here None place to r k rest le = refl
 ends_here (Some from) place to r true rest le = grind (arith, nat_tests)
 ends_here (Some from) place to r false rest le = omega arith

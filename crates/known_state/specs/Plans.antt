@@ -1,6 +1,6 @@
 -- Plans: which requests of a batch are kept, so that their names are read, and the prices that show that no other choice
 -- saves more (profile).
-use Rattle.std.specs.Prelude.{◌≡◌, ◌≤◌, ℕ, ◌+◌, ◌-◌, ◌*◌, ◌^◌, nat_lt, Bool, true, false, ◌&&◌, List, [], ◌∷◌, ◌++◌, length, take, drop, map, Option, Some, None, if◌then◌else◌}
+use Rattle.std.specs.Prelude.{◌≡◌, ◌≤◌, ℕ, ◌+◌, ◌-◌, ◌*◌, ◌^◌, nat_lt, ◌==◌, Bool, true, false, ◌&&◌, List, [], ◌∷◌, ◌++◌, length, take, drop, map, fold, Option, Some, None, if◌then◌else◌}
 use Rattle.std.specs.List.{AllByRecursion, list_any}
 use Rattle.table_types.specs.Rosters.{is_same_name}
 use Rattle.known_state.specs.Requests.{Asked}
@@ -64,6 +64,15 @@ AreLinked asking (r ∷ rs) (true ∷ keep) = ((from : ℕ) × (asking.last r.na
 AreLinked asking (r ∷ rs) (false ∷ keep) = AreLinked (after_request asking r) rs keep
 AreLinked asking rs keep = Unit {0}
 
+-- what was requested after some requests
+abbrev pub after_requests : Asking → List Asked → Asking
+after_requests asking rs = fold after_request asking rs
+
+-- whether a name's next request is kept; where there is none, nothing is
+abbrev pub keeps_next : List ℕ → List Asked → List Bool → Bool
+keeps_next name (r ∷ rs) (kept ∷ keep) = if is_same_name r.name name then kept else keeps_next name rs keep
+keeps_next name rs keep = false
+
 -- ---- what links take, save and cost
 
 -- the places inside of a link: those after the one from which it comes and before the one to which it goes
@@ -73,6 +82,13 @@ is_inside place l = nat_lt l.from place && nat_lt place l.to
 -- inside of how many kept links a place is
 abbrev pub kept_over : List Link → ℕ → ℕ
 kept_over ls place = total (λ l. if l.kept && is_inside place l then 1 else 0) ls
+
+-- how many kept links come from a place, and how many go to it
+abbrev pub kept_from : List Link → ℕ → ℕ
+kept_from ls place = total (λ l. if l.kept && l.from == place then 1 else 0) ls
+
+abbrev pub kept_to : List Link → ℕ → ℕ
+kept_to ls place = total (λ l. if l.kept && l.to == place then 1 else 0) ls
 
 -- the prices of the places inside of a link; the first price is that of place 1
 abbrev pub price_inside : List ℕ → Link → ℕ

@@ -1,9 +1,9 @@
 //! What holds of plans: how much reads can save, and what shows that no legal list is shorter.
 
-ghost use Rattle.std.specs.Prelude.{◌≡◌, ◌≤◌, ◌+◌, ◌-◌, ℕ, Bool, List, length, None};
-ghost use Rattle.std.specs.List.{AllByRecursion};
+ghost use Rattle.std.specs.Prelude.{◌≡◌, ◌<◌, ◌≤◌, ◌+◌, ◌-◌, ℕ, Bool, false, true, List, [], ◌∷◌, ◌++◌, length, slice_index_or, None, Some, is_some, if◌then◌else◌};
+ghost use Rattle.std.specs.List.{AllByRecursion, IsDistinct};
 ghost use Rattle.table_types.specs.declared.update.Update.{Update};
-ghost use Rattle.table_types.specs.Rosters.{roster_fault};
+ghost use Rattle.table_types.specs.Rosters.{is_same_name, roster_fault};
 ghost use Rattle.table_types.specs.Tables.{Definition};
 ghost use Rattle.peers_msg.specs.declared.message.Message.{Message};
 ghost use Rattle.peers_msg.specs.Spelling.{size_of_all};
@@ -11,7 +11,7 @@ ghost use Rattle.known_state.specs.State.{State, Legal, Teaches};
 ghost use Rattle.known_state.specs.Known.{AreOwn, KnownState};
 ghost use Rattle.known_state.specs.Requests.{Asked, read_savings, reads_of, requests_of};
 ghost use Rattle.known_state.specs.Cost.{IsOfRoster, Knowledge, full, knowledge_of};
-ghost use Rattle.known_state.specs.Plans.{Accepts, AreLinked, Plan, all_links, at_start, bound, kept_over, kept_savings, links, names_in};
+ghost use Rattle.known_state.specs.Plans.{Accepts, AreLinked, Plan, after_requests, all_links, at_start, bound, keeps_next, kept_from, kept_over, kept_savings, kept_to, link_of, links, names_in};
 ghost use Rattle.known_state.specs.Shortest.{Shortest};
 
 /// Messages take no slot away and add none.
@@ -29,6 +29,50 @@ pub fn reads_need_slots()
     ensures room { (roster : List Definition) (k : Knowledge) (s e : State) (ms : List Message) (us : List Update) (place : ℕ) →
         length s.slots ≡ 128 → Teaches s ms us e →
         kept_over (links (names_in s.slots) (requests_of roster k us) (reads_of ms)) place ≤ 127 }
+{}
+
+/// The links of requests go forward: each comes from an earlier place than that to which it goes, which is the place of
+/// one of the requests. So no place but those after the start and before the last request is inside of one.
+pub fn links_go_forward()
+    ensures forward { (held : List (List ℕ)) (rs : List Asked) (keep : List Bool) →
+        AllByRecursion (λ l. (l.from < l.to) × (l.to ≤ length rs)) (links held rs keep) }
+    ensures start { (held : List (List ℕ)) (rs : List Asked) (keep : List Bool) → kept_over (links held rs keep) 0 ≡ 0 }
+    ensures past { (held : List (List ℕ)) (rs : List Asked) (keep : List Bool) (place : ℕ) → length rs ≤ place →
+        kept_over (links held rs keep) place ≡ 0 }
+{}
+
+/// One more request stands at the next place. It has a link where its name was requested, or is held at the start, from
+/// the place of the last such request; and it is then itself the last request for its name.
+pub fn one_more_request()
+    ensures links { (held : List (List ℕ)) (rs : List Asked) (r : Asked) (keep : List Bool) (kept : Bool) →
+        length keep ≡ length rs →
+        links held (rs ++ r ∷ []) (keep ++ kept ∷ [])
+        ≡ links held rs keep ++ link_of ((after_requests (at_start held) rs).last r.name) (length rs + 1) r kept }
+    ensures last { (held : List (List ℕ)) (rs : List Asked) (r : Asked) (name : List ℕ) →
+        (after_requests (at_start held) (rs ++ r ∷ [])).last name
+        ≡ (if is_same_name r.name name then Some (length rs + 1) else (after_requests (at_start held) rs).last name) }
+{}
+
+/// From one place to the next, the kept links over it lose those that end at the next and gain those that begin at the
+/// first. One ends at the place of each request that is kept, and none at another.
+pub fn over_the_next_place()
+    ensures next { (held : List (List ℕ)) (rs : List Asked) (keep : List Bool) (place : ℕ) →
+        kept_over (links held rs keep) (place + 1) + kept_to (links held rs keep) (place + 1)
+        ≡ kept_over (links held rs keep) place + kept_from (links held rs keep) place }
+    ensures ends { (held : List (List ℕ)) (rs : List Asked) (keep : List Bool) (place : ℕ) →
+        length keep ≡ length rs → AreLinked (at_start held) rs keep →
+        kept_to (links held rs keep) (place + 1) ≡ (if slice_index_or keep place false then 1 else 0) }
+{}
+
+/// At a request that is not kept, names that differ, each held at the start or requested since, and each with its next
+/// request kept, are no more than the kept links that the request's place is inside of. So where these are fewer than
+/// the slots, there is a slot to write its name to.
+pub fn names_to_keep()
+    ensures { (held : List (List ℕ)) (done rest : List Asked) (r : Asked) (kept keep : List Bool) (names : List (List ℕ)) →
+        length kept ≡ length done → IsDistinct is_same_name names →
+        AllByRecursion (λ name. (is_some ((after_requests (at_start held) done).last name) ≡ true)
+        × (keeps_next name (r ∷ rest) (false ∷ keep) ≡ true)) names →
+        length names ≤ kept_over (links held (done ++ (r ∷ rest)) (kept ++ (false ∷ keep))) (length done + 1) }
 {}
 
 /// However requests are kept, their links save no more than the bound of any prices, where no place is inside of more
