@@ -21,3 +21,9 @@ pub mod ReadLaws
 pub mod BuiltLaws
 pub mod ResumingLaws
 pub mod FittingLaws
+pub mod LinkLaws
+pub mod SlotsNeeded
+pub mod ReadsNeedSlots
+pub mod PlanLaws
+pub mod LinkPlaces
+pub mod NamesToKeep

@@ -8,6 +8,8 @@ mod known;
 mod last_numbers;
 mod laws;
 mod parts;
+mod plan_laws;
+mod plans;
 mod request;
 mod state;
 
@@ -20,5 +22,11 @@ pub use laws::{
     one_lesson, one_name, one_step, reads_pay, refused_is_no_step, resuming_gives_back,
     shortest_by_bytes, steps_fit, what_is_built, what_is_known_is_enough,
 };
+pub use plan_laws::{
+    accepted_is_shortest, carried_is_of_the_roster, links_go_forward, names_to_keep,
+    no_list_is_shorter, one_more_request, over_the_next_place, reads_need_slots,
+    reads_save_by_links, savings_are_bounded, slots_stay, tight_is_shortest,
+};
+pub use plans::Plan;
 pub use request::Request;
 pub use state::State;

@@ -1,0 +1,134 @@
+//! What holds of plans: how much reads can save, and what shows that no legal list is shorter.
+
+ghost use Rattle.std.specs.Prelude.{◌≡◌, ◌<◌, ◌≤◌, ◌+◌, ◌-◌, ℕ, Bool, false, true, List, [], ◌∷◌, ◌++◌, length, slice_index_or, None, Some, is_some, if◌then◌else◌};
+ghost use Rattle.std.specs.List.{AllByRecursion, IsDistinct};
+ghost use Rattle.table_types.specs.declared.update.Update.{Update};
+ghost use Rattle.table_types.specs.Rosters.{is_same_name, roster_fault};
+ghost use Rattle.table_types.specs.Tables.{Definition};
+ghost use Rattle.peers_msg.specs.declared.message.Message.{Message};
+ghost use Rattle.peers_msg.specs.Spelling.{size_of_all};
+ghost use Rattle.known_state.specs.State.{State, Legal, Teaches};
+ghost use Rattle.known_state.specs.Known.{AreOwn, KnownState};
+ghost use Rattle.known_state.specs.Requests.{Asked, read_savings, reads_of, requests_of};
+ghost use Rattle.known_state.specs.Cost.{IsOfRoster, Knowledge, full, knowledge_of};
+ghost use Rattle.known_state.specs.Plans.{Accepts, AreLinked, Plan, after_requests, all_links, at_start, bound, keeps_next, kept_from, kept_over, kept_savings, kept_to, link_of, links, names_in};
+ghost use Rattle.known_state.specs.Shortest.{Shortest};
+
+/// Messages take no slot away and add none.
+pub fn slots_stay()
+    ensures { (s e : State) (ms : List Message) (us : List Update) → Teaches s ms us e → length e.slots ≡ length s.slots }
+{}
+
+/// What messages read takes room in the 128 slots, from the request for a name, or from the start where a slot holds it
+/// there, to the request that reads it. So each request that is read has a link; and at each place the name of its own
+/// request stands in a slot, read or written, which leaves room for 127 of the links that are read.
+pub fn reads_need_slots()
+    ensures linked { (roster : List Definition) (k : Knowledge) (s e : State) (ms : List Message) (us : List Update) →
+        length s.slots ≡ 128 → Teaches s ms us e →
+        AreLinked (at_start (names_in s.slots)) (requests_of roster k us) (reads_of ms) }
+    ensures room { (roster : List Definition) (k : Knowledge) (s e : State) (ms : List Message) (us : List Update) (place : ℕ) →
+        length s.slots ≡ 128 → Teaches s ms us e →
+        kept_over (links (names_in s.slots) (requests_of roster k us) (reads_of ms)) place ≤ 127 }
+{}
+
+/// The links of requests go forward: each comes from an earlier place than that to which it goes, which is the place of
+/// one of the requests. So no place but those after the start and before the last request is inside of one.
+pub fn links_go_forward()
+    ensures forward { (held : List (List ℕ)) (rs : List Asked) (keep : List Bool) →
+        AllByRecursion (λ l. (l.from < l.to) × (l.to ≤ length rs)) (links held rs keep) }
+    ensures start { (held : List (List ℕ)) (rs : List Asked) (keep : List Bool) → kept_over (links held rs keep) 0 ≡ 0 }
+    ensures past { (held : List (List ℕ)) (rs : List Asked) (keep : List Bool) (place : ℕ) → length rs ≤ place →
+        kept_over (links held rs keep) place ≡ 0 }
+{}
+
+/// One more request stands at the next place. It has a link where its name was requested, or is held at the start, from
+/// the place of the last such request; and it is then itself the last request for its name.
+pub fn one_more_request()
+    ensures links { (held : List (List ℕ)) (rs : List Asked) (r : Asked) (keep : List Bool) (kept : Bool) →
+        length keep ≡ length rs →
+        links held (rs ++ r ∷ []) (keep ++ kept ∷ [])
+        ≡ links held rs keep ++ link_of ((after_requests (at_start held) rs).last r.name) (length rs + 1) r kept }
+    ensures last { (held : List (List ℕ)) (rs : List Asked) (r : Asked) (name : List ℕ) →
+        (after_requests (at_start held) (rs ++ r ∷ [])).last name
+        ≡ (if is_same_name r.name name then Some (length rs + 1) else (after_requests (at_start held) rs).last name) }
+{}
+
+/// From one place to the next, the kept links over it lose those that end at the next and gain those that begin at the
+/// first. One ends at the place of each request that is kept, and none at another.
+pub fn over_the_next_place()
+    ensures next { (held : List (List ℕ)) (rs : List Asked) (keep : List Bool) (place : ℕ) →
+        kept_over (links held rs keep) (place + 1) + kept_to (links held rs keep) (place + 1)
+        ≡ kept_over (links held rs keep) place + kept_from (links held rs keep) place }
+    ensures ends { (held : List (List ℕ)) (rs : List Asked) (keep : List Bool) (place : ℕ) →
+        length keep ≡ length rs → AreLinked (at_start held) rs keep →
+        kept_to (links held rs keep) (place + 1) ≡ (if slice_index_or keep place false then 1 else 0) }
+{}
+
+/// At a request that is not kept, names that differ, each held at the start or requested since, and each with its next
+/// request kept, are no more than the kept links that the request's place is inside of. So where these are fewer than
+/// the slots, there is a slot to write its name to.
+pub fn names_to_keep()
+    ensures { (held : List (List ℕ)) (done rest : List Asked) (r : Asked) (kept keep : List Bool) (names : List (List ℕ)) →
+        length kept ≡ length done → IsDistinct is_same_name names →
+        AllByRecursion (λ name. (is_some ((after_requests (at_start held) done).last name) ≡ true)
+        × (keeps_next name (r ∷ rest) (false ∷ keep) ≡ true)) names →
+        length names ≤ kept_over (links held (done ++ (r ∷ rest)) (kept ++ (false ∷ keep))) (length done + 1) }
+{}
+
+/// However requests are kept, their links save no more than the bound of any prices, where no place is inside of more
+/// kept links than there are slots but one.
+pub fn savings_are_bounded()
+    ensures { (slots : ℕ) (held : List (List ℕ)) (rs : List Asked) (keep : List Bool) (prices : List ℕ) →
+        length keep ≡ length rs → ((place : ℕ) → kept_over (links held rs keep) place ≤ slots - 1) →
+        kept_savings (links held rs keep) ≤ bound slots (all_links held rs) prices }
+{}
+
+/// Where each request that is read has a link, what the reads save is what the links save that are kept so.
+pub fn reads_save_by_links()
+    ensures { (held : List (List ℕ)) (rs : List Asked) (reads : List Bool) → AreLinked (at_start held) rs reads →
+        read_savings rs reads ≡ kept_savings (links held rs reads) }
+{}
+
+/// What a legal list carries is of tables of the roster.
+pub fn carried_is_of_the_roster()
+    ensures { (roster : List Definition) (s e : State) (ms : List Message) (us : List Update) →
+        AreOwn roster s.received.tables → Legal roster s ms us e → AllByRecursion (IsOfRoster roster) us }
+{}
+
+/// From a state with 128 slots no legal list is shorter than the lesson with every name written, less what the links save
+/// of the names that it reads; and so none is shorter than that lesson less the bound of any prices.
+pub fn no_list_is_shorter()
+    ensures reads { (roster : List Definition) (s e : State) (ms : List Message) (us : List Update) →
+        roster_fault roster ≡ None → AreOwn roster s.received.tables → length s.slots ≡ 128 → Legal roster s ms us e →
+        full roster s us ≤ size_of_all ms
+        + kept_savings (links (names_in s.slots) (requests_of roster (knowledge_of s) us) (reads_of ms)) }
+    ensures bound { (roster : List Definition) (s e : State) (ms : List Message) (us : List Update) (prices : List ℕ) →
+        roster_fault roster ≡ None → AreOwn roster s.received.tables → length s.slots ≡ 128 → Legal roster s ms us e →
+        full roster s us ≤ size_of_all ms
+        + bound 128 (all_links (names_in s.slots) (requests_of roster (knowledge_of s) us)) prices }
+{}
+
+/// A legal list is a shortest one where some prices show that no more can be saved than it saves: its size and their
+/// bound are together the size of the lesson with every name written.
+pub fn tight_is_shortest()
+    ensures { (k : KnownState) (e : State) (ms : List Message) (us : List Update) (prices : List ℕ) →
+        roster_fault k.roster ≡ None → AreOwn k.roster k.state.received.tables → length k.state.slots ≡ 128 →
+        Legal k.roster k.state ms us e →
+        size_of_all ms + bound 128 (all_links (names_in k.state.slots) (requests_of k.roster (knowledge_of k.state) us)) prices
+        ≡ full k.roster k.state us →
+        Shortest k us ms }
+{}
+
+/// A legal list that saves at least what the links save that an accepted plan keeps is a shortest one, and it saves
+/// the bound of the plan's prices, no more and no less.
+pub fn accepted_is_shortest()
+    ensures { (k : KnownState) (e : State) (ms : List Message) (us : List Update) (plan : Plan) →
+        roster_fault k.roster ≡ None → AreOwn k.roster k.state.received.tables → length k.state.slots ≡ 128 →
+        Accepts 128 (names_in k.state.slots) (requests_of k.roster (knowledge_of k.state) us) plan →
+        Legal k.roster k.state ms us e →
+        size_of_all ms + kept_savings (links (names_in k.state.slots) (requests_of k.roster (knowledge_of k.state) us) plan.keep)
+        ≤ full k.roster k.state us →
+        (size_of_all ms + bound 128 (all_links (names_in k.state.slots) (requests_of k.roster (knowledge_of k.state) us)) plan.prices
+        ≡ full k.roster k.state us)
+        × Shortest k us ms }
+{}
