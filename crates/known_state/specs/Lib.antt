@@ -6,3 +6,4 @@ pub mod Shortest
 pub mod Cost
 pub mod Requests
 pub mod Lessons
+pub mod Plans

@@ -8,6 +8,7 @@ mod known;
 mod last_numbers;
 mod laws;
 mod parts;
+mod plans;
 mod request;
 mod state;
 
@@ -20,5 +21,6 @@ pub use laws::{
     one_lesson, one_name, one_step, reads_pay, refused_is_no_step, resuming_gives_back,
     shortest_by_bytes, steps_fit, what_is_built, what_is_known_is_enough,
 };
+pub use plans::Plan;
 pub use request::Request;
 pub use state::State;
