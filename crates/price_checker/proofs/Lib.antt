@@ -1,0 +1,5 @@
+pub mod SumsOfPrices
+pub mod LinksGoForward
+pub mod TheBoundIsOfAllLinks
+pub mod LastPlaces
+pub mod NamesInSlots
