@@ -52,9 +52,3 @@ links_within held rs keep =
 pub within_more : (places more : ℕ) (ls : List Link) → places ≤ more → AreWithin places ls → AreWithin more ls
 within_more places more [] le within = tt
 within_more places more (l ∷ ls) le ((forward, to), others) = ((forward, omega arith), within_more places more ls le others)
-
--- and so is each of them
-pub within_at : (places i : ℕ) (ls : List Link) (l : Link) → i < length ls → l ≡ get_or ls i l → AreWithin places ls → (l.from < l.to) × (l.to ≤ places)
-within_at places i [] l below is within = absurd (omega arith)
-within_at places zero (x ∷ ls) l below is (first, others) = let same : l ≡ x = is in subst (λ (y : Link). (y.from < y.to) × (y.to ≤ places)) (sym same) first
-within_at places (suc i) (x ∷ ls) l below is (first, others) = within_at places i ls l (omega arith) is others

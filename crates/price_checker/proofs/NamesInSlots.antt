@@ -31,9 +31,9 @@ held_is_found slots slot name (id, is) = at_index slots (slot - 1) name is
 
 unheld_is_not_found : (slots : List (Option (List ℕ))) (name : List ℕ) → ((i : ℕ) → i < length slots → get_or slots i None ≡ Some name → ⊥) → list_any (is_same_name name) (names_in slots) ≡ false
 unheld_is_not_found [] name none = refl
-unheld_is_not_found (None ∷ slots) name none = unheld_is_not_found slots name (λ i below is. none (i + 1) (omega arith) is)
+unheld_is_not_found (None ∷ slots) name none = unheld_is_not_found slots name (λ i below is. none (suc i) (omega arith) is)
 unheld_is_not_found (Some other ∷ slots) name none =
-    by (is_same_name name other) refl (unheld_is_not_found slots name (λ i below is. none (i + 1) (omega arith) is))
+    by (is_same_name name other) refl (unheld_is_not_found slots name (λ i below is. none (suc i) (omega arith) is))
   where
     by : (b : Bool) → is_same_name name other ≡ b → list_any (is_same_name name) (names_in slots) ≡ false → (b || list_any (is_same_name name) (names_in slots)) ≡ false
     by true same rest = absurd (none 0 (omega arith) (ap (λ (n : List ℕ). Some n) (sym (same_text name other (sym same)))))
@@ -47,5 +47,5 @@ no_index slots name long none i below is =
 
 -- a slot is found that holds the name, or none does
 pub found_in_slots : (found : Option ℕ) (slots : List (Option (List ℕ))) (name : List ℕ) → IfSome found (λ slot. Holds slots slot name) → (IsNone found → (slot : ℕ) → Holds slots slot name → ⊥) → length slots ≡ 128 → is_some found ≡ list_any (is_same_name name) (names_in slots)
-found_in_slots None slots name holds none long = sym (unheld_is_not_found slots name (no_index slots name long (none tt)))
+found_in_slots None slots name holds none long = sym (unheld_is_not_found slots name (no_index slots name long (none refl)))
 found_in_slots (Some slot) slots name holds none long = sym (held_is_found slots slot name holds)

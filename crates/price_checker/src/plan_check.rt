@@ -37,7 +37,10 @@ pub fn check_plan(slots: usize, held: &[Name], requests: &[Request], plan: &Plan
     if keep.len() != requests.len() || prices.len() != requests.len() || !are_prices(prices) {
         return false;
     }
-    let (links, linked) = find_links(Held::Names(held), requests, keep);
-    let links = links.as_slice();
-    linked && have_room(slots, links) && kept_savings(links) == bound(slots, links, prices)
+    let (found, linked) = find_links(Held::Names(held), requests, keep);
+    let links = found.as_slice();
+    if !linked || !have_room(slots, links) {
+        return false;
+    }
+    kept_savings(links) == bound(slots, links, prices)
 }

@@ -1,6 +1,6 @@
 //! Whether there are slots for all links that are kept.
 
-ghost use Rattle.std.specs.Prelude.{◌≡◌, ℕ, ◌+◌, ◌-◌, ◌<◌, ◌≤◌, ◌↔◌, IsTrue, length, slice_index, if◌then◌else◌};
+ghost use Rattle.std.specs.Prelude.{◌≡◌, ℕ, ◌+◌, ◌-◌, ◌<◌, ◌≤◌, ◌↔◌, IsTrue, length, slice_index, EachIndex, if◌then◌else◌};
 ghost use Rattle.known_state.specs.Plans.{is_inside, kept_over};
 ghost use Rattle.price_checker.specs.Links.{AreWithin};
 
@@ -21,7 +21,8 @@ fn add_inside(link: &Link, over: &mut [usize; MOST_REQUESTS])
 fn kept_over(links: &[Link]) -> [usize; MOST_REQUESTS]
     requires most { length links.now ≤ 512 }
     requires within { AreWithin 512 links.now }
-    ensures { (place : ℕ) → slice_index result place ≡ kept_over links.now place }
+    ensures counted { (place : ℕ) → slice_index result place ≡ kept_over links.now place }
+    ensures long { length result ≡ 512 }
 {
     let mut over = [0; MOST_REQUESTS];
     for link in links {
@@ -32,12 +33,20 @@ fn kept_over(links: &[Link]) -> [usize; MOST_REQUESTS]
     over
 }
 
-/// Whether no place is inside of more kept links than there are slots but one.
+/// Whether these are all below a limit.
+fn are_below(limit: usize, counts: &[usize]) -> bool
+    ensures { IsTrue result ↔ EachIndex counts.now (λ index. slice_index counts.now index < limit) }
+{
+    counts.iter().all(|count| *count < limit)
+}
+
+/// Whether no place is inside of more kept links than there are slots but one: of at most 512 links, each to a place up
+/// to 512.
 pub fn have_room(slots: usize, links: &[Link]) -> bool
     requires slots { 1 ≤ slots }
     requires most { length links.now ≤ 512 }
     requires within { AreWithin 512 links.now }
     ensures { IsTrue result ↔ ((place : ℕ) → kept_over links.now place ≤ slots - 1) }
 {
-    kept_over(links).iter().all(|over| *over < slots)
+    are_below(slots, &kept_over(links))
 }

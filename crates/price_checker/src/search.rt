@@ -1,6 +1,6 @@
 //! Finding the links of requests.
 
-ghost use Rattle.std.specs.Prelude.{◌≡◌, ◌+◌, ◌≤◌, ◌<◌, ◌↔◌, IsTrue, Bool, length, option_to_list};
+ghost use Rattle.std.specs.Prelude.{◌≡◌, ◌+◌, ◌≤◌, ◌<◌, ◌↔◌, IsTrue, ◌||◌, not, is_some, length, option_to_list};
 ghost use Rattle.known_state.specs.Plans.{at_start, links, link_of, AreLinked};
 ghost use Rattle.price_checker.specs.NamesHeld.{names_held};
 ghost use Rattle.price_checker.specs.Links.{after_requests};
@@ -37,6 +37,13 @@ fn link_of(from: Option<usize>, to: usize, request: &Request, kept: bool) -> Opt
     })
 }
 
+/// Whether a request may be kept, where its name was last requested or held.
+fn may_keep(from: Option<usize>, kept: bool) -> bool
+    ensures { result ≡ (is_some from || not kept) }
+{
+    from.is_some() || !kept
+}
+
 /// The links of requests where these names are held at the start, each with the mark of its request, and whether each
 /// request that is kept has one.
 pub fn find_links(held: Held<'_>, requests: &[Request], keep: &[bool]) -> (Links, bool)
@@ -49,9 +56,9 @@ pub fn find_links(held: Held<'_>, requests: &[Request], keep: &[bool]) -> (Links
     let mut linked = true;
     for (index, request) in requests.iter().enumerate() {
         let from = last_place(held, &requests[..index], request.name());
-        match link_of(from, index + 1, request, keep[index]) {
-            Some(link) => links.push(link),
-            None => linked = linked && !keep[index],
+        linked &= may_keep(from, keep[index]);
+        if let Some(link) = link_of(from, index + 1, request, keep[index]) {
+            links.push(link);
         }
     }
     (links, linked)

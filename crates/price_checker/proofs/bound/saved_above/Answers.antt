@@ -3,6 +3,4 @@ use Rattle.price_checker.proofs.SumsOfPrices.{part_sum}
 use Rattle.price_checker.proofs.bound.saved_above.Goals as goal
 
 pub sum_of-requires : goal.sum_of-requires
-sum_of-requires c =
-    let link = c.args.link.now in
-    omega (arith, part_sum (link.to - 1 - link.from) link.from c.args.prices.now)
+sum_of-requires c = omega (arith, part_sum (c.link.inside.to - 1 - c.link.inside.from) c.link.inside.from c.args.prices.now)
