@@ -37,8 +37,8 @@ fn link_of(from: Option<usize>, to: usize, request: &Request, kept: bool) -> Opt
     })
 }
 
-/// Whether a request may be kept, where its name was last requested or held.
-fn may_keep(from: Option<usize>, kept: bool) -> bool
+/// Whether a request has a link, or isn't kept.
+fn is_linked(from: Option<usize>, kept: bool) -> bool
     ensures { result ≡ (is_some from || not kept) }
 {
     from.is_some() || !kept
@@ -56,7 +56,7 @@ pub fn find_links(held: Held<'_>, requests: &[Request], keep: &[bool]) -> (Links
     let mut linked = true;
     for (index, request) in requests.iter().enumerate() {
         let from = last_place(held, &requests[..index], request.name());
-        linked &= may_keep(from, keep[index]);
+        linked &= is_linked(from, keep[index]);
         if let Some(link) = link_of(from, index + 1, request, keep[index]) {
             links.push(link);
         }

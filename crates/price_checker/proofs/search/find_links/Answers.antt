@@ -22,5 +22,5 @@ loop-index-preserved c =
     record {
       count = subst (λ (l : List Link). length l ≤ i + 1) (sym grown) places;
       found = ap (λ (l : List Link). l ++ links_later start c.args.requests.now c.args.keep.now (i + 1)) grown ∙ links-more start c.args.requests.now c.args.keep.now i r kept from c.loop-index.links one is one_is c.loop-index.invariant.found;
-      linked = subst (λ (b : Bool). (IsTrue (c.loop-index.linked && b) × AreLinkedLater start c.args.requests.now c.args.keep.now (i + 1)) ↔ AreLinked start c.args.requests.now c.args.keep.now) (sym c.may_keep-linked.ensures) linked;
+      linked = subst (λ (b : Bool). (IsTrue (c.loop-index.linked && b) × AreLinkedLater start c.args.requests.now c.args.keep.now (i + 1)) ↔ AreLinked start c.args.requests.now c.args.keep.now) (sym c.is_linked-linked.ensures) linked;
     }
