@@ -1,0 +1,2 @@
+pub mod NamesHeld
+pub mod Links
