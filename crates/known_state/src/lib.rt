@@ -4,6 +4,7 @@
 
 mod costs;
 mod effect;
+mod knowledge;
 mod known;
 mod last_numbers;
 mod laws;
@@ -12,7 +13,7 @@ mod plans;
 mod request;
 mod state;
 
-pub use costs::number_sent;
+pub use costs::{Costing, number_sent};
 pub use effect::{Effect, Refusal, ResolvedUpdate, effects_are_steps};
 pub use known::{Known, KnownError, StepError};
 pub use last_numbers::LastNumbers;

@@ -33,19 +33,36 @@ impl Model for Unread {
 }
 
 /// The message at the front, and how many bytes it has.
-fn front<'a>(
+fn message_with_size<'a>(
     received: &'a Received,
-    unread: &'a [u8],
+    bytes: &'a [u8],
 ) -> Result<Option<(MessageRef<'a>, usize)>, Breach>
-    ensures read { Reads (option_map (λ x. (owned_message x.0, drop x.1 unread.now))) result (message_at received.now unread.now) }
-    ensures within { IfOk result (λ found. IfSome found (λ x. (1 ≤ x.1) × (x.1 ≤ length unread.now))) }
+    ensures read { Reads (option_map (λ x. (owned_message x.0, drop x.1 bytes.now))) result (message_at received.now bytes.now) }
+    ensures within { IfOk result (λ found. IfSome found (λ x. (1 ≤ x.1) × (x.1 ≤ length bytes.now))) }
     ensures fits { IfOk result (λ found. IfSome found (λ x. fits received.now (owned_message x.0) ≡ true)) }
 {
-    let Some((message, rest)) = message_at(received, unread)? else {
+    let Some((message, rest)) = message_at(received, bytes)? else {
         return Ok(None);
     };
-    let used = unread.len() - rest.len();
+    let used = bytes.len() - rest.len();
     Ok(Some((message, used)))
+}
+
+/// The message at the front of these bytes, by what was received before it, and how many bytes it has; `None` while it
+/// isn't whole. It stays where it is, and no memory is taken. A fault tells what is wrong with the bytes; it is neither
+/// `Memory` nor `Closed`.
+pub fn front<'a>(
+    received: &'a Received,
+    bytes: &'a [u8],
+) -> Result<Option<(MessageRef<'a>, usize)>, Fault>
+    ensures front { IsFrontOf received.now bytes.now result }
+    ensures within { IfOk result (λ found. IfSome found (λ x. (1 ≤ x.1) × (x.1 ≤ length bytes.now))) }
+    ensures fits { IfOk result (λ found. IfSome found (λ x. fits received.now (owned_message x.0) ≡ true)) }
+{
+    match message_with_size(received, bytes) {
+        Ok(found) => Ok(found),
+        Err(breach) => Err(breach.fault()),
+    }
 }
 
 impl Unread {
@@ -76,9 +93,7 @@ impl Unread {
         }
     }
 
-    /// The message at the front, by what was received before it, and how many bytes it has; `None` while it isn't whole.
-    /// It stays where it is, and no memory is taken. A fault tells what is wrong with the bytes; it is neither `Memory`
-    /// nor `Closed`.
+    /// The message at the front, as `front` tells it.
     pub fn front<'a>(
         &'a self,
         received: &'a Received,
@@ -87,10 +102,7 @@ impl Unread {
         ensures within { IfOk result (λ found. IfSome found (λ x. (1 ≤ x.1) × (x.1 ≤ length self.now))) }
         ensures fits { IfOk result (λ found. IfSome found (λ x. fits received.now (owned_message x.0) ≡ true)) }
     {
-        match front(received, self.bytes.as_slice()) {
-            Ok(found) => Ok(found),
-            Err(breach) => Err(breach.fault()),
-        }
+        front(received, self.bytes.as_slice())
     }
 
     /// Drops so many bytes at the front.
