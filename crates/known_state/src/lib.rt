@@ -2,6 +2,7 @@
 //! the roster, the tables defined, the one selected, the last numbers and the slots; and what a batch costs from there.
 #![tactic(auto)]
 
+mod carried;
 mod costs;
 mod effect;
 mod knowledge;
