@@ -22,3 +22,7 @@ pub mod ReadLaws
 pub mod BuiltLaws
 pub mod ResumingLaws
 pub mod FittingLaws
+pub mod LinkLaws
+pub mod SlotsNeeded
+pub mod ReadsNeedSlots
+pub mod PlanLaws

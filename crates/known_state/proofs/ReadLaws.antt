@@ -122,7 +122,7 @@ last_numbers_step roster s mid (messages.Other o) one k distinct own is_own (fit
 -- ---- requests and marks
 
 -- the requests of updates one after another
-requests-append : (roster : List Definition) (k : Knowledge) (one rest : List Update) → requests_of roster k (one ++ rest) ≡ requests_of roster k one ++ requests_of roster (knowledge_after_all k one) rest
+pub requests-append : (roster : List Definition) (k : Knowledge) (one rest : List Update) → requests_of roster k (one ++ rest) ≡ requests_of roster k one ++ requests_of roster (knowledge_after_all k one) rest
 requests-append roster k [] rest = refl
 requests-append roster k (u ∷ us) rest =
     ap (λ (l : List Asked). asked roster k u u.name ++ l) (requests-append roster (knowledge_after k u) us rest)

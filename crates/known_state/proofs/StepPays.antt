@@ -86,7 +86,7 @@ switch_pays roster s id d rest found all =
     omega arith
 
 -- the table's part of a fitting update
-name_fitting : (h : Received) (m : UpdateFields) (d : Definition) → fits h (messages.Update m) ≡ true → selected_table h ≡ Some d → name_fits d m.name ≡ true
+pub name_fitting : (h : Received) (m : UpdateFields) (d : Definition) → fits h (messages.Update m) ≡ true → selected_table h ≡ Some d → name_fits d m.name ≡ true
 unfolding fits
 name_fitting h m d fit sel = last-part (sym (rw sel refl) ∙ fit)
   where

@@ -10,6 +10,7 @@ mod known;
 mod last_numbers;
 mod laws;
 mod parts;
+mod plan_laws;
 mod plans;
 mod request;
 mod state;
@@ -22,6 +23,10 @@ pub use laws::{
     a_list_pays, a_step_pays, full_adds_up, no_name_is_carried, none_is_shorter, numbers_rise,
     one_lesson, one_name, one_step, reads_pay, refused_is_no_step, resuming_gives_back,
     shortest_by_bytes, steps_fit, what_is_built, what_is_known_is_enough,
+};
+pub use plan_laws::{
+    accepted_is_shortest, carried_is_of_the_roster, no_list_is_shorter, reads_need_slots,
+    reads_save_by_links, savings_are_bounded, slots_stay, tight_is_shortest,
 };
 pub use plans::Plan;
 pub use request::Request;

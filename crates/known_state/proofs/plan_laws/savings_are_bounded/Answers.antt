@@ -1,0 +1,5 @@
+use Rattle.known_state.proofs.LinkLaws.{savings_bounded}
+use Rattle.known_state.proofs.plan_laws.savings_are_bounded.Goals as goal
+
+pub returns : goal.returns
+returns c = savings_bounded
