@@ -100,3 +100,11 @@ abbrev pub Says : KnownState → List Update → List ℕ → List ℕ → Verdi
 Says k us stream prices (verdicts.NotLegal illegal place) = StopsBeing k stream illegal place
 Says k us stream prices (verdicts.NotCarried index) = (carried : List Update) × Carries k stream carried × AreApartFrom index carried us
 Says k us stream prices verdict = Carries k stream us × Show k us prices (length stream) verdict
+
+-- it isn't legal
+abbrev pub IsNotLegal : Verdict → Type 0
+IsNotLegal verdict = (illegal : Illegal) × (place : ℕ) × (verdict ≡ verdicts.NotLegal illegal place)
+
+-- it is legal, and carries other updates
+abbrev pub IsNotCarried : Verdict → Type 0
+IsNotCarried verdict = (index : ℕ) × (verdict ≡ verdicts.NotCarried index)

@@ -2,7 +2,9 @@
 #![tactic(auto)]
 
 mod comparison;
+mod laws;
 mod reading;
 mod verdict;
 
+pub use laws::{one_verdict, said_of_streams, shortest_is_said};
 pub use verdict::{Illegal, Verdict};
