@@ -1,5 +1,6 @@
 pub mod StepIsDeterministic
 pub mod LastNumbersLemmas
+pub mod KnowledgeLemmas
 pub mod KnownLemmas
 pub mod StepLemmas
 pub mod ResolvingLemmas

@@ -1,5 +1,6 @@
--- What updates ask for, one after another.
-use Rattle.std.proofs.Common.{◌≡◌, ℕ, true, false, ◌&&◌, Bool, List, [], ◌∷◌, ◌++◌, Option, Some, refl, sym, ap, ◌∙◌, append_assoc}
+-- What updates ask for and what they cost, one after another.
+use Rattle.std.proofs.Common.{◌≡◌, ℕ, ◌+◌, ◌*◌, ◌≤◌, true, false, ◌&&◌, Bool, List, [], ◌∷◌, ◌++◌, Option, Some, None, refl, sym, ap, ◌∙◌, arith, append_assoc}
+use Rattle.std.specs.Prelude.{if◌then◌else◌}
 use Rattle.table_types.specs.declared.update.Update.{Update}
 use Rattle.table_types.specs.Tables.{Definition}
 use Rattle.table_types.specs.Updates.{fits, stores_name, may_be_named}
@@ -9,7 +10,7 @@ use Rattle.peers_msg.specs.declared.name_field.NameField.{NameField}
 use Rattle.peers_msg.specs.declared.name_field.NameField.TheVariants as names
 use Rattle.peers_msg.specs.declared.message.Message.TheVariants as messages
 use Rattle.peers_msg.specs.Spelling.{size_of}
-use Rattle.known_state.specs.Cost.{Knowledge, knowledge_after, sent_as, written_field, is_named_table, written_cost}
+use Rattle.known_state.specs.Cost.{Knowledge, knowledge_after, sent_as, written_field, is_named_table, written_cost, selection_cost, cost_from}
 use Rattle.known_state.specs.Requests.{Asked, held_cost, asked, requests_of, knowledge_after_all}
 use Rattle.known_state.proofs.BatchLemmas.{name_of_fits}
 
@@ -24,6 +25,40 @@ requests-more roster k (x ∷ xs) u =
     ap (λ (l : List Asked). asked roster k x x.name ++ l) (requests-more roster (knowledge_after k x) xs u)
     ∙ sym (append_assoc (asked roster k x x.name) (requests_of roster (knowledge_after k x) xs) (asked roster (knowledge_after_all k (x ∷ xs)) u u.name))
 
+-- and what one more update costs adds to what the others cost
+pub cost-more : (roster : List Definition) (k : Knowledge) (us : List Update) (u : Update) → cost_from roster k (us ++ u ∷ []) ≡ cost_from roster k us + (selection_cost roster (knowledge_after_all k us) u.table + written_cost roster (knowledge_after_all k us) u)
+cost-more roster k [] u = omega arith
+cost-more roster k (x ∷ xs) u =
+    let later = cost-more roster (knowledge_after k x) xs u in
+    omega arith
+
+-- what is known after one more update
+pub knowledge-more : (k : Knowledge) (us : List Update) (u : Update) → knowledge_after_all k (us ++ u ∷ []) ≡ knowledge_after (knowledge_after_all k us) u
+knowledge-more k [] u = refl
+knowledge-more k (x ∷ xs) u = knowledge-more (knowledge_after k x) xs u
+
+-- what was found of updates: their requests, what they cost, which of them there are, and what is known after them
+abbrev pub AreCosted : List Definition → Knowledge → List Update → ℕ → List Asked → ℕ → Knowledge → Type 0
+AreCosted roster k us count requests full after =
+    (requests ≡ requests_of roster k us)
+    × (full ≡ cost_from roster k us)
+    × (after ≡ knowledge_after_all k us)
+    × (full ≤ 49164 * count)
+
+-- and of one more
+pub costed-more : (roster : List Definition) (k before after : Knowledge) (us more : List Update) (u : Update) (count full cost : ℕ) (requests others : List Asked) → more ≡ us ++ u ∷ [] → AreCosted roster k us count requests full before
+    → others ≡ requests ++ asked roster before u u.name → cost ≡ selection_cost roster before u.table + written_cost roster before u → after ≡ knowledge_after before u → cost ≤ 49164
+    → AreCosted roster k more (count + 1) others (full + cost) after
+costed-more roster k before after us more u count full cost requests others joined (are, is, known, within) added costs follows fits =
+    let asks : asked roster before u u.name ≡ asked roster (knowledge_after_all k us) u u.name = ap (λ (x : Knowledge). asked roster x u u.name) known in
+    let pays : cost ≡ selection_cost roster (knowledge_after_all k us) u.table + written_cost roster (knowledge_after_all k us) u = costs ∙ ap (λ (x : Knowledge). selection_cost roster x u.table + written_cost roster x u) known in
+    let sum : full + cost ≡ cost_from roster k (us ++ u ∷ []) = omega (arith, cost-more roster k us u) in (
+      added ∙ ap (λ (l : List Asked). l ++ asked roster before u u.name) are ∙ ap (λ (l : List Asked). requests_of roster k us ++ l) asks ∙ sym (requests-more roster k us u) ∙ ap (requests_of roster k) (sym joined),
+      sum ∙ ap (cost_from roster k) (sym joined),
+      follows ∙ ap (λ (x : Knowledge). knowledge_after x u) known ∙ sym (knowledge-more k us u) ∙ ap (knowledge_after_all k) (sym joined),
+      omega arith,
+    )
+
 named-stores : (d : Definition) (u : Update) (name : List ℕ) → u.name ≡ Some name → may_be_named d u.name ≡ true → stores_name d ≡ true
 named-stores d u name is fit = left (stores_name d) (is_name name) (ap (may_be_named d) (sym is) ∙ fit)
   where
@@ -31,20 +66,31 @@ named-stores d u name is fit = left (stores_name d) (is_name name) (ap (may_be_n
     left true b h = refl
     left false b h = h
 
--- a request by the last number that its message's number form goes by
-abbrev costing : List ℕ → Update → Option ℕ → Asked
-costing name u last = record { name = name; read_cost = size_of (messages.Update (sent_as last (names.Held 1) u)); write_cost = size_of (messages.Update (sent_as last (names.Written 1 name) u)) }
-
-abbrev writing : List ℕ → Knowledge → Update → ℕ → Asked
-writing name k u cost = record { name = name; read_cost = held_cost k u; write_cost = cost }
-
--- the request of an update with a name
-pub asked-named : (roster : List Definition) (k : Knowledge) (u : Update) (name : List ℕ) (d : Definition) (last : Option ℕ) (r : Asked) → table_at roster u.table ≡ Some d → fits d u ≡ true → u.name ≡ Some name → last ≡ k.last u.table → r ≡ record { name = name; read_cost = size_of (messages.Update (sent_as last (names.Held 1) u)); write_cost = size_of (messages.Update (sent_as last (names.Written 1 name) u)) } → r ∷ [] ≡ asked roster k u u.name
-asked-named roster k u name d last r listed fit is is_last made =
+-- what an update with a name costs
+pub written-named : (roster : List Definition) (k : Knowledge) (u : Update) (name : List ℕ) (d : Definition) → table_at roster u.table ≡ Some d → fits d u ≡ true → u.name ≡ Some name → written_cost roster k u ≡ size_of (messages.Update (sent_as (k.last u.table) (names.Written 1 name) u))
+written-named roster k u name d listed fit is =
     let stores : stores_name d ≡ true = named-stores d u name is (name_of_fits d u fit) in
     let field : written_field (is_named_table (table_at roster u.table)) u.name ≡ names.Written 1 name =
     ap (λ (o : Option Definition). written_field (is_named_table o) u.name) listed ∙ ap (λ (b : Bool). written_field b u.name) stores ∙ ap (written_field true) is in
-    let cost : written_cost roster k u ≡ size_of (messages.Update (sent_as (k.last u.table) (names.Written 1 name) u)) = ap (λ (f : NameField). size_of (messages.Update (sent_as (k.last u.table) f u))) field in
-    let whole : asked roster k u (Some name) ≡ costing name u (k.last u.table) ∷ [] = ap (λ (n : ℕ). writing name k u n ∷ []) cost in
-    let first : asked roster k u u.name ≡ asked roster k u (Some name) = ap (λ (n : Option (List ℕ)). asked roster k u n) is in
-    ap (λ (x : Asked). x ∷ []) made ∙ ap (λ (l : Option ℕ). costing name u l ∷ []) is_last ∙ sym whole ∙ sym first
+    ap (λ (f : NameField). size_of (messages.Update (sent_as (k.last u.table) f u))) field
+
+-- and one without
+pub written-nameless : (roster : List Definition) (k : Knowledge) (u : Update) (d : Definition) → table_at roster u.table ≡ Some d → u.name ≡ None → written_cost roster k u ≡ size_of (messages.Update (sent_as (k.last u.table) (if stores_name d then names.NoName else names.NotStored) u))
+written-nameless roster k u d listed is =
+    let field : written_field (is_named_table (table_at roster u.table)) u.name ≡ (if stores_name d then names.NoName else names.NotStored) =
+    ap (λ (o : Option Definition). written_field (is_named_table o) u.name) listed ∙ ap (written_field (stores_name d)) is ∙ without (stores_name d) in
+    ap (λ (f : NameField). size_of (messages.Update (sent_as (k.last u.table) f u))) field
+  where
+    without : (b : Bool) → written_field b None ≡ (if b then names.NoName else names.NotStored)
+    without true = refl
+    without false = refl
+
+abbrev asking : List ℕ → Knowledge → Update → ℕ → Asked
+asking name k u cost = record { name = name; read_cost = held_cost k u; write_cost = cost }
+
+-- the request of an update with a name
+pub asked-named : (roster : List Definition) (k : Knowledge) (u : Update) (name : List ℕ) (d : Definition) → table_at roster u.table ≡ Some d → fits d u ≡ true → u.name ≡ Some name
+    → record { name = name; read_cost = size_of (messages.Update (sent_as (k.last u.table) (names.Held 1) u)); write_cost = size_of (messages.Update (sent_as (k.last u.table) (names.Written 1 name) u)) } ∷ [] ≡ asked roster k u u.name
+asked-named roster k u name d listed fit is =
+    let whole : asking name k u (size_of (messages.Update (sent_as (k.last u.table) (names.Written 1 name) u))) ∷ [] ≡ asked roster k u (Some name) = ap (λ (n : ℕ). asking name k u n ∷ []) (sym (written-named roster k u name d listed fit is)) in
+    whole ∙ ap (λ (n : Option (List ℕ)). asked roster k u n) (sym is)

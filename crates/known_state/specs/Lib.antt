@@ -1,3 +1,4 @@
+pub mod Knowing
 pub mod LastNumbers
 pub mod State
 pub mod Effects

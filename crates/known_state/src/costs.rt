@@ -1,20 +1,18 @@
 //! What a batch asks of the dictionary, and at which costs.
 
-ghost use Rattle.std.specs.Prelude.{◌≡◌, ◌++◌, true, IfOk, OnOk};
+ghost use Rattle.std.specs.Prelude.{◌≡◌, ◌≤◌, ◌+◌, ◌*◌, ◌++◌, true, length, IfOk, OnOk};
 ghost use Rattle.table_types.specs.Updates.{is_optional_word};
 ghost use Rattle.table_types.specs.Batches.{IsBatchFor};
-ghost use Rattle.peers_msg.specs.declared.name_field.NameField.TheVariants as names;
-ghost use Rattle.peers_msg.specs.declared.message.Message.TheVariants as messages;
-ghost use Rattle.peers_msg.specs.Messages.{is_small};
-ghost use Rattle.peers_msg.specs.Spelling.{size_of};
-ghost use Rattle.known_state.specs.Cost.{knowledge_of, number_sent, sent_as};
-ghost use Rattle.known_state.specs.Requests.{IsUpdateOf, asked, requests_of, knowledge_after_all};
+ghost use Rattle.known_state.specs.Cost.{full, knowledge_after, knowledge_of, number_sent, selection_cost, written_cost};
+ghost use Rattle.known_state.specs.Knowing.{known_so_far};
+ghost use Rattle.known_state.specs.Requests.{IsUpdateOf, asked, requests_of};
 
+use crate::knowledge::KnowledgeSoFar;
 use crate::known::Known;
 use crate::request::Request;
-use peers_msg::named_sizes;
+use peers_msg::{define_size, named_sizes, nameless_size, switch_size};
 use std::alloc::Global;
-use table_types::{Batch, Memory, Name, Update};
+use table_types::{Batch, Memory, Roster, Update};
 
 /// The number that is sent with an update after that last number of its table: none where it is one more, modulo 2^32,
 /// which the learner finds by itself.
@@ -28,89 +26,113 @@ pub fn number_sent(last: Option<u32>, number: u32) -> Option<u32>
     }
 }
 
-/// The last number of a table that is defined.
-fn last_known(known: &Known, table: u64) -> Option<u32>
-    ensures { result ≡ (knowledge_of known.now.state).last table }
+/// What a batch asks of the dictionary, and the size of its lesson with every name written.
+#[derive(Debug, Drop)]
+pub struct Costing {
+    /// One request for each update that has a name, in order.
+    pub requests: Vec<Request>,
+    /// The size of the lesson with every name written, in bytes.
+    pub full: usize,
+}
+
+/// How many bytes select a table of the roster: none, a switch, or its definition.
+fn selection_cost(knowledge: &KnowledgeSoFar<'_>, roster: &Roster, id: u64) -> usize
+    ensures exact { result ≡ selection_cost roster.now (known_so_far knowledge.now) id }
+    ensures within { result ≤ 16396 }
 {
-    match known.received().table(table) {
-        Some(_) => known.last_numbers().last(table),
-        None => None,
+    if knowledge.is_selected(id) {
+        return 0;
+    }
+    if knowledge.is_defined(id) {
+        return switch_size(id);
+    }
+    match roster.table(id) {
+        Some(table) => define_size(table),
+        None => 0,
     }
 }
 
-/// The last number of a table after these updates.
-fn last_after(known: &Known, before: &[Update], table: u64) -> Option<u32>
-    ensures { result ≡ (knowledge_after_all (knowledge_of known.now.state) before.now).last table }
-{
-    let mut last = last_known(known, table);
-    for update in before {
-        if table == update.table {
-            last = Some(update.number);
-        }
-    }
-    last
-}
-
-/// The request of an update with that name, after that last number of its table.
-fn request(
+/// Adds what an update asks for, if anything, and answers the size of its message with the name written.
+fn add_update(
     alloc: Global,
-    last: Option<u32>,
-    update: &Update,
-    name: &Name,
-) -> Result<Request, Memory>
-    requires { is_small update.now.key update.now.values ≡ true }
-    ensures { IfOk result (λ request. request ≡ record {
-      name = name.now;
-      read_cost = size_of (messages.Update (sent_as last (names.Held 1) update.now));
-      write_cost = size_of (messages.Update (sent_as last (names.Written 1 name.now) update.now));
-    }) }
-{
-    let number = number_sent(last, update.number);
-    let values = update.values.as_slice();
-    let (read, written) = named_sizes(number, update.life, &update.key, values, name);
-    match Request::new(name.copy(alloc)?, read as u32, written as u32) {
-        Some(request) => Ok(request),
-        None => unreachable!(),
-    }
-}
-
-/// Adds what an update asks for after these, if anything.
-fn add_request(
-    alloc: Global,
-    known: &Known,
-    before: &[Update],
+    knowledge: &KnowledgeSoFar<'_>,
+    roster: &Roster,
     update: &Update,
     requests: &mut Vec<Request>,
-) -> Result<(), Memory>
-    requires { IsUpdateOf known.now.roster update.now }
-    ensures { OnOk result (requests.new.items ≡ requests.old.items
-        ++ asked known.now.roster (knowledge_after_all (knowledge_of known.now.state) before.now) update.now update.now.name) }
+) -> Result<usize, Memory>
+    requires { IsUpdateOf roster.now update.now }
+    ensures size { IfOk result (λ size. size ≡ written_cost roster.now (known_so_far knowledge.now) update.now) }
+    ensures requests { OnOk result (requests.new.items ≡ requests.old.items ++ asked roster.now (known_so_far knowledge.now) update.now update.now.name) }
+    ensures within { IfOk result (λ size. size ≤ 32768) }
 {
-    let Some(name) = &update.name else {
-        return Ok(());
-    };
-    let Some(table) = known.roster().table(update.table) else {
+    let Some(table) = roster.table(update.table) else {
         unreachable!();
     };
-    let last = last_after(known, before, table.id());
-    requests.push(request(alloc, last, update, name)?)?;
-    Ok(())
+    let _id = table.id();
+    let number = number_sent(knowledge.last(update.table), update.number);
+    let (life, key, values) = (update.life, &update.key, update.values.as_slice());
+    let Some(name) = &update.name else {
+        return Ok(nameless_size(number, life, key, values, table.stores_name()));
+    };
+    let (read, written) = named_sizes(number, life, key, values, name);
+    match Request::new(name.copy(alloc)?, read as u32, written as u32) {
+        Some(request) => requests.push(request)?,
+        None => unreachable!(),
+    }
+    Ok(written)
+}
+
+/// Adds what one more update asks for, if anything, and answers what it costs with its name written.
+fn add(
+    alloc: Global,
+    knowledge: &mut KnowledgeSoFar<'_>,
+    roster: &Roster,
+    update: &Update,
+    requests: &mut Vec<Request>,
+) -> Result<usize, Memory>
+    requires { IsUpdateOf roster.now update.now }
+    ensures cost { IfOk result (λ cost. cost ≡ selection_cost roster.now (known_so_far knowledge.old) update.now.table + written_cost roster.now (known_so_far knowledge.old) update.now) }
+    ensures requests { OnOk result (requests.new.items ≡ requests.old.items ++ asked roster.now (known_so_far knowledge.old) update.now update.now.name) }
+    ensures after { OnOk result (known_so_far knowledge.new ≡ knowledge_after (known_so_far knowledge.old) update.now) }
+    ensures within { IfOk result (λ cost. cost ≤ 49164) }
+{
+    let selected = selection_cost(knowledge, roster, update.table);
+    let written = add_update(alloc, knowledge, roster, update, requests)?;
+    knowledge.follow(update)?;
+    Ok(selected + written)
 }
 
 impl Known {
     /// What the batch asks of the dictionary: one request for each named update, in order. The number form of each
     /// message is the lesson's: without a number exactly where that is one more than its table's last, modulo 2^32.
     ///
-    /// The batch was made for the roster of the known state. It compares each update with those before it.
+    /// The batch was made for the roster of the known state.
     pub fn costs(&self, alloc: Global, batch: &Batch) -> Result<Vec<Request>, Memory>
         requires { IsBatchFor self.now.roster batch.now }
         ensures { IfOk result (λ requests. requests.items ≡ requests_of self.now.roster (knowledge_of self.now.state) batch.now) }
     {
+        let costing = self.costing(alloc, batch)?;
+        Ok(costing.requests)
+    }
+
+    /// What the batch asks of the dictionary, as `costs` answers it, and the size of its lesson with every name written.
+    /// It goes through the batch once.
+    ///
+    /// The batch was made for the roster of the known state.
+    pub fn costing(&self, alloc: Global, batch: &Batch) -> Result<Costing, Memory>
+        requires { IsBatchFor self.now.roster batch.now }
+        ensures requests { IfOk result (λ costing. costing.requests.items ≡ requests_of self.now.roster (knowledge_of self.now.state) batch.now) }
+        ensures full { IfOk result (λ costing. costing.full ≡ full self.now.roster self.now.state batch.now) }
+        ensures within { IfOk result (λ costing. costing.full ≤ 49164 * length batch.now) }
+    {
         let updates = batch.updates();
+        let mut knowledge = KnowledgeSoFar::of(alloc, self);
         let mut requests = Vec::new(alloc);
-        for (place, update) in updates.iter().enumerate() {
-            add_request(alloc, self, &updates[..place], update, &mut requests)?;
+        let mut full = 0;
+        for update in updates {
+            // Of at most 512 updates, each costs fewer than 2^16 bytes.
+            full += add(alloc, &mut knowledge, self.roster(), update, &mut requests)?;
         }
-        Ok(requests)
+        Ok(Costing { requests, full })
     }
 }

@@ -201,6 +201,13 @@ impl Known {
         &self.roster
     }
 
+    /// The learner's state.
+    pub fn state(&self) -> &State
+        ensures { result.now ≡ self.now.state }
+    {
+        &self.state
+    }
+
     /// What the learner received: the tables defined, and the one selected.
     pub fn received(&self) -> &Received
         ensures { result.now ≡ self.now.state.received }

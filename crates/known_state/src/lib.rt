@@ -2,8 +2,10 @@
 //! the roster, the tables defined, the one selected, the last numbers and the slots; and what a batch costs from there.
 #![tactic(auto)]
 
+mod carried;
 mod costs;
 mod effect;
+mod knowledge;
 mod known;
 mod last_numbers;
 mod laws;
@@ -13,7 +15,7 @@ mod plans;
 mod request;
 mod state;
 
-pub use costs::number_sent;
+pub use costs::{Costing, number_sent};
 pub use effect::{Effect, Refusal, ResolvedUpdate, effects_are_steps};
 pub use known::{Known, KnownError, StepError};
 pub use last_numbers::LastNumbers;

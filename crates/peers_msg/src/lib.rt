@@ -34,5 +34,5 @@ pub use name_field::NameField;
 pub use name_field_ref::NameFieldRef;
 pub use own_tables::is_own;
 pub use received::Received;
-pub use sizes::{named_sizes, size};
-pub use unread::Unread;
+pub use sizes::{define_size, named_sizes, nameless_size, size, switch_size};
+pub use unread::{Unread, front};

@@ -1,6 +1,6 @@
 //! How many bytes messages have.
 
-ghost use Rattle.std.specs.Prelude.{◌≡◌, ◌≤◌, ◌<◌, ◌+◌, ◌++◌, ◌^◌, true, length, flat_map};
+ghost use Rattle.std.specs.Prelude.{◌≡◌, ◌≤◌, ◌<◌, ◌+◌, ◌++◌, ◌^◌, true, length, flat_map, if◌then◌else◌};
 ghost use Rattle.peers_encint.specs.Integers.{spelling};
 ghost use Rattle.table_types.specs.Tables.{rise_from, is_definition};
 ghost use Rattle.peers_msg.specs.declared.name_field.NameField.TheVariants as names;
@@ -191,6 +191,47 @@ pub fn named_sizes(
     (framed_size(row + read), framed_size(row + written))
 }
 
+/// How many bytes an update message of these parts has without a name, of a table that stores names or of one that
+/// doesn't. This takes no memory.
+#[tactic(auto, unfolding(crate::specs::Spelling::size_of, crate::specs::Spelling::spelled))]
+pub fn nameless_size(
+    number: Option<u32>,
+    life: Option<u32>,
+    key: &Key,
+    values: &[Value],
+    stores_name: bool,
+) -> usize
+    requires { is_small key.now values.now ≡ true }
+    ensures exact { result ≡ size_of (messages.Update (record { number = number; life = life; key = key.now; values = values.now; name = if stores_name then names.NoName else names.NotStored })) }
+    ensures within { result ≤ 32768 }
+{
+    let words = optional_size(number) + optional_size(life);
+    let row = words + key_size(key) + values_size(values);
+    if stores_name {
+        framed_size(row + name_size(&NameField::NoName))
+    } else {
+        framed_size(row)
+    }
+}
+
+/// How many bytes the definition of a table has as a message. This takes no memory.
+#[tactic(auto, unfolding(crate::specs::Spelling::size_of, crate::specs::Spelling::spelled))]
+pub fn define_size(table: &TableDef) -> usize
+    ensures exact { result ≡ size_of (messages.Define table.now) }
+    ensures within { result ≤ 16396 }
+{
+    framed_size(definition_size(table))
+}
+
+/// How many bytes a switch to that id has. This takes no memory.
+#[tactic(auto, unfolding(crate::specs::Spelling::size_of, crate::specs::Spelling::spelled))]
+pub fn switch_size(id: u64) -> usize
+    ensures exact { result ≡ size_of (messages.Switch id) }
+    ensures within { result ≤ 22 }
+{
+    framed_size(len(id))
+}
+
 /// How many bytes a message has. This takes no memory.
 #[tactic(auto, unfolding(crate::specs::Spelling::size_of, crate::specs::Spelling::spelled))]
 pub fn size(message: &Message) -> usize
@@ -198,8 +239,8 @@ pub fn size(message: &Message) -> usize
 {
     match message {
         Message::Control(_) | Message::Error(_) => 2,
-        Message::Define(table) => framed_size(definition_size(table)),
-        Message::Switch(id) => framed_size(len(*id)),
+        Message::Define(table) => define_size(table),
+        Message::Switch(id) => switch_size(*id),
         Message::Ack { table, .. } => framed_size(len(*table) + 4),
         Message::Update(update) => framed_size(update_size(update)),
         Message::Other(other) if other.message_type() < 128 => 2,

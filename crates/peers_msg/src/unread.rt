@@ -32,19 +32,20 @@ impl Model for Unread {
     ghost view = { λ u. u.bytes.items };
 }
 
-/// The message at the front, and how many bytes it has.
-fn front<'a>(
+/// The message at the front of these bytes, by what was received before it, and how many bytes it has; `None` while it
+/// isn't whole. It stays where it is, and no memory is taken.
+pub fn front<'a>(
     received: &'a Received,
-    unread: &'a [u8],
+    bytes: &'a [u8],
 ) -> Result<Option<(MessageRef<'a>, usize)>, Breach>
-    ensures read { Reads (option_map (λ x. (owned_message x.0, drop x.1 unread.now))) result (message_at received.now unread.now) }
-    ensures within { IfOk result (λ found. IfSome found (λ x. (1 ≤ x.1) × (x.1 ≤ length unread.now))) }
+    ensures front { IsFrontOf received.now bytes.now result }
+    ensures within { IfOk result (λ found. IfSome found (λ x. (1 ≤ x.1) × (x.1 ≤ length bytes.now))) }
     ensures fits { IfOk result (λ found. IfSome found (λ x. fits received.now (owned_message x.0) ≡ true)) }
 {
-    let Some((message, rest)) = message_at(received, unread)? else {
+    let Some((message, rest)) = message_at(received, bytes)? else {
         return Ok(None);
     };
-    let used = unread.len() - rest.len();
+    let used = bytes.len() - rest.len();
     Ok(Some((message, used)))
 }
 
@@ -76,8 +77,7 @@ impl Unread {
         }
     }
 
-    /// The message at the front, by what was received before it, and how many bytes it has; `None` while it isn't whole.
-    /// It stays where it is, and no memory is taken.
+    /// The message at the front, as `front` tells it.
     pub fn front<'a>(
         &'a self,
         received: &'a Received,

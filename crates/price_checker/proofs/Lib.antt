@@ -6,3 +6,8 @@ pub mod NamesInSlots
 pub mod LinksAreFound
 pub mod RoomIsKept
 pub mod PlansAreAccepted
+pub mod ComparisonLemmas
+pub mod StreamLemmas
+pub mod OneReading
+pub mod OneVerdict
+pub mod ShortestIsSaid

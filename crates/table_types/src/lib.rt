@@ -28,4 +28,4 @@ pub use roster::{Roster, RosterError, has_id, is_same_name, table_at};
 pub use row::{Cell, Row};
 pub use slot_ids::is_slot;
 pub use table_def::{DefError, TableDef};
-pub use update::{Update, Value};
+pub use update::{Update, Value, are_same_values};

@@ -59,7 +59,8 @@ pub struct Update {
     pub name: Option<Name>,
 }
 
-fn are_same_values(one: &[Value], other: &[Value]) -> bool
+/// Whether both are the same values, one for one.
+pub fn are_same_values(one: &[Value], other: &[Value]) -> bool
     ensures { IsTrue result ↔ (one.now ≡ other.now) }
 {
     one == other

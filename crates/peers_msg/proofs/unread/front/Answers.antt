@@ -8,13 +8,13 @@ use Rattle.peers_msg.proofs.unread.front.Goals as goal
 
 pub overflow_sub-used : goal.overflow_sub-used
 overflow_sub-used c =
-    let read : message_at c.args.received.now c.args.unread.now ≡ Ok (Some (owned_message c.in-Some.message, c.in-Some.rest.now)) = c.in_ok-message.ensures ∙ rw c.in-Some.is refl in
-    omega (arith, (rest_is_end c.args.received.now (owned_message c.in-Some.message) c.args.unread.now c.in-Some.rest.now (λ i. omega (arith, c.type_inv.unread i)) read).1)
+    let read : message_at c.args.received.now c.args.bytes.now ≡ Ok (Some (owned_message c.in-Some.message, c.in-Some.rest.now)) = c.in_ok-message.ensures ∙ rw c.in-Some.is refl in
+    omega (arith, (rest_is_end c.args.received.now (owned_message c.in-Some.message) c.args.bytes.now c.in-Some.rest.now (λ i. omega (arith, c.type_inv.bytes i)) read).1)
 
-pub returns-clause-read : goal.returns-clause-read
-returns-clause-read c =
-    let read : message_at c.args.received.now c.args.unread.now ≡ Ok (Some (owned_message c.in-Some.message, c.in-Some.rest.now)) = c.in_ok-message.ensures ∙ rw c.in-Some.is refl in
-    let end = (rest_is_end c.args.received.now (owned_message c.in-Some.message) c.args.unread.now c.in-Some.rest.now (λ i. omega (arith, c.type_inv.unread i)) read).0 in
+pub returns-clause-front : goal.returns-clause-front
+returns-clause-front c =
+    let read : message_at c.args.received.now c.args.bytes.now ≡ Ok (Some (owned_message c.in-Some.message, c.in-Some.rest.now)) = c.in_ok-message.ensures ∙ rw c.in-Some.is refl in
+    let end = (rest_is_end c.args.received.now (owned_message c.in-Some.message) c.args.bytes.now c.in-Some.rest.now (λ i. omega (arith, c.type_inv.bytes i)) read).0 in
     read ∙ ap (λ (rest : List ℕ). found (owned_message c.in-Some.message) rest) (sym end)
   where
     found : Message → List ℕ → Result (Option (Message × List ℕ)) Breach
@@ -22,12 +22,12 @@ returns-clause-read c =
 
 pub returns-clause-within : goal.returns-clause-within
 returns-clause-within c =
-    let read : message_at c.args.received.now c.args.unread.now ≡ Ok (Some (owned_message c.in-Some.message, c.in-Some.rest.now)) = c.in_ok-message.ensures ∙ rw c.in-Some.is refl in
-    let end = rest_is_end c.args.received.now (owned_message c.in-Some.message) c.args.unread.now c.in-Some.rest.now (λ i. omega (arith, c.type_inv.unread i)) read in
+    let read : message_at c.args.received.now c.args.bytes.now ≡ Ok (Some (owned_message c.in-Some.message, c.in-Some.rest.now)) = c.in_ok-message.ensures ∙ rw c.in-Some.is refl in
+    let end = rest_is_end c.args.received.now (owned_message c.in-Some.message) c.args.bytes.now c.in-Some.rest.now (λ i. omega (arith, c.type_inv.bytes i)) read in
     let fewer = end.1 in
     (omega arith, omega arith)
 
 pub returns-clause-fits : goal.returns-clause-fits
 returns-clause-fits c =
-    let read : message_at c.args.received.now c.args.unread.now ≡ Ok (Some (owned_message c.in-Some.message, c.in-Some.rest.now)) = c.in_ok-message.ensures ∙ rw c.in-Some.is refl in
-    (message_takes c.args.received.now (owned_message c.in-Some.message) c.args.unread.now c.in-Some.rest.now (λ i. omega (arith, c.type_inv.unread i)) read).1
+    let read : message_at c.args.received.now c.args.bytes.now ≡ Ok (Some (owned_message c.in-Some.message, c.in-Some.rest.now)) = c.in_ok-message.ensures ∙ rw c.in-Some.is refl in
+    (message_takes c.args.received.now (owned_message c.in-Some.message) c.args.bytes.now c.in-Some.rest.now (λ i. omega (arith, c.type_inv.bytes i)) read).1

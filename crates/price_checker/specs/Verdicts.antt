@@ -1,0 +1,108 @@
+-- What is said of a stream and of prices: whether the stream teaches the batch, and whether the prices show that no other that
+-- does is shorter (profile).
+use Rattle.std.specs.Prelude.{◌≡◌, ◌≢◌, ◌≤◌, ℕ, ◌+◌, ◌-◌, ◌^◌, nat_lt, true, List, [], ◌∷◌, ◌++◌, length, Option, Some, None, Ok, Err}
+use Rattle.std.specs.List.{AllByRecursion, list_any}
+use Rattle.table_types.specs.declared.update.Update.{Update}
+use Rattle.peers_msg.specs.declared.message.Message.{Message}
+use Rattle.peers_msg.specs.Reading.{message_at}
+use Rattle.peers_msg.specs.Spelling.{stream_of}
+use Rattle.known_state.specs.State.{State, Legal}
+use Rattle.known_state.specs.Known.{KnownState, Refuses}
+use Rattle.known_state.specs.Cost.{full, knowledge_of}
+use Rattle.known_state.specs.Requests.{Asked, requests_of}
+use Rattle.known_state.specs.Plans.{all_links, bound, names_in}
+use Rattle.price_checker.specs.declared.verdict.Illegal.{Illegal}
+use Rattle.price_checker.specs.declared.verdict.Illegal.TheVariants as illegals
+use Rattle.price_checker.specs.declared.verdict.Verdict.{Verdict}
+use Rattle.price_checker.specs.declared.verdict.Verdict.TheVariants as verdicts
+
+-- ---- streams
+
+-- The stream spells messages that are legal from the known state and carry these updates.
+abbrev pub Carries : KnownState → List ℕ → List Update → Type 0
+Carries k stream us = (ms : List Message) × (e : State) × (stream ≡ stream_of ms) × Legal k.roster k.state ms us e
+
+-- Why the bytes that are left begin with no legal message: they end before one is whole, they begin none, or they
+-- begin one that the known state refuses.
+abbrev pub IsIllegal : KnownState → List ℕ → Illegal → Type 0
+IsIllegal k rest illegals.Cut = (rest ≢ []) × (message_at k.state.received rest ≡ Ok None)
+IsIllegal k rest (illegals.Decode breach) = message_at k.state.received rest ≡ Err breach
+IsIllegal k rest (illegals.Step error) =
+    (m : Message) × (after : List ℕ) × (message_at k.state.received rest ≡ Ok (Some (m, after))) × Refuses k m error
+
+-- After legal messages, which end at that place, the bytes that are left begin with no legal one.
+abbrev pub StopsBeing : KnownState → List ℕ → Illegal → ℕ → Type 0
+StopsBeing k stream illegal place =
+    (ms : List Message)
+    × (carried : List Update)
+    × (mid : State)
+    × (rest : List ℕ)
+    × (stream ≡ stream_of ms ++ rest)
+    × (place ≡ length (stream_of ms))
+    × Legal k.roster k.state ms carried mid
+    × IsIllegal (record { roster = k.roster; state = mid }) rest illegal
+
+-- of two lists one ends, and the other doesn't, or their first updates differ
+abbrev pub BeginApart : List Update → List Update → Type 0
+BeginApart [] [] = ⊥
+BeginApart [] (u ∷ us) = Unit {0}
+BeginApart (c ∷ cs) [] = Unit {0}
+BeginApart (c ∷ cs) (u ∷ us) = c ≢ u
+
+-- two lists begin with the same updates, so many, and are apart from there on
+abbrev pub AreApartFrom : ℕ → List Update → List Update → Type 0
+AreApartFrom index carried us =
+    (same : List Update)
+    × (others : List Update)
+    × (rest : List Update)
+    × (carried ≡ same ++ others)
+    × (us ≡ same ++ rest)
+    × (index ≡ length same)
+    × BeginApart others rest
+
+-- ---- prices
+
+-- what the updates ask for
+abbrev pub requests : KnownState → List Update → List Asked
+requests k us = requests_of k.roster (knowledge_of k.state) us
+
+-- how many bytes reads can save at most in 128 slots, as these prices show
+abbrev pub bound_shown : KnownState → List Update → List ℕ → ℕ
+bound_shown k us prices = bound 128 (all_links (names_in k.state.slots) (requests k us)) prices
+
+-- there is one price for each request, and none is above 2^32
+abbrev pub ArePrices : KnownState → List Update → List ℕ → Type 0
+ArePrices k us prices = (length prices ≡ length (requests k us)) × AllByRecursion (λ price. price ≤ 2 ^ 32) prices
+
+-- What the prices show of a lesson of that many bytes: they are too few or too many; one is above 2^32; the lesson saves
+-- something else than the bound, compared with the one that writes every name, by nothing where it is longer than that; or it
+-- saves just the bound, so that none is shorter.
+abbrev pub Show : KnownState → List Update → List ℕ → ℕ → Verdict → Type 0
+Show k us prices size verdicts.PriceCount = length prices ≢ length (requests k us)
+Show k us prices size verdicts.PriceRange =
+    (length prices ≡ length (requests k us)) × (list_any (λ price. nat_lt (2 ^ 32) price) prices ≡ true)
+Show k us prices size (verdicts.Gap saved most) =
+    ArePrices k us prices
+    × (saved ≡ full k.roster k.state us - size)
+    × (most ≡ bound_shown k us prices)
+    × (size + bound_shown k us prices ≢ full k.roster k.state us)
+Show k us prices size (verdicts.Shortest bytes) =
+    ArePrices k us prices × (bytes ≡ size) × (size + bound_shown k us prices ≡ full k.roster k.state us)
+Show k us prices size verdict = ⊥
+
+-- ---- both
+
+-- What is said of a stream and prices in a known state, for a batch: the stream isn't legal; it is, and carries other
+-- updates, from that index on; or it carries the batch, and then what the prices show.
+abbrev pub Says : KnownState → List Update → List ℕ → List ℕ → Verdict → Type 0
+Says k us stream prices (verdicts.NotLegal illegal place) = StopsBeing k stream illegal place
+Says k us stream prices (verdicts.NotCarried index) = (carried : List Update) × Carries k stream carried × AreApartFrom index carried us
+Says k us stream prices verdict = Carries k stream us × Show k us prices (length stream) verdict
+
+-- it isn't legal
+abbrev pub IsNotLegal : Verdict → Type 0
+IsNotLegal verdict = (illegal : Illegal) × (place : ℕ) × (verdict ≡ verdicts.NotLegal illegal place)
+
+-- it is legal, and carries other updates
+abbrev pub IsNotCarried : Verdict → Type 0
+IsNotCarried verdict = (index : ℕ) × (verdict ≡ verdicts.NotCarried index)

@@ -1,0 +1,38 @@
+//! What holds of verdicts, whatever the program does.
+
+ghost use Rattle.std.specs.Prelude.{◌≡◌, ◌≢◌, ◌↔◌, ℕ, List, length, None};
+ghost use Rattle.table_types.specs.declared.update.Update.{Update};
+ghost use Rattle.table_types.specs.Rosters.{roster_fault};
+ghost use Rattle.peers_msg.specs.declared.message.Message.{Message};
+ghost use Rattle.peers_msg.specs.Spelling.{stream_of};
+ghost use Rattle.known_state.specs.Known.{KnownState, AreOwn};
+ghost use Rattle.known_state.specs.Shortest.{Shortest};
+ghost use Rattle.price_checker.specs.declared.verdict.Verdict.{Verdict};
+ghost use Rattle.price_checker.specs.declared.verdict.Verdict.TheVariants as verdicts;
+ghost use Rattle.price_checker.specs.Verdicts.{Carries, Says, IsNotLegal, IsNotCarried};
+
+/// A stream is read in one way, and of a stream and prices one thing is said.
+pub fn one_verdict()
+    ensures carries { (k : KnownState) (stream : List ℕ) (us vs : List Update) → Carries k stream us → Carries k stream vs → us ≡ vs }
+    ensures says { (k : KnownState) (us : List Update) (stream prices : List ℕ) (one other : Verdict) →
+        AreOwn k.roster k.state.received.tables → Says k us stream prices one → Says k us stream prices other → one ≡ other }
+{}
+
+/// It is said that a stream isn't legal exactly where it spells no legal list, and that it carries other updates exactly
+/// where it is legal and does.
+pub fn said_of_streams()
+    ensures legal { (k : KnownState) (us : List Update) (stream prices : List ℕ) (verdict : Verdict) →
+        AreOwn k.roster k.state.received.tables → Says k us stream prices verdict →
+        IsNotLegal verdict ↔ ((carried : List Update) → Carries k stream carried → ⊥) }
+    ensures carried { (k : KnownState) (us : List Update) (stream prices : List ℕ) (verdict : Verdict) →
+        AreOwn k.roster k.state.received.tables → Says k us stream prices verdict →
+        IsNotCarried verdict ↔ ((carried : List Update) × Carries k stream carried × (carried ≢ us)) }
+{}
+
+/// Of what is said to be shortest, no legal list that carries the batch is shorter.
+pub fn shortest_is_said()
+    ensures { (k : KnownState) (us : List Update) (stream prices : List ℕ) (bytes : ℕ) →
+        roster_fault k.roster ≡ None → AreOwn k.roster k.state.received.tables → length k.state.slots ≡ 128 →
+        Says k us stream prices (verdicts.Shortest bytes) →
+        (ms : List Message) × (stream ≡ stream_of ms) × (bytes ≡ length stream) × Shortest k us ms }
+{}

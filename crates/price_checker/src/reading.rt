@@ -1,0 +1,94 @@
+//! Streams, read message by message from a known state on.
+
+ghost use Rattle.std.specs.Prelude.{◌≡◌, ◌≢◌, ◌≤◌, ℕ, List, [], length, drop, Ok, Some, IfOk};
+ghost use Rattle.peers_msg.specs.Reading.{message_at};
+ghost use Rattle.price_checker.specs.Readings.{IsNext, IsReading};
+
+use crate::comparison::Comparison;
+use crate::verdict::Illegal;
+use known_state::{Known, StepError};
+use peers_msg::{Message, front};
+use std::alloc::Global;
+use table_types::{Memory, Update};
+
+/// What stands at the front of the bytes that are left.
+#[derive(Debug, Drop)]
+enum Next {
+    /// A legal message: how the updates carried compare after it, and how many bytes it has.
+    Read(Comparison, usize),
+    /// No legal message.
+    Illegal(Illegal),
+}
+
+/// What a stream is.
+#[derive(Debug, Drop)]
+pub enum Reading {
+    /// It isn't legal: why, and the place of the first byte of the message that isn't.
+    Illegal(Illegal, usize),
+    /// It is legal, and the updates that it carries compare so with the batch.
+    Legal(Comparison),
+}
+
+/// Moves the known state by the message at the front, which has so many bytes, if it is legal.
+fn take(
+    known: &mut Known,
+    updates: &[Update],
+    comparison: Comparison,
+    message: &Message,
+    used: usize,
+) -> Result<Next, Memory>
+    ensures { (rest : List ℕ) → message_at known.old.state.received rest ≡ Ok (Some (message.now, drop used rest)) → 1 ≤ used → used ≤ length rest →
+        IfOk result (λ next. IsNext known.old updates.now comparison rest next known.new) }
+{
+    let compared = comparison.after(known.state(), message, updates);
+    match known.after(message) {
+        Ok(()) => Ok(Next::Read(compared, used)),
+        Err(StepError::Memory) => Err(Memory),
+        Err(error) => Ok(Next::Illegal(Illegal::Step(error))),
+    }
+}
+
+/// Reads the message at the front of the bytes that are left, and moves the known state by it if it is legal.
+fn read_message(
+    alloc: Global,
+    known: &mut Known,
+    updates: &[Update],
+    comparison: Comparison,
+    rest: &[u8],
+) -> Result<Next, Memory>
+    requires { rest.now ≢ [] }
+    ensures { IfOk result (λ next. IsNext known.old updates.now comparison rest.now next known.new) }
+{
+    match front(known.received(), rest) {
+        Ok(Some((found, used))) => {
+            let message = found.to_owned(alloc)?;
+            take(known, updates, comparison, &message, used)
+        }
+        Ok(None) => Ok(Next::Illegal(Illegal::Cut)),
+        Err(breach) => Ok(Next::Illegal(Illegal::Decode(breach))),
+    }
+}
+
+/// Reads a stream from the known state on, as far as it is legal, and compares what it carries with the updates.
+pub fn read(
+    alloc: Global,
+    known: &Known,
+    updates: &[Update],
+    stream: &[u8],
+) -> Result<Reading, Memory>
+    ensures { IfOk result (λ reading. IsReading known.now updates.now stream.now reading) }
+{
+    let mut after = known.copy(alloc)?;
+    let mut comparison = Comparison::Same(0);
+    let mut place = 0;
+    while place < stream.len() {
+        match read_message(alloc, &mut after, updates, comparison, &stream[place..])? {
+            Next::Read(compared, used) => {
+                comparison = compared;
+                place += used;
+            }
+            Next::Illegal(illegal) => return Ok(Reading::Illegal(illegal, place)),
+        }
+    }
+    Ok(Reading::Legal(comparison))
+}
