@@ -1,5 +1,5 @@
 -- What links save, and the bound that prices show.
-use Rattle.std.proofs.Common.{◌≡◌, ℕ, zero, suc, ◌+◌, ◌-◌, ◌*◌, ◌≤◌, Bool, true, false, ◌&&◌, cond, List, [], ◌∷◌, ◌++◌, length, get_or, take, drop, map, Option, Some, None, ◌⊎◌, inl, inr, refl, subst, ap, ◌∙◌, arith}
+use Rattle.std.proofs.Common.{◌≡◌, ℕ, zero, suc, ◌+◌, ◌-◌, ◌*◌, ◌<◌, ◌≤◌, Bool, true, false, ◌&&◌, cond, List, [], ◌∷◌, ◌++◌, length, get_or, take, drop, map, Option, Some, None, ◌⊎◌, inl, inr, refl, subst, ap, ◌∙◌, arith}
 use Rattle.std.specs.List.{AllByRecursion}
 use Rattle.std.proofs.lemmas.Bool.Decides.{nat_tests}
 use Rattle.std.proofs.lemmas.Nat.{mul-le}
@@ -195,3 +195,34 @@ linked_savings asking (r ∷ rs) (false ∷ keep) linked = linked_savings (after
 
 pub reads_save : (held : List (List ℕ)) (rs : List Asked) (keep : List Bool) → AreLinked (at_start held) rs keep → read_savings rs keep ≡ kept_savings (links held rs keep)
 reads_save held rs keep linked = linked_savings (at_start held) rs keep linked
+
+-- ---- prices as rises from place to place
+
+-- each place's price is the rise from the height of the place before to its own
+abbrev AreRises : List ℕ → (ℕ → ℕ) → Type 0
+AreRises prices height = (i : ℕ) → i < length prices → height i + get_or prices i 0 ≡ height (suc i)
+
+rise_from_first : (n : ℕ) (prices : List ℕ) (height : ℕ → ℕ) → AreRises prices height → n ≤ length prices → height 0 + sum_of (take n prices) ≡ height n
+rise_from_first zero prices height rises le = omega arith
+rise_from_first (suc n) [] height rises le = absurd (omega arith)
+rise_from_first (suc n) (p ∷ ps) height rises le =
+    let first = rises 0 (omega arith) in
+    let later = rise_from_first n ps (λ i. height (suc i)) (λ i lt. rises (suc i) (omega arith)) (omega arith) in
+    omega arith
+
+rise_from : (k n : ℕ) (prices : List ℕ) (height : ℕ → ℕ) → AreRises prices height → k + n ≤ length prices → height k + sum_of (take n (drop k prices)) ≡ height (k + n)
+rise_from zero n prices height rises le =
+    let at : n ≡ 0 + n = omega arith in
+    subst (λ (q : ℕ). height 0 + sum_of (take n prices) ≡ height q) at (rise_from_first n prices height rises (omega arith))
+rise_from (suc k) n [] height rises le = absurd (omega arith)
+rise_from (suc k) n (p ∷ ps) height rises le =
+    let at : suc (k + n) ≡ suc k + n = omega arith in
+    subst (λ (q : ℕ). height (suc k) + sum_of (take n (drop k ps)) ≡ height q) at (rise_from k n ps (λ i. height (suc i)) (λ i lt. rises (suc i) (omega arith)) (omega arith))
+
+pub prices_rise : (prices : List ℕ) (height : ℕ → ℕ) (l : Link) → ((i : ℕ) → i < length prices → height i + get_or prices i 0 ≡ height (i + 1)) → l.from < l.to → l.to ≤ length prices + 1 → height l.from + price_inside prices l ≡ height (l.to - 1)
+prices_rise prices height l rises forward within =
+    let at : l.from + (l.to - 1 - l.from) ≡ l.to - 1 = omega arith in
+    subst (λ (q : ℕ). height l.from + price_inside prices l ≡ height q) at (rise_from l.from (l.to - 1 - l.from) prices height (λ i lt. subst (λ (q : ℕ). height i + get_or prices i 0 ≡ height q) (next i) (rises i lt)) (omega arith))
+  where
+    next : (i : ℕ) → i + 1 ≡ suc i
+    next i = omega arith

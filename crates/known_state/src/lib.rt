@@ -24,8 +24,8 @@ pub use laws::{
 };
 pub use plan_laws::{
     accepted_is_shortest, carried_is_of_the_roster, fitting_prices_are_tight, links_go_forward,
-    names_to_keep, no_list_is_shorter, one_more_request, over_the_next_place, reads_need_slots,
-    reads_save_by_links, savings_are_bounded, slots_stay, tight_is_shortest,
+    names_to_keep, no_list_is_shorter, one_more_request, over_the_next_place, prices_add_up,
+    reads_need_slots, reads_save_by_links, savings_are_bounded, slots_stay, tight_is_shortest,
 };
 pub use plans::Plan;
 pub use request::Request;
