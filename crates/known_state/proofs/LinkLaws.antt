@@ -1,8 +1,9 @@
 -- What links save, and the bound that prices show.
-use Rattle.std.proofs.Common.{◌≡◌, ℕ, zero, suc, ◌+◌, ◌-◌, ◌*◌, ◌≤◌, Bool, true, false, ◌&&◌, cond, List, [], ◌∷◌, ◌++◌, length, take, drop, map, Option, Some, None, refl, ap, ◌∙◌, arith}
+use Rattle.std.proofs.Common.{◌≡◌, ℕ, zero, suc, ◌+◌, ◌-◌, ◌*◌, ◌<◌, ◌≤◌, Bool, true, false, ◌&&◌, cond, List, [], ◌∷◌, ◌++◌, length, get_or, take, drop, map, Option, Some, None, ◌⊎◌, inl, inr, refl, subst, ap, ◌∙◌, arith}
+use Rattle.std.specs.List.{AllByRecursion}
 use Rattle.std.proofs.lemmas.Bool.Decides.{nat_tests}
 use Rattle.std.proofs.lemmas.Nat.{mul-le}
-use Rattle.std.proofs.Math.Nat.{mul-add}
+use Rattle.std.proofs.Math.Nat.{mul-add, mul_comm}
 use Rattle.known_state.specs.Requests.{Asked, read_savings}
 use Rattle.known_state.specs.Plans.{total, sum_of, Asking, at_start, after_request, Link, link_of, links_from, links, all_links, AreLinked, is_inside, kept_over, price_inside, kept_savings, bound}
 
@@ -106,6 +107,38 @@ links_bounded n prices ls room =
     let most = at_most n 1 prices ls room in
     omega arith
 
+-- ---- prices that fit are tight
+
+-- where each place with a price is inside of n kept links
+each_full : (n place : ℕ) (ps : List ℕ) (ls : List Link) → ((i : ℕ) → (get_or ps i 0 ≡ 0) ⊎ (kept_over ls (place + i) ≡ n)) → kept_prices place ps ls ≡ n * sum_of ps
+each_full n place [] ls are = omega arith
+each_full n place (p ∷ ps) ls are =
+    let later = each_full n (place + 1) ps ls (λ i. elim (are (suc i)) [ inl none ↦ inl none | inr over ↦ inr (subst (λ (q : ℕ). kept_over ls q ≡ n) (shifted i) over) ]) in
+    let here = at_place (are 0) in
+    let parts = mul-add n p (sum_of ps) in
+    omega arith
+  where
+    shifted : (i : ℕ) → place + suc i ≡ place + 1 + i
+    shifted i = omega arith
+
+    at_place : ((p ≡ 0) ⊎ (kept_over ls (place + 0) ≡ n)) → p * kept_over ls place ≡ n * p
+    at_place (inl none) = rw none (omega arith)
+    at_place (inr over) =
+        let same : kept_over ls place ≡ n = subst (λ (q : ℕ). kept_over ls q ≡ n) (omega arith) over in
+        rw same (mul_comm p n)
+
+-- where a kept link saves no less than the prices inside of it, and any other no more
+well_priced : (prices : List ℕ) (ls : List Link) → AllByRecursion (λ l. (l.kept ≡ true → price_inside prices l ≤ l.saving) × (l.kept ≡ false → l.saving ≤ price_inside prices l)) ls → kept_savings ls ≡ total (λ l. cond l.kept (inside_from 1 prices l) 0) ls + total (λ l. l.saving - price_inside prices l) ls
+well_priced prices [] well = omega arith
+well_priced prices (l ∷ ls) well =
+    let later = well_priced prices ls well.1 in
+    let here = by l.kept l.saving (price_inside prices l) (inside_from 1 prices l) (price_by_place prices l) well.0 in
+    omega arith
+  where
+    by : (kept : Bool) (saving a b : ℕ) → a ≡ b → (kept ≡ true → a ≤ saving) × (kept ≡ false → saving ≤ a) → cond kept saving 0 ≡ cond kept b 0 + (saving - a)
+    by true saving a b same fit = let le = fit.0 refl in omega arith
+    by false saving a b same fit = let le = fit.1 refl in omega arith
+
 -- ---- the bound goes by the requests alone
 
 -- what links save above prices, whatever is kept
@@ -132,6 +165,20 @@ savings_bounded slots held rs keep prices as_many room =
     let alike = above_alike prices (at_start held) rs keep (map (λ (r : Asked). true) rs) as_many (all_marked rs) in
     omega arith
 
+pub tight : (slots : ℕ) (held : List (List ℕ)) (rs : List Asked) (keep : List Bool) (prices : List ℕ) → length keep ≡ length rs
+    → ((place : ℕ) → (get_or prices place 0 ≡ 0) ⊎ (kept_over (links held rs keep) (place + 1) ≡ slots - 1))
+    → AllByRecursion (λ l. (l.kept ≡ true → price_inside prices l ≤ l.saving) × (l.kept ≡ false → l.saving ≤ price_inside prices l)) (links held rs keep)
+    → kept_savings (links held rs keep) ≡ bound slots (all_links held rs) prices
+tight slots held rs keep prices as_many are well =
+    let parts = well_priced prices (links held rs keep) well in
+    let swapped = by_places 1 prices (links held rs keep) in
+    let whole = each_full (slots - 1) 1 prices (links held rs keep) (λ i. elim (are i) [ inl none ↦ inl none | inr over ↦ inr (subst (λ (q : ℕ). kept_over (links held rs keep) q ≡ slots - 1) (turned i) over) ]) in
+    let alike = above_alike prices (at_start held) rs keep (map (λ (r : Asked). true) rs) as_many (all_marked rs) in
+    omega arith
+  where
+    turned : (i : ℕ) → i + 1 ≡ 1 + i
+    turned i = omega arith
+
 -- ---- what reads save is what kept links save
 
 linked_savings : (asking : Asking) (rs : List Asked) (keep : List Bool) → AreLinked asking rs keep → read_savings rs keep ≡ kept_savings (links_from asking rs keep)
@@ -148,3 +195,34 @@ linked_savings asking (r ∷ rs) (false ∷ keep) linked = linked_savings (after
 
 pub reads_save : (held : List (List ℕ)) (rs : List Asked) (keep : List Bool) → AreLinked (at_start held) rs keep → read_savings rs keep ≡ kept_savings (links held rs keep)
 reads_save held rs keep linked = linked_savings (at_start held) rs keep linked
+
+-- ---- prices as rises from place to place
+
+-- each place's price is the rise from the height of the place before to its own
+abbrev AreRises : List ℕ → (ℕ → ℕ) → Type 0
+AreRises prices height = (i : ℕ) → i < length prices → height i + get_or prices i 0 ≡ height (suc i)
+
+rise_from_first : (n : ℕ) (prices : List ℕ) (height : ℕ → ℕ) → AreRises prices height → n ≤ length prices → height 0 + sum_of (take n prices) ≡ height n
+rise_from_first zero prices height rises le = omega arith
+rise_from_first (suc n) [] height rises le = absurd (omega arith)
+rise_from_first (suc n) (p ∷ ps) height rises le =
+    let first = rises 0 (omega arith) in
+    let later = rise_from_first n ps (λ i. height (suc i)) (λ i lt. rises (suc i) (omega arith)) (omega arith) in
+    omega arith
+
+rise_from : (k n : ℕ) (prices : List ℕ) (height : ℕ → ℕ) → AreRises prices height → k + n ≤ length prices → height k + sum_of (take n (drop k prices)) ≡ height (k + n)
+rise_from zero n prices height rises le =
+    let at : n ≡ 0 + n = omega arith in
+    subst (λ (q : ℕ). height 0 + sum_of (take n prices) ≡ height q) at (rise_from_first n prices height rises (omega arith))
+rise_from (suc k) n [] height rises le = absurd (omega arith)
+rise_from (suc k) n (p ∷ ps) height rises le =
+    let at : suc (k + n) ≡ suc k + n = omega arith in
+    subst (λ (q : ℕ). height (suc k) + sum_of (take n (drop k ps)) ≡ height q) at (rise_from k n ps (λ i. height (suc i)) (λ i lt. rises (suc i) (omega arith)) (omega arith))
+
+pub prices_rise : (prices : List ℕ) (height : ℕ → ℕ) (l : Link) → ((i : ℕ) → i < length prices → height i + get_or prices i 0 ≡ height (i + 1)) → l.from < l.to → l.to ≤ length prices + 1 → height l.from + price_inside prices l ≡ height (l.to - 1)
+prices_rise prices height l rises forward within =
+    let at : l.from + (l.to - 1 - l.from) ≡ l.to - 1 = omega arith in
+    subst (λ (q : ℕ). height l.from + price_inside prices l ≡ height q) at (rise_from l.from (l.to - 1 - l.from) prices height (λ i lt. subst (λ (q : ℕ). height i + get_or prices i 0 ≡ height q) (next i) (rises i lt)) (omega arith))
+  where
+    next : (i : ℕ) → i + 1 ≡ suc i
+    next i = omega arith

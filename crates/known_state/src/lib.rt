@@ -25,9 +25,9 @@ pub use laws::{
     shortest_by_bytes, steps_fit, what_is_built, what_is_known_is_enough,
 };
 pub use plan_laws::{
-    accepted_is_shortest, carried_is_of_the_roster, links_go_forward, names_to_keep,
-    no_list_is_shorter, one_more_request, over_the_next_place, reads_need_slots,
-    reads_save_by_links, savings_are_bounded, slots_stay, tight_is_shortest,
+    accepted_is_shortest, carried_is_of_the_roster, fitting_prices_are_tight, links_go_forward,
+    names_to_keep, no_list_is_shorter, one_more_request, over_the_next_place, prices_add_up,
+    reads_need_slots, reads_save_by_links, savings_are_bounded, slots_stay, tight_is_shortest,
 };
 pub use plans::Plan;
 pub use request::Request;

@@ -1,6 +1,6 @@
 //! What holds of plans: how much reads can save, and what shows that no legal list is shorter.
 
-ghost use Rattle.std.specs.Prelude.{◌≡◌, ◌<◌, ◌≤◌, ◌+◌, ◌-◌, ℕ, Bool, false, true, List, [], ◌∷◌, ◌++◌, length, slice_index_or, None, Some, is_some, if◌then◌else◌};
+ghost use Rattle.std.specs.Prelude.{◌≡◌, ◌<◌, ◌≤◌, ◌⊎◌, ◌+◌, ◌-◌, ℕ, Bool, false, true, List, [], ◌∷◌, ◌++◌, length, slice_index_or, None, Some, is_some, if◌then◌else◌};
 ghost use Rattle.std.specs.List.{AllByRecursion, IsDistinct};
 ghost use Rattle.table_types.specs.declared.update.Update.{Update};
 ghost use Rattle.table_types.specs.Rosters.{is_same_name, roster_fault};
@@ -11,7 +11,7 @@ ghost use Rattle.known_state.specs.State.{State, Legal, Teaches};
 ghost use Rattle.known_state.specs.Known.{AreOwn, KnownState};
 ghost use Rattle.known_state.specs.Requests.{Asked, read_savings, reads_of, requests_of};
 ghost use Rattle.known_state.specs.Cost.{IsOfRoster, Knowledge, full, knowledge_of};
-ghost use Rattle.known_state.specs.Plans.{Accepts, AreLinked, Plan, after_requests, all_links, at_start, bound, keeps_next, kept_from, kept_over, kept_savings, kept_to, link_of, links, names_in};
+ghost use Rattle.known_state.specs.Plans.{Accepts, AreLinked, Link, Plan, after_requests, all_links, at_start, bound, keeps_next, kept_from, kept_over, kept_savings, kept_to, link_of, links, names_in, price_inside};
 ghost use Rattle.known_state.specs.Shortest.{Shortest};
 
 /// Messages take no slot away and add none.
@@ -81,6 +81,25 @@ pub fn savings_are_bounded()
     ensures { (slots : ℕ) (held : List (List ℕ)) (rs : List Asked) (keep : List Bool) (prices : List ℕ) →
         length keep ≡ length rs → ((place : ℕ) → kept_over (links held rs keep) place ≤ slots - 1) →
         kept_savings (links held rs keep) ≤ bound slots (all_links held rs) prices }
+{}
+
+/// Prices show that kept links save the bound where they fit them: each place with a price is inside of as many kept
+/// links as there are slots but one, a kept link saves no less than the prices inside of it, and any other no more.
+pub fn fitting_prices_are_tight()
+    ensures { (slots : ℕ) (held : List (List ℕ)) (rs : List Asked) (keep : List Bool) (prices : List ℕ) →
+        length keep ≡ length rs →
+        ((place : ℕ) → (slice_index_or prices place 0 ≡ 0) ⊎ (kept_over (links held rs keep) (place + 1) ≡ slots - 1)) →
+        AllByRecursion (λ l. (l.kept ≡ true → price_inside prices l ≤ l.saving)
+        × (l.kept ≡ false → l.saving ≤ price_inside prices l)) (links held rs keep) →
+        kept_savings (links held rs keep) ≡ bound slots (all_links held rs) prices }
+{}
+
+/// Where the price of each place is the rise from the height of the place before to its own, the prices inside of a link
+/// are the rise from the place that it comes from to the last inside of it.
+pub fn prices_add_up()
+    ensures { (prices : List ℕ) (height : ℕ → ℕ) (l : Link) →
+        ((i : ℕ) → i < length prices → height i + slice_index_or prices i 0 ≡ height (i + 1)) →
+        l.from < l.to → l.to ≤ length prices + 1 → height l.from + price_inside prices l ≡ height (l.to - 1) }
 {}
 
 /// Where each request that is read has a link, what the reads save is what the links save that are kept so.
