@@ -1,5 +1,5 @@
 -- What a teacher knows of its learner, and why a message is refused there (profile).
-use Rattle.std.specs.Prelude.{◌≡◌, ◌≢◌, ◌==◌, ◌&&◌, ℕ, Bool, true, false, not, ◌||◌, List, [], ◌∷◌, fold, is_none, Option, Some, None, if◌then◌else◌}
+use Rattle.std.specs.Prelude.{◌≡◌, ◌≢◌, ◌==◌, ◌&&◌, ℕ, Bool, true, false, not, ◌||◌, List, [], ◌∷◌, fold, is_none, Option, Some, None, codes, if◌then◌else◌}
 use Rattle.std.specs.List.{AllByRecursion, list_any, list_all}
 use Rattle.table_types.specs.Tables.{Definition}
 use Rattle.table_types.specs.Updates.{stores_name}
@@ -112,6 +112,15 @@ abbrev pub refused_as : Refusal → StepError
 refused_as refusals.NoNumber = step_errors.NoNumber
 refused_as refusals.EmptySlot = step_errors.EmptySlot
 refused_as refusals.Memory = step_errors.Memory
+
+-- the word for the cause
+abbrev pub step_error_name : StepError → List ℕ
+step_error_name step_errors.NotDefined = codes "NotDefined"
+step_error_name step_errors.NoTable = codes "NoTable"
+step_error_name step_errors.NoNumber = codes "NoNumber"
+step_error_name step_errors.EmptySlot = codes "EmptySlot"
+step_error_name step_errors.Foreign = codes "Foreign"
+step_error_name step_errors.Memory = codes "Memory"
 
 -- no cause but want of memory refuses the message
 abbrev pub IsTakenBy : KnownState → Message → Type 0

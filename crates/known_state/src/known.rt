@@ -7,7 +7,7 @@ ghost use Rattle.peers_msg.specs.Fitting.{fits, IsPlain};
 ghost use Rattle.known_state.specs.State.{Step, IsOwn};
 ghost use Rattle.known_state.specs.declared.effect.Effect.TheVariants as effects;
 ghost use Rattle.known_state.specs.Effects.{written_by};
-ghost use Rattle.known_state.specs.Known.{known_of, KnownState, AreOwn, fresh_of, build_fault, built, Refuses, refused_as, IsTakenBy, IsLegalEffect};
+ghost use Rattle.known_state.specs.Known.{known_of, KnownState, AreOwn, fresh_of, build_fault, built, Refuses, refused_as, IsTakenBy, IsLegalEffect, step_error_name};
 ghost use Rattle.known_state.specs.LastNumbers.{AreRising};
 ghost use Rattle.known_state.specs.declared.known.KnownError.{KnownError};
 ghost use Rattle.known_state.specs.declared.known.KnownError.TheVariants as build_errors;
@@ -71,6 +71,22 @@ pub enum StepError {
     /// Memory was wanted, and the growth was refused.
     #[error("memory")]
     Memory,
+}
+
+impl StepError {
+    /// The error's name, as the source writes it: `NotDefined`, `NoTable` and so on.
+    pub fn name(self) -> &'static str
+        ensures { result.now ≡ step_error_name self }
+    {
+        match self {
+            StepError::NotDefined => "NotDefined",
+            StepError::NoTable => "NoTable",
+            StepError::NoNumber => "NoNumber",
+            StepError::EmptySlot => "EmptySlot",
+            StepError::Foreign => "Foreign",
+            StepError::Memory => "Memory",
+        }
+    }
 }
 
 impl From<Memory> for StepError {

@@ -1,13 +1,14 @@
 -- What is said of a stream and of prices: whether the stream teaches the batch, and whether the prices show that no other that
 -- does is shorter (profile).
-use Rattle.std.specs.Prelude.{◌≡◌, ◌≢◌, ◌≤◌, ℕ, ◌+◌, ◌-◌, ◌^◌, nat_lt, true, List, [], ◌∷◌, ◌++◌, length, Option, Some, None, Ok, Err}
+use Rattle.std.specs.Prelude.{◌≡◌, ◌≢◌, ◌≤◌, ℕ, ◌+◌, ◌-◌, ◌^◌, nat_lt, true, List, [], ◌∷◌, ◌++◌, length, Option, Some, None, Ok, Err, codes}
 use Rattle.std.specs.List.{AllByRecursion, list_any}
 use Rattle.table_types.specs.declared.update.Update.{Update}
 use Rattle.peers_msg.specs.declared.message.Message.{Message}
+use Rattle.peers_msg.specs.Breaches.{breach_name}
 use Rattle.peers_msg.specs.Reading.{message_at}
 use Rattle.peers_msg.specs.Spelling.{stream_of}
 use Rattle.known_state.specs.State.{State, Legal}
-use Rattle.known_state.specs.Known.{KnownState, Refuses}
+use Rattle.known_state.specs.Known.{KnownState, Refuses, step_error_name}
 use Rattle.known_state.specs.Cost.{full, knowledge_of}
 use Rattle.known_state.specs.Requests.{Asked, requests_of}
 use Rattle.known_state.specs.Plans.{all_links, bound, names_in}
@@ -106,3 +107,11 @@ IsNotLegal verdict = (illegal : Illegal) × (place : ℕ) × (verdict ≡ verdic
 -- it is legal, and carries other updates
 abbrev pub IsNotCarried : Verdict → Type 0
 IsNotCarried verdict = (index : ℕ) × (verdict ≡ verdicts.NotCarried index)
+
+-- ---- words
+
+-- the word for the cause
+abbrev pub illegal_name : Illegal → List ℕ
+illegal_name (illegals.Decode breach) = breach_name breach
+illegal_name (illegals.Step error) = step_error_name error
+illegal_name illegals.Cut = codes "Cut"

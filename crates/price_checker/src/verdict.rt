@@ -1,5 +1,8 @@
 //! Verdicts.
 
+ghost use Rattle.std.specs.Prelude.{◌≡◌};
+ghost use Rattle.price_checker.specs.Verdicts.{illegal_name};
+
 use known_state::StepError;
 use peers_msg::Breach;
 
@@ -12,6 +15,19 @@ pub enum Illegal {
     Step(StepError),
     /// The stream ends before the message is whole.
     Cut,
+}
+
+impl Illegal {
+    /// The name of the cause: that of the breach or of the step's error, or `Cut`.
+    pub fn name(self) -> &'static str
+        ensures { result.now ≡ illegal_name self }
+    {
+        match self {
+            Illegal::Decode(breach) => breach.name(),
+            Illegal::Step(error) => error.name(),
+            Illegal::Cut => "Cut",
+        }
+    }
 }
 
 /// What the checker says of a stream and its prices: the first that applies, in this order.

@@ -6,3 +6,4 @@ pub mod Names
 pub mod Numbers
 pub mod Rows
 pub mod Words
+pub mod Verdicts

@@ -1,4 +1,4 @@
-//! The text of the program, in both directions: scenes as they are read, and lessons, rows and acknowledgements as
+//! The text of the program, in both directions: scenes as they are read, and lessons, verdicts, rows and acknowledgements as
 //! they are printed. What a scene writes and what is printed have the same form, and each form stands in one module.
 #![tactic(auto)]
 
@@ -16,6 +16,7 @@ mod scene;
 mod tables;
 mod updates;
 mod values;
+mod verdicts;
 mod words;
 
 pub use acks::push_acks;
@@ -24,3 +25,4 @@ pub use laws::printed_is_read;
 pub use lessons::printed_lesson;
 pub use rows::push_row;
 pub use scene::{Scene, read_scene};
+pub use verdicts::printed_verdict;
