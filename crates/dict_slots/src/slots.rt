@@ -73,6 +73,7 @@ impl Slots {
         ensures found { IfSome result (λ slot. Holds self.now slot name.now) }
         ensures lowest { IfSome result (λ slot. (other : ℕ) → Holds self.now other name.now → slot ≤ other) }
         ensures absent { IsNone result → (slot : ℕ) → Holds self.now slot name.now → ⊥ }
+        ensures count { length self.now ≡ 128 }
     {
         for (place, held) in self.places.iter().enumerate() {
             if holds(held, name) {

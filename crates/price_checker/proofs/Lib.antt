@@ -1,3 +1,11 @@
+pub mod SumsOfPrices
+pub mod LinksGoForward
+pub mod TheBoundIsOfAllLinks
+pub mod LastPlaces
+pub mod NamesInSlots
+pub mod LinksAreFound
+pub mod RoomIsKept
+pub mod PlansAreAccepted
 pub mod ComparisonLemmas
 pub mod StreamLemmas
 pub mod OneReading

@@ -1,2 +1,4 @@
+pub mod NamesHeld
+pub mod Links
 pub mod Verdicts
 pub mod Readings

@@ -1,0 +1,46 @@
+-- Counts of the links over places.
+use Rattle.std.proofs.Common.{◌≡◌, ℕ, zero, suc, ◌+◌, ◌-◌, ◌<◌, ◌≤◌, Bool, true, false, ◌&&◌, cond, List, [], ◌∷◌, length, get_or, replicate, slice_index, refl, sym, ap, ◌∙◌, subst, inl, inr, arith}
+use Rattle.std.specs.Prelude.{nat_lt, EachIndex}
+use Rattle.std.proofs.lemmas.Bool.{cases_lt}
+use Rattle.std.proofs.lemmas.Bool.Decides.{nat_tests}
+use Rattle.known_state.specs.Plans.{Link, is_inside, kept_over}
+use Rattle.price_checker.specs.Links.{AreWithin}
+
+-- a list of zeros has 0 at each index, and past its end
+pub zero_at : (n index : ℕ) → ◌≡◌ {A = ℕ} (get_or (replicate n 0) index 0) 0
+zero_at zero index = refl
+zero_at (suc n) zero = refl
+zero_at (suc n) (suc index) = zero_at n index
+
+-- a place is inside of no more links than there are
+pub kept_over_few : (ls : List Link) (place : ℕ) → kept_over ls place ≤ length ls
+kept_over_few [] place = omega arith
+kept_over_few (l ∷ ls) place = by (l.kept && is_inside place l) (kept_over_few ls place)
+  where
+    by : (b : Bool) → kept_over ls place ≤ length ls → cond b 1 0 + kept_over ls place ≤ length (l ∷ ls)
+    by true few = omega arith
+    by false few = omega arith
+
+both_false : (a b c : Bool) → c ≡ false → (a && (b && c)) ≡ false
+both_false true true c is = is
+both_false true false c is = refl
+both_false false b c is = refl
+
+-- a place behind all of them is inside of none
+pub none_over : (places : ℕ) (ls : List Link) (place : ℕ) → AreWithin places ls → places ≤ place → kept_over ls place ≡ 0
+none_over places [] place within behind = refl
+none_over places (l ∷ ls) place ((forward, to), others) behind =
+    let before : nat_lt place l.to ≡ false = grind (arith, nat_tests) in
+    let outside : (l.kept && is_inside place l) ≡ false = both_false l.kept (nat_lt l.from place) (nat_lt place l.to) before in
+    ap (λ (b : Bool). cond b 1 0 + kept_over ls place) outside ∙ ap (λ (n : ℕ). 0 + n) (none_over places ls place others behind)
+
+-- the counts at all places are below the slots, so those at any place are
+pub room_kept : (slots : ℕ) (counts : List ℕ) (ls : List Link) → 1 ≤ slots → length counts ≡ 512 → AreWithin 512 ls → ((place : ℕ) → slice_index counts place ≡ kept_over ls place) → EachIndex counts (λ index. slice_index counts index < slots) → (place : ℕ) → kept_over ls place ≤ slots - 1
+room_kept slots counts ls some long within counted below place = elim (cases_lt place 512) [
+  | inl before ↦ omega (arith, below place (omega arith), counted place)
+  | inr behind ↦ omega (arith, none_over 512 ls place within behind)
+]
+
+-- and the other way round
+pub room_below : (slots : ℕ) (counts : List ℕ) (ls : List Link) → 1 ≤ slots → ((place : ℕ) → slice_index counts place ≡ kept_over ls place) → ((place : ℕ) → kept_over ls place ≤ slots - 1) → EachIndex counts (λ index. slice_index counts index < slots)
+room_below slots counts ls some counted room = λ index before. omega (arith, room index, counted index)

@@ -1,0 +1,12 @@
+use Rattle.std.proofs.Common.{◌≡◌, ◌≤◌, ◌↔◌, ◌++◌, IsTrue, length, take, drop}
+use Rattle.known_state.specs.Plans.{at_start, links, links_from, AreLinked}
+use Rattle.price_checker.specs.NamesHeld.{names_held}
+use Rattle.price_checker.specs.Links.{after_requests}
+use Rattle.price_checker.proofs.search.find_links.Given as goal
+
+abbrev pub invariant-loop-index : goal.invariant-loop-index
+invariant-loop-index l = record {
+  count : length l.links ≤ l.index;
+  found : l.links ++ links_from (after_requests (at_start (names_held l.held)) (take l.index l.requests)) (drop l.index l.requests) (drop l.index l.keep) ≡ links (names_held l.held) l.requests l.keep;
+  linked : (IsTrue l.linked × AreLinked (after_requests (at_start (names_held l.held)) (take l.index l.requests)) (drop l.index l.requests) (drop l.index l.keep)) ↔ AreLinked (at_start (names_held l.held)) l.requests l.keep;
+}

@@ -1,0 +1,59 @@
+//! What links can save at most.
+
+ghost use Rattle.std.specs.Prelude.{◌≡◌, ◌<◌, ◌≤◌, ◌-◌, ◌^◌, length};
+ghost use Rattle.std.specs.List.{AllByRecursion};
+ghost use Rattle.known_state.specs.Plans.{sum_of, price_inside, kept_savings, bound};
+ghost use Rattle.price_checker.specs.Links.{AreWithin};
+
+use crate::links::Link;
+
+fn sum_of(numbers: &[u64]) -> u64
+    requires { sum_of numbers.now < 2 ^ 64 }
+    ensures { result ≡ sum_of numbers.now }
+{
+    let mut sum = 0;
+    for number in numbers {
+        sum += *number;
+    }
+    sum
+}
+
+/// What a link saves above the prices inside of it.
+fn saved_above(link: &Link, prices: &[u64]) -> u64
+    requires within { (link.now.from < link.now.to) × (link.now.to ≤ length prices.now) }
+    requires small { sum_of prices.now < 2 ^ 64 }
+    ensures saved { result ≡ link.now.saving - price_inside prices.now link.now }
+    ensures word { result < 2 ^ 32 }
+{
+    let saving = u64::from(link.saving);
+    saving.saturating_sub(sum_of(&prices[link.from..link.to - 1]))
+}
+
+/// What the links can save at most with so many slots, 1 to 128, as these prices show: at most 512, and each at most
+/// 2^32.
+pub fn bound(slots: usize, links: &[Link], prices: &[u64]) -> u64
+    requires slots { (1 ≤ slots) × (slots ≤ 128) }
+    requires prices { (length prices.now ≤ 512) × AllByRecursion (λ price. price ≤ 2 ^ 32) prices.now }
+    requires links { (length links.now ≤ 512) × AreWithin (length prices.now) links.now }
+    ensures { result ≡ bound slots links.now prices.now }
+{
+    let mut above = 0;
+    for link in links {
+        above += saved_above(link, prices);
+    }
+    (slots as u64 - 1) * sum_of(prices) + above
+}
+
+/// What the kept links save: of at most 512 links.
+pub fn kept_savings(links: &[Link]) -> u64
+    requires { length links.now ≤ 512 }
+    ensures { result ≡ kept_savings links.now }
+{
+    let mut saved = 0;
+    for link in links {
+        if link.kept {
+            saved += u64::from(link.saving);
+        }
+    }
+    saved
+}

@@ -1,0 +1,82 @@
+//! Links between requests for one name.
+
+ghost use Rattle.std.specs.Prelude.{◌≡◌, ◌<◌, ◌≤◌, [], ◌∷◌, ◌++◌, length};
+
+use std::marker::Model;
+use table_types::Batch;
+
+/// The most requests that are looked at: as many as a batch has updates.
+pub const MOST_REQUESTS: usize = Batch::MOST;
+
+/// A link: from the place at which a name was requested last, or 0 where it is held at the start, to the place at which
+/// it is requested again; what is saved where its name is read, in bytes; and whether the plan keeps that request.
+#[derive(Clone, Copy, Debug)]
+pub struct Link {
+    pub from: usize,
+    pub to: usize,
+    pub saving: u32,
+    pub kept: bool,
+}
+
+impl Model for Link {
+    ghost use Rattle.known_state.specs.Plans.{Link};
+
+    ghost Value = { Link };
+
+    ghost view = { λ l. record { from = l.from; to = l.to; saving = l.saving; kept = l.kept } };
+
+    ghost inverse = { λ l. record { from = l.from; to = l.to; saving = l.saving; kept = l.kept } };
+}
+
+/// The links of at most 512 requests, in order. They lie in the value itself, so they take no memory.
+#[derive(Debug, Drop)]
+pub struct Links {
+    links: [Link; MOST_REQUESTS],
+    count: usize,
+}
+
+impl Model for Links {
+    ghost use Rattle.std.specs.Prelude.{◌≡◌, ◌≤◌, List, length, take};
+    ghost use Rattle.known_state.specs.Plans.{Link};
+
+    ghost Value = { List Link };
+
+    ghost view = { λ a. take a.count a.links };
+
+    ghost invariant = { λ a. (length a.links ≡ 512) × (a.count ≤ 512) };
+}
+
+impl Links {
+    /// No links.
+    pub fn new() -> Links
+        ensures { result ≡ [] }
+    {
+        let none = Link {
+            from: 0,
+            to: 0,
+            saving: 0,
+            kept: false,
+        };
+        Links {
+            links: [none; MOST_REQUESTS],
+            count: 0,
+        }
+    }
+
+    /// One more, where there are less than 512.
+    pub fn push(&mut self, link: Link)
+        requires { length self.old < 512 }
+        ensures { self.new ≡ self.old ++ link ∷ [] }
+    {
+        self.links[self.count] = link;
+        self.count += 1;
+    }
+
+    /// The links, in order.
+    pub fn as_slice(&self) -> &[Link]
+        ensures links { result.now ≡ self.now }
+        ensures most { length self.now ≤ 512 }
+    {
+        &self.links[..self.count]
+    }
+}

@@ -1,0 +1,46 @@
+//! The check of a plan.
+
+ghost use Rattle.std.specs.Prelude.{◌≤◌, ◌^◌, ◌↔◌, IsTrue, length};
+ghost use Rattle.std.specs.List.{AllByRecursion};
+ghost use Rattle.known_state.specs.Plans.{Accepts};
+
+use crate::bound::{bound, kept_savings};
+use crate::names_held::Held;
+use crate::room::have_room;
+use crate::search::find_links;
+use known_state::{Plan, Request};
+use table_types::Name;
+
+/// The greatest price.
+pub const MOST_PRICE: u64 = 1 << 32;
+
+/// Whether no price is above 2^32.
+pub fn are_prices(prices: &[u64]) -> bool
+    ensures { IsTrue result ↔ AllByRecursion (λ price. price ≤ 2 ^ 32) prices.now }
+{
+    prices.iter().all(|price| *price <= MOST_PRICE)
+}
+
+/// Whether the plan is accepted, for requests where these names are held at the start, with so many slots. It has one mark
+/// and one price for each request; no price is above 2^32; each kept request has a link; no place is inside of more
+/// kept links than there are slots but one; and the kept links together save what links can save at most with these
+/// prices. So no other choice of requests that are read saves more. It takes no memory.
+///
+/// There are 1 to 128 slots, at most as many names held, and at most 512 requests.
+pub fn check_plan(slots: usize, held: &[Name], requests: &[Request], plan: &Plan) -> bool
+    requires slots { (1 ≤ slots) × (slots ≤ 128) }
+    requires held { length held.now ≤ slots }
+    requires requests { length requests.now ≤ 512 }
+    ensures { IsTrue result ↔ Accepts slots held.now requests.now plan.now }
+{
+    let (keep, prices) = (plan.keep(), plan.prices());
+    if keep.len() != requests.len() || prices.len() != requests.len() || !are_prices(prices) {
+        return false;
+    }
+    let (found, linked) = find_links(Held::Names(held), requests, keep);
+    let links = found.as_slice();
+    if !linked || !have_room(slots, links) {
+        return false;
+    }
+    kept_savings(links) == bound(slots, links, prices)
+}

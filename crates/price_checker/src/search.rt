@@ -1,0 +1,65 @@
+//! Finding the links of requests.
+
+ghost use Rattle.std.specs.Prelude.{◌≡◌, ◌+◌, ◌≤◌, ◌<◌, ◌↔◌, IsTrue, ◌||◌, not, is_some, length, option_to_list};
+ghost use Rattle.known_state.specs.Plans.{at_start, links, link_of, AreLinked};
+ghost use Rattle.price_checker.specs.NamesHeld.{names_held};
+ghost use Rattle.price_checker.specs.Links.{after_requests};
+
+use crate::links::{Link, Links};
+use crate::names_held::Held;
+use known_state::Request;
+use table_types::{Name, is_same_name};
+
+/// The place at which the name was requested last: 0 where it wasn't and is held at the start.
+fn last_place(held: Held<'_>, before: &[Request], name: &Name) -> Option<usize>
+    ensures { result ≡ (after_requests (at_start (names_held held.entry)) before.now).last name.now }
+{
+    let mut place = before.len();
+    while place > 0 {
+        if is_same_name(before[place - 1].name().as_slice(), name.as_slice()) {
+            return Some(place);
+        }
+        place -= 1;
+    }
+    if held.has(name) { Some(0) } else { None }
+}
+
+/// The link of the request at a place, where its name was last requested or held.
+fn link_of(from: Option<usize>, to: usize, request: &Request, kept: bool) -> Option<Link>
+    ensures { option_to_list result ≡ link_of from to request.now kept }
+{
+    let from = from?;
+    Some(Link {
+        from,
+        to,
+        saving: request.write_cost() - request.read_cost(),
+        kept,
+    })
+}
+
+/// Whether a request has a link, or isn't kept.
+fn is_linked(from: Option<usize>, kept: bool) -> bool
+    ensures { result ≡ (is_some from || not kept) }
+{
+    from.is_some() || !kept
+}
+
+/// The links of requests where these names are held at the start, each with the mark of its request, and whether each
+/// request that is kept has one.
+pub fn find_links(held: Held<'_>, requests: &[Request], keep: &[bool]) -> (Links, bool)
+    requires most { length requests.now ≤ 512 }
+    requires marks { length keep.now ≡ length requests.now }
+    ensures links { result.0 ≡ links (names_held held.entry) requests.now keep.now }
+    ensures linked { IsTrue result.1 ↔ AreLinked (at_start (names_held held.entry)) requests.now keep.now }
+{
+    let mut links = Links::new();
+    let mut linked = true;
+    for (index, request) in requests.iter().enumerate() {
+        let from = last_place(held, &requests[..index], request.name());
+        linked &= is_linked(from, keep[index]);
+        if let Some(link) = link_of(from, index + 1, request, keep[index]) {
+            links.push(link);
+        }
+    }
+    (links, linked)
+}

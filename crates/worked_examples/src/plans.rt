@@ -1,0 +1,146 @@
+//! Plans: which are accepted, and at which prices.
+
+use example_parts::named;
+use known_state::{Plan, Request};
+use price_checker::check_plan;
+use std::alloc::Global;
+use table_types::{Batch, Name};
+
+/// Requests of names of one letter, with the costs of their writes: a read costs 20.
+struct Case {
+    slots: usize,
+    held: &'static [u8],
+    asked: &'static [(u8, u32)],
+}
+
+/// `A`, `B`, `C`, `B` and `A` again, with two slots that hold nothing.
+const TWO_SLOTS: Case = Case {
+    slots: 2,
+    held: b"",
+    asked: &[(b'A', 30), (b'B', 22), (b'C', 22), (b'B', 22), (b'A', 30)],
+};
+
+/// `A` twice, `B`, and `A` again, with one slot that holds nothing.
+const ONE_SLOT: Case = Case {
+    slots: 1,
+    held: b"",
+    asked: &[(b'A', 30), (b'A', 30), (b'B', 30), (b'A', 30)],
+};
+
+/// `B` and `A` where a slot holds `A`: with two slots, and with that one alone.
+const HELD: [Case; 2] = [
+    Case {
+        slots: 2,
+        held: b"A",
+        asked: &[(b'B', 30), (b'A', 30)],
+    },
+    Case {
+        slots: 1,
+        held: b"A",
+        asked: &[(b'B', 30), (b'A', 30)],
+    },
+];
+
+fn names(alloc: Global, letters: &[u8]) -> Option<Vec<Name>> {
+    let mut names = Vec::new(alloc);
+    for letter in letters {
+        names.push(named(alloc, &[*letter])?).ok()?;
+    }
+    Some(names)
+}
+
+fn requests(alloc: Global, asked: &[(u8, u32)]) -> Option<Vec<Request>> {
+    let mut requests = Vec::new(alloc);
+    for (letter, write_cost) in asked {
+        let request = Request::new(named(alloc, &[*letter])?, 20, *write_cost)?;
+        requests.push(request).ok()?;
+    }
+    Some(requests)
+}
+
+/// The plan that keeps the requests at these places, with so many marks, at these prices.
+fn plan(alloc: Global, marks: usize, kept: &[usize], prices: &[u64]) -> Option<Plan> {
+    let mut keep = Vec::new(alloc);
+    for place in 0..marks {
+        keep.push(kept.contains(&(place + 1))).ok()?;
+    }
+    Some(Plan::new(keep, Vec::from_slice(alloc, prices).ok()?))
+}
+
+/// Whether that plan is accepted.
+fn is_accepted(
+    alloc: Global,
+    case: &Case,
+    marks: usize,
+    kept: &[usize],
+    prices: &[u64],
+) -> Option<bool> {
+    let held = names(alloc, case.held)?;
+    let requests = requests(alloc, case.asked)?;
+    let plan = plan(alloc, marks, kept, prices)?;
+    if case.slots < 1 || case.slots > 128 || held.len() > case.slots {
+        return None;
+    }
+    if requests.len() > Batch::MOST {
+        return None;
+    }
+    Some(check_plan(case.slots, held.as_slice(), requests.as_slice(), &plan))
+}
+
+/// How many marks, the places kept, the prices, and whether that is accepted.
+type Row = (usize, &'static [usize], &'static [u64], bool);
+
+static WITH_TWO_SLOTS: [Row; 9] = [
+    (5, &[5], &[0, 0, 10, 0, 0], true),
+    (5, &[5], &[0, 0, 2, 0, 0], true),
+    (5, &[5], &[0, 0, 1, 0, 0], false),
+    (5, &[4], &[0, 0, 10, 0, 0], false),
+    (5, &[4], &[0, 0, 1, 0, 0], false),
+    (5, &[4, 5], &[0, 0, 0, 0, 0], false),
+    (4, &[], &[0, 0, 10, 0, 0], false),
+    (5, &[5], &[0, 0, 10, 0], false),
+    (5, &[5], &[0, 0, 4_294_967_296, 0, 0], false),
+];
+
+static WITH_ONE_SLOT: [Row; 6] = [
+    (4, &[2], &[0, 0, 10, 0], true),
+    (4, &[2], &[0, 0, 9, 0], false),
+    (4, &[2], &[0, 0, 4_294_967_296, 0], true),
+    (4, &[2], &[0, 0, 4_294_967_297, 0], false),
+    (4, &[1, 2], &[0, 0, 10, 0], false),
+    (4, &[2, 4], &[0, 0, 10, 0], false),
+];
+
+/// With two slots, and with one.
+static WITH_A_NAME_HELD: [(usize, Row); 5] = [
+    (0, (2, &[2], &[0, 0], true)),
+    (0, (2, &[], &[0, 0], false)),
+    (1, (2, &[2], &[10, 0], false)),
+    (1, (2, &[], &[10, 0], true)),
+    (1, (2, &[], &[9, 0], false)),
+];
+
+#[test]
+fn two_slots(rt: HostRuntime) {
+    for (marks, kept, prices, accepted) in &WITH_TWO_SLOTS {
+        let answer = is_accepted(rt.alloc(), &TWO_SLOTS, *marks, *kept, *prices);
+        assert!(rt; answer == Some(*accepted), "{kept:?} {prices:?}");
+    }
+}
+
+#[test]
+fn one_slot(rt: HostRuntime) {
+    for (marks, kept, prices, accepted) in &WITH_ONE_SLOT {
+        let answer = is_accepted(rt.alloc(), &ONE_SLOT, *marks, *kept, *prices);
+        assert!(rt; answer == Some(*accepted), "{kept:?} {prices:?}");
+    }
+}
+
+#[test]
+fn name_held(rt: HostRuntime) {
+    for (case, (marks, kept, prices, accepted)) in &WITH_A_NAME_HELD {
+        let case = if *case == 0 { &HELD[0] } else { &HELD[1] };
+        let answer = is_accepted(rt.alloc(), case, *marks, *kept, *prices);
+        assert!(rt; answer == Some(*accepted), "{kept:?} {prices:?}");
+    }
+}
