@@ -1,5 +1,5 @@
 -- What updates ask for and what they cost, one after another.
-use Rattle.std.proofs.Common.{◌≡◌, ℕ, ◌+◌, ◌*◌, ◌≤◌, true, false, ◌&&◌, Bool, List, [], ◌∷◌, ◌++◌, Option, Some, None, refl, sym, ap, ◌∙◌, arith, append_assoc}
+use Rattle.std.proofs.Common.{◌≡◌, ℕ, ◌+◌, ◌*◌, ◌≤◌, true, false, ◌&&◌, Bool, List, [], ◌∷◌, ◌++◌, length, Option, Some, None, refl, sym, ap, ◌∙◌, arith, append_assoc, length-append}
 use Rattle.std.specs.Prelude.{if◌then◌else◌}
 use Rattle.table_types.specs.declared.update.Update.{Update}
 use Rattle.table_types.specs.Tables.{Definition}
@@ -94,3 +94,16 @@ pub asked-named : (roster : List Definition) (k : Knowledge) (u : Update) (name 
 asked-named roster k u name d listed fit is =
     let whole : asking name k u (size_of (messages.Update (sent_as (k.last u.table) (names.Written 1 name) u))) ∷ [] ≡ asked roster k u (Some name) = ap (λ (n : ℕ). asking name k u n ∷ []) (sym (written-named roster k u name d listed fit is)) in
     whole ∙ ap (λ (n : Option (List ℕ)). asked roster k u n) (sym is)
+
+-- there are no more requests than updates
+pub few-asked : (roster : List Definition) (k : Knowledge) (us : List Update) → length (requests_of roster k us) ≤ length us
+few-asked roster k [] = omega arith
+few-asked roster k (u ∷ us) =
+    let later = few-asked roster (knowledge_after k u) us in
+    let both = length-append (asked roster k u u.name) (requests_of roster (knowledge_after k u) us) in
+    let first = one u.name in
+    omega arith
+  where
+    one : (name : Option (List ℕ)) → length (asked roster k u name) ≤ 1
+    one None = omega arith
+    one (Some name) = omega arith

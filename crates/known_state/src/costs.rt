@@ -124,6 +124,7 @@ impl Known {
         ensures requests { IfOk result (λ costing. costing.requests.items ≡ requests_of self.now.roster (knowledge_of self.now.state) batch.now) }
         ensures full { IfOk result (λ costing. costing.full ≡ full self.now.roster self.now.state batch.now) }
         ensures within { IfOk result (λ costing. costing.full ≤ 49164 * length batch.now) }
+        ensures few { IfOk result (λ costing. length costing.requests.items ≤ length batch.now) }
     {
         let updates = batch.updates();
         let mut knowledge = KnowledgeSoFar::of(alloc, self);

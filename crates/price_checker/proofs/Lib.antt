@@ -11,3 +11,5 @@ pub mod StreamLemmas
 pub mod OneReading
 pub mod OneVerdict
 pub mod ShortestIsSaid
+pub mod AllMarks
+pub mod VerdictLemmas

@@ -1,17 +1,13 @@
 -- Of a stream and prices one thing is said.
-use Rattle.std.proofs.Common.{◌≡◌, ◌≢◌, ℕ, suc, ◌+◌, ◌<◌, ◌≤◌, ◌^◌, Bool, true, false, ◌||◌, List, [], ◌∷◌, ◌++◌, length, refl, sym, ap, subst, ◌∙◌, arith, inl, inr, ◌⊎◌}
+use Rattle.std.proofs.Common.{◌≡◌, ◌≢◌, ℕ, suc, ◌≤◌, ◌^◌, true, false, List, [], ◌∷◌, ◌++◌, length, refl, sym, ap, subst, ◌∙◌, inl, inr, ◌⊎◌}
 use Rattle.std.specs.Prelude.{nat_lt, ◌↔◌}
 use Rattle.std.specs.List.{AllByRecursion, list_any}
 use Rattle.std.proofs.lemmas.Bool.{le-ltb}
 use Rattle.table_types.specs.declared.update.Update.{Update}
-use Rattle.peers_msg.specs.declared.message.Message.{Message}
-use Rattle.peers_msg.specs.Spelling.{stream_of}
-use Rattle.known_state.specs.State.{State}
 use Rattle.known_state.specs.Known.{KnownState, AreOwn}
-use Rattle.price_checker.specs.declared.verdict.Illegal.{Illegal}
 use Rattle.price_checker.specs.declared.verdict.Verdict.{Verdict}
 use Rattle.price_checker.specs.declared.verdict.Verdict.TheVariants as verdicts
-use Rattle.price_checker.specs.Verdicts.{AreApartFrom, BeginApart, Carries, Says, Show, StopsBeing, IsNotLegal, IsNotCarried}
+use Rattle.price_checker.specs.Verdicts.{AreApartFrom, BeginApart, Carries, Says, Show, IsNotLegal, IsNotCarried}
 use Rattle.price_checker.proofs.OneReading.{carries_one, stops_or_carries, stops_once}
 
 -- ---- where lists are apart

@@ -1,6 +1,6 @@
 -- What is said of a stream and of prices: whether the stream teaches the batch, and whether the prices show that no other that
 -- does is shorter (profile).
-use Rattle.std.specs.Prelude.{◌≡◌, ◌≢◌, ◌≤◌, ℕ, ◌+◌, ◌-◌, ◌^◌, nat_lt, true, List, [], ◌∷◌, ◌++◌, length, Option, Some, None, Ok, Err, codes}
+use Rattle.std.specs.Prelude.{◌≡◌, ◌≢◌, ◌≤◌, ℕ, ◌+◌, ◌-◌, ◌^◌, nat_lt, true, List, [], ◌∷◌, ◌++◌, length, Some, None, Ok, Err, codes}
 use Rattle.std.specs.List.{AllByRecursion, list_any}
 use Rattle.table_types.specs.declared.update.Update.{Update}
 use Rattle.peers_msg.specs.declared.message.Message.{Message}

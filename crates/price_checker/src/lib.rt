@@ -1,5 +1,6 @@
-//! A checker of plans and of lessons that stands apart from the planner: whether a plan of which names are read is
-//! accepted, and what is to be said of a stream and its prices, since those show that no other saves more bytes (profile).
+//! A checker that stands apart from the planner. It says whether a plan of which names are read is accepted, since its prices
+//! show that no other saves more bytes; and whether a stream teaches a batch, and its prices show that none is shorter
+//! (profile).
 #![tactic(auto)]
 
 mod bound;
@@ -12,7 +13,9 @@ mod reading;
 mod room;
 mod search;
 mod verdict;
+mod verifying;
 
 pub use laws::{one_verdict, said_of_streams, shortest_is_said};
 pub use plan_check::check_plan;
 pub use verdict::{Illegal, Verdict};
+pub use verifying::verify;

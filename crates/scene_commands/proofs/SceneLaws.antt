@@ -1,12 +1,12 @@
 -- What a scene asks for is what was taught or learned.
-use Rattle.std.proofs.Common.{Bool, ◌≡◌, ◌≢◌, ◌∙◌, ◌⊎◌, ◌++◌, inl, inr, List, ap, refl, subst, sym, ℕ}
+use Rattle.std.proofs.Common.{Bool, ◌≡◌, ◌≢◌, ◌∙◌, ◌⊎◌, ◌++◌, inl, inr, List, ap, refl, subst, sym, ℕ, length}
 use Rattle.std.specs.Prelude.{Result, Ok, Err, Some}
 use Rattle.table_types.specs.Tables.{Definition}
 use Rattle.table_types.specs.declared.update.Update.{Update}
 use Rattle.peers_msg.specs.Spelling.{stream_of}
 use Rattle.known_state.specs.State.{State, Legal}
 use Rattle.peers_msg.specs.declared.message.Message.{Message}
-use Rattle.known_state.specs.Known.{KnownState, built}
+use Rattle.known_state.specs.Known.{KnownState}
 use Rattle.known_state.specs.Requests.{AreNameless}
 use Rattle.known_state.specs.Shortest.{Shortest}
 use Rattle.teach_writer.specs.Sending.{GoesThrough}
@@ -14,22 +14,40 @@ use Rattle.learner.specs.declared.fault.Fault.{Fault}
 use Rattle.learner.specs.declared.fault.Fault.TheVariants as faults
 use Rattle.learner.specs.Learning.{LearnerFeeds, Learning, unlearned}
 use Rattle.scene_text.specs.declared.scene.Scene.{Scene}
-use Rattle.scene_commands.specs.Teaching.{start_of, IsLesson}
+use Rattle.price_checker.specs.Verdicts.{Says}
+use Rattle.price_checker.specs.declared.verdict.Verdict.{Verdict}
+use Rattle.price_checker.specs.declared.verdict.Verdict.TheVariants as verdicts
+use Rattle.scene_commands.specs.Settings.{prices_of, start_of}
+use Rattle.scene_commands.specs.Checking.{IsVerdict}
+use Rattle.scene_commands.specs.Teaching.{IsLesson}
 use Rattle.scene_commands.specs.Learning.{AreInRisingId, IsLearned, IsPrinted, acks_text, rows_text}
 use Rattle.scene_commands.specs.declared.ending.Ending.{Ending}
 use Rattle.scene_commands.specs.declared.ending.Ending.TheVariants as endings
 
--- what is taught for the roster, the state and the batch of a scene is the scene's lesson
-pub lesson_of_scene : (scene : Scene) (roster : List Definition) (known : KnownState) (batch : List Update) (ms : List Message) (after : State)
-    → roster ≡ scene.tables.items → known ≡ built roster scene.selected scene.defined.items scene.last.items scene.slots → batch ≡ scene.updates.items
+-- what is taught from the known state of a scene and for its batch is the scene's lesson
+pub lesson_of_scene : (scene : Scene) (known : KnownState) (batch : List Update) (ms : List Message) (after : State)
+    → known ≡ start_of scene → batch ≡ scene.updates.items
     → Legal known.roster known.state ms batch after → (AreNameless batch → Shortest known batch ms) → (marks : List Bool) × GoesThrough known batch marks (stream_of ms) after
     → IsLesson scene ms
 unfolding IsLesson
-lesson_of_scene scene roster known batch ms after roster_is known_is batch_is legal shortest order =
-    let start : known ≡ start_of scene = known_is ∙ ap (λ r. built r scene.selected scene.defined.items scene.last.items scene.slots) roster_is in
+lesson_of_scene scene known batch ms after start batch_is legal shortest order =
     let of_batch : (e : State) × Legal known.roster known.state ms scene.updates.items e × (AreNameless scene.updates.items → Shortest known scene.updates.items ms) × (marks : List Bool) × GoesThrough known scene.updates.items marks (stream_of ms) e =
     subst (λ (us : List Update). (e : State) × Legal known.roster known.state ms us e × (AreNameless us → Shortest known us ms) × (marks : List Bool) × GoesThrough known us marks (stream_of ms) e) batch_is (after, legal, shortest, order.0, order.1) in
     subst (λ (k : KnownState). (e : State) × Legal k.roster k.state ms scene.updates.items e × (AreNameless scene.updates.items → Shortest k scene.updates.items ms) × (marks : List Bool) × GoesThrough k scene.updates.items marks (stream_of ms) e) start of_batch
+
+-- what is said of a stream and prices that are the scene's is the verdict on the scene
+pub verdict_on_scene : (scene : Scene) (known : KnownState) (batch : List Update) (stream prices : List ℕ) (verdict : Verdict)
+    → known ≡ start_of scene → batch ≡ scene.updates.items → stream ≡ scene.stream.items → prices ≡ prices_of scene
+    → Says known batch stream prices verdict
+    → ((bytes : ℕ) → verdict ≡ verdicts.Shortest bytes → (ms : List Message) × (stream ≡ stream_of ms) × (bytes ≡ length stream) × Shortest known batch ms)
+    → IsVerdict scene verdict
+unfolding IsVerdict
+verdict_on_scene scene known batch stream prices verdict start batch_is stream_is prices_is says shortest = (
+  subst (λ (k : KnownState). Says k scene.updates.items scene.stream.items (prices_of scene) verdict) start (subst (λ (us : List Update). Says known us scene.stream.items (prices_of scene) verdict) batch_is (subst (λ (s : List ℕ). Says known batch s (prices_of scene) verdict) stream_is (subst (λ (ps : List ℕ). Says known batch stream ps verdict) prices_is says))),
+  (λ bytes is.
+      let short = shortest bytes is in
+      (short.0, sym stream_is ∙ short.1, subst (λ (k : KnownState). Shortest k scene.updates.items short.0) start (subst (λ (us : List Update). Shortest known us short.0) batch_is short.3))),
+)
 
 -- a learner that knows nothing, and is fed bytes that are the scene's stream
 pub learned_of_scene : (scene : Scene) (now : ℕ) (roster : List Definition) (fresh : Learning) (bytes : List ℕ) (answer : Result ℕ Fault) (l : Learning)
@@ -46,6 +64,7 @@ done_printed scene text endings.Done is printed = printed
 done_printed scene text (endings.Stream fault) is printed = absurd (cc)
 done_printed scene text (endings.Line n) is printed = absurd printed
 done_printed scene text endings.Scene is printed = absurd printed
+done_printed scene text endings.NotShortest is printed = absurd printed
 done_printed scene text endings.Memory is printed = absurd printed
 done_printed scene text endings.Device is printed = absurd printed
 
@@ -58,6 +77,7 @@ fault_printed scene text (endings.Stream other) fault is printed =
     subst (λ f. (l : Learning) × (f ≢ faults.Memory) × IsLearned scene (Err f) l × (text ≡ rows_text l)) same printed
 fault_printed scene text (endings.Line n) fault is printed = absurd printed
 fault_printed scene text endings.Scene fault is printed = absurd printed
+fault_printed scene text endings.NotShortest fault is printed = absurd printed
 fault_printed scene text endings.Memory fault is printed = absurd printed
 fault_printed scene text endings.Device fault is printed = absurd printed
 
@@ -73,5 +93,6 @@ only_printed scene text endings.Done printed done fault = done refl
 only_printed scene text (endings.Stream f) printed done fault = fault f refl
 only_printed scene text (endings.Line n) printed done fault = printed
 only_printed scene text endings.Scene printed done fault = printed
+only_printed scene text endings.NotShortest printed done fault = printed
 only_printed scene text endings.Memory printed done fault = printed
 only_printed scene text endings.Device printed done fault = printed

@@ -13,7 +13,7 @@ use Rattle.table_types.specs.declared.batch.BatchError.TheVariants as batches
 use Rattle.table_types.specs.declared.roster.RosterError.{RosterError}
 use Rattle.table_types.specs.declared.roster.RosterError.TheVariants as rosters
 use Rattle.scene_commands.specs.declared.ending.Ending.{Ending}
-use Rattle.scene_commands.specs.declared.ending.Ending.TheVariants.{Done, Line, Scene, Stream, Memory, Device}
+use Rattle.scene_commands.specs.declared.ending.Ending.TheVariants.{Done, Line, Scene, Stream, NotShortest, Memory, Device}
 
 -- the exit status
 abbrev pub status_of : Ending → ℕ
@@ -21,6 +21,7 @@ status_of Done = 0
 status_of (Line number) = 1
 status_of Scene = 1
 status_of (Stream fault) = 1
+status_of NotShortest = 1
 status_of Memory = 3
 status_of Device = 4
 
@@ -30,6 +31,7 @@ line_of Done = []
 line_of (Line number) = codes "line " ++ (decimal number ++ codes ": refused\n")
 line_of Scene = codes "scene: refused\n"
 line_of (Stream fault) = codes "fault " ++ (fault_name fault ++ codes "\n")
+line_of NotShortest = []
 line_of Memory = codes "memory\n"
 line_of Device = codes "device\n"
 
@@ -37,6 +39,7 @@ line_of Device = codes "device\n"
 abbrev pub IsEarly : Ending → Type 0
 IsEarly Done = ⊥
 IsEarly (Stream fault) = ⊥
+IsEarly NotShortest = ⊥
 IsEarly ending = Unit {0}
 
 -- ---- by which ending each refusal ends a subcommand

@@ -1,3 +1,5 @@
 pub mod Endings
 pub mod Learning
+pub mod Settings
 pub mod Teaching
+pub mod Checking

@@ -3,15 +3,11 @@ use Rattle.std.specs.Prelude.{Bool, List}
 use Rattle.peers_msg.specs.declared.message.Message.{Message}
 use Rattle.peers_msg.specs.Spelling.{stream_of}
 use Rattle.known_state.specs.State.{State, Legal}
-use Rattle.known_state.specs.Known.{KnownState, built}
 use Rattle.known_state.specs.Requests.{AreNameless}
 use Rattle.known_state.specs.Shortest.{Shortest}
 use Rattle.teach_writer.specs.Sending.{GoesThrough}
 use Rattle.scene_text.specs.declared.scene.Scene.{Scene}
-
--- what the learner of a scene knows at the start
-abbrev pub start_of : Scene → KnownState
-start_of scene = built scene.tables.items scene.selected scene.defined.items scene.last.items scene.slots
+use Rattle.scene_commands.specs.Settings.{start_of}
 
 -- The messages are legal from there and carry the scene's updates; they tell one update after another, and nothing else;
 -- and where no update has a name, no others that are legal and carry the same have fewer bytes.

@@ -24,6 +24,8 @@ pub enum Ending {
     Scene,
     /// The stream has a fault: `fault` and its name.
     Stream(Fault),
+    /// The verdict on a stream isn't that it is the shortest. The verdict itself is on the output, and nothing more is said.
+    NotShortest,
     /// Memory ran out: `memory`.
     Memory,
     /// A device failed: `device`.
@@ -31,14 +33,14 @@ pub enum Ending {
 }
 
 impl Ending {
-    /// The exit status of a program that ends so: 0 where all was done, 1 for refused input and a fault of the stream,
-    /// 3 for want of memory, 4 for a device. (2 is for words of a command line that are refused.)
+    /// The exit status of a program that ends so: 0 where all was done, 1 for refused input, a fault of the stream, and a
+    /// stream that isn't the shortest, 3 for want of memory, 4 for a device. (2 is for words of a command line that are refused.)
     pub fn status(self) -> u8
         ensures { result ≡ status_of self }
     {
         match self {
             Ending::Done => 0,
-            Ending::Line(_) | Ending::Scene | Ending::Stream(_) => 1,
+            Ending::Line(_) | Ending::Scene | Ending::Stream(_) | Ending::NotShortest => 1,
             Ending::Memory => 3,
             Ending::Device => 4,
         }
@@ -79,7 +81,7 @@ impl Ending {
         ensures { IfOk result (λ line. string_bytes line ≡ line_of self) }
     {
         match self {
-            Ending::Done => Ok(String::new(alloc)),
+            Ending::Done | Ending::NotShortest => Ok(String::new(alloc)),
             Ending::Line(number) => format!(in alloc; "line {number}: refused\n"),
             Ending::Scene => String::from_str(alloc, "scene: refused\n"),
             Ending::Stream(fault) => {

@@ -1,10 +1,13 @@
 //! The subcommands that read a scene. Each reads its input, writes its output, and answers how it ended.
 #![tactic(auto)]
 
+mod checking;
 mod ending;
 mod learning;
+mod setting;
 mod teaching;
 
+pub use checking::check;
 pub use ending::Ending;
 pub use learning::learn;
 pub use teaching::lesson;

@@ -11,12 +11,11 @@ ghost use Rattle.scene_commands.specs.Endings.{IsEarly, line_of};
 ghost use Rattle.scene_commands.specs.Teaching.{IsLesson};
 
 use crate::ending::Ending;
-use known_state::Known;
+use crate::setting::setting_of;
 use peers_devices::{Faults, read_to_end, write_all};
 use scene_text::{Scene, printed_lesson, read_scene};
 use std::alloc::Global;
 use std::io::{Read, Write};
-use table_types::{Batch, Roster};
 use teach_writer::{Lesson, teach};
 
 /// Reads a scene, and writes the lesson that teaches its updates.
@@ -64,17 +63,6 @@ fn lesson_of(alloc: Global, scene: Scene) -> Result<Lesson, Ending>
     ensures prices { IfOk result (λ lesson. lesson.prices ≡ no_prices scene.updates.items) }
     ensures early { IfErr result IsEarly }
 {
-    let Scene {
-        tables,
-        defined,
-        selected,
-        last,
-        slots,
-        updates,
-        ..
-    } = scene;
-    let roster = Roster::new(tables)?;
-    let batch = Batch::new(&roster, updates)?;
-    let known = Known::build(alloc, roster, selected, defined, last, slots)?;
-    Ok(teach(alloc, &known, &batch)?)
+    let setting = setting_of(alloc, scene)?;
+    Ok(teach(alloc, &setting.known, &setting.batch)?)
 }

@@ -13,7 +13,7 @@ struct Case {
     asked: &'static [(u8, u32)],
 }
 
-/// `A`, `B`, `C`, `B` and `A` again, with two slots that hold nothing.
+/// `A`, `B`, `C`, `B` and `A` again, with two slots that hold nothing at first.
 const TWO_SLOTS: Case = Case {
     slots: 2,
     held: b"",

@@ -1,6 +1,6 @@
-use Rattle.std.proofs.Common.{◌-◌, arith}
+use Rattle.std.proofs.Common.{arith}
 use Rattle.price_checker.proofs.SumsOfPrices.{part_sum}
 use Rattle.price_checker.proofs.bound.saved_above.Goals as goal
 
 pub sum_of-requires : goal.sum_of-requires
-sum_of-requires c = omega (arith, part_sum (c.link.inside.to - 1 - c.link.inside.from) c.link.inside.from c.args.prices.now)
+sum_of-requires c = omega (arith, part_sum)

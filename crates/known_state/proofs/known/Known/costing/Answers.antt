@@ -4,9 +4,9 @@ use Rattle.table_types.specs.declared.update.Update.{Update}
 use Rattle.table_types.specs.Tables.{Definition}
 use Rattle.known_state.specs.Cost.{cost_from, knowledge_of, selection_cost, written_cost}
 use Rattle.known_state.specs.Knowing.{known_so_far}
-use Rattle.known_state.specs.Requests.{asked}
+use Rattle.known_state.specs.Requests.{asked, requests_of}
 use Rattle.known_state.proofs.FullLaws.{full_is_cost}
-use Rattle.known_state.proofs.RequestLemmas.{costed-more}
+use Rattle.known_state.proofs.RequestLemmas.{costed-more, few-asked}
 use Rattle.known_state.proofs.known.Known.costing.Goals as goal
 
 pub loop-update-preserved : goal.loop-update-preserved
@@ -28,3 +28,12 @@ returns-clause-full c =
     let us = c.updates-updates.result.now in
     let whole : take c.loop-update.update-index us ≡ c.args.batch.now = take_all c.loop-update.update-index us c.loop-update-test.false ∙ c.updates-updates.ensures.updates in
     c.loop-update.invariant.1 ∙ ap (cost_from roster (knowledge_of s)) whole ∙ sym (full_is_cost roster s c.args.batch.now)
+
+pub returns-clause-few : goal.returns-clause-few
+returns-clause-few c =
+    let roster = c.args.self.now.roster in
+    let s = c.args.self.now.state in
+    let us = c.updates-updates.result.now in
+    let whole : take c.loop-update.update-index us ≡ c.args.batch.now = take_all c.loop-update.update-index us c.loop-update-test.false ∙ c.updates-updates.ensures.updates in
+    let are : c.loop-update.requests.items ≡ requests_of roster (knowledge_of s) c.args.batch.now = c.loop-update.invariant.0 ∙ ap (requests_of roster (knowledge_of s)) whole in
+    rw are (few-asked roster (knowledge_of s) c.args.batch.now)

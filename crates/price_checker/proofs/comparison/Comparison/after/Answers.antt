@@ -1,4 +1,3 @@
-use Rattle.table_types.specs.declared.update.Update.{Update}
 use Rattle.std.proofs.Common.{subst}
 use Rattle.peers_msg.specs.declared.message.Message.{Message}
 use Rattle.known_state.specs.State.{Step}

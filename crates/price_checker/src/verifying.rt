@@ -1,0 +1,114 @@
+//! What is said of a stream and its prices.
+
+ghost use Rattle.std.specs.Prelude.{◌≡◌, ◌≢◌, ◌≤◌, ◌^◌, ◌↔◌, ℕ, List, length, IfOk};
+ghost use Rattle.std.specs.List.{AllByRecursion};
+ghost use Rattle.table_types.specs.Batches.{IsBatchFor};
+ghost use Rattle.table_types.specs.declared.update.Update.{Update};
+ghost use Rattle.peers_msg.specs.declared.message.Message.{Message};
+ghost use Rattle.peers_msg.specs.Spelling.{stream_of};
+ghost use Rattle.known_state.specs.Known.{KnownState};
+ghost use Rattle.known_state.specs.Cost.{full};
+ghost use Rattle.known_state.specs.Plans.{all_links, bound, names_in};
+ghost use Rattle.known_state.specs.Shortest.{Shortest};
+ghost use Rattle.price_checker.specs.declared.verdict.Verdict.{Verdict};
+ghost use Rattle.price_checker.specs.declared.verdict.Verdict.TheVariants as verdicts;
+ghost use Rattle.price_checker.specs.Verdicts.{requests, Carries, Says, Show, IsNotLegal, IsNotCarried};
+
+use crate::bound::bound;
+use crate::comparison::Comparison;
+use crate::links::MOST_REQUESTS;
+use crate::names_held::Held;
+use crate::plan_check::are_prices;
+use crate::reading::{Reading, read};
+use crate::search::find_links;
+use crate::verdict::Verdict;
+use dict_slots::Slots;
+use known_state::{Costing, Known, Request};
+use std::alloc::Global;
+use table_types::{Batch, Memory};
+
+/// How many bytes reads can save at most in 128 slots, as these prices show.
+fn bound_shown(slots: &Slots, requests: &[Request], prices: &[u64]) -> u64
+    requires requests { length requests.now ≤ 512 }
+    requires prices { (length prices.now ≡ length requests.now) × AllByRecursion (λ price. price ≤ 2 ^ 32) prices.now }
+    ensures { result ≡ bound 128 (all_links (names_in slots.now) requests.now) prices.now }
+{
+    let all = [true; MOST_REQUESTS];
+    let (links, _) = find_links(Held::Slots(slots), requests, &all[..requests.len()]);
+    bound(usize::from(Slots::COUNT), links.as_slice(), prices)
+}
+
+/// What the prices show of a lesson of so many bytes, for a batch that costs so much from a state with these slots.
+fn shown(slots: &Slots, costing: &Costing, size: usize, prices: &[u64]) -> Verdict
+    requires { length costing.now.requests.items ≤ 512 }
+    ensures { (k : KnownState) (us : List Update) → k.state.slots ≡ slots.now → costing.now.requests.items ≡ requests k us →
+        costing.now.full ≡ full k.roster k.state us → Show k us prices.now size result }
+{
+    let requests = costing.requests.as_slice();
+    if prices.len() != requests.len() {
+        return Verdict::PriceCount;
+    }
+    if !are_prices(prices) {
+        return Verdict::PriceRange;
+    }
+    let bound = bound_shown(slots, requests, prices);
+    match costing.full.checked_sub(size) {
+        Some(saved) if saved as u64 == bound => Verdict::Shortest(size),
+        Some(saved) => Verdict::Gap {
+            saved: saved as u64,
+            bound,
+        },
+        None => Verdict::Gap { saved: 0, bound },
+    }
+}
+
+/// What is said of the stream and the prices.
+fn said(
+    alloc: Global,
+    known: &Known,
+    batch: &Batch,
+    stream: &[u8],
+    prices: &[u64],
+) -> Result<Verdict, Memory>
+    requires { IsBatchFor known.now.roster batch.now }
+    ensures { IfOk result (λ verdict. Says known.now batch.now stream.now prices.now verdict) }
+{
+    let updates = batch.updates();
+    match read(alloc, known, updates, stream)? {
+        Reading::Illegal(illegal, place) => Ok(Verdict::NotLegal(illegal, place)),
+        Reading::Legal(Comparison::Apart(index)) => Ok(Verdict::NotCarried(index)),
+        Reading::Legal(Comparison::Same(count)) if count < updates.len() => {
+            Ok(Verdict::NotCarried(count))
+        }
+        Reading::Legal(Comparison::Same(_)) => {
+            let costing = known.costing(alloc, batch)?;
+            Ok(shown(known.slots(), &costing, stream.len(), prices))
+        }
+    }
+}
+
+/// Says of a stream, which is to teach the batch to a learner in the known state, and of a price for each name that the
+/// batch asks for: whether the stream is legal; whether it carries the batch; and whether the prices show that no legal
+/// stream that carries it is shorter. It needs nothing of whoever made them.
+///
+/// The batch was made for the roster of the known state. The messages are read one after another, and each
+/// is compared with the batch; memory is wanted for a copy of the known state, the message at hand, and the requests.
+pub fn verify(
+    alloc: Global,
+    known: &Known,
+    batch: &Batch,
+    stream: &[u8],
+    prices: &[u64],
+) -> Result<Verdict, Memory>
+    requires { IsBatchFor known.now.roster batch.now }
+    ensures says { IfOk result (λ verdict. Says known.now batch.now stream.now prices.now verdict) }
+    ensures exactly { IfOk result (λ verdict. (other : Verdict) → Says known.now batch.now stream.now prices.now other → verdict ≡ other) }
+    ensures legal { IfOk result (λ verdict. IsNotLegal verdict ↔ ((carried : List Update) → Carries known.now stream.now carried → ⊥)) }
+    ensures carried { IfOk result (λ verdict. IsNotCarried verdict ↔ ((carried : List Update) × Carries known.now stream.now carried × (carried ≢ batch.now))) }
+    ensures shortest { IfOk result (λ verdict. (bytes : ℕ) → verdict ≡ verdicts.Shortest bytes →
+        (ms : List Message) × (stream.now ≡ stream_of ms) × (bytes ≡ length stream.now) × Shortest known.now batch.now ms) }
+{
+    let _tables = known.roster().tables();
+    let _slots = known.slots().len();
+    said(alloc, known, batch, stream, prices)
+}

@@ -1,0 +1,31 @@
+-- What `check` says of a scene (profile).
+use Rattle.std.specs.Prelude.{◌≡◌, ℕ, List}
+use Rattle.peers_msg.specs.declared.message.Message.{Message}
+use Rattle.peers_msg.specs.Spelling.{stream_of}
+use Rattle.known_state.specs.Shortest.{Shortest}
+use Rattle.price_checker.specs.Verdicts.{Says}
+use Rattle.price_checker.specs.declared.verdict.Verdict.{Verdict}
+use Rattle.price_checker.specs.declared.verdict.Verdict.TheVariants as verdicts
+use Rattle.scene_text.specs.declared.scene.Scene.{Scene}
+use Rattle.scene_commands.specs.Settings.{prices_of, start_of}
+use Rattle.scene_commands.specs.declared.ending.Ending.{Ending}
+use Rattle.scene_commands.specs.declared.ending.Ending.TheVariants as endings
+
+-- The verdict on the scene's stream and prices, for the batch of its updates. Where it says that the stream is shortest, that
+-- is so.
+unfoldable pub IsVerdict : Scene → Verdict → Type 0
+IsVerdict scene verdict =
+    Says (start_of scene) scene.updates.items scene.stream.items (prices_of scene) verdict
+    × ((bytes : ℕ) → verdict ≡ verdicts.Shortest bytes →
+    (ms : List Message) × (scene.stream.items ≡ stream_of ms) × Shortest (start_of scene) scene.updates.items ms)
+
+-- how the subcommand ends by a verdict
+abbrev pub ending_of : Verdict → Ending
+ending_of (verdicts.Shortest bytes) = endings.Done
+ending_of verdict = endings.NotShortest
+
+-- a verdict is printed
+abbrev pub HasVerdict : Ending → Type 0
+HasVerdict endings.Done = Unit {0}
+HasVerdict endings.NotShortest = Unit {0}
+HasVerdict ending = ⊥
