@@ -6,7 +6,7 @@ use Rattle.clap.specs.Words.{App, fault_of, kind_of, new_app, subcommand_of, wit
 use Rattle.clap.specs.declared.error.kind.ErrorKind.{ErrorKind}
 use Rattle.clap.specs.declared.error.kind.ErrorKind.TheVariants as kinds
 use Rattle.peers_node.specs.declared.choice.Options.{Options}
-use Rattle.peers_node.specs.declared.choice.Options.TheVariants.{Lesson, Learn}
+use Rattle.peers_node.specs.declared.choice.Options.TheVariants.{Lesson, Check, Learn}
 use Rattle.peers_node.specs.declared.command_line.Refusal.{Refusal}
 use Rattle.peers_node.specs.declared.command_line.Refusal.TheVariants.{Parser, NoCommand}
 use Rattle.peers_node.specs.declared.options_error.OptionsError.{OptionsError}
@@ -19,6 +19,7 @@ texts words = map (λ word. word.now) words
 -- the name of the subcommand
 abbrev pub name_of : Options → List ℕ
 name_of Lesson = codes "lesson"
+name_of Check = codes "check"
 name_of Learn = codes "learn"
 
 -- the words are the program's name and then this choice's
@@ -27,11 +28,16 @@ Chooses (program ∷ name ∷ []) chosen = name ≡ name_of chosen
 Chooses _ chosen = ⊥
 
 -- the program as the parser of command lines sees it: with a version, and nothing without a subcommand
+abbrev pub top : App
+top = record { top = record (new_app (codes "peers_node")).top { has_version = true; subcommand_required = true; arg_required_else_help = true }; subs = [] }
+
+-- with the subcommands that write or judge a stream
+abbrev pub teaching : App
+teaching = with_subcommand (with_subcommand top (new_app (codes "lesson")).top) (new_app (codes "check")).top
+
+-- and with all
 abbrev pub program : App
-program = with_subcommand (with_subcommand named (new_app (codes "lesson")).top) (new_app (codes "learn")).top
-  where
-    named : App
-    named = record { top = record (new_app (codes "peers_node")).top { has_version = true; subcommand_required = true; arg_required_else_help = true }; subs = [] }
+program = with_subcommand teaching (new_app (codes "learn")).top
 
 -- the subcommand that the words name, as the parser reads them
 abbrev pub subcommand_named : List (List ℕ) → Option (List ℕ)

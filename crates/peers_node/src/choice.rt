@@ -5,6 +5,8 @@
 pub enum Options {
     /// Read a scene and write its lesson.
     Lesson,
+    /// Read a scene and write the verdict on its stream and prices.
+    Check,
     /// Read a scene and write what a learner makes of its stream.
     Learn,
 }

@@ -2,7 +2,7 @@
 ghost use Rattle.std.specs.Prelude.{◌≡◌, ◌≢◌, [], Err, IfErr, IfOk, IfSome, None, Ok, Some};
 ghost use Rattle.clap.specs.Words.{app_of, kind_of, subcommand_name_of};
 ghost use Rattle.peers_node.specs.declared.options_error.OptionsError.TheVariants as errors;
-ghost use Rattle.peers_node.specs.CommandLine.{Chooses, cause_of, faults_of, name_of, program, subcommand_named, texts};
+ghost use Rattle.peers_node.specs.CommandLine.{Chooses, cause_of, faults_of, name_of, program, subcommand_named, teaching, texts, top};
 
 use crate::choice::Options;
 use crate::options_error::OptionsError;
@@ -50,6 +50,7 @@ fn named(name: &str) -> Option<Options>
 {
     match name {
         "lesson" => Some(Options::Lesson),
+        "check" => Some(Options::Check),
         "learn" => Some(Options::Learn),
         _ => None,
     }
@@ -112,24 +113,39 @@ pub fn read_words<'a>(alloc: Global, words: &'a [&'a str]) -> Result<Options, Re
 /// The version of the program.
 const VERSION: &str = "0.1.0";
 
-/// The program with its subcommands.
-fn command<'a>(alloc: Global) -> Result<Command<'a>, AllocError>
-    ensures { IfOk result (λ command. app_of command ≡ program) }
+/// The program without its subcommands.
+fn top<'a>(alloc: Global) -> Command<'a>
+    ensures { app_of result ≡ top }
 {
-    let lesson = Command::new(alloc, "lesson").about(
-        "Reads a scene, and writes a stream that teaches its updates",
-    );
-    let learn = Command::new(alloc, "learn").about(
-        "Reads a scene, and writes the rows and acknowledgements of a learner of its stream",
-    );
     Command::new(alloc, "peers_node")
         .version(VERSION)
         .about("Shares HAProxy stick tables over the peers protocol")
         .after_help("A scene is read on standard input; docs/FORMATS.md says how it is written.")
         .subcommand_required(true)
         .arg_required_else_help(true)
-        .subcommand(lesson)?
-        .subcommand(learn)
+}
+
+/// The program with the subcommands that write or judge a stream.
+fn teaching<'a>(alloc: Global) -> Result<Command<'a>, AllocError>
+    ensures { IfOk result (λ command. app_of command ≡ teaching) }
+{
+    let lesson = Command::new(alloc, "lesson").about(
+        "Reads a scene, and writes a stream that teaches its updates",
+    );
+    let check = Command::new(alloc, "check").about(
+        "Reads a scene, and says whether its stream teaches its updates in the fewest bytes",
+    );
+    top(alloc).subcommand(lesson)?.subcommand(check)
+}
+
+/// The program with its subcommands.
+fn command<'a>(alloc: Global) -> Result<Command<'a>, AllocError>
+    ensures { IfOk result (λ command. app_of command ≡ program) }
+{
+    let learn = Command::new(alloc, "learn").about(
+        "Reads a scene, and writes the rows and acknowledgements of a learner of its stream",
+    );
+    teaching(alloc)?.subcommand(learn)
 }
 
 /// The choice whose subcommand was met.

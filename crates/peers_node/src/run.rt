@@ -4,7 +4,7 @@ use crate::choice::Options;
 use crate::command_line::{Refusal, choice_of, read_words};
 use crate::options_error::OptionsError;
 use peers_devices::{Counting, Faults, write_all};
-use scene_commands::{Ending, learn, lesson};
+use scene_commands::{Ending, check, learn, lesson};
 use std::alloc::{AllocError, Global};
 use std::env;
 use std::io::{ErrorKind, Write};
@@ -55,6 +55,7 @@ fn dispatched<'a, E: Write + Faults>(rt: &HostRuntime, words: &'a [&'a str], err
     let mut output = Counting::new(rt.stdout());
     match read_words(alloc, words) {
         Ok(Options::Lesson) => lesson(alloc, &mut input, &mut output, errors).status(),
+        Ok(Options::Check) => check(alloc, &mut input, &mut output, errors).status(),
         Ok(Options::Learn) => learn(alloc, &mut input, &mut output, errors).status(),
         Err(refusal) => refused(alloc, words, &refusal, errors),
     }
