@@ -306,11 +306,13 @@ fn first_field(alloc: Global, index: u8) -> Option<NameField> {
 
 /// Each is read there, but for the last but one, which is written to slot 1.
 fn second_field(alloc: Global, index: u8) -> Option<NameField> {
-    match index {
-        127 => Some(NameField::Written(1, cyclic_name(alloc, index)?)),
-        128 => Some(NameField::Held(128)),
-        _ => Some(NameField::Held(index + 1)),
+    if index < 127 {
+        return Some(NameField::Held(index + 1));
     }
+    if index == 127 {
+        return Some(NameField::Written(1, cyclic_name(alloc, index)?));
+    }
+    Some(NameField::Held(128))
 }
 
 fn push(alloc: Global, stream: &mut Vec<u8>, number: Option<u32>, field: NameField) -> Option<()> {
