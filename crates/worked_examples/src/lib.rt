@@ -1,6 +1,6 @@
 //! Examples that were worked out by hand, and what the libraries below make of them: integers, tables, rows, slots,
-//! messages, decoders, known states and plans. There is nothing here but tests: they stand above the libraries and use their
-//! public calls alone, so that no library is proved a second time.
+//! messages, decoders, known states, plans and verdicts. There is nothing here but tests: they stand above the libraries and
+//! use their public calls alone, so that no library is proved a second time.
 #![tactic(auto)]
 
 #[cfg(test)]
@@ -19,3 +19,5 @@ mod rows;
 mod slots;
 #[cfg(test)]
 mod tables;
+#[cfg(test)]
+mod verdicts;
