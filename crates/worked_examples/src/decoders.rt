@@ -108,7 +108,10 @@ static STREAMS: [Stream; 16] = [
     },
     Stream {
         resumed: true,
-        parts: &[(&[0x0A, 0x85, 0xF1, 0xF1, 6], Err(Fault::Breach(Breach::SizeLimit)))],
+        parts: &[(
+            &[0x0A, 0x85, 0xF1, 0xF1, 6],
+            Err(Fault::Breach(Breach::SizeLimit)),
+        )],
         waiting: 0,
     },
     Stream {

@@ -2,7 +2,7 @@
 
 use example_parts::{KeyParts, KnownParts, ST, T1, UpdateParts, known, named, updates};
 use known_state::StepError;
-use peers_msg::{Fault, Message, NameField, UpdateMsg, append};
+use peers_msg::{Breach, Message, NameField, UpdateMsg, append};
 use price_checker::{Illegal, Verdict, verify};
 use std::alloc::Global;
 use table_types::{Batch, Items, Key, Name, Update, Value};
@@ -171,7 +171,7 @@ static ROWS: [Row; 14] = [
         updates: &[COUNT_7, COUNT_8],
         stream: &[SWITCH_TO_1],
         prices: &[],
-        verdict: Verdict::NotLegal(Illegal::Decode(Fault::NoTable), 0),
+        verdict: Verdict::NotLegal(Illegal::Decode(Breach::NoTable), 0),
     },
     Row {
         of: Of::Counts,
