@@ -1,6 +1,6 @@
 //! Examples that were worked out by hand, and what the libraries below make of them: integers, tables, rows, slots,
-//! messages, decoders, known states, plans and verdicts. There is nothing here but tests: they stand above the libraries and
-//! use their public calls alone, so that no library is proved a second time.
+//! messages, decoders and known states. There is nothing here but tests: they stand above the libraries and use their
+//! public calls alone, so that no library is proved a second time.
 #![tactic(auto)]
 
 #[cfg(test)]
@@ -12,12 +12,8 @@ mod known_states;
 #[cfg(test)]
 mod messages;
 #[cfg(test)]
-mod plans;
-#[cfg(test)]
 mod rows;
 #[cfg(test)]
 mod slots;
 #[cfg(test)]
 mod tables;
-#[cfg(test)]
-mod verdicts;
