@@ -19,7 +19,7 @@ use Rattle.known_state.proofs.RefusalLaws.{no_step}
 use Rattle.known_state.proofs.StepIsDeterministic.{one_step}
 use Rattle.price_checker.specs.declared.verdict.Illegal.{Illegal}
 use Rattle.price_checker.specs.declared.verdict.Illegal.TheVariants as illegals
-use Rattle.price_checker.specs.Verdicts.{Carries, IsIllegal, StopsBeing}
+use Rattle.price_checker.specs.Verdicts.{Carries, IsIllegalHere, IsIllegalAt}
 
 never_err : (m : Message) (rest : List ℕ) (breach : Breach) → found m rest ≡ Err breach → ⊥
 never_err m rest breach e = cc
@@ -36,7 +36,7 @@ never_both breach e = cc
 abbrev pub IsStuck : List Definition → State → List ℕ → Type 0
 IsStuck roster s rest = (m : Message) (after : List ℕ) (us : List Update) (e : State) → message_at s.received rest ≡ found m after → IsOwn roster m → Step s m us e → ⊥
 
-pub illegal_is_stuck : (k : KnownState) (rest : List ℕ) (illegal : Illegal) → AreOwn k.roster k.state.received.tables → IsIllegal k rest illegal → IsStuck k.roster k.state rest
+pub illegal_is_stuck : (k : KnownState) (rest : List ℕ) (illegal : Illegal) → AreOwn k.roster k.state.received.tables → IsIllegalHere k rest illegal → IsStuck k.roster k.state rest
 illegal_is_stuck k rest illegals.Cut own is = λ m after us e at is_own step. never_none m after (sym at ∙ is.1)
 illegal_is_stuck k rest (illegals.Decode breach) own is = λ m after us e at is_own step. never_err m after breach (sym at ∙ is)
 illegal_is_stuck k rest (illegals.Step error) own is = λ m after us e at is_own step.
@@ -97,13 +97,13 @@ carries_one k stream us vs (ms, a, spells, legal) (ns, b, respells, others) =
     (one_reading k.roster k.state a b ms ns us vs [] [] (ended ms ∙ sym spells ∙ respells ∙ sym (ended ns)) legal others (end_is_stuck k.roster a) (end_is_stuck k.roster b)).1
 
 -- and doesn't stop being legal
-pub stops_or_carries : (k : KnownState) (stream : List ℕ) (us : List Update) (illegal : Illegal) (place : ℕ) → AreOwn k.roster k.state.received.tables → StopsBeing k stream illegal place → Carries k stream us → ⊥
+pub stops_or_carries : (k : KnownState) (stream : List ℕ) (us : List Update) (illegal : Illegal) (place : ℕ) → AreOwn k.roster k.state.received.tables → IsIllegalAt k stream illegal place → Carries k stream us → ⊥
 stops_or_carries k stream us illegal place own (ms, carried, mid, rest, split, at, legal, is) (ns, e, spells, others) =
     let stuck = illegal_is_stuck (record { roster = k.roster; state = mid }) rest illegal (own_after k.roster k.state mid ms carried own legal) is in
     let one = one_reading k.roster k.state mid e ms ns carried us rest [] (sym split ∙ spells ∙ sym (append-nil (stream_of ns))) legal others stuck (end_is_stuck k.roster e) in
     nothing_is_legal mid rest illegal one.3 is
   where
-    nothing_is_legal : (s : State) (left : List ℕ) (why : Illegal) → left ≡ [] → IsIllegal (record { roster = k.roster; state = s }) left why → ⊥
+    nothing_is_legal : (s : State) (left : List ℕ) (why : Illegal) → left ≡ [] → IsIllegalHere (record { roster = k.roster; state = s }) left why → ⊥
     nothing_is_legal s left illegals.Cut none is = is.0 none
     nothing_is_legal s left (illegals.Decode breach) none is = never_both breach (sym is ∙ ap (message_at s.received) none ∙ nothing_there s)
     nothing_is_legal s left (illegals.Step error) none is = never_none is.0 is.1 (sym is.2 ∙ ap (message_at s.received) none ∙ nothing_there s)
@@ -119,7 +119,7 @@ one_refusal k (messages.Error e) one other p q = absurd p
 one_refusal k (messages.Ack table number) one other p q = absurd p
 one_refusal k (messages.Other o) one other p q = absurd p
 
-one_cause : (k : KnownState) (rest : List ℕ) (one other : Illegal) → IsIllegal k rest one → IsIllegal k rest other → one ≡ other
+one_cause : (k : KnownState) (rest : List ℕ) (one other : Illegal) → IsIllegalHere k rest one → IsIllegalHere k rest other → one ≡ other
 one_cause k rest illegals.Cut illegals.Cut p q = refl
 one_cause k rest illegals.Cut (illegals.Decode breach) p q = absurd (never_both breach (sym q ∙ p.1))
 one_cause k rest illegals.Cut (illegals.Step error) p q = absurd (never_none q.0 q.1 (sym q.2 ∙ p.1))
@@ -137,10 +137,10 @@ one_cause k rest (illegals.Step error) (illegals.Step other) p q =
     ap (λ (e : StepError). illegals.Step e) (one_refusal k q.0 error other refuses q.3)
 
 -- a stream stops being legal at one place, for one cause
-pub stops_once : (k : KnownState) (stream : List ℕ) (one other : Illegal) (place end : ℕ) → AreOwn k.roster k.state.received.tables → StopsBeing k stream one place → StopsBeing k stream other end → (one ≡ other) × (place ≡ end)
+pub stops_once : (k : KnownState) (stream : List ℕ) (one other : Illegal) (place end : ℕ) → AreOwn k.roster k.state.received.tables → IsIllegalAt k stream one place → IsIllegalAt k stream other end → (one ≡ other) × (place ≡ end)
 stops_once k stream one other place end own (ms, carried, mid, rest, split, at, legal, is) (ns, us, there, left, joined, ends, goes, was) =
     let stuck = illegal_is_stuck (record { roster = k.roster; state = mid }) rest one (own_after k.roster k.state mid ms carried own legal) is in
     let stays = illegal_is_stuck (record { roster = k.roster; state = there }) left other (own_after k.roster k.state there ns us own goes) was in
     let same = one_reading k.roster k.state mid there ms ns carried us rest left (sym split ∙ joined) legal goes stuck stays in
-    let here : IsIllegal (record { roster = k.roster; state = there }) left one = subst (λ (t : State). IsIllegal (record { roster = k.roster; state = t }) left one) same.2 (subst (λ (bytes : List ℕ). IsIllegal (record { roster = k.roster; state = mid }) bytes one) same.3 is) in
+    let here : IsIllegalHere (record { roster = k.roster; state = there }) left one = subst (λ (t : State). IsIllegalHere (record { roster = k.roster; state = t }) left one) same.2 (subst (λ (bytes : List ℕ). IsIllegalHere (record { roster = k.roster; state = mid }) bytes one) same.3 is) in
     (one_cause (record { roster = k.roster; state = there }) left one other here was, at ∙ ap (λ (xs : List Message). length (stream_of xs)) same.0 ∙ sym ends)

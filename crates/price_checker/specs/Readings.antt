@@ -11,7 +11,7 @@ use Rattle.price_checker.specs.declared.reading.Next.{Next}
 use Rattle.price_checker.specs.declared.reading.Next.TheVariants as nexts
 use Rattle.price_checker.specs.declared.reading.Reading.{Reading}
 use Rattle.price_checker.specs.declared.reading.Reading.TheVariants as readings
-use Rattle.price_checker.specs.Verdicts.{BeginApart, Carries, IsIllegal, StopsBeing}
+use Rattle.price_checker.specs.Verdicts.{BeginApart, Carries, IsIllegalHere, IsIllegalAt}
 
 -- how the updates carried compare with those of a batch: they are its first ones, or are apart from it, and more of them
 -- change nothing
@@ -45,9 +45,9 @@ IsNext k us before rest (nexts.Read after used) e =
     × Step k.state m one e.state
     × (e.roster ≡ k.roster)
     × ComparesNext k.state m us before after
-IsNext k us before rest (nexts.Illegal illegal) e = IsIllegal k rest illegal
+IsNext k us before rest (nexts.Illegal illegal) e = IsIllegalHere k rest illegal
 
 -- what a whole stream is: it stops being legal, or it is legal, and what it carries compares so
 abbrev pub IsReading : KnownState → List Update → List ℕ → Reading → Type 0
-IsReading k us stream (readings.Illegal illegal place) = StopsBeing k stream illegal place
+IsReading k us stream (readings.Illegal illegal place) = IsIllegalAt k stream illegal place
 IsReading k us stream (readings.Legal comparison) = (carried : List Update) × Carries k stream carried × Compares comparison carried us

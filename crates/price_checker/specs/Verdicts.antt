@@ -23,17 +23,17 @@ use Rattle.price_checker.specs.declared.verdict.Verdict.TheVariants as verdicts
 abbrev pub Carries : KnownState → List ℕ → List Update → Type 0
 Carries k stream us = (ms : List Message) × (e : State) × (stream ≡ stream_of ms) × Legal k.roster k.state ms us e
 
--- Why the bytes that are left begin with no legal message: they end before one is whole, they begin none, or they
--- begin one that the known state refuses.
-abbrev pub IsIllegal : KnownState → List ℕ → Illegal → Type 0
-IsIllegal k rest illegals.Cut = (rest ≢ []) × (message_at k.state.received rest ≡ Ok None)
-IsIllegal k rest (illegals.Decode breach) = message_at k.state.received rest ≡ Err breach
-IsIllegal k rest (illegals.Step error) =
+-- Why no legal message stands at the front of the bytes that are left: they end before one is whole, they begin none,
+-- or they begin one that the known state refuses.
+abbrev pub IsIllegalHere : KnownState → List ℕ → Illegal → Type 0
+IsIllegalHere k rest illegals.Cut = (rest ≢ []) × (message_at k.state.received rest ≡ Ok None)
+IsIllegalHere k rest (illegals.Decode breach) = message_at k.state.received rest ≡ Err breach
+IsIllegalHere k rest (illegals.Step error) =
     (m : Message) × (after : List ℕ) × (message_at k.state.received rest ≡ Ok (Some (m, after))) × Refuses k m error
 
--- After legal messages, which end at that place, the bytes that are left begin with no legal one.
-abbrev pub StopsBeing : KnownState → List ℕ → Illegal → ℕ → Type 0
-StopsBeing k stream illegal place =
+-- The stream is legal up to that place, where a message ends, and there no legal one stands.
+abbrev pub IsIllegalAt : KnownState → List ℕ → Illegal → ℕ → Type 0
+IsIllegalAt k stream illegal place =
     (ms : List Message)
     × (carried : List Update)
     × (mid : State)
@@ -41,7 +41,7 @@ StopsBeing k stream illegal place =
     × (stream ≡ stream_of ms ++ rest)
     × (place ≡ length (stream_of ms))
     × Legal k.roster k.state ms carried mid
-    × IsIllegal (record { roster = k.roster; state = mid }) rest illegal
+    × IsIllegalHere (record { roster = k.roster; state = mid }) rest illegal
 
 -- of two lists one ends, and the other doesn't, or their first updates differ
 abbrev pub BeginApart : List Update → List Update → Type 0
@@ -75,9 +75,9 @@ bound_shown k us prices = bound 128 (all_links (names_in k.state.slots) (request
 abbrev pub ArePrices : KnownState → List Update → List ℕ → Type 0
 ArePrices k us prices = (length prices ≡ length (requests k us)) × AllByRecursion (λ price. price ≤ 2 ^ 32) prices
 
--- What the prices show of a lesson of that many bytes: they are too few or too many; one is above 2^32; the lesson saves
--- something else than the bound, compared with the one that writes every name, by nothing where it is longer than that; or it
--- saves just the bound, so that none is shorter.
+-- What the prices show of a lesson of that many bytes: there are too few of them or too many; or one is above 2^32; or
+-- the lesson doesn't save just what they bound, against the lesson that writes every name, where a longer one than that saves
+-- nothing; or it does, so that none is shorter.
 abbrev pub Show : KnownState → List Update → List ℕ → ℕ → Verdict → Type 0
 Show k us prices size verdicts.PriceCount = length prices ≢ length (requests k us)
 Show k us prices size verdicts.PriceRange =
@@ -96,7 +96,7 @@ Show k us prices size verdict = ⊥
 -- What is said of a stream and prices in a known state, for a batch: the stream isn't legal; it is, and carries other
 -- updates, from that index on; or it carries the batch, and then what the prices show.
 abbrev pub Says : KnownState → List Update → List ℕ → List ℕ → Verdict → Type 0
-Says k us stream prices (verdicts.NotLegal illegal place) = StopsBeing k stream illegal place
+Says k us stream prices (verdicts.NotLegal illegal place) = IsIllegalAt k stream illegal place
 Says k us stream prices (verdicts.NotCarried index) = (carried : List Update) × Carries k stream carried × AreApartFrom index carried us
 Says k us stream prices verdict = Carries k stream us × Show k us prices (length stream) verdict
 
