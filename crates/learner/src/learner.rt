@@ -67,7 +67,7 @@ fn index_of(tables: &[TableDef], id: u64) -> Option<usize>
 fn cells_of(alloc: Global, mut values: ValuesRef<'_>, now: Moment) -> Result<Vec<Cell>, Memory>
     ensures { IfOk result (λ cells. cells.items ≡ map (cell_of now) values.entry) }
 {
-    let mut cells = Vec::new(alloc);
+    let mut cells = Vec::with_capacity(alloc, values.len())?;
     while let Some(value) = values.next() {
         cells.push(Cell::of(value, now))?;
     }

@@ -1,14 +1,14 @@
 -- Reading values and types one after another, as a loop does.
-use Rattle.std.proofs.Common.{◌≡◌, ◌≢◌, ℕ, ◌+◌, ◌/◌, ◌%◌, ◌<◌, ◌≤◌, true, false, List, [], ◌∷◌, ◌++◌, length, drop, get_or, Option, Result, Ok, Err, refl, sym, ap, ◌∙◌, append_assoc, arith}
+use Rattle.std.proofs.Common.{◌≡◌, ◌≢◌, ℕ, suc, Bool, if◌then◌else◌, ◌+◌, ◌/◌, ◌%◌, ◌<◌, ◌≤◌, true, false, List, [], ◌∷◌, ◌++◌, length, drop, get_or, Option, Result, Ok, Err, refl, sym, ap, ◌∙◌, append_assoc, arith}
 use Rattle.std.proofs.lemmas.List.{append-nil, at_drop_more, drop_all}
 use Rattle.table_types.specs.declared.data_type.DataType.{DataType}
 use Rattle.table_types.specs.declared.data_type.DataType.TheVariants.{ServerKey}
 use Rattle.table_types.specs.declared.data_type.Shape.{Shape}
 use Rattle.table_types.specs.declared.update.Value.{Value}
 use Rattle.table_types.specs.DataTypes.{shape_of}
-use Rattle.table_types.specs.Updates.{is_name_shape}
+use Rattle.table_types.specs.Updates.{is_name_shape, is_name_type}
 use Rattle.peers_msg.specs.declared.fault.Breach.{Breach}
-use Rattle.peers_msg.specs.Borrowed.{is_read, list_read, with_values}
+use Rattle.peers_msg.specs.Borrowed.{is_read, list_read, value_count, with_values}
 use Rattle.peers_msg.specs.Reading.{◌>>=◌, value_at, values_at, period_at, types_at}
 
 -- what was read before, and what is still read
@@ -77,6 +77,28 @@ unfolding values_at
 values_done front ts i bytes total le so_far =
     let none : with_front front (values_at [] bytes) ≡ total = ap (λ us. with_front front (values_at us bytes)) (sym (drop_all i ts le)) ∙ so_far in
     sym none ∙ ap (λ (vs : List Value). Ok (vs, bytes)) (append-nil front)
+
+-- so many values are read as types have one
+others_counted : (ts : List (DataType × Option ℕ)) (value : Value) (read : Result (List Value × List ℕ) Breach) → (is_read read ≡ true → length (list_read read) ≡ value_count ts)
+    → is_read (with_first value read) ≡ true → length (list_read (with_first value read)) ≡ suc (value_count ts)
+others_counted ts value (Ok x) counted is = ap suc (counted refl)
+others_counted ts value (Err f) counted is = absurd cc
+
+with_counted : (ts : List (DataType × Option ℕ)) → ((bytes : List ℕ) → is_read (values_at ts bytes) ≡ true → length (list_read (values_at ts bytes)) ≡ value_count ts)
+    → (first : Result (Value × List ℕ) Breach) → is_read (with_values ts first) ≡ true → length (list_read (with_values ts first)) ≡ suc (value_count ts)
+with_counted ts counted (Ok value) is = others_counted ts value.0 (values_at ts value.1) (counted value.1) is
+with_counted ts counted (Err f) is = absurd cc
+
+chosen_counted : (ts : List (DataType × Option ℕ)) → ((bytes : List ℕ) → is_read (values_at ts bytes) ≡ true → length (list_read (values_at ts bytes)) ≡ value_count ts)
+    → (shape : Shape) (bytes : List ℕ) (named : Bool) → is_read (if named then values_at ts bytes else with_values ts (value_at shape bytes)) ≡ true
+    → length (list_read (if named then values_at ts bytes else with_values ts (value_at shape bytes))) ≡ (if named then value_count ts else suc (value_count ts))
+chosen_counted ts counted shape bytes true is = counted bytes is
+chosen_counted ts counted shape bytes false is = with_counted ts counted (value_at shape bytes) is
+
+pub values_counted : (ts : List (DataType × Option ℕ)) (bytes : List ℕ) → is_read (values_at ts bytes) ≡ true → length (list_read (values_at ts bytes)) ≡ value_count ts
+unfolding values_at
+values_counted [] bytes is = refl
+values_counted (t ∷ ts) bytes is = chosen_counted ts (values_counted ts) (shape_of t.0) bytes (is_name_type t.0) is
 
 pub name_passed : (ts : List (DataType × Option ℕ)) (i : ℕ) (d : DataType × Option ℕ) (bytes : List ℕ) (shape : Shape) → i < length ts → shape ≡ shape_of (get_or ts i d).0 → is_name_shape shape ≡ true → values_at (drop i ts) bytes ≡ values_at (drop (i + 1) ts) bytes
 unfolding values_at

@@ -1,10 +1,11 @@
 -- What is borrowed of the bytes of a message, and the values that it is.
-use Rattle.std.specs.Prelude.{◌≡◌, ℕ, Bool, true, false, List, [], ◌∷◌, Option, Result, Ok, Err}
+use Rattle.std.specs.Prelude.{◌≡◌, ℕ, suc, Bool, true, false, if◌then◌else◌, List, [], ◌∷◌, Option, Result, Ok, Err}
 use Rattle.table_types.specs.declared.data_type.DataType.{DataType}
 use Rattle.table_types.specs.declared.update.Value.{Value}
 use Rattle.table_types.specs.declared.key.Key.{Key}
 use Rattle.table_types.specs.declared.key.Key.TheVariants as keys
 use Rattle.table_types.specs.Names.{is_name}
+use Rattle.table_types.specs.Updates.{is_name_type}
 use Rattle.peers_msg.specs.declared.name_field.NameField.{NameField}
 use Rattle.peers_msg.specs.declared.name_field.NameField.TheVariants as names
 use Rattle.peers_msg.specs.declared.name_field_ref.NameFieldRef.{NameFieldRef}
@@ -32,6 +33,11 @@ list_read (Err breach) = []
 -- a value, and those of the types after it
 abbrev pub with_values : List (DataType × Option ℕ) → Result (Value × List ℕ) Breach → Result (List Value × List ℕ) Breach
 with_values types first = first >>= λ value. (values_at types value.1 >>= λ others. Ok (value.0 ∷ others.0, others.1))
+
+-- how many of the types have a value: all but the server's name
+abbrev pub value_count : List (DataType × Option ℕ) → ℕ
+value_count [] = 0
+value_count (t ∷ ts) = if is_name_type t.0 then value_count ts else suc (value_count ts)
 
 -- the key that a borrowed key is
 abbrev pub owned_key : KeyRef → Key

@@ -32,10 +32,11 @@ pub enum Cell {
 #[derive(Debug, Drop)]
 pub struct Row {
     number: u32,
+    // Beside the number, where it takes no room of its own: fields lie in this order.
+    learned: bool,
     ends: Option<Moment>,
     cells: Items<Cell>,
     name: Option<Name>,
-    learned: bool,
 }
 
 impl Model for Row {

@@ -1,7 +1,7 @@
 //! The values of an update, borrowed.
 
-ghost use Rattle.std.specs.Prelude.{◌≡◌, ℕ, true, List, [], ◌∷◌, None, Ok, IfOk, IfSome};
-ghost use Rattle.peers_msg.specs.Borrowed.{is_read, list_read, with_values};
+ghost use Rattle.std.specs.Prelude.{◌≡◌, ℕ, true, List, [], ◌∷◌, None, Ok, IfOk, IfSome, length};
+ghost use Rattle.peers_msg.specs.Borrowed.{is_read, list_read, value_count, with_values};
 ghost use Rattle.peers_msg.specs.Reading.{value_at, values_at};
 
 use crate::reading::{is_name_shape, value_at};
@@ -30,6 +30,19 @@ impl<'a> Model for ValuesRef<'a> {
     ghost invariant = { λ v. is_read (values_at v.types.now v.bytes.now) ≡ true };
 }
 
+/// How many types have a value: all but the server's name.
+fn value_count(types: &[(DataType, Option<u32>)]) -> usize
+    ensures { result ≡ value_count types.now }
+{
+    let mut count = 0;
+    for entry in types {
+        if !is_name_shape(entry.0.shape()) {
+            count += 1;
+        }
+    }
+    count
+}
+
 /// The values that the bytes begin with, one for each type but the server's name.
 fn values_of(
     alloc: Global,
@@ -39,7 +52,7 @@ fn values_of(
     requires { is_read (values_at types.now bytes.now) ≡ true }
     ensures { IfOk result (λ values. values.items ≡ list_read (values_at types.now bytes.now)) }
 {
-    let mut values = Vec::new(alloc);
+    let mut values = Vec::with_capacity(alloc, value_count(types))?;
     let mut rest = bytes;
     for entry in types {
         let shape = entry.0.shape();
@@ -88,6 +101,13 @@ impl<'a> ValuesRef<'a> {
             types: self.types,
             bytes: self.bytes,
         }
+    }
+
+    /// How many values there are.
+    pub fn len(&self) -> usize
+        ensures { result ≡ length self.now }
+    {
+        value_count(self.types)
     }
 
     /// The first value, in rising id, and `None` after the last. The values after it are left. Takes no memory.
