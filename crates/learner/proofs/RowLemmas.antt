@@ -1,16 +1,11 @@
--- The order of keys, and rows by the place of their table.
+-- Rows by the place of their table.
 use Rattle.std.proofs.Common.{◌≡◌, ℕ, suc, ◌+◌, ◌<◌, ◌≤◌, List, [], ◌∷◌, ◌++◌, length, get_or, set, drop, Option, Some, None, refl, sym, ap, ◌∙◌, arith, inl, inr}
 use Rattle.std.specs.Prelude.{map}
 use Rattle.std.proofs.lemmas.List.{append-nil}
 use Rattle.std.proofs.Math.ListN.{drop_of_length-le}
-use Rattle.std.specs.declared.cmp.Ordering.{Ordering}
-use Rattle.std.specs.Ordering.{is_eq}
-use Rattle.std.specs.Map.{lookup}
 use Rattle.std.specs.BTreeMap.{insert_entry}
 use Rattle.std.proofs.lemmas.Bool.{cases_eq, eq-eqb, ne_eqb}
 use Rattle.table_types.specs.declared.key.Key.{Key}
-use Rattle.table_types.specs.declared.key.Key.TheVariants as keys
-use Rattle.table_types.specs.contracts.key.KeyOrd.TheImpl as key_ord
 use Rattle.table_types.specs.declared.update.Update.{Update}
 use Rattle.table_types.specs.Tables.{Definition}
 use Rattle.table_types.specs.Rosters.{table_at}
@@ -20,47 +15,6 @@ use Rattle.std.specs.Prelude.{IfSome}
 use Rattle.learner.specs.declared.learner.NewRow.{NewRow}
 use Rattle.learner.specs.NewRows.{AreRowsOf}
 use Rattle.learner.specs.Rows.{put_row, put, put_all, rows_at, index_of}
-
-abbrev pub derived_cmp : Key → Key → Ordering
-derived_cmp = (key_ord.ghosts).cmp
-
--- the order of keys that the code derives
-pub derived_is : (a b : Key) → derived_cmp a b ≡ key_cmp a b
-derived_is (keys.Int a) (keys.Int b) = refl
-derived_is (keys.Ip4 a) (keys.Ip4 b) = refl
-derived_is (keys.Ip6 a) (keys.Ip6 b) = refl
-derived_is (keys.Str a) (keys.Str b) = refl
-derived_is (keys.Bin a) (keys.Bin b) = refl
-derived_is (keys.Int a) (keys.Ip4 b) = refl
-derived_is (keys.Int a) (keys.Ip6 b) = refl
-derived_is (keys.Int a) (keys.Str b) = refl
-derived_is (keys.Int a) (keys.Bin b) = refl
-derived_is (keys.Ip4 a) (keys.Int b) = refl
-derived_is (keys.Ip4 a) (keys.Ip6 b) = refl
-derived_is (keys.Ip4 a) (keys.Str b) = refl
-derived_is (keys.Ip4 a) (keys.Bin b) = refl
-derived_is (keys.Ip6 a) (keys.Int b) = refl
-derived_is (keys.Ip6 a) (keys.Ip4 b) = refl
-derived_is (keys.Ip6 a) (keys.Str b) = refl
-derived_is (keys.Ip6 a) (keys.Bin b) = refl
-derived_is (keys.Str a) (keys.Int b) = refl
-derived_is (keys.Str a) (keys.Ip4 b) = refl
-derived_is (keys.Str a) (keys.Ip6 b) = refl
-derived_is (keys.Str a) (keys.Bin b) = refl
-derived_is (keys.Bin a) (keys.Int b) = refl
-derived_is (keys.Bin a) (keys.Ip4 b) = refl
-derived_is (keys.Bin a) (keys.Ip6 b) = refl
-derived_is (keys.Bin a) (keys.Str b) = refl
-
--- what is found among entries by either order
-pub lookup_is : (key : Key) (es : List (Key × StoredRow)) → lookup (λ other. is_eq (derived_cmp key other)) es ≡ lookup (λ other. is_eq (key_cmp key other)) es
-lookup_is key [] = refl
-lookup_is key (e ∷ es) = rw (derived_is key e.0, lookup_is key es) refl
-
--- what is put among entries by either order
-pub insert_is : (es : List (Key × StoredRow)) (key : Key) (row : StoredRow) → insert_entry derived_cmp es key row ≡ insert_entry key_cmp es key row
-insert_is [] key row = refl
-insert_is (e ∷ es) key row = rw (derived_is key e.0, insert_is es key row) refl
 
 -- ---- the place of a table
 

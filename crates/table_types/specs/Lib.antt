@@ -1,5 +1,6 @@
 pub mod Names
 pub mod Keys
+pub mod KeyOrder
 pub mod DataTypes
 pub mod Tables
 pub mod Updates

@@ -1,11 +1,15 @@
 //! The keys of stick tables.
 
-ghost use Rattle.std.specs.Prelude.{◌≡◌, IfOk, IfSome, IsTrue, Some, ◌↔◌};
-ghost use Rattle.table_types.specs.Keys.{number_of, kind_at, kind_name, fits_length, key_fits};
+ghost use Rattle.std.specs.Prelude.{◌≡◌, refl, IfOk, IfSome, IsTrue, Some, ◌↔◌};
+ghost use Rattle.std.specs.Ordering.{as_partial_cmp};
+ghost use Rattle.std.specs.Cmp.{partial_order_from_agreeing_total};
+ghost use Rattle.table_types.specs.Keys.{number_of, kind_at, kind_name, fits_length, key_fits, kind_rank, key_cmp};
+ghost use Rattle.table_types.specs.KeyOrder.{key_cmp_total, key_cmp_ties};
 
 use crate::items::Items;
 use crate::memory::Memory;
 use std::alloc::Global;
+use std::cmp::Ordering;
 
 /// What a table's keys are (HAProxy Configuration Manual, stick-table `type`; the numbers are those of
 /// doc/peers-v2.0.txt, "Table Definition Message", key type).
@@ -104,7 +108,9 @@ impl KeyKind {
 }
 
 /// A key of one of the five kinds.
-#[derive(Debug, Drop, PartialEq, Eq, PartialOrd, Ord)]
+///
+/// Keys of one kind are in order of their number or byte by byte; a key of an earlier kind comes first.
+#[derive(Debug, Drop, PartialEq, Eq)]
 pub enum Key {
     /// A number.
     Int(u32),
@@ -152,5 +158,61 @@ impl Key {
             Key::Str(text) => Key::Str(text.copy(alloc)?),
             Key::Bin(bytes) => Key::Bin(bytes.copy(alloc)?),
         })
+    }
+}
+
+impl PartialOrd for Key {
+    ghost partial_cmp = { as_partial_cmp key_cmp };
+
+    ghost laws = { partial_order_from_agreeing_total key_cmp key_cmp_total (λ a b. refl) key_cmp_ties };
+
+    fn partial_cmp(&self, other: &Self) -> Option<Ordering> {
+        Some(self.cmp(other))
+    }
+}
+
+impl Ord for Key {
+    ghost cmp = { key_cmp };
+
+    ghost total = { key_cmp_total };
+
+    ghost matches_partial_cmp = { λ a b. refl };
+
+    ghost matches_eq = { key_cmp_ties };
+
+    // A map of rows compares keys at each step of a search, so the arm for integers is inlined there.
+    #[inline(always)]
+    fn cmp(&self, other: &Self) -> Ordering {
+        match (self, other) {
+            (Key::Int(left), Key::Int(right)) => left.cmp(right),
+            _ => compare(self, other),
+        }
+    }
+}
+
+/// How any two keys compare.
+fn compare(left: &Key, right: &Key) -> Ordering
+    ensures { result ≡ key_cmp left.now right.now }
+{
+    match (left, right) {
+        (Key::Int(left), Key::Int(right)) => left.cmp(right),
+        (Key::Ip4(left), Key::Ip4(right)) => left.cmp(right),
+        (Key::Ip6(left), Key::Ip6(right)) => left.cmp(right),
+        (Key::Str(left), Key::Str(right)) => left.cmp(right),
+        (Key::Bin(left), Key::Bin(right)) => left.cmp(right),
+        _ => rank(left).cmp(&rank(right)),
+    }
+}
+
+/// The place of a key's kind in the order of kinds.
+fn rank(key: &Key) -> u8
+    ensures { result ≡ kind_rank key.now }
+{
+    match key {
+        Key::Int(_) => 0,
+        Key::Ip4(_) => 1,
+        Key::Ip6(_) => 2,
+        Key::Str(_) => 3,
+        Key::Bin(_) => 4,
     }
 }
