@@ -24,7 +24,7 @@ requests-more roster k (x ∷ xs) u =
     ap (λ (l : List Asked). asked roster k x x.name ++ l) (requests-more roster (knowledge_after k x) xs u)
     ∙ sym (append_assoc (asked roster k x x.name) (requests_of roster (knowledge_after k x) xs) (asked roster (knowledge_after_all k (x ∷ xs)) u u.name))
 
-named-stores : (d : Definition) (u : Update) (name : List ℕ) → u.name ≡ Some name → may_be_named d u.name ≡ true → stores_name d ≡ true
+pub named-stores : (d : Definition) (u : Update) (name : List ℕ) → u.name ≡ Some name → may_be_named d u.name ≡ true → stores_name d ≡ true
 named-stores d u name is fit = left (stores_name d) (is_name name) (ap (may_be_named d) (sym is) ∙ fit)
   where
     left : (a b : Bool) → (a && b) ≡ true → a ≡ true
