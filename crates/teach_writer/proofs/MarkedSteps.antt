@@ -1,5 +1,5 @@
 -- Updates that are sent one after another as the marks of their requests say.
-use Rattle.std.proofs.Common.{◌≡◌, ◌≢◌, ◌↔◌, cond, ℕ, zero, suc, ◌+◌, ◌-◌, ◌<◌, ◌≤◌, Bool, true, false, ◌||◌, List, [], ◌∷◌, ◌++◌, length, Option, Some, None, refl, sym, ap, ◌∙◌, subst, inl, inr, ◌⊎◌, arith, get_or, length-append, append_assoc}
+use Rattle.std.proofs.Common.{◌≡◌, ◌↔◌, cond, ℕ, zero, suc, ◌+◌, ◌-◌, ◌<◌, ◌≤◌, Bool, true, false, ◌||◌, List, [], ◌∷◌, ◌++◌, length, Option, Some, None, refl, sym, ap, ◌∙◌, subst, inl, inr, ◌⊎◌, arith, get_or, length-append, append_assoc}
 use Rattle.std.specs.Prelude.{slice_set, is_some}
 use Rattle.std.specs.List.{AllByRecursion, IsDistinct, list_any}
 use Rattle.std.proofs.lemmas.Bool.{cases_eq}
@@ -17,12 +17,12 @@ use Rattle.peers_msg.specs.Spelling.{stream_of}
 use Rattle.known_state.specs.State.{State, Named}
 use Rattle.known_state.specs.Cost.{Knowledge, knowledge_after, written_field}
 use Rattle.known_state.specs.Requests.{Asked, asked, requests_of}
-use Rattle.known_state.specs.Plans.{Asking, at_start, after_request, after_requests, AreLinked, keeps_next, kept_over, links, name_held, names_in}
+use Rattle.known_state.specs.Plans.{Asking, at_start, after_requests, AreLinked, keeps_next, kept_over, links, names_in}
 use Rattle.known_state.proofs.RosterLemmas.{name_itself}
 use Rattle.known_state.proofs.LinkPlaces.{after-append}
 use Rattle.known_state.proofs.NamesToKeep.{names_to_keep}
 use Rattle.known_state.proofs.SlotsNeeded.{turned}
-use Rattle.teach_writer.specs.Naming.{is_that_name, lowest_from, starts_at_first, starts_after, first_mark, marks_after, retains_next, IsRetainedOver, IsOpen, IsNamed}
+use Rattle.teach_writer.specs.Naming.{is_that_name, lowest_from, starts_at_first, starts_after, first_mark, marks_after, retains_next, IsRetainedOver, IsNamed}
 use Rattle.teach_writer.specs.Retained.{retained_at, Retains, IsFree, IsNameField}
 use Rattle.teach_writer.specs.Retention.{IsRetainedFirst, HasRoomFor, kept_next, settled, place_after}
 use Rattle.teach_writer.specs.Sending.{slot_of, is_stored, IsSent, AreSent}
@@ -97,10 +97,11 @@ IsMarkedStep next starts after u us marks stored name field left = IsNamed start
 -- one that is kept
 held_marked : (retained : List Bool) (starts : List ℕ → Option ℕ) (slots after : List (Option (List ℕ))) (u : Update) (us : List Update) (stored : Bool) (name : List ℕ) (slot : ℕ) (mark : Bool) (marks : List Bool) → u.name ≡ Some name → length retained ≡ 128 → AreMarked retained starts slots (u ∷ us) (mark ∷ marks) → Retains retained slots slot name → after ≡ slots
     → IsMarkedStep (slice_set retained (slot - 1) (retains_next name us marks)) starts after u us (mark ∷ marks) stored (Some name) (names.Held slot) marks
-held_marked retained starts slots after u us stored name slot mark marks is long are retains stay =
-    (subst (λ (m : Bool). IsNamed starts (u ∷ us) (m ∷ marks) stored (Some name) (names.Held slot)) (sym marked) begun,
-    marked_after retained starts slots after u us name slot mark marks is retains.1.0 long are (ap (λ (ss : List (Option (List ℕ))). slot_at ss slot) stay ∙ retains.1.1) (λ other is_other apart. ap (λ (ss : List (Option (List ℕ))). slot_at ss other) stay)
-    (λ other n apart start over. start_apart starts name n slot other begun start apart) alone)
+held_marked retained starts slots after u us stored name slot mark marks is long are retains stay = (
+  subst (λ (m : Bool). IsNamed starts (u ∷ us) (m ∷ marks) stored (Some name) (names.Held slot)) (sym marked) begun,
+  marked_after retained starts slots after u us name slot mark marks is retains.1.0 long are (ap (λ (ss : List (Option (List ℕ))). slot_at ss slot) stay ∙ retains.1.1) (λ other is_other apart. ap (λ (ss : List (Option (List ℕ))). slot_at ss other) stay)
+      (λ other n apart start over. start_apart starts name n slot other begun start apart) alone,
+)
   where
     over : IsRetainedOver starts (u ∷ us) (mark ∷ marks) slot
     over = are.0 slot retains.1.0 retains.0
@@ -133,9 +134,10 @@ unmarked retained starts slots u us name true marks is are slotted linked none =
 -- one that isn't
 written_marked : (retained : List Bool) (starts : List ℕ → Option ℕ) (slots after : List (Option (List ℕ))) (u : Update) (us : List Update) (stored : Bool) (name written : List ℕ) (slot : ℕ) (marks : List Bool) → u.name ≡ Some name → length retained ≡ 128 → length slots ≡ 128 → AreMarked retained starts slots (u ∷ us) (false ∷ marks) → written ≡ name → IsFree retained slot → ((other : ℕ) → IsFree retained other → slot ≤ other) → after ≡ slice_set slots (slot - 1) (Some name)
     → IsMarkedStep (slice_set retained (slot - 1) (retains_next name us marks)) starts after u us (false ∷ marks) stored (Some name) (names.Written slot written) marks
-written_marked retained starts slots after u us stored name written slot marks is long many are same_name free lowest put =
-    ((same_name, (free.0, λ over. closed over.0 over.1 over.2), λ other is_open. lowest other (is_open.0, unflagged other is_open.0 is_open.1 (retained_at retained other) refl)),
-    marked_after retained starts slots after u us name slot false marks is free.0 long are here stays unlike (λ n start differs next. closed n start next))
+written_marked retained starts slots after u us stored name written slot marks is long many are same_name free lowest put = (
+  (same_name, (free.0, λ over. closed over.0 over.1 over.2), λ other is_open. lowest other (is_open.0, unflagged other is_open.0 is_open.1 (retained_at retained other) refl)),
+  marked_after retained starts slots after u us name slot false marks is free.0 long are here stays unlike (λ n start differs next. closed n start next),
+)
   where
     closed : (n : List ℕ) → starts n ≡ Some slot → retains_next n (u ∷ us) (false ∷ marks) ≡ true → ⊥
     closed n start next = let bad : true ≡ false = sym (are.1 n slot free.0 start next).0 ∙ free.1 in cc
@@ -163,9 +165,11 @@ written_marked retained starts slots after u us stored name written slot marks i
 -- one without a name
 nameless_marked : (retained : List Bool) (starts : List ℕ → Option ℕ) (slots after : List (Option (List ℕ))) (u : Update) (us : List Update) (stored : Bool) (field : NameField) (marks : List Bool) → u.name ≡ None → AreMarked retained starts slots (u ∷ us) marks → field ≡ written_field stored None → after ≡ slots
     → IsMarkedStep retained starts after u us marks stored None field marks
-nameless_marked retained starts slots after u us stored field marks none are bare stay =
-    (bare, subst (λ (ss : List (Option (List ℕ))). AreMarked retained starts ss us marks) (sym stay)
-    ((λ slot is flag. (let over = are.0 slot is flag in (over.0, over.1, sym (retains_none u us marks over.0 none) ∙ over.2))), λ name slot is start next. are.1 name slot is start (retains_none u us marks name none ∙ next)))
+nameless_marked retained starts slots after u us stored field marks none are bare stay = (
+  bare,
+  subst (λ (ss : List (Option (List ℕ))). AreMarked retained starts ss us marks) (sym stay)
+      ((λ slot is flag. (let over = are.0 slot is flag in (over.0, over.1, sym (retains_none u us marks over.0 none) ∙ over.2))), λ name slot is start next. are.1 name slot is start (retains_none u us marks name none ∙ next)),
+)
 
 -- a request has a mark, which is set only where a link begins for its name
 abbrev pub IsMarkFor : (List ℕ → Option ℕ) → Option (List ℕ) → List Bool → Type 0
@@ -401,21 +405,27 @@ way_step roster s mid after us left u rs keep next bytes more retained place fie
     let flag_is : (n : List ℕ) → u.name ≡ Some n → flag ≡ retains_next n left (marks_after u.name marks) =
     λ n is. ap (λ (l : List Bool). get_or l place false) next_is ∙ flag_at roster k u left rs done keep kept marks starts place n is rs_is keep_is so_far kept_so_far mark in
     let step = one_marked retained starts mid.slots after.slots u left (is_stored roster u) flag field moved.0 u.name marks refl long_flags many are slots mark named moved.1 flag_is in
-    let then : after_requests (at_start held) (done ++ asked roster k u u.name) ≡ after_requests asking (asked roster k u u.name) = after-append (at_start held) done (asked roster k u u.name) in
-    (ms ++ first, starts_after starts u.name (slot_of field), knowledge_after k u, done ++ asked roster k u u.name, kept ++ taken u.name marks, marks_after u.name marks,
-    grown ∙ ap (λ (l : List ℕ). l ++ stream_of first) bytes_are ∙ sym (stream-append ms first),
-    rs_is ∙ sym (append_assoc done (asked roster k u u.name) rest),
-    keep_is ∙ ap (λ (l : List Bool). kept ++ l) ahead.0 ∙ sym (append_assoc kept (taken u.name marks) (marks_after u.name marks)),
-    length-append done (asked roster k u u.name) ∙ ap (λ (n : ℕ). n + length (asked roster k u u.name)) so_far ∙ ahead.6 place,
-    length-append kept (taken u.name marks) ∙ ap (λ (n : ℕ). n + length (taken u.name marks)) kept_so_far ∙ ahead.5 place,
-    ahead.1,
-    subst (λ (a : Asking). AreLinked a rest (marks_after u.name marks)) (sym then) ahead.2,
-    subst (λ (a : Asking). AreBegun (starts_after starts u.name (slot_of field)) a) (sym then) ahead.3,
-    ahead.4,
-    step.1,
-    settled_length (slot_of field) flag,
-    slots_long mid.slots after.slots field moved.0 many moved.1,
-    λ others e sent_more. subst (λ (l : List Message). AreSent roster s (starts_at_first s.slots) us keep l e) (sym (append_assoc ms first others)) (leads (first ++ others) e (field, first, after, others, sent, step.0, sent_more, refl)))
+    let then : after_requests (at_start held) (done ++ asked roster k u u.name) ≡ after_requests asking (asked roster k u u.name) = after-append (at_start held) done (asked roster k u u.name) in (
+      ms ++ first,
+      starts_after starts u.name (slot_of field),
+      knowledge_after k u,
+      done ++ asked roster k u u.name,
+      kept ++ taken u.name marks,
+      marks_after u.name marks,
+      grown ∙ ap (λ (l : List ℕ). l ++ stream_of first) bytes_are ∙ sym (stream-append ms first),
+      rs_is ∙ sym (append_assoc done (asked roster k u u.name) rest),
+      keep_is ∙ ap (λ (l : List Bool). kept ++ l) ahead.0 ∙ sym (append_assoc kept (taken u.name marks) (marks_after u.name marks)),
+      length-append done (asked roster k u u.name) ∙ ap (λ (n : ℕ). n + length (asked roster k u u.name)) so_far ∙ ahead.6 place,
+      length-append kept (taken u.name marks) ∙ ap (λ (n : ℕ). n + length (taken u.name marks)) kept_so_far ∙ ahead.5 place,
+      ahead.1,
+      subst (λ (a : Asking). AreLinked a rest (marks_after u.name marks)) (sym then) ahead.2,
+      subst (λ (a : Asking). AreBegun (starts_after starts u.name (slot_of field)) a) (sym then) ahead.3,
+      ahead.4,
+      step.1,
+      settled_length (slot_of field) flag,
+      slots_long mid.slots after.slots field moved.0 many moved.1,
+      λ others e sent_more. subst (λ (l : List Message). AreSent roster s (starts_at_first s.slots) us keep l e) (sym (append_assoc ms first others)) (leads (first ++ others) e (field, first, after, others, sent, step.0, sent_more, refl)),
+    )
   where
     settled_length : (slot : Option ℕ) (flag : Bool) → length (settled retained slot flag) ≡ 128
     settled_length None flag = long_flags

@@ -1,5 +1,5 @@
 -- Updates that are sent one after another are legal, and cost no more than with every name written, less what is read.
-use Rattle.std.proofs.Common.{◌≡◌, ℕ, ◌+◌, ◌-◌, ◌≤◌, Bool, true, false, ◌&&◌, ◌||◌, cond, eqb, List, [], ◌∷◌, ◌++◌, length, Option, Some, None, refl, sym, ap, ◌∙◌, subst, inl, inr, ◌⊎◌, arith, length-append}
+use Rattle.std.proofs.Common.{◌≡◌, ℕ, ◌+◌, ◌≤◌, Bool, true, false, ◌&&◌, ◌||◌, cond, eqb, List, [], ◌∷◌, ◌++◌, length, Option, Some, None, refl, sym, ap, ◌∙◌, subst, inl, inr, ◌⊎◌, arith, length-append}
 use Rattle.std.specs.Prelude.{is_some, option_map, flat_map}
 use Rattle.std.specs.List.{AllByRecursion}
 use Rattle.std.proofs.lemmas.List.Sums.{sum_by-cons, sum_by-append}
@@ -24,7 +24,7 @@ use Rattle.known_state.specs.State.{State, Step, Teaches, IsOwn, Legal, resolved
 use Rattle.known_state.specs.LastNumbers.{last_of, set_last}
 use Rattle.known_state.specs.Known.{KnownState, AreOwn}
 use Rattle.known_state.specs.Cost.{Knowledge, KnowsLess, with_selected, knowledge_of, knowledge_after, number_sent, sent_as, written_field, is_named_table, written_cost, selection_cost, cost, cost_from, full}
-use Rattle.known_state.specs.Requests.{Asked, held_cost, asked, requests_of, read_savings}
+use Rattle.known_state.specs.Requests.{Asked, asked, requests_of, read_savings}
 use Rattle.known_state.specs.Plans.{Plan, Accepts, all_links, bound, kept_savings, links, names_in}
 use Rattle.known_state.specs.Shortest.{Shortest}
 use Rattle.known_state.proofs.BatchLemmas.{name_of_fits}
@@ -32,7 +32,7 @@ use Rattle.known_state.proofs.FullLaws.{full_is_cost}
 use Rattle.known_state.proofs.LinkLaws.{reads_save}
 use Rattle.known_state.proofs.PlanLaws.{accepted_shortest}
 use Rattle.known_state.proofs.ShortestLaws.{size_of_stream}
-use Rattle.known_state.proofs.CostLaws.{framed_longer, told_shorter, selection_falls, knows_after, last-put, name_alike, read_alike, read_shorter}
+use Rattle.known_state.proofs.CostLaws.{framed_longer, told_shorter, selection_falls, last-put, name_alike, read_alike, read_shorter}
 use Rattle.known_state.proofs.KnownLemmas.{table_at-id}
 use Rattle.known_state.proofs.StepPays.{name_fitting, moved_last, is_there, own_stays}
 use Rattle.teach_writer.specs.Naming.{IsNamed, starts_at_first, starts_after, marks_after}
@@ -226,11 +226,12 @@ one_within roster s e k u field ms sound own knows for (d, mid, listed, chosen, 
     let at_table : size_of_all (selection s.received d) ≤ selection_cost roster (knowledge_of s) u.table = subst (λ (n : ℕ). size_of_all (selection s.received d) ≤ selection_cost roster (knowledge_of s) n) id first in
     let sum : size_of_all (selection s.received d ++ m ∷ []) ≡ size_of_all (selection s.received d) + size_of_all (m ∷ []) = sum_by-append size_of (selection s.received d) (m ∷ []) in
     let one : size_of_all (m ∷ []) ≡ size_of m + size_of_all [] = sum_by-cons size_of m [] in
-    let whole : size_of_all ms ≡ size_of_all (selection s.received d) + size_of m = ap size_of_all is ∙ omega arith in
-    (subst (λ (l : List Message). Legal roster s l (u ∷ []) e) (sym is) (legal-append roster (selection s.received d) (m ∷ []) s mid e [] (u ∷ []) (own_selection roster s.received d by_id, chosen) (legal-one roster m mid e (u ∷ []) tt step)),
-    own_stays roster mid e m (u ∷ []) selected.1 tt step,
-    sent_knows mid e d u field k all here step,
-    λ starts us marks rs named. (let within = field_within roster k d u starts us marks (last_of mid.last_numbers u.table) field u.name rs refl listed fit field_fits less named in omega arith))
+    let whole : size_of_all ms ≡ size_of_all (selection s.received d) + size_of m = ap size_of_all is ∙ omega arith in (
+      subst (λ (l : List Message). Legal roster s l (u ∷ []) e) (sym is) (legal-append roster (selection s.received d) (m ∷ []) s mid e [] (u ∷ []) (own_selection roster s.received d by_id, chosen) (legal-one roster m mid e (u ∷ []) tt step)),
+      own_stays roster mid e m (u ∷ []) selected.1 tt step,
+      sent_knows mid e d u field k all here step,
+      λ starts us marks rs named. (let within = field_within roster k d u starts us marks (last_of mid.last_numbers u.table) field u.name rs refl listed fit field_fits less named in omega arith),
+    )
 
 -- all of them
 pub sent_within : (roster : List Definition) (s e : State) (k : Knowledge) (starts : List ℕ → Option ℕ) (us : List Update) (marks : List Bool) (ms : List Message) → roster_fault roster ≡ None → AreOwn roster s.received.tables → KnowsLess k (knowledge_of s) → AllByRecursion (IsUpdateFor roster) us → AreSent roster s starts us marks ms e

@@ -1,5 +1,4 @@
-use Rattle.std.proofs.Common.{◌≡◌, ◌⊎◌, ◌-◌, ℕ, Bool, List, true, rules, subst}
-use Rattle.std.specs.Prelude.{slice_set}
+use Rattle.std.proofs.Common.{◌≡◌, ℕ, Bool, List, true, rules, subst}
 use Rattle.table_types.specs.SlotIds.{is_slot}
 use Rattle.teach_writer.specs.Retained.{IsFree, MayRetain, IsRetainedAtStart}
 use Rattle.teach_writer.proofs.AskedNamesAreRetained.{start_none, start_more}

@@ -2,15 +2,12 @@ use Rattle.std.proofs.Common.{◌≡◌, ◌↔◌, ℕ, Bool, true, false, ◌+
 use Rattle.std.proofs.lemmas.List.{drop_all, drop_more}
 use Rattle.table_types.specs.declared.update.Update.{Update}
 use Rattle.table_types.specs.Tables.{Definition}
-use Rattle.table_types.specs.Batches.{IsBatchFor}
 use Rattle.table_types.specs.SlotIds.{is_slot}
 use Rattle.peers_msg.specs.declared.message.Message.{Message}
 use Rattle.peers_msg.specs.declared.name_field.NameField.{NameField}
 use Rattle.peers_msg.specs.Spelling.{stream_of}
 use Rattle.known_state.specs.Cost.{knowledge_of}
 use Rattle.known_state.specs.Known.{KnownState}
-use Rattle.known_state.specs.Plans.{keeps_next}
-use Rattle.known_state.specs.Requests.{IsUpdateOf}
 use Rattle.teach_writer.specs.Retained.{retained_at, IsNameField}
 use Rattle.teach_writer.specs.Retention.{is_first_kept, kept_next, IsRetainedFirst, settled, place_after}
 use Rattle.teach_writer.specs.Sending.{slot_of, is_stored, IsSent}

@@ -1,5 +1,4 @@
 use Rattle.std.proofs.Common.{◌≡◌, drop}
-use Rattle.teach_writer.specs.Retention.{kept_next}
 use Rattle.teach_writer.proofs.MarkedSteps.{IsUnderWay}
 use Rattle.teach_writer.proofs.planned.send_updates.Given as goal
 
