@@ -66,7 +66,7 @@ choice false true false w d le implied = let bad : false ≡ true = implied refl
 choice false false true w d le implied = omega arith
 choice false false false w d le implied = omega arith
 
-selection_falls : (roster : List Definition) (less more : Knowledge) (u : Update) → KnowsLess less more → IsOfRoster roster u → selection_cost roster more u.table ≤ selection_cost roster less u.table
+pub selection_falls : (roster : List Definition) (less more : Knowledge) (u : Update) → KnowsLess less more → IsOfRoster roster u → selection_cost roster more u.table ≤ selection_cost roster less u.table
 selection_falls roster less more u knows of_roster =
     rw knows.selected (choice (is_selected more.selected u.table) (less.is_defined u.table) (more.is_defined u.table) (size_of (messages.Switch u.table)) (definition_cost (table_at roster u.table)) (switch_cheaper roster u of_roster) (knows.defined u.table))
 
@@ -79,7 +79,7 @@ written_falls roster less more u knows =
     ]
 
 -- after an update, too, less is known where less was
-knows_after : (less more : Knowledge) (u : Update) → KnowsLess less more → KnowsLess (knowledge_after less u) (knowledge_after more u)
+pub knows_after : (less more : Knowledge) (u : Update) → KnowsLess less more → KnowsLess (knowledge_after less u) (knowledge_after more u)
 knows_after less more u knows = record {
   defined = λ id h. or-implied (eqb id u.table) (less.is_defined id) (more.is_defined id) (knows.defined id) h;
   selected = refl;
@@ -264,11 +264,21 @@ counted_alike a b same =
     omega (arith, length-append (spelling (length a)) a, length-append (spelling (length b)) b)
 
 -- a written name is as long in each slot
-name_alike : (slot : ℕ) (name : List ℕ) → is_slot slot ≡ true → length (name_text (names.Written 1 name)) ≡ length (name_text (names.Written slot name))
+pub name_alike : (slot : ℕ) (name : List ℕ) → is_slot slot ≡ true → length (name_text (names.Written 1 name)) ≡ length (name_text (names.Written slot name))
 name_alike slot name is =
     let here = slot_byte slot is in
     let first = slot_byte 1 refl in
     counted_alike (spelling 1 ++ counted name) (spelling slot ++ counted name) (omega (arith, length-append (spelling 1) (counted name), length-append (spelling slot) (counted name)))
+
+-- a name that is read takes as much in each slot
+pub read_alike : (slot : ℕ) → is_slot slot ≡ true → length (name_text (names.Held slot)) ≡ length (name_text (names.Held 1))
+read_alike slot is = counted_alike (spelling slot) (spelling 1) (omega (arith, slot_byte slot is, slot_byte 1 refl))
+
+-- and no more than one that is written
+pub read_shorter : (name : List ℕ) → length (name_text (names.Held 1)) ≤ length (name_text (names.Written 1 name))
+read_shorter name =
+    let digits = integers.longer (length (spelling 1)) (length (spelling 1 ++ counted name)) (omega (arith, length-append (spelling 1) (counted name))) in
+    omega (arith, length-append (spelling (length (spelling 1))) (spelling 1), length-append (spelling (length (spelling 1 ++ counted name))) (spelling 1 ++ counted name), length-append (spelling 1) (counted name))
 
 pub written_alike : (number life : Option ℕ) (key : Key) (values : List Value) (slot : ℕ) (name : List ℕ) → is_slot slot ≡ true → size_of (messages.Update (record { number = number; life = life; key = key; values = values; name = names.Written 1 name })) ≤ size_of (messages.Update (record { number = number; life = life; key = key; values = values; name = names.Written slot name }))
 unfolding size_of spelled

@@ -59,7 +59,7 @@ costed-more roster k before after us more u count full cost requests others join
       omega arith,
     )
 
-named-stores : (d : Definition) (u : Update) (name : List ℕ) → u.name ≡ Some name → may_be_named d u.name ≡ true → stores_name d ≡ true
+pub named-stores : (d : Definition) (u : Update) (name : List ℕ) → u.name ≡ Some name → may_be_named d u.name ≡ true → stores_name d ≡ true
 named-stores d u name is fit = left (stores_name d) (is_name name) (ap (may_be_named d) (sym is) ∙ fit)
   where
     left : (a b : Bool) → (a && b) ≡ true → a ≡ true

@@ -1,3 +1,6 @@
+pub mod SentUpdatesCost
+pub mod KeptNext
+pub mod MarkedSteps
 pub mod UpdateStepsAreLegal
 pub mod NamelessLessonsAreShortest
 pub mod AskedNamesAreRetained

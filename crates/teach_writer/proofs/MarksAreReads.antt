@@ -26,7 +26,7 @@ use Rattle.teach_writer.proofs.UpdatesGoInOrder.{AreSentBy}
 
 -- ---- slots and names
 
-places_apart : (a b : ℕ) → is_slot a ≡ true → is_slot b ≡ true → (a ≡ b → ⊥) → a - 1 ≢ b - 1
+pub places_apart : (a b : ℕ) → is_slot a ≡ true → is_slot b ≡ true → (a ≡ b → ⊥) → a - 1 ≢ b - 1
 places_apart a b is_a is_b apart = λ same. apart (both (least a is_a) (least b is_b) same)
   where
     least : (n : ℕ) → is_slot n ≡ true → 1 ≤ n
@@ -35,7 +35,7 @@ places_apart a b is_a is_b apart = λ same. apart (both (least a is_a) (least b 
     both : 1 ≤ a → 1 ≤ b → a - 1 ≡ b - 1 → a ≡ b
     both la lb same = omega arith
 
-in_range : (slots : List (Option (List ℕ))) (slot : ℕ) → length slots ≡ 128 → is_slot slot ≡ true → slot - 1 < length slots
+pub in_range : (slots : List (Option (List ℕ))) (slot : ℕ) → length slots ≡ 128 → is_slot slot ≡ true → slot - 1 < length slots
 in_range slots slot long is = rw long (grind (arith, nat_tests))
 
 -- a flag that stands was set
@@ -44,14 +44,14 @@ set_true [] i b h = cc
 set_true (x ∷ xs) zero b h = h
 set_true (x ∷ xs) (suc i) b h = set_true xs i b h
 
-one_name : (a b : List ℕ) → is_same_name a b ≡ true → a ≡ b
+pub one_name : (a b : List ℕ) → is_same_name a b ≡ true → a ≡ b
 one_name a b same = same_text a b (sym same)
 
 other_start : {A : Type 0} → (one other : Option ℕ) (a b : ℕ) → one ≡ Some a → other ≡ Some b → (b ≡ a → ⊥) → one ≡ other → A
 other_start one other a b is_a is_b apart same = let both : Some b ≡ Some a = sym is_b ∙ sym same ∙ is_a in let ids : b ≡ a = cc in absurd (apart ids)
 
 -- names with two starts are two
-start_apart : (starts : List ℕ → Option ℕ) (name n : List ℕ) (a b : ℕ) → starts name ≡ Some a → starts n ≡ Some b → (b ≡ a → ⊥) → is_same_name name n ≡ false
+pub start_apart : (starts : List ℕ → Option ℕ) (name n : List ℕ) (a b : ℕ) → starts name ≡ Some a → starts n ≡ Some b → (b ≡ a → ⊥) → is_same_name name n ≡ false
 start_apart starts name n a b is_a is_b apart = at (is_same_name name n) refl
   where
     at : (t : Bool) → is_same_name name n ≡ t → is_same_name name n ≡ false
@@ -60,13 +60,13 @@ start_apart starts name n a b is_a is_b apart = at (is_same_name name n) refl
 
 -- ---- what is asked for and retained, after one update
 
-retains_same : (u : Update) (us : List Update) (mark : Bool) (marks : List Bool) (name n : List ℕ) → u.name ≡ Some name → is_same_name name n ≡ true → retains_next n (u ∷ us) (mark ∷ marks) ≡ mark
+pub retains_same : (u : Update) (us : List Update) (mark : Bool) (marks : List Bool) (name n : List ℕ) → u.name ≡ Some name → is_same_name name n ≡ true → retains_next n (u ∷ us) (mark ∷ marks) ≡ mark
 retains_same u us mark marks name n is same = rw (is, same) refl
 
-retains_other : (u : Update) (us : List Update) (mark : Bool) (marks : List Bool) (name n : List ℕ) → u.name ≡ Some name → is_same_name name n ≡ false → retains_next n (u ∷ us) (mark ∷ marks) ≡ retains_next n us marks
+pub retains_other : (u : Update) (us : List Update) (mark : Bool) (marks : List Bool) (name n : List ℕ) → u.name ≡ Some name → is_same_name name n ≡ false → retains_next n (u ∷ us) (mark ∷ marks) ≡ retains_next n us marks
 retains_other u us mark marks name n is other = rw (is, other) refl
 
-retains_none : (u : Update) (us : List Update) (marks : List Bool) (n : List ℕ) → u.name ≡ None → retains_next n (u ∷ us) marks ≡ retains_next n us marks
+pub retains_none : (u : Update) (us : List Update) (marks : List Bool) (n : List ℕ) → u.name ≡ None → retains_next n (u ∷ us) marks ≡ retains_next n us marks
 retains_none u us marks n none = rw none refl
 
 asked_other : (u : Update) (us : List Update) (name n : List ℕ) → u.name ≡ Some name → is_same_name name n ≡ false → is_asked n (u ∷ us) ≡ is_asked n us
@@ -75,10 +75,10 @@ asked_other u us name n is other = rw (is, other) refl
 asked_none : (u : Update) (us : List Update) (n : List ℕ) → u.name ≡ None → is_asked n (u ∷ us) ≡ is_asked n us
 asked_none u us n none = rw none refl
 
-start_same : (starts : List ℕ → Option ℕ) (name n : List ℕ) (slot : ℕ) → is_same_name name n ≡ true → starts_after starts (Some name) (Some slot) n ≡ Some slot
+pub start_same : (starts : List ℕ → Option ℕ) (name n : List ℕ) (slot : ℕ) → is_same_name name n ≡ true → starts_after starts (Some name) (Some slot) n ≡ Some slot
 start_same starts name n slot same = rw same refl
 
-start_other : (starts : List ℕ → Option ℕ) (name n : List ℕ) (slot : ℕ) → is_same_name name n ≡ false → starts_after starts (Some name) (Some slot) n ≡ starts n
+pub start_other : (starts : List ℕ → Option ℕ) (name n : List ℕ) (slot : ℕ) → is_same_name name n ≡ false → starts_after starts (Some name) (Some slot) n ≡ starts n
 start_other starts name n slot other = rw other refl
 
 -- ---- flags and marks
@@ -141,7 +141,7 @@ tracked_after retained next starts slots after u us name slot is slotted tracked
 ]
 
 -- a name whose link begins in another slot is another name
-after_apart : (starts : List ℕ → Option ℕ) (name n : List ℕ) (slot other : ℕ) → starts_after starts (Some name) (Some slot) n ≡ Some other → (other ≡ slot → ⊥) → is_same_name name n ≡ false
+pub after_apart : (starts : List ℕ → Option ℕ) (name n : List ℕ) (slot other : ℕ) → starts_after starts (Some name) (Some slot) n ≡ Some other → (other ≡ slot → ⊥) → is_same_name name n ≡ false
 after_apart starts name n slot other start apart = at (is_same_name name n) refl
   where
     at : (t : Bool) → is_same_name name n ≡ t → is_same_name name n ≡ false
@@ -149,7 +149,7 @@ after_apart starts name n slot other start apart = at (is_same_name name n) refl
     at true e = let both : Some other ≡ Some slot = sym start ∙ start_same starts name n slot e in let ids : other ≡ slot = cc in absurd (apart ids)
 
 -- a slot that isn't the update's retains its name after the update where it did before
-flag_stays : (retained next : List Bool) (retains : Bool) (slot other : ℕ) → next ≡ slice_set retained (slot - 1) retains → is_slot slot ≡ true → is_slot other ≡ true → (other ≡ slot → ⊥) → retained_at next other ≡ retained_at retained other
+pub flag_stays : (retained next : List Bool) (retains : Bool) (slot other : ℕ) → next ≡ slice_set retained (slot - 1) retains → is_slot slot ≡ true → is_slot other ≡ true → (other ≡ slot → ⊥) → retained_at next other ≡ retained_at retained other
 flag_stays retained next retains slot other set is is_other apart = ap (λ (ks : List Bool). retained_at ks other) set ∙ get_or-set_other retained (slot - 1) (other - 1) retains false (places_apart other slot is_other is apart)
 
 -- where the flag of another slot stands, a retained link goes over the update in it
@@ -264,7 +264,7 @@ selection_slots s mid d taught = by (is_table (selected_table s.received) d.id) 
     by false false (one, rest, after, is, (fit, none, moved), (nothing, same)) = ap (λ (x : State). x.slots) (same ∙ moved)
 
 -- the slots after an update that is sent
-sent_slots : (roster : List Definition) (s e : State) (u : Update) (field : NameField) (ms : List Message) → IsSent roster s u field ms e → (name : Option (List ℕ)) × Named s.slots field name e.slots
+pub sent_slots : (roster : List Definition) (s e : State) (u : Update) (field : NameField) (ms : List Message) → IsSent roster s u field ms e → (name : Option (List ℕ)) × Named s.slots field name e.slots
 sent_slots roster s e u field ms (d, mid, listed, chosen, (fit, table, on, number, numbered, name, named, carried, received, last_numbers), is) =
     (name, subst (λ (ss : List (Option (List ℕ))). Named ss field name e.slots) (selection_slots s mid d chosen) named)
 
@@ -285,7 +285,7 @@ one_step roster s e retained next starts u us stored (names.Held slot) (Some ask
 one_step roster s e retained next starts u us stored (names.Written slot written) (Some asked) name is long tracked named settled moved =
     written_step retained next starts s.slots e.slots u us stored asked written slot is long tracked named.0 named.1 named.2 named.3 settled (moved.1 ∙ ap (λ (n : List ℕ). slice_set s.slots (slot - 1) (Some n)) named.0)
 
-slots_long : (slots after : List (Option (List ℕ))) (field : NameField) (name : Option (List ℕ)) → length slots ≡ 128 → Named slots field name after → length after ≡ 128
+pub slots_long : (slots after : List (Option (List ℕ))) (field : NameField) (name : Option (List ℕ)) → length slots ≡ 128 → Named slots field name after → length after ≡ 128
 slots_long slots after names.NotStored name long (none, stay) = rw stay long
 slots_long slots after names.NoName name long (none, stay) = rw stay long
 slots_long slots after (names.Written slot bytes) name long (is, put) = rw (put, length-set slots (slot - 1) (Some bytes)) long
@@ -310,7 +310,7 @@ are_marked roster s e retained starts (u ∷ us) ms long tracked (field, first, 
 -- ---- at the start
 
 -- the lowest slot that holds a name
-lowest_found : (slots : List (Option (List ℕ))) (from i : ℕ) (name : List ℕ) → i < length slots → get_or slots i None ≡ Some name → ((j : ℕ) → j < i → get_or slots j None ≡ Some name → ⊥) → lowest_from from slots name ≡ Some (from + i)
+pub lowest_found : (slots : List (Option (List ℕ))) (from i : ℕ) (name : List ℕ) → i < length slots → get_or slots i None ≡ Some name → ((j : ℕ) → j < i → get_or slots j None ≡ Some name → ⊥) → lowest_from from slots name ≡ Some (from + i)
 lowest_found [] from i name lt held none = absurd (omega arith)
 lowest_found (x ∷ xs) from zero name lt held none = rw (held, name_itself name) (ap (λ (n : ℕ). Some n) (omega arith))
 lowest_found (x ∷ xs) from (suc i) name lt held none =

@@ -56,7 +56,7 @@ or-cases true b c first second h = first refl
 or-cases false b c first second h = second h
 
 -- where a table is selected it is received
-selected_received : (h : Received) (d : Definition) → selected_table h ≡ Some d → table_at h.tables d.id ≡ Some d
+pub selected_received : (h : Received) (d : Definition) → selected_table h ≡ Some d → table_at h.tables d.id ≡ Some d
 selected_received h d sel =
     let found = selected-found h d sel in
     subst (λ (n : ℕ). table_at h.tables n ≡ Some d) (sym (table_at-id h.tables found.0 d found.1)) found.1

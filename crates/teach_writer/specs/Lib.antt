@@ -1,3 +1,4 @@
 pub mod Naming
 pub mod Retained
+pub mod Retention
 pub mod Sending

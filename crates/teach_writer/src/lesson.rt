@@ -1,6 +1,6 @@
 //! Lessons.
 
-ghost use Rattle.std.specs.Prelude.{◌≡◌, true, IsTrue, ◌↔◌, IfOk, IfSome, Bool, List, length, option_copied};
+ghost use Rattle.std.specs.Prelude.{◌≡◌, true, IsTrue, ◌↔◌, ℕ, IfOk, IfSome, Bool, List, length, option_copied};
 ghost use Rattle.table_types.specs.Batches.{IsBatchFor};
 ghost use Rattle.table_types.specs.SlotIds.{is_slot};
 ghost use Rattle.peers_msg.specs.declared.message.Message.{Message};
@@ -9,7 +9,7 @@ ghost use Rattle.known_state.specs.Lessons.{IsLessonFor};
 ghost use Rattle.known_state.specs.Requests.{AreNameless};
 ghost use Rattle.known_state.specs.Shortest.{Shortest};
 ghost use Rattle.teach_writer.specs.Naming.{is_that_name, no_prices};
-ghost use Rattle.teach_writer.specs.Retained.{is_asked, MayRetain, IsRetainedAtStart, IsSettled};
+ghost use Rattle.teach_writer.specs.Retained.{is_asked, IsFree, MayRetain, IsRetainedAtStart, IsSettled};
 ghost use Rattle.teach_writer.specs.Sending.{GoesThrough};
 
 use crate::retained::Retained;
@@ -84,6 +84,7 @@ fn may_retain(slots: &Slots, updates: &[Update], slot: u8) -> bool
 fn retained_at_start(slots: &Slots, updates: &[Update]) -> Retained
     ensures retained { IsRetainedAtStart slots.now updates.now result }
     ensures count { length slots.now ≡ 128 }
+    ensures free { (slot : ℕ) × IsFree result slot }
 {
     let mut retained = Retained::none();
     for slot in 1..=slots.len() as u8 {
@@ -97,8 +98,10 @@ fn retained_at_start(slots: &Slots, updates: &[Update]) -> Retained
 /// After an update with that name, which went through that slot: it is retained where a later update asks for it and
 /// another slot stays free.
 fn settle(retained: &mut Retained, slot: Option<u8>, name: Option<&Name>, later: &[Update])
-    requires { IfSome slot (λ id. is_slot id ≡ true) }
-    ensures { IsSettled retained.old slot (option_copied name.entry) later.now retained.new }
+    requires slot { IfSome slot (λ id. is_slot id ≡ true) }
+    requires free { (slot : ℕ) × IsFree retained.old slot }
+    ensures settled { IsSettled retained.old slot (option_copied name.entry) later.now retained.new }
+    ensures free { (slot : ℕ) × IsFree retained.new slot }
 {
     let (Some(slot), Some(name)) = (slot, name) else {
         return;

@@ -1,6 +1,6 @@
 //! Which slots hold a name that is retained.
 
-ghost use Rattle.std.specs.Prelude.{◌≡◌, ◌≤◌, ◌-◌, ℕ, true, false, ◌⊎◌, IsTrue, ◌↔◌, Some, IfSome, IsNone, option_copied, slice_set};
+ghost use Rattle.std.specs.Prelude.{◌≡◌, ◌≤◌, ◌-◌, ℕ, true, false, ◌⊎◌, IsTrue, ◌↔◌, Some, IfSome, IsNone, option_copied, length, slice_set};
 ghost use Rattle.dict_slots.specs.Slots.{slot_at};
 ghost use Rattle.table_types.specs.SlotIds.{is_slot};
 ghost use Rattle.teach_writer.specs.Retained.{none_retained, Retains, IsFree};
@@ -9,22 +9,20 @@ use dict_slots::Slots;
 use std::marker::Model;
 use table_types::Name;
 
-/// Which slots of the dictionary hold a name that is retained for a later update that asks for it. One slot at the least
-/// is always free, so that a name can be written.
+/// Which slots of the dictionary hold a name that is retained for a later update that asks for it.
 #[derive(Debug, Drop)]
 pub struct Retained {
     flags: [bool; 128],
 }
 
 impl Model for Retained {
-    ghost use Rattle.std.specs.Prelude.{◌≡◌, ℕ, Bool, List, length};
-    ghost use Rattle.teach_writer.specs.Retained.{IsFree};
+    ghost use Rattle.std.specs.Prelude.{◌≡◌, Bool, List, length};
 
     ghost Value = { List Bool };
 
     ghost view = { λ k. k.flags };
 
-    ghost invariant = { λ k. (length k.flags ≡ 128) × ((slot : ℕ) × IsFree k.flags slot) };
+    ghost invariant = { λ k. length k.flags ≡ 128 };
 }
 
 /// The lowest slot that is free, if one is.
@@ -53,7 +51,9 @@ fn holds(slot: Option<&Name>, name: &Name) -> bool
 impl Retained {
     /// No slot's name is retained.
     pub fn none() -> Retained
-        ensures { result ≡ none_retained }
+        ensures none { result ≡ none_retained }
+        ensures count { length result ≡ 128 }
+        ensures free { IsFree result 1 }
     {
         Retained {
             flags: [false; 128],
@@ -75,8 +75,9 @@ impl Retained {
         None
     }
 
-    /// The lowest slot that is free.
+    /// The lowest slot that is free, where one is.
     pub fn free(&self) -> u8
+        requires { (slot : ℕ) × IsFree self.now slot }
         ensures free { IsFree self.now result }
         ensures lowest { (other : ℕ) → IsFree self.now other → result ≤ other }
     {
@@ -86,10 +87,20 @@ impl Retained {
         }
     }
 
+    /// What the slot holds is retained from here on, or isn't.
+    pub fn set(&mut self, slot: u8, retained: bool)
+        requires { is_slot slot ≡ true }
+        ensures set { self.new ≡ slice_set self.old (slot - 1) retained }
+        ensures count { length self.new ≡ 128 }
+    {
+        self.flags[usize::from(slot) - 1] = retained;
+    }
+
     /// What the slot holds is retained no longer.
     pub fn release(&mut self, slot: u8)
         requires { is_slot slot ≡ true }
-        ensures { self.new ≡ slice_set self.old (slot - 1) false }
+        ensures released { self.new ≡ slice_set self.old (slot - 1) false }
+        ensures free { IsFree self.new slot }
     {
         self.flags[usize::from(slot) - 1] = false;
     }
@@ -99,6 +110,7 @@ impl Retained {
         requires { is_slot slot ≡ true }
         ensures retained { ((other : ℕ) × IsFree (slice_set self.old (slot - 1) true) other) → self.new ≡ slice_set self.old (slot - 1) true }
         ensures full { (((other : ℕ) × IsFree (slice_set self.old (slot - 1) true) other) → ⊥) → self.new ≡ self.old }
+        ensures free { ((other : ℕ) × IsFree self.old other) → (other : ℕ) × IsFree self.new other }
         ensures either { (self.new ≡ slice_set self.old (slot - 1) true) ⊎ (self.new ≡ self.old) }
     {
         let mut flags = self.flags;

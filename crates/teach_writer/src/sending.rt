@@ -17,6 +17,7 @@ ghost use Rattle.known_state.specs.State.{Step, Teaches, IsOwn, Legal, name_of, 
 ghost use Rattle.known_state.specs.Cost.{number_sent, sent_as, knowledge_of, with_selected, selection_cost, KnowsLess, IsOfRoster, cost};
 ghost use Rattle.known_state.specs.Requests.{IsUpdateOf};
 ghost use Rattle.teach_writer.specs.Retained.{IsNameField};
+ghost use Rattle.teach_writer.specs.Retention.{HasRoomFor};
 ghost use Rattle.teach_writer.specs.Sending.{selection, slot_of, is_stored, IsSent};
 
 use crate::retained::Retained;
@@ -53,7 +54,8 @@ fn name_field(
     table: &TableDef,
     update: &Update,
 ) -> Result<NameField, Memory>
-    requires { fits table.now update.now ≡ true }
+    requires fits { fits table.now update.now ≡ true }
+    requires room { HasRoomFor retained.now slots.now update.now.name }
     ensures field { IfOk result (λ field. IsNameField retained.now slots.now (stores_name table.now) update.now.name field) }
     ensures fits { IfOk result (λ field. name_fits table.now field ≡ true) }
     ensures reads { IfOk result (λ field. reads_empty slots.now field ≡ false) }
@@ -136,7 +138,8 @@ fn named(
     retained: &Retained,
     update: &Update,
 ) -> Result<NameField, Memory>
-    requires { IsUpdateOf known.now.roster update.now }
+    requires update { IsUpdateOf known.now.roster update.now }
+    requires room { HasRoomFor retained.now known.now.state.slots update.now.name }
     ensures field { IfOk result (λ field. (d : Definition) → table_at known.now.roster update.now.table ≡ Some d →
         IsNameField retained.now known.now.state.slots (stores_name d) update.now.name field) }
     ensures fits { IfOk result (λ field. (d : Definition) → table_at known.now.roster update.now.table ≡ Some d → name_fits d field ≡ true) }
@@ -169,7 +172,8 @@ pub fn write_update(
     update: &Update,
     bytes: &mut Vec<u8>,
 ) -> Result<Option<u8>, Memory>
-    requires { IsUpdateOf known.old.roster update.now }
+    requires update { IsUpdateOf known.old.roster update.now }
+    requires room { HasRoomFor retained.now known.old.state.slots update.now.name }
     ensures written { OnOk result ((ms : List Message) × (bytes.new.items ≡ bytes.old.items ++ stream_of ms)
         × Legal known.old.roster known.old.state ms (update.now ∷ []) known.new.state
         × (update.now.name ≡ None → (rest : List Update) → AllByRecursion (IsOfRoster known.old.roster) rest →

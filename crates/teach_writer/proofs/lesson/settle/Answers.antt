@@ -3,8 +3,8 @@ use Rattle.teach_writer.specs.Retained.{is_asked}
 use Rattle.teach_writer.proofs.AskedNamesAreRetained.{settled_retained}
 use Rattle.teach_writer.proofs.lesson.settle.Goals as goal
 
-pub returns-then-is_asked : goal.returns-then-is_asked
-returns-then-is_asked c =
+pub returns-then-is_asked-clause-settled : goal.returns-then-is_asked-clause-settled
+returns-then-is_asked-clause-settled c =
     let retained = c.args.retained.now in
     let next = c.retain.new.self in
     let slot = c.in-Some-Some.slot in

@@ -19,15 +19,19 @@ use Rattle.teach_writer.proofs.MarksAreReads.{sent_by_marks}
 use Rattle.teach_writer.proofs.UpdatesGoInOrder.{Leads, leads_first, leads_next, leads_last}
 use Rattle.teach_writer.proofs.UpdateStepsAreLegal.{legal-append, stream-append}
 use Rattle.teach_writer.proofs.NamelessLessonsAreShortest.{batch_rest, nameless_at, joined_costs, whole_cost, shortest_at_end}
+use Rattle.teach_writer.proofs.AskedNamesAreRetained.{room_where_free}
 use Rattle.teach_writer.proofs.lesson.teach.Goals as goal
 
-pub write_update-requires : goal.write_update-requires
-write_update-requires c =
+pub write_update-requires-clause-update : goal.write_update-requires-clause-update
+write_update-requires-clause-update c =
     let u = c.index-updates-index.result in
     let us = c.updates-updates.result.now in
     let batch : IsBatchFor c.args.known.now.roster us = subst (λ (l : List Update). IsBatchFor c.args.known.now.roster l) (sym c.updates-updates.ensures.updates) c.requires.batch in
     let taught : IsUpdateOf c.args.known.now.roster u = batch_taught c.args.known.now.roster us c.loop-index.index u batch c.loop-index-test.true c.index-updates-index.is in
     subst (λ (r : List Definition). IsUpdateOf r u) (sym c.loop-index.invariant.roster) taught
+
+pub write_update-requires-clause-room : goal.write_update-requires-clause-room
+write_update-requires-clause-room c = room_where_free c.loop-index.retained c.loop-index.after.state.slots c.index-updates-index.result.name c.loop-index.invariant.free
 
 pub loop-index-init : goal.loop-index-init
 loop-index-init c =
@@ -38,6 +42,7 @@ loop-index-init c =
     let first : Leads k.roster k.state start us [] c.in_ok-after.after.state start us = subst (λ (x : KnownState). Leads k.roster k.state start us [] x.state start us) same (leads_first k.roster k.state start us) in
     record {
       roster = search rules;
+      free = c.retained_at_start-retained.ensures.free;
       written = ([], search rules, search rules, search rules);
       order = (start, [], search rules, search rules, first);
     }
@@ -70,7 +75,7 @@ loop-index-preserved c =
     let in_order : (field : NameField) × (ms : List Message) × (c.in_ok-slot.slot ≡ slot_of field) × (c.write_update.new.bytes.items ≡ c.loop-index.bytes.items ++ stream_of ms) × IsSent c.loop-index.after.roster mid u field ms e × IsNameField c.loop-index.retained mid.slots (is_stored c.loop-index.after.roster u) u.name field = search rules in
     let one : IsSent roster mid u in_order.0 in_order.1 e = subst (λ (r : List Definition). IsSent r mid u in_order.0 in_order.1 e) c.loop-index.invariant.roster in_order.4 in
     let named : IsNameField c.loop-index.retained mid.slots (is_stored roster u) u.name in_order.0 = subst (λ (r : List Definition). IsNameField c.loop-index.retained mid.slots (is_stored r u) u.name in_order.0) c.loop-index.invariant.roster in_order.5 in
-    let raw : IsSettled c.loop-index.retained c.in_ok-slot.slot (option_copied c.as_ref.result) (take (length us - (i + 1)) (drop (i + 1) us)) c.settle.new.retained = c.settle.ensures in
+    let raw : IsSettled c.loop-index.retained c.in_ok-slot.slot (option_copied c.as_ref.result) (take (length us - (i + 1)) (drop (i + 1) us)) c.settle.new.retained = c.settle.ensures.settled in
     let later : take (length us - (i + 1)) (drop (i + 1) us) ≡ drop (i + 1) us = take_all (length us - (i + 1)) (drop (i + 1) us) (rw (length-drop (i + 1) us) (omega arith)) in
     let next : IsSettled c.loop-index.retained c.in_ok-slot.slot u.name (drop (i + 1) us) c.settle.new.retained =
     subst (λ (n : Option (List ℕ)). IsSettled c.loop-index.retained c.in_ok-slot.slot n (drop (i + 1) us) c.settle.new.retained) c.as_ref.ensures.value
@@ -81,6 +86,7 @@ loop-index-preserved c =
     in_order.3 ∙ ap (λ (x : List ℕ). x ++ stream_of in_order.1) c.loop-index.invariant.order.2 ∙ sym (stream-append sent in_order.1) in
     record {
       roster = same ∙ c.loop-index.invariant.roster;
+      free = c.settle.ensures.free;
       written = (before ++ written.0, bytes, subst (λ (l : List Update). Legal roster s (before ++ written.0) l e) more whole, λ unnamed. joined_costs roster s mid e before written.0 (drop i us) (drop (i + 1) us) us (c.loop-index.invariant.written.3 unnamed) (left unnamed));
       order = (start, sent ++ in_order.1, sent_more, c.loop-index.invariant.order.3, leads_next roster s mid e start c.loop-index.retained c.settle.new.retained us (drop (i + 1) us) u sent in_order.1 in_order.0 leads one named settled);
     }

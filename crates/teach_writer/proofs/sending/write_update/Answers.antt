@@ -27,17 +27,17 @@ use Rattle.teach_writer.proofs.sending.write_update.Goals as goal
 
 pub update_sent-requires : goal.update_sent-requires
 update_sent-requires c =
-    let d = c.requires.0 in
+    let d = c.requires.update.0 in
     let defined : (d : Definition) → table_at c.args.known.now.roster c.args.update.now.table ≡ Some d → is_definition d ≡ true = search rules in
-    row_small d c.args.update.now.key c.args.update.now.values (defined d c.requires.1) (row_of_fits d c.args.update.now c.requires.2)
+    row_small d c.args.update.now.key c.args.update.now.values (defined d c.requires.update.1) (row_of_fits d c.args.update.now c.requires.update.2)
 
 pub write_message-requires : goal.write_message-requires
 write_message-requires c =
     let k = c.select.new.known in
     let u = c.args.update.now in
-    let d = c.requires.0 in
+    let d = c.requires.update.0 in
     let field = c.in_ok-field.field in
-    let listed : table_at c.args.known.now.roster u.table ≡ Some d = c.requires.1 in
+    let listed : table_at c.args.known.now.roster u.table ≡ Some d = c.requires.update.1 in
     let each : (d : Definition) → table_at c.args.known.now.roster u.table ≡ Some d → is_definition d ≡ true = search rules in
     let selected : selected_table k.state.received ≡ table_at c.args.known.now.roster u.table = search rules in
     let sent_is : c.in_ok-message.message ≡ sent_as c.last.result field u = search rules in
@@ -48,15 +48,15 @@ write_message-requires c =
     let field_fits : name_fits d field ≡ true = each_fits d (ap (λ (r : List Definition). table_at r u.table) same_roster ∙ listed) in
     let reads : reads_empty k.state.slots field ≡ false = search rules in
     let word : is_optional_word (number_sent c.last.result u.number) ≡ true = c.update_sent.ensures.word in
-    subst (λ (t : UpdateFields). IsTakenBy k (messages.Update t)) (sym sent_is) (sent_taken k d u c.last.result field last_is (selected ∙ listed) (each d listed) field_fits reads c.requires.2 word)
+    subst (λ (t : UpdateFields). IsTakenBy k (messages.Update t)) (sym sent_is) (sent_taken k d u c.last.result field last_is (selected ∙ listed) (each d listed) field_fits reads c.requires.update.2 word)
 
 pub returns-clause-written : goal.returns-clause-written
 returns-clause-written c =
     let k = c.select.new.known in
     let u = c.args.update.now in
-    let d = c.requires.0 in
+    let d = c.requires.update.0 in
     let field = c.in_ok-field.field in
-    let listed : table_at c.args.known.now.roster u.table ≡ Some d = c.requires.1 in
+    let listed : table_at c.args.known.now.roster u.table ≡ Some d = c.requires.update.1 in
     let selected : selected_table k.state.received ≡ table_at c.args.known.now.roster u.table = search rules in
     let sent_is : c.in_ok-message.message ≡ sent_as c.last.result field u = search rules in
     let here : c.last.result ≡ last_of k.state.last_numbers u.table = search rules in
@@ -93,7 +93,7 @@ pub returns-clause-order : goal.returns-clause-order
 returns-clause-order c =
     let k = c.select.new.known in
     let u = c.args.update.now in
-    let d = c.requires.0 in
+    let d = c.requires.update.0 in
     let field = c.in_ok-field.field in
     let roster = c.args.known.now.roster in
     let s = c.args.known.now.state in
@@ -101,7 +101,7 @@ returns-clause-order c =
     let start = c.args.bytes.now.items in
     let sent : Message = messages.Update c.in_ok-message.message in
     let m : Message = update_sent k.state field u in
-    let listed : table_at roster u.table ≡ Some d = c.requires.1 in
+    let listed : table_at roster u.table ≡ Some d = c.requires.update.1 in
     let selected : selected_table k.state.received ≡ table_at roster u.table = search rules in
     let sent_is : c.in_ok-message.message ≡ sent_as c.last.result field u = search rules in
     let here : c.last.result ≡ last_of k.state.last_numbers u.table = search rules in

@@ -1,0 +1,48 @@
+-- Which names are retained, as requests are kept.
+use Rattle.std.specs.Prelude.{◌≡◌, ◌≤◌, ℕ, ◌+◌, ◌-◌, slice_set, Bool, false, true, List, [], ◌∷◌, Option, Some, None}
+use Rattle.std.specs.Borrow.{Bor}
+use Rattle.std.specs.BTreeMap.{BTreeMap}
+use Rattle.std.specs.BTreeMap as tree
+use Rattle.std.specs.Cmp.Lexicographic.{slice_cmp}
+use Rattle.std.specs.Ordering.{nat_cmp}
+use Rattle.dict_slots.specs.Slots.{Holds}
+use Rattle.known_state.specs.Requests.{Asked}
+use Rattle.known_state.specs.Plans.{keeps_next}
+use Rattle.teach_writer.specs.Retained.{Retains, IsFree}
+
+-- whether a request was found and is kept
+abbrev pub is_kept : Option Bool → Bool
+is_kept None = false
+is_kept (Some kept) = kept
+
+-- whether the first request for a name is kept, by a map from names
+abbrev pub is_first_kept : BTreeMap (Bor (List ℕ)) Bool → List ℕ → Bool
+is_first_kept first name = is_kept (tree.get_by (λ k. slice_cmp nat_cmp name k.now) first)
+
+-- for each request whether the next one for its name is kept
+abbrev pub kept_next : List Asked → List Bool → List Bool
+kept_next [] keep = []
+kept_next (r ∷ rs) [] = []
+kept_next (r ∷ rs) (kept ∷ keep) = keeps_next r.name rs keep ∷ kept_next rs keep
+
+-- A slot retains its name at the start: it is the lowest that holds that name, and the first request for it is kept.
+abbrev pub IsRetainedFirst : List (Option (List ℕ)) → (List ℕ → Bool) → ℕ → Type 0
+IsRetainedFirst slots is_kept slot =
+    (name : List ℕ) × Holds slots slot name
+    × ((other : ℕ) → Holds slots other name → slot ≤ other)
+    × (is_kept name ≡ true)
+
+-- where no slot that is retained holds the name, some slot is free
+abbrev pub HasRoomFor : List Bool → List (Option (List ℕ)) → Option (List ℕ) → Type 0
+HasRoomFor retained slots None = Unit {0}
+HasRoomFor retained slots (Some name) = ((slot : ℕ) → Retains retained slots slot name → ⊥) → (slot : ℕ) × IsFree retained slot
+
+-- what is retained after an update whose name went through a slot, if it has one
+abbrev pub settled : List Bool → Option ℕ → Bool → List Bool
+settled retained None flag = retained
+settled retained (Some slot) flag = slice_set retained (slot - 1) flag
+
+-- and how many requests there were then
+abbrev pub place_after : ℕ → Option ℕ → ℕ
+place_after place None = place
+place_after place (Some slot) = place + 1

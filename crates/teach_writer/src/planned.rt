@@ -1,0 +1,98 @@
+//! Lessons by a plan.
+
+ghost use Rattle.std.specs.Prelude.{◌≡◌, ◌<◌, ◌≤◌, ◌+◌, ℕ, true, false, IfOk, IfSome, List, length, slice_index_or};
+ghost use Rattle.table_types.specs.Batches.{IsBatchFor};
+ghost use Rattle.table_types.specs.Rosters.{roster_fault};
+ghost use Rattle.table_types.specs.SlotIds.{is_slot};
+ghost use Rattle.peers_msg.specs.declared.message.Message.{Message};
+ghost use Rattle.peers_msg.specs.Spelling.{stream_of};
+ghost use Rattle.known_state.specs.Cost.{full, knowledge_of};
+ghost use Rattle.known_state.specs.Known.{AreOwn};
+ghost use Rattle.known_state.specs.Lessons.{IsLessonFor};
+ghost use Rattle.known_state.specs.Plans.{Accepts, AreLinked, all_links, at_start, bound, kept_over, links, names_in};
+ghost use Rattle.known_state.specs.Requests.{requests_of};
+ghost use Rattle.known_state.specs.Shortest.{Shortest};
+ghost use Rattle.teach_writer.specs.Retention.{settled, place_after};
+ghost use Rattle.teach_writer.specs.Sending.{GoesThrough};
+
+use crate::lesson::Lesson;
+use crate::retained::Retained;
+use crate::retention::{next_kept, retained_first};
+use crate::sending::write_update;
+use known_state::{Known, Plan, Request};
+use std::alloc::Global;
+use table_types::{Batch, Items, Memory};
+
+/// After an update whose name went through that slot, if it has one: the slot retains the name where the next request for
+/// it is kept, as the flag of the request at this place says, and the next request is at the next place.
+fn settle(retained: &mut Retained, place: &mut usize, slot: Option<u8>, next: &[bool])
+    requires slot { IfSome slot (λ id. is_slot id ≡ true) }
+    requires place { IfSome slot (λ id. place.old < length next.now) }
+    ensures retained { retained.new ≡ settled retained.old slot (slice_index_or next.now place.old false) }
+    ensures place { place.new ≡ place_after place.old slot }
+{
+    if let Some(slot) = slot {
+        retained.set(slot, next[*place]);
+        *place += 1;
+    }
+}
+
+/// Sends the updates of a batch, one after another, as their requests are kept: the bytes, and what the learner knows
+/// after them.
+fn send_updates(
+    alloc: Global,
+    known: &Known,
+    batch: &Batch,
+    requests: &[Request],
+    keep: &[bool],
+) -> Result<(Vec<u8>, Known), Memory>
+    requires batch { IsBatchFor known.now.roster batch.now }
+    requires requests { requests.now ≡ requests_of known.now.roster (knowledge_of known.now.state) batch.now }
+    requires keep { length keep.now ≡ length requests.now }
+    requires linked { AreLinked (at_start (names_in known.now.state.slots)) requests.now keep.now }
+    requires room { (place : ℕ) → kept_over (links (names_in known.now.state.slots) requests.now keep.now) place ≤ 127 }
+    ensures order { IfOk result (λ sent. GoesThrough known.now batch.now keep.now sent.0.items sent.1.state) }
+    ensures roster { IfOk result (λ sent. sent.1.roster ≡ known.now.roster) }
+{
+    let (next, first) = next_kept(alloc, requests, keep)?;
+    let mut after = known.copy(alloc)?;
+    let mut retained = retained_first(after.slots(), &first);
+    let mut bytes = Vec::new(alloc);
+    let mut place = 0;
+    for update in batch.updates() {
+        let slot = write_update(alloc, &mut after, &retained, update, &mut bytes)?;
+        settle(&mut retained, &mut place, slot, next.as_slice());
+    }
+    Ok((bytes, after))
+}
+
+/// The lesson by an accepted plan of the batch's requests, with 128 slots. Each request is read that the plan keeps, and
+/// any other name is written. Its prices are the plan's, and they show that no legal stream that carries the same updates
+/// in that order has fewer bytes.
+pub fn teach_by(
+    alloc: Global,
+    known: &Known,
+    batch: &Batch,
+    requests: &[Request],
+    plan: Plan,
+) -> Result<Lesson, Memory>
+    requires batch { IsBatchFor known.now.roster batch.now }
+    requires requests { requests.now ≡ requests_of known.now.roster (knowledge_of known.now.state) batch.now }
+    requires accepted { Accepts 128 (names_in known.now.state.slots) requests.now plan }
+    ensures taught { IfOk result (λ lesson. IsLessonFor known.now batch.now lesson.bytes lesson.known) }
+    ensures order { IfOk result (λ lesson. GoesThrough known.now batch.now plan.keep lesson.bytes lesson.known.state) }
+    ensures shortest { IfOk result (λ lesson. (ms : List Message) × (lesson.bytes ≡ stream_of ms) × Shortest known.now batch.now ms) }
+    ensures prices { IfOk result (λ lesson. lesson.prices ≡ plan.prices) }
+    ensures tight { IfOk result (λ lesson.
+        length lesson.bytes + bound 128 (all_links (names_in known.now.state.slots) requests.now) lesson.prices
+        ≡ full known.now.roster known.now.state batch.now) }
+{
+    let (_tables, _count) = (known.roster().tables(), known.slots().len());
+    let (keep, prices) = plan.into_parts();
+    let (bytes, after) = send_updates(alloc, known, batch, requests, keep.as_slice())?;
+    Ok(Lesson {
+        bytes: Items::new(bytes),
+        prices: Items::new(prices),
+        known: after,
+    })
+}
