@@ -1,6 +1,4 @@
 pub mod SumsOfPrices
-pub mod LinksGoForward
-pub mod TheBoundIsOfAllLinks
 pub mod LastPlaces
 pub mod NamesInSlots
 pub mod LinksAreFound
