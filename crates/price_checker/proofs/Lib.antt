@@ -10,4 +10,5 @@ pub mod OneReading
 pub mod OneVerdict
 pub mod ShortestIsSaid
 pub mod AllMarks
+pub mod NamedRequests
 pub mod VerdictLemmas
