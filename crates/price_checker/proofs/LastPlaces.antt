@@ -3,27 +3,18 @@ use Rattle.std.proofs.Common.{◌≡◌, ℕ, ◌+◌, ◌-◌, ◌<◌, ◌≤�
 use Rattle.std.proofs.lemmas.List.{take_more, length-take}
 use Rattle.table_types.specs.Rosters.{is_same_name}
 use Rattle.known_state.specs.Requests.{Asked}
-use Rattle.known_state.specs.Plans.{Asking, after_request}
-use Rattle.price_checker.specs.Links.{after_requests}
-
-after_requests-append : (asking : Asking) (rs : List Asked) (r : Asked) → after_requests asking (rs ++ r ∷ []) ≡ after_request (after_requests asking rs) r
-after_requests-append asking [] r = refl
-after_requests-append asking (x ∷ rs) r = after_requests-append (after_request asking x) rs r
+use Rattle.known_state.specs.Plans.{Asking, after_request, after_requests}
+use Rattle.known_state.proofs.LinkPlaces.{after-append, place-after}
 
 -- one request more
 pub after_requests-more : (asking : Asking) (rs : List Asked) (i : ℕ) (r : Asked) → i < length rs → r ≡ get_or rs i r → after_requests asking (take (i + 1) rs) ≡ after_request (after_requests asking (take i rs)) r
 after_requests-more asking rs i r below is =
     let more : take (i + 1) rs ≡ take i rs ++ r ∷ [] = take_more rs i r below ∙ ap (λ (x : Asked). take i rs ++ x ∷ []) (sym is) in
-    ap (after_requests asking) more ∙ after_requests-append asking (take i rs) r
-
--- so many requests were made
-pub after_requests-place : (asking : Asking) (rs : List Asked) → (after_requests asking rs).place ≡ asking.place + length rs
-after_requests-place asking [] = omega arith
-after_requests-place asking (r ∷ rs) = omega (arith, after_requests-place (after_request asking r) rs)
+    ap (after_requests asking) more ∙ after-append asking (take i rs) (r ∷ [])
 
 -- at a place so many requests were made
 pub at_place : (asking : Asking) (rs : List Asked) (place : ℕ) → asking.place ≡ 0 → place ≤ length rs → (after_requests asking (take place rs)).place ≡ place
-at_place asking rs place first within = omega (arith, after_requests-place asking (take place rs), length-take place rs)
+at_place asking rs place first within = omega (arith, place-after asking (take place rs), length-take place rs)
 
 last_at : (asking : Asking) (rs : List Asked) (i : ℕ) (r : Asked) (name : List ℕ) (same : Bool) → i < length rs → r ≡ get_or rs i r → is_same_name r.name name ≡ same
     → (after_requests asking (take (i + 1) rs)).last name ≡ cond same (Some ((after_requests asking (take i rs)).place + 1)) ((after_requests asking (take i rs)).last name)

@@ -1,6 +1,4 @@
 pub mod SumsOfPrices
-pub mod LinksGoForward
-pub mod TheBoundIsOfAllLinks
 pub mod LastPlaces
 pub mod NamesInSlots
 pub mod LinksAreFound
@@ -12,4 +10,5 @@ pub mod OneReading
 pub mod OneVerdict
 pub mod ShortestIsSaid
 pub mod AllMarks
+pub mod NamedRequests
 pub mod VerdictLemmas

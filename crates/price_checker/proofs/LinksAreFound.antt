@@ -3,8 +3,7 @@ use Rattle.std.proofs.Common.{◌≡◌, ℕ, ◌+◌, ◌<◌, ◌≤◌, ◌�
 use Rattle.std.specs.Prelude.{is_some, option_to_list, ◌||◌, ◌&&◌}
 use Rattle.std.proofs.lemmas.List.{drop_more}
 use Rattle.known_state.specs.Requests.{Asked}
-use Rattle.known_state.specs.Plans.{Asking, Link, after_request, link_of, links_from, AreLinked}
-use Rattle.price_checker.specs.Links.{after_requests}
+use Rattle.known_state.specs.Plans.{Asking, Link, after_request, after_requests, link_of, links_from, AreLinked}
 use Rattle.price_checker.proofs.LastPlaces.{after_requests-more, at_place}
 
 -- the links of the requests from an index on

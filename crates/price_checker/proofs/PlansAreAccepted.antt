@@ -1,16 +1,27 @@
 -- A plan is accepted where what is found of it says so.
-use Rattle.std.proofs.Common.{◌≡◌, ℕ, ◌-◌, ◌≤◌, ◌^◌, ◌↔◌, Bool, true, List, length, eqb, sym, ap, ◌∙◌, subst, inl, inr}
+use Rattle.std.proofs.Common.{◌≡◌, ℕ, ◌+◌, ◌-◌, ◌*◌, ◌≤◌, ◌^◌, ◌↔◌, Bool, true, List, [], ◌∷◌, length, map, arith, eqb, sym, ap, ◌∙◌, subst, inl, inr}
 use Rattle.std.specs.List.{AllByRecursion}
 use Rattle.std.proofs.lemmas.Bool.{cases_eq, eq-eqb, ne_eqb}
+use Rattle.std.proofs.lemmas.List.{length-map}
 use Rattle.known_state.specs.Requests.{Asked}
-use Rattle.known_state.specs.Plans.{Plan, Link, at_start, links, all_links, AreLinked, kept_over, kept_savings, bound, Accepts}
+use Rattle.known_state.specs.Plans.{Plan, Link, sum_of, at_start, links, all_links, AreLinked, kept_over, kept_savings, bound, Accepts}
+use Rattle.known_state.proofs.LinkLaws.{above_alike}
+use Rattle.known_state.proofs.LinkPlaces.{links_forward}
 use Rattle.price_checker.specs.Links.{AreWithin}
-use Rattle.price_checker.proofs.LinksGoForward.{links_within, within_more}
-use Rattle.price_checker.proofs.TheBoundIsOfAllLinks.{bound-marked}
+
+-- links to so many places are within more
+within_more : (places more : ℕ) (ls : List Link) → places ≤ more → AreWithin places ls → AreWithin more ls
+within_more places more [] le within = tt
+within_more places more (l ∷ ls) le ((forward, to), others) = ((forward, omega arith), within_more places more ls le others)
 
 -- the links that are found go to places of the requests
 pub found_within : (places : ℕ) (held : List (List ℕ)) (rs : List Asked) (keep : List Bool) (ls : List Link) → length rs ≤ places → ls ≡ links held rs keep → AreWithin places ls
-found_within places held rs keep ls few is = subst (λ (l : List Link). AreWithin places l) (sym is) (within_more (length rs) places (links held rs keep) few (links_within held rs keep))
+found_within places held rs keep ls few is = subst (λ (l : List Link). AreWithin places l) (sym is) (within_more (length rs) places (links held rs keep) few (links_forward held rs keep))
+
+-- the bound goes by all links, whichever of them are kept
+bound-marked : (slots : ℕ) (held : List (List ℕ)) (rs : List Asked) (keep : List Bool) (prices : List ℕ) → length keep ≡ length rs → bound slots (links held rs keep) prices ≡ bound slots (all_links held rs) prices
+bound-marked slots held rs keep prices marks =
+    ap (λ (n : ℕ). (slots - 1) * sum_of prices + n) (above_alike prices (at_start held) rs keep (map (λ (r : Asked). true) rs) marks (length-map rs (λ (r : Asked). true)))
 
 eqb-is : (a b : ℕ) → eqb a b ≡ true → a ≡ b
 eqb-is a b h = elim (cases_eq a b) [ inl same ↦ same | inr other ↦ absurd (let bad = sym (ne_eqb a b other) ∙ h in cc) ]

@@ -1,9 +1,9 @@
 -- Counts of the links over places.
-use Rattle.std.proofs.Common.{◌≡◌, ℕ, zero, suc, ◌+◌, ◌-◌, ◌<◌, ◌≤◌, Bool, true, false, ◌&&◌, cond, List, [], ◌∷◌, length, get_or, replicate, slice_index, refl, ap, ◌∙◌, inl, inr, arith}
-use Rattle.std.specs.Prelude.{nat_lt, EachIndex}
+use Rattle.std.proofs.Common.{◌≡◌, ℕ, zero, suc, ◌+◌, ◌-◌, ◌<◌, ◌≤◌, Bool, true, false, ◌&&◌, cond, List, [], ◌∷◌, length, get_or, replicate, slice_index, refl, inl, inr, arith}
+use Rattle.std.specs.Prelude.{EachIndex}
 use Rattle.std.proofs.lemmas.Bool.{cases_lt}
-use Rattle.std.proofs.lemmas.Bool.Decides.{nat_tests}
 use Rattle.known_state.specs.Plans.{Link, is_inside, kept_over}
+use Rattle.known_state.proofs.LinkPlaces.{over_none}
 use Rattle.price_checker.specs.Links.{AreWithin}
 
 -- a list of zeros has 0 at each index, and past its end
@@ -21,24 +21,11 @@ kept_over_few (l ∷ ls) place = by (l.kept && is_inside place l) (kept_over_few
     by true few = omega arith
     by false few = omega arith
 
-both_false : (a b c : Bool) → c ≡ false → (a && (b && c)) ≡ false
-both_false true true c is = is
-both_false true false c is = refl
-both_false false b c is = refl
-
--- a place behind all of them is inside of none
-pub none_over : (places : ℕ) (ls : List Link) (place : ℕ) → AreWithin places ls → places ≤ place → kept_over ls place ≡ 0
-none_over places [] place within behind = refl
-none_over places (l ∷ ls) place ((forward, to), others) behind =
-    let before : nat_lt place l.to ≡ false = grind (arith, nat_tests) in
-    let outside : (l.kept && is_inside place l) ≡ false = both_false l.kept (nat_lt l.from place) (nat_lt place l.to) before in
-    ap (λ (b : Bool). cond b 1 0 + kept_over ls place) outside ∙ ap (λ (n : ℕ). 0 + n) (none_over places ls place others behind)
-
 -- the counts at all places are below the slots, so those at any place are
 pub room_kept : (slots : ℕ) (counts : List ℕ) (ls : List Link) → 1 ≤ slots → length counts ≡ 512 → AreWithin 512 ls → ((place : ℕ) → slice_index counts place ≡ kept_over ls place) → EachIndex counts (λ index. slice_index counts index < slots) → (place : ℕ) → kept_over ls place ≤ slots - 1
 room_kept slots counts ls some long within counted below place = elim (cases_lt place 512) [
   | inl before ↦ omega (arith, below place (omega arith), counted place)
-  | inr behind ↦ omega (arith, none_over 512 ls place within behind)
+  | inr behind ↦ omega (arith, over_none 512 place ls within behind)
 ]
 
 -- and the other way round

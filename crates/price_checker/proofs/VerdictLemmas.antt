@@ -1,6 +1,6 @@
 -- What the code finds, as it is said.
 use Rattle.std.proofs.Common.{◌≡◌, ℕ, ◌<◌, ◌≤◌, ◌^◌, true, List, [], ◌∷◌, length, take, drop, Result, Ok, Err, refl, sym, ap, ◌∙◌, inl, inr, arith}
-use Rattle.std.specs.Prelude.{nat_lt, IfOk}
+use Rattle.std.specs.Prelude.{nat_lt, IfErr, IfOk}
 use Rattle.std.specs.List.{AllByRecursion, list_any}
 use Rattle.std.proofs.lemmas.Bool.{cases_lt, lt-ltb, le-ltb}
 use Rattle.std.proofs.lemmas.List.{append-nil, take-append-drop, length-take-le, length-drop}
@@ -11,6 +11,11 @@ use Rattle.price_checker.specs.Verdicts.{AreApartFrom, BeginApart}
 pub of_answer : {X E : Type 0} (result : Result X E) (p q : X → Type 0) → ((x : X) → p x → q x) → IfOk result p → IfOk result q
 of_answer (Ok x) p q implied is = implied x is
 of_answer (Err e) p q implied is = tt
+
+-- what holds whatever is answered holds of an answer of memory
+pub of_error : {X E : Type 0} (result : Result X E) (p : Type 0) → p → IfErr result (λ e. p)
+of_error (Ok x) p is = tt
+of_error (Err e) p is = is
 
 -- a price is above 2^32 where not all are at most that
 pub some_above : (prices : List ℕ) → (AllByRecursion (λ price. price ≤ 2 ^ 32) prices → ⊥) → list_any (λ price. nat_lt (2 ^ 32) price) prices ≡ true

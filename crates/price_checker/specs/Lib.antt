@@ -1,4 +1,5 @@
 pub mod NamesHeld
+pub mod NamedUpdates
 pub mod Links
 pub mod Verdicts
 pub mod Readings

@@ -1,9 +1,8 @@
 //! Finding the links of requests.
 
 ghost use Rattle.std.specs.Prelude.{◌≡◌, ◌+◌, ◌≤◌, ◌<◌, ◌↔◌, IsTrue, ◌||◌, not, is_some, length, option_to_list};
-ghost use Rattle.known_state.specs.Plans.{at_start, links, link_of, AreLinked};
+ghost use Rattle.known_state.specs.Plans.{at_start, after_requests, links, link_of, AreLinked};
 ghost use Rattle.price_checker.specs.NamesHeld.{names_held};
-ghost use Rattle.price_checker.specs.Links.{after_requests};
 
 use crate::links::{Link, Links};
 use crate::names_held::Held;

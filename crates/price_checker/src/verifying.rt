@@ -1,6 +1,6 @@
 //! What is said of a stream and its prices.
 
-ghost use Rattle.std.specs.Prelude.{◌≡◌, ◌≢◌, ◌≤◌, ◌^◌, ◌↔◌, ℕ, List, length, IfOk};
+ghost use Rattle.std.specs.Prelude.{◌≡◌, ◌≢◌, ◌≤◌, ◌^◌, ◌↔◌, ℕ, List, length, IfErr, IfOk};
 ghost use Rattle.std.specs.List.{AllByRecursion};
 ghost use Rattle.table_types.specs.Batches.{IsBatchFor};
 ghost use Rattle.table_types.specs.declared.update.Update.{Update};
@@ -12,7 +12,8 @@ ghost use Rattle.known_state.specs.Plans.{all_links, bound, names_in};
 ghost use Rattle.known_state.specs.Shortest.{Shortest};
 ghost use Rattle.price_checker.specs.declared.verdict.Verdict.{Verdict};
 ghost use Rattle.price_checker.specs.declared.verdict.Verdict.TheVariants as verdicts;
-ghost use Rattle.price_checker.specs.Verdicts.{requests, Carries, Says, Show, IsNotLegal, IsNotCarried};
+ghost use Rattle.price_checker.specs.NamedUpdates.{named_count};
+ghost use Rattle.price_checker.specs.Verdicts.{requests, ArePrices, Carries, Says, Show, IsNotLegal, IsNotCarried};
 
 use crate::bound::bound;
 use crate::comparison::Comparison;
@@ -25,7 +26,7 @@ use crate::verdict::Verdict;
 use dict_slots::Slots;
 use known_state::{Costing, Known, Request};
 use std::alloc::Global;
-use table_types::{Batch, Memory};
+use table_types::{Batch, Memory, Update};
 
 /// How many bytes reads can save at most in 128 slots, as these prices show.
 fn bound_shown(slots: &Slots, requests: &[Request], prices: &[u64]) -> u64
@@ -38,20 +39,28 @@ fn bound_shown(slots: &Slots, requests: &[Request], prices: &[u64]) -> u64
     bound(usize::from(Slots::COUNT), links.as_slice(), prices)
 }
 
-/// What the prices show of a lesson of so many bytes, for a batch that costs so much from a state with these slots.
-fn shown(slots: &Slots, costing: &Costing, size: usize, prices: &[u64]) -> Verdict
-    requires { length costing.now.requests.items ≤ 512 }
+/// How many of the updates have a name.
+fn named_count(updates: &[Update]) -> usize
+    ensures count { result ≡ named_count updates.now }
+{
+    let mut count = 0;
+    for update in updates {
+        if update.name.is_some() {
+            count += 1;
+        }
+    }
+    count
+}
+
+/// What prices, one for each request, show of a lesson of so many bytes, for a batch that costs so much from a state with
+/// these slots.
+fn shown_by_bound(slots: &Slots, costing: &Costing, size: usize, prices: &[u64]) -> Verdict
+    requires few { length costing.now.requests.items ≤ 512 }
+    requires prices { (length prices.now ≡ length costing.now.requests.items) × AllByRecursion (λ price. price ≤ 2 ^ 32) prices.now }
     ensures { (k : KnownState) (us : List Update) → k.state.slots ≡ slots.now → costing.now.requests.items ≡ requests k us →
         costing.now.full ≡ full k.roster k.state us → Show k us prices.now size result }
 {
-    let requests = costing.requests.as_slice();
-    if prices.len() != requests.len() {
-        return Verdict::PriceCount;
-    }
-    if !are_prices(prices) {
-        return Verdict::PriceRange;
-    }
-    let bound = bound_shown(slots, requests, prices);
+    let bound = bound_shown(slots, costing.requests.as_slice(), prices);
     match costing.full.checked_sub(size) {
         Some(saved) if saved as u64 == bound => Verdict::Shortest(size),
         Some(saved) => Verdict::Gap {
@@ -60,6 +69,29 @@ fn shown(slots: &Slots, costing: &Costing, size: usize, prices: &[u64]) -> Verdi
         },
         None => Verdict::Gap { saved: 0, bound },
     }
+}
+
+/// What the prices show of a lesson of so many bytes. Memory is wanted for the requests alone, and so where there is one
+/// price for each of them and none is above 2^32.
+fn shown(
+    alloc: Global,
+    known: &Known,
+    batch: &Batch,
+    size: usize,
+    prices: &[u64],
+) -> Result<Verdict, Memory>
+    requires { IsBatchFor known.now.roster batch.now }
+    ensures shown { IfOk result (λ verdict. Show known.now batch.now prices.now size verdict) }
+    ensures memory { IfErr result (λ refused. ArePrices known.now batch.now prices.now) }
+{
+    if prices.len() != named_count(batch.updates()) {
+        return Ok(Verdict::PriceCount);
+    }
+    if !are_prices(prices) {
+        return Ok(Verdict::PriceRange);
+    }
+    let costing = known.costing(alloc, batch)?;
+    Ok(shown_by_bound(known.slots(), &costing, size, prices))
 }
 
 /// What is said of the stream and the prices.
@@ -80,10 +112,7 @@ fn said(
         Reading::Legal(Comparison::Same(count)) if count < updates.len() => {
             Ok(Verdict::NotCarried(count))
         }
-        Reading::Legal(Comparison::Same(_)) => {
-            let costing = known.costing(alloc, batch)?;
-            Ok(shown(known.slots(), &costing, stream.len(), prices))
-        }
+        Reading::Legal(Comparison::Same(_)) => shown(alloc, known, batch, stream.len(), prices),
     }
 }
 
@@ -108,6 +137,7 @@ pub fn verify(
     ensures shortest { IfOk result (λ verdict. (bytes : ℕ) → verdict ≡ verdicts.Shortest bytes →
         (ms : List Message) × (stream.now ≡ stream_of ms) × (bytes ≡ length stream.now) × Shortest known.now batch.now ms) }
 {
+    // Called for their clauses alone: they tell that the roster is sound and that there are 128 slots, which `shortest` needs.
     let _tables = known.roster().tables();
     let _slots = known.slots().len();
     said(alloc, known, batch, stream, prices)

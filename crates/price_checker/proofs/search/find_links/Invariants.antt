@@ -1,7 +1,6 @@
 use Rattle.std.proofs.Common.{◌≡◌, ◌≤◌, ◌↔◌, ◌++◌, IsTrue, length, take, drop}
-use Rattle.known_state.specs.Plans.{at_start, links, links_from, AreLinked}
+use Rattle.known_state.specs.Plans.{at_start, after_requests, links, links_from, AreLinked}
 use Rattle.price_checker.specs.NamesHeld.{names_held}
-use Rattle.price_checker.specs.Links.{after_requests}
 use Rattle.price_checker.proofs.search.find_links.Given as goal
 
 abbrev pub invariant-loop-index : goal.invariant-loop-index

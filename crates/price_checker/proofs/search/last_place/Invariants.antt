@@ -1,7 +1,6 @@
 use Rattle.std.proofs.Common.{◌≡◌, ◌≤◌, length, take}
-use Rattle.known_state.specs.Plans.{at_start}
+use Rattle.known_state.specs.Plans.{at_start, after_requests}
 use Rattle.price_checker.specs.NamesHeld.{names_held}
-use Rattle.price_checker.specs.Links.{after_requests}
 use Rattle.price_checker.proofs.search.last_place.Given as goal
 
 abbrev pub invariant-loop-place : goal.invariant-loop-place

@@ -1,13 +1,41 @@
-use Rattle.std.proofs.Common.{◌≡◌, true, false, length, sym, ap, ◌∙◌, arith}
-use Rattle.price_checker.specs.Verdicts.{requests}
-use Rattle.price_checker.proofs.VerdictLemmas.{some_above}
+use Rattle.std.proofs.Common.{◌≡◌, ◌^◌, ◌≤◌, true, false, length, sym, ap, ◌∙◌, rules, arith}
+use Rattle.std.specs.List.{AllByRecursion}
+use Rattle.known_state.specs.Cost.{knowledge_of}
+use Rattle.price_checker.specs.NamedUpdates.{named_count}
+use Rattle.price_checker.specs.Verdicts.{requests, ArePrices}
+use Rattle.price_checker.proofs.NamedRequests.{requests-named}
+use Rattle.price_checker.proofs.VerdictLemmas.{of_error, some_above}
 use Rattle.price_checker.proofs.verifying.shown.Goals as goal
 
-pub returns-then-not-are_prices : goal.returns-then-not-are_prices
-returns-then-not-are_prices c = λ k us slots asks costs.
-    let as_many : length c.args.prices.now ≡ length c.as_slice-requests.result.now = omega arith in
-    let asked : c.as_slice-requests.result.now ≡ requests k us = c.as_slice-requests.ensures.value ∙ asks in
-    (as_many ∙ ap length asked, some_above c.args.prices.now (λ all. no_way (sym (c.are_prices.ensures.1 all) ∙ c.if-not-are_prices.true)))
+pub returns-then-prices-named_count-clause-shown : goal.returns-then-prices-named_count-clause-shown
+returns-then-prices-named_count-clause-shown c =
+    let k = c.args.known.now in
+    let us = c.args.batch.now in
+    let count : c.named_count.result ≡ length (requests k us) = c.named_count.ensures.count ∙ ap named_count c.updates.ensures.updates ∙ sym (requests-named k.roster (knowledge_of k.state) us) in
+    λ as_many. omega (arith, count, as_many)
+
+pub returns-then-not-are_prices-clause-shown : goal.returns-then-not-are_prices-clause-shown
+returns-then-not-are_prices-clause-shown c =
+    let k = c.args.known.now in
+    let us = c.args.batch.now in
+    let count : c.named_count.result ≡ length (requests k us) = c.named_count.ensures.count ∙ ap named_count c.updates.ensures.updates ∙ sym (requests-named k.roster (knowledge_of k.state) us) in
+    (omega (arith, count), some_above c.args.prices.now (λ all. no_way (sym (c.are_prices.ensures.1 all) ∙ c.if-not-are_prices.true)))
   where
     no_way : true ≡ false → ⊥
     no_way e = cc
+
+pub returns-in_err-costing-clause-memory : goal.returns-in_err-costing-clause-memory
+returns-in_err-costing-clause-memory c =
+    let k = c.args.known.now in
+    let us = c.args.batch.now in
+    let count : c.named_count.result ≡ length (requests k us) = c.named_count.ensures.count ∙ ap named_count c.updates.ensures.updates ∙ sym (requests-named k.roster (knowledge_of k.state) us) in
+    let range : AllByRecursion (λ price. price ≤ 2 ^ 32) c.args.prices.now = search rules in
+    of_error c.from_residual.result (ArePrices k us c.args.prices.now) (omega (arith, count), range)
+
+pub shown_by_bound-requires-clause-prices : goal.shown_by_bound-requires-clause-prices
+shown_by_bound-requires-clause-prices c =
+    let k = c.args.known.now in
+    let us = c.args.batch.now in
+    let count : c.named_count.result ≡ length (requests k us) = c.named_count.ensures.count ∙ ap named_count c.updates.ensures.updates ∙ sym (requests-named k.roster (knowledge_of k.state) us) in
+    let asked : length c.in_ok-costing.costing.requests.items ≡ length (requests k us) = ap length c.in_ok-costing.ensures.requests in
+    (omega (arith, count, asked), search rules)
