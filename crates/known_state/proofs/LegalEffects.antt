@@ -59,6 +59,13 @@ refused_so k u d sel fit =
     fitting false f a c b same = cc
     fitting true f a c b same = at a b ∙ ap (λ (x : Bool). option_map refused_as (if x then Some refusals.NoNumber else (if b then Some refusals.EmptySlot else None))) (sym same)
 
+-- whether its state refuses it, and why, is told
+pub refusal_here : (k : KnownState) (s : State) (u : UpdateFields) (d : Definition) (number : Option ℕ) (field : NameField) (refusal : Option Refusal) → s ≡ k.state → number ≡ u.number → field ≡ u.name → selected_table k.state.received ≡ Some d → fits k.state.received (messages.Update u) ≡ true
+    → refusal ≡ refusal_of s number field → update_refusal k u (selected_table k.state.received) ≡ option_map refused_as refusal
+refusal_here k s u d number field refusal is_s is_number is_field sel fit is =
+    let here : refusal_of k.state u.number u.name ≡ refusal = rw (← is_s, ← is_number, ← is_field) (sym is) in
+    refused_so k u d sel fit ∙ ap (λ (o : Option Refusal). option_map refused_as o) here
+
 -- where its state refuses it, that is told
 pub refusal_told : (k : KnownState) (s : State) (u : UpdateFields) (d : Definition) (number : Option ℕ) (field : NameField) (refusal : Refusal) → s ≡ k.state → number ≡ u.number → field ≡ u.name → selected_table k.state.received ≡ Some d → fits k.state.received (messages.Update u) ≡ true
     → (refusal ≢ refusals.Memory → refusal_of s number field ≡ Some refusal) → refused_as refusal ≢ step_errors.Memory → update_refusal k u (selected_table k.state.received) ≡ Some (refused_as refusal)

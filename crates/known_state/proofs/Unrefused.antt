@@ -7,6 +7,14 @@ use Rattle.known_state.specs.declared.known.StepError.{StepError}
 use Rattle.known_state.specs.Known.{KnownState, switch_refusal}
 use Rattle.known_state.proofs.StepLemmas.{has_id-table_at}
 
+-- a switch to a table that is the roster's and defined
+pub switch_taken : (k : KnownState) (id : ℕ) → is_some (table_at k.roster id) ≡ true → is_some (table_at k.state.received.tables id) ≡ true → switch_refusal k id ≡ None
+switch_taken k id own found = at (table_at k.state.received.tables id) refl found
+  where
+    at : (o : Option Definition) → table_at k.state.received.tables id ≡ o → is_some (table_at k.state.received.tables id) ≡ true → switch_refusal k id ≡ None
+    at None is found = cc
+    at (Some d) is found = rw (has_id-table_at k.roster id, own, is) refl
+
 pub switch_unrefused : (k : KnownState) (id : ℕ) (e : StepError) → is_some (table_at k.roster id) ≡ true → is_some (table_at k.state.received.tables id) ≡ true → switch_refusal k id ≡ Some e → ⊥
 switch_unrefused k id e own found refuses = at (table_at k.state.received.tables id) refl found
   where

@@ -1,13 +1,14 @@
 //! Known states.
 
-ghost use Rattle.std.specs.Prelude.{◌≡◌, ◌≢◌, true, Some, None, Err, IfOk, IfErr, OnOk, OnErr, List};
+ghost use Rattle.std.specs.Prelude.{◌≡◌, ◌≢◌, true, Some, None, Err, IfSome, IfOk, IfErr, OnOk, OnErr, List};
 ghost use Rattle.table_types.specs.declared.update.Update.{Update};
 ghost use Rattle.peers_msg.specs.declared.message.Message.TheVariants as messages;
 ghost use Rattle.peers_msg.specs.Fitting.{fits, IsPlain};
+ghost use Rattle.peers_msg.specs.Received.{selected_table};
 ghost use Rattle.known_state.specs.State.{Step, IsOwn};
 ghost use Rattle.known_state.specs.declared.effect.Effect.TheVariants as effects;
 ghost use Rattle.known_state.specs.Effects.{written_by};
-ghost use Rattle.known_state.specs.Known.{known_of, KnownState, AreOwn, fresh_of, build_fault, built, Refuses, refused_as, IsTakenBy, IsLegalEffect, step_error_name};
+ghost use Rattle.known_state.specs.Known.{known_of, KnownState, AreOwn, fresh_of, build_fault, built, Refuses, refused_as, switch_refusal, update_refusal, IsTakenBy, IsLegalEffect, step_error_name};
 ghost use Rattle.known_state.specs.LastNumbers.{AreRising};
 ghost use Rattle.known_state.specs.declared.known.KnownError.{KnownError};
 ghost use Rattle.known_state.specs.declared.known.KnownError.TheVariants as build_errors;
@@ -260,6 +261,59 @@ impl Known {
         let effect = self.effect(message)?;
         self.state.make(effect)?;
         Ok(())
+    }
+
+    /// Why a message is refused, if it is: `NoTable`, `Foreign`, `NotDefined`, `NoNumber` or `EmptySlot`, as `after` refuses
+    /// it. Takes no memory.
+    pub fn refusal(&self, message: &Message) -> Option<StepError>
+        ensures refused { IfSome result (λ e. Refuses self.now message.now e) }
+        ensures taken { result ≡ None → IsTakenBy self.now message.now }
+    {
+        match message {
+            Message::Define(table) => self.refusal_of_definition(table),
+            Message::Switch(id) => self.refusal_of_switch(*id),
+            Message::Update(update) => self.refusal_of_update(update),
+            Message::Control(_) | Message::Error(_) | Message::Ack { .. } | Message::Other(_) =>
+                None,
+        }
+    }
+
+    fn refusal_of_definition(&self, table: &TableDef) -> Option<StepError>
+        ensures refused { IfSome result (λ e. Refuses self.now (messages.Define table.now) e) }
+        ensures taken { result ≡ None → IsTakenBy self.now (messages.Define table.now) }
+    {
+        match self.roster.table(table.id()) {
+            Some(own) if own.is_same(table) => None,
+            _ => Some(StepError::Foreign),
+        }
+    }
+
+    fn refusal_of_switch(&self, id: u64) -> Option<StepError>
+        ensures { result ≡ switch_refusal self.now id }
+    {
+        let Some(_) = self.roster.table(id) else {
+            return Some(StepError::Foreign);
+        };
+        let Some(_) = self.state.received().table(id) else {
+            return Some(StepError::NotDefined);
+        };
+        None
+    }
+
+    fn refusal_of_update(&self, update: &UpdateMsg) -> Option<StepError>
+        ensures { result ≡ update_refusal self.now update.now (selected_table self.now.state.received) }
+    {
+        let Some(table) = self.state.received().selected_table() else {
+            return Some(StepError::NoTable);
+        };
+        let _id = table.id();
+        if !update.fits(table) {
+            return Some(StepError::Foreign);
+        }
+        match self.state.refusal(update.number(), update.name().lend()) {
+            Some(refusal) => Some(StepError::from(refusal)),
+            None => None,
+        }
     }
 
     /// Moves the state by one message of which it is known that it is legal. The message is given up: what it owns

@@ -169,6 +169,17 @@ impl State {
         }
     }
 
+    /// Why an update of this number and name field is refused, if it is. Takes no memory.
+    pub fn refusal(&self, number: Option<u32>, field: NameFieldRef<'_>) -> Option<Refusal>
+        ensures { result ≡ refusal_of self.now number (owned_name field.entry) }
+    {
+        match self.number(number) {
+            None => Some(Refusal::NoNumber),
+            Some(_) if self.reads_empty(field) => Some(Refusal::EmptySlot),
+            Some(_) => None,
+        }
+    }
+
     /// What an update of this number and name field does to the state. Nothing changes yet. A name that the update
     /// writes is copied.
     ///

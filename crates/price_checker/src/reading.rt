@@ -6,7 +6,7 @@ ghost use Rattle.price_checker.specs.Readings.{IsNext, IsReading};
 
 use crate::comparison::Comparison;
 use crate::verdict::Illegal;
-use known_state::{Known, StepError};
+use known_state::Known;
 use peers_msg::{Message, front};
 use std::alloc::Global;
 use table_types::{Memory, Update};
@@ -29,23 +29,24 @@ pub enum Reading {
     Legal(Comparison),
 }
 
-/// Moves the known state by the message at the front, which has so many bytes, if it is legal.
+/// Moves the known state by the message at the front, which has so many bytes, if it is legal. What the message owns moves
+/// into the state.
 fn take(
     known: &mut Known,
     updates: &[Update],
     comparison: Comparison,
-    message: &Message,
+    message: Message,
     used: usize,
 ) -> Result<Next, Memory>
-    ensures { (rest : List ℕ) → message_at known.old.state.received rest ≡ Ok (Some (message.now, drop used rest)) → 1 ≤ used → used ≤ length rest →
+    ensures { (rest : List ℕ) → message_at known.old.state.received rest ≡ Ok (Some (message, drop used rest)) → 1 ≤ used → used ≤ length rest →
         IfOk result (λ next. IsNext known.old updates.now comparison rest next known.new) }
 {
-    let compared = comparison.after(known.state(), message, updates);
-    match known.after(message) {
-        Ok(()) => Ok(Next::Read(compared, used)),
-        Err(StepError::Memory) => Err(Memory),
-        Err(error) => Ok(Next::Illegal(Illegal::Step(error))),
+    if let Some(error) = known.refusal(&message) {
+        return Ok(Next::Illegal(Illegal::Step(error)));
     }
+    let compared = comparison.after(known.state(), &message, updates);
+    known.follow(message)?;
+    Ok(Next::Read(compared, used))
 }
 
 /// Reads the message at the front of the bytes that are left, and moves the known state by it if it is legal.
@@ -62,7 +63,7 @@ fn read_message(
     match front(known.received(), rest) {
         Ok(Some((found, used))) => {
             let message = found.to_owned(alloc)?;
-            take(known, updates, comparison, &message, used)
+            take(known, updates, comparison, message, used)
         }
         Ok(None) => Ok(Next::Illegal(Illegal::Cut)),
         Err(breach) => Ok(Next::Illegal(Illegal::Decode(breach))),
