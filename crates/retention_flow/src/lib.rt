@@ -1,0 +1,7 @@
+//! A planner of which names are read, so that the most bytes are saved (profile): a flow of least cost, in which a slot
+//! is a unit that flows through the places of the requests, and a link that is kept carries one past those inside of it.
+#![tactic(auto)]
+
+mod arcs;
+
+pub use arcs::{RequestArc, find_arcs};
