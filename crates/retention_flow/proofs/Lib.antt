@@ -1,1 +1,3 @@
 pub mod PlacesInATree
+pub mod WeighedPrices
+pub mod CalmHeights

@@ -3,5 +3,7 @@
 #![tactic(auto)]
 
 mod arcs;
+mod laws;
 
 pub use arcs::{RequestArc, find_arcs};
+pub use laws::calm_heights_are_tight;
