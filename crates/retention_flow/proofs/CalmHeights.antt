@@ -1,12 +1,14 @@
 -- Calm heights: what their prices sum up to, and what the kept links save by them.
-use Rattle.std.proofs.Common.{◌≡◌, ℕ, zero, suc, ◌+◌, ◌-◌, ◌*◌, ◌<◌, ◌≤◌, Bool, true, false, ◌⊎◌, cond, List, [], ◌∷◌, ◌++◌, length, map, take, drop, slice_index, Option, Some, None, refl, sym, ap, ◌∙◌, subst, inl, inr, arith}
-use Rattle.std.specs.List.{list_any}
+use Rattle.std.proofs.Common.{◌≡◌, ℕ, zero, suc, ◌+◌, ◌-◌, ◌*◌, ◌<◌, ◌≤◌, ◌^◌, Bool, true, false, ◌⊎◌, cond, List, [], ◌∷◌, ◌++◌, length, map, take, drop, slice_index, Option, Some, None, refl, sym, ap, ◌∙◌, subst, inl, inr, arith}
+use Rattle.std.specs.Prelude.{nat_lt, ◌&&◌}
+use Rattle.std.specs.List.{AllByRecursion, list_any}
 use Rattle.std.proofs.lemmas.Bool.{cases_lt}
+use Rattle.std.proofs.lemmas.Bool.Decides.{nat_tests}
 use Rattle.table_types.specs.Rosters.{is_same_name}
 use Rattle.known_state.specs.Requests.{Asked}
-use Rattle.known_state.specs.Plans.{Asking, Link, total, sum_of, at_start, after_request, link_of, links_from, links, all_links, kept_over, price_inside, kept_savings, bound}
+use Rattle.known_state.specs.Plans.{Asking, Link, total, sum_of, at_start, after_request, link_of, links_from, links, all_links, kept_over, price_inside, is_inside, kept_savings, bound, AreLinked, Accepts}
 use Rattle.retention_flow.specs.declared.arcs.RequestArc.{RequestArc}
-use Rattle.retention_flow.specs.Network.{IsArc, AreArcs, marks, prices_of, IsCalmRise, IsCalmArc, AreCalmArcs, IsCalm, AreSpent}
+use Rattle.retention_flow.specs.Network.{IsArc, AreArcs, plan_of, marks, prices_of, IsCalmRise, IsCalmArc, AreCalmArcs, IsCalm, AreSpent}
 use Rattle.retention_flow.proofs.WeighedPrices.{weighed, weighed_over, weighed-const}
 
 -- ---- heights and their prices
@@ -123,7 +125,8 @@ spent_or_free room cover slots low high price spent rise full is = elim (cases_l
   | inr none ↦ inl (omega arith)
 ]
 
-pub calm_is_tight : (slots : ℕ) (held : List (List ℕ)) (rs : List Asked) (heights room : List ℕ) (arcs : List RequestArc) → AreArcs (at_start held) rs arcs → IsCalm heights room arcs → AreSpent (slots - 1) room held rs arcs
+-- the kept links save as much as the prices of calm heights let all links save
+calm_is_tight : (slots : ℕ) (held : List (List ℕ)) (rs : List Asked) (heights room : List ℕ) (arcs : List RequestArc) → AreArcs (at_start held) rs arcs → IsCalm heights room arcs → AreSpent (slots - 1) room held rs arcs
     → kept_savings (links held rs (marks arcs)) ≡ bound slots (all_links held rs) (prices_of heights)
 calm_is_tight slots held rs heights room arcs are calm spent =
     let many : length arcs ≡ length rs = arcs-length (at_start held) rs arcs are in
@@ -140,3 +143,67 @@ calm_is_tight slots held rs heights room arcs are calm spent =
     (spent_or_free (slice_index room i) (cover (i + 1)) (slots - 1) (slice_index heights i) (slice_index heights (i + 1)) (slice_index ps i) (spent i within) (calm.rises i (omega arith)) (calm.full i (omega arith)) price)) in
     three_sums heights (at_start held) rs arcs rises (start_so_far held) (omega arith) are calm.calm
     ∙ ap (λ (n : ℕ). n + above ps (all_links held rs)) (sym (weighed_over (links held rs (marks arcs)) ps) ∙ paid)
+
+-- ---- the rest of what is accepted
+
+-- arcs that are kept are those of links
+arcs_linked : (asking : Asking) (rs : List Asked) (arcs : List RequestArc) → AreArcs asking rs arcs → AreLinked asking rs (marks arcs)
+arcs_linked asking [] [] are = tt
+arcs_linked asking [] (arc ∷ arcs) are = absurd are
+arcs_linked asking (r ∷ rs) [] are = absurd are
+arcs_linked asking (r ∷ rs) (arc ∷ arcs) (one, are) = by (asking.last r.name) arc.kept refl refl one (arcs_linked (after_request asking r) rs arcs are)
+  where
+    by : (last : Option ℕ) (kept : Bool) → asking.last r.name ≡ last → arc.kept ≡ kept → IsArc last asking.place r arc → AreLinked (after_request asking r) rs (marks arcs) → AreLinked asking (r ∷ rs) (kept ∷ marks arcs)
+    by last false is kept_is arc_is later = later
+    by (Some from) true is kept_is arc_is later = ((from, is), later)
+    by None true is kept_is arc_is later = let bad : true ≡ false = sym kept_is ∙ ap (λ (a : RequestArc). a.kept) arc_is in absurd (cc)
+
+marks-length : (arcs : List RequestArc) → length (marks arcs) ≡ length arcs
+marks-length [] = refl
+marks-length (arc ∷ arcs) = omega (arith, marks-length arcs)
+
+outside_none : (kept : Bool) (after before : Bool) → (after ≡ false) ⊎ (before ≡ false) → (kept && (after && before)) ≡ false
+outside_none true true true (inl no_) = no_
+outside_none true true true (inr no_) = no_
+outside_none true true false out = refl
+outside_none true false before out = refl
+outside_none false after before out = refl
+
+-- no link is over the start, nor over a place behind the requests
+none_outside : (asking : Asking) (rs : List Asked) (keep : List Bool) (place : ℕ) → (place ≡ 0) ⊎ (asking.place + length rs ≤ place) → kept_over (links_from asking rs keep) place ≡ 0
+none_outside asking [] keep place out = refl
+none_outside asking (r ∷ rs) [] place out = refl
+none_outside asking (r ∷ rs) (kept ∷ keep) place out = by (asking.last r.name) out (none_outside (after_request asking r) rs keep place (later out))
+  where
+    later : (place ≡ 0) ⊎ (asking.place + length (r ∷ rs) ≤ place) → (place ≡ 0) ⊎ (asking.place + 1 + length rs ≤ place)
+    later (inl start) = inl start
+    later (inr behind) = inr (omega arith)
+
+    tests : (from : ℕ) → (place ≡ 0) ⊎ (asking.place + length (r ∷ rs) ≤ place) → (nat_lt from place ≡ false) ⊎ (nat_lt place (asking.place + 1) ≡ false)
+    tests from (inl start) = inl (grind (arith, nat_tests))
+    tests from (inr behind) = let here : asking.place + 1 ≤ place = omega arith in inr (grind (arith, nat_tests))
+
+    by : (last : Option ℕ) → (place ≡ 0) ⊎ (asking.place + length (r ∷ rs) ≤ place) → kept_over (links_from (after_request asking r) rs keep) place ≡ 0 → kept_over (link_of last (asking.place + 1) r kept ++ links_from (after_request asking r) rs keep) place ≡ 0
+    by None out none = none
+    by (Some from) out none =
+        ap (λ (b : Bool). cond b 1 0 + kept_over (links_from (after_request asking r) rs keep) place) (outside_none kept (nat_lt from place) (nat_lt place (asking.place + 1)) (tests from out))
+        ∙ ap (λ (n : ℕ). 0 + n) none
+
+room_spent : (slots : ℕ) (held : List (List ℕ)) (rs : List Asked) (room : List ℕ) (arcs : List RequestArc) → AreSpent slots room held rs arcs → (place : ℕ) → kept_over (links held rs (marks arcs)) place ≤ slots
+room_spent slots held rs room arcs spent zero = omega (arith, none_outside (at_start held) rs (marks arcs) zero (inl refl))
+room_spent slots held rs room arcs spent (suc place) = elim (cases_lt place (length rs)) [
+  | inl within ↦ let next : place + 1 ≡ suc place = omega arith in
+      subst (λ (n : ℕ). kept_over (links held rs (marks arcs)) n ≤ slots) next (omega (arith, spent place within))
+  | inr behind ↦ omega (arith, none_outside (at_start held) rs (marks arcs) (suc place) (inr (omega arith)))
+]
+
+pub calm_is_accepted : (slots : ℕ) (held : List (List ℕ)) (rs : List Asked) (heights room : List ℕ) (arcs : List RequestArc) → AreArcs (at_start held) rs arcs → IsCalm heights room arcs → AreSpent (slots - 1) room held rs arcs
+    → AllByRecursion (λ price. price ≤ 2 ^ 32) (prices_of heights) → Accepts slots held rs (plan_of heights arcs)
+calm_is_accepted slots held rs heights room arcs are calm spent range = record {
+  keep = marks-length arcs ∙ arcs-length (at_start held) rs arcs are;
+  prices = omega (arith, prices-length heights, calm.count, arcs-length (at_start held) rs arcs are);
+  range = range;
+  linked = arcs_linked (at_start held) rs arcs are;
+  room = room_spent (slots - 1) held rs room arcs spent;
+  tight = calm_is_tight slots held rs heights room arcs are calm spent;
+}

@@ -39,6 +39,10 @@ prices_of [] = []
 prices_of (height ∷ []) = []
 prices_of (height ∷ (next ∷ heights)) = (next - height) ∷ prices_of (next ∷ heights)
 
+-- the plan of what is kept, at the prices of heights
+abbrev pub plan_of : List ℕ → List RequestArc → Plan
+plan_of heights arcs = record { keep = marks arcs; prices = prices_of heights }
+
 -- Nothing is gained by a change of what is kept: where an arc is kept, the heights rise by no more than its saving from
 -- its one end to the other, and where it isn't, by no less.
 abbrev pub IsCalmRise : Bool → ℕ → ℕ → ℕ → Type 0
