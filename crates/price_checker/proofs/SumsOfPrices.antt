@@ -1,5 +1,5 @@
 -- Sums of prices: that of a part, and that of prices up to 2^32.
-use Rattle.std.proofs.Common.{ℕ, zero, suc, ◌+◌, ◌*◌, ◌^◌, ◌≤◌, List, [], ◌∷◌, length, take, drop, arith}
+use Rattle.std.proofs.Common.{ℕ, zero, suc, ◌*◌, ◌^◌, ◌≤◌, List, [], ◌∷◌, length, take, drop, arith}
 use Rattle.std.specs.List.{AllByRecursion}
 use Rattle.known_state.specs.Plans.{sum_of}
 

@@ -6,7 +6,7 @@ use Rattle.std.proofs.lemmas.Bool.{cases_lt}
 use Rattle.std.proofs.lemmas.Bool.Decides.{nat_tests}
 use Rattle.table_types.specs.Rosters.{is_same_name}
 use Rattle.known_state.specs.Requests.{Asked}
-use Rattle.known_state.specs.Plans.{Asking, Link, total, sum_of, at_start, after_request, link_of, links_from, links, all_links, kept_over, price_inside, is_inside, kept_savings, bound, AreLinked, Accepts}
+use Rattle.known_state.specs.Plans.{Asking, Link, total, sum_of, at_start, after_request, link_of, links_from, links, all_links, kept_over, price_inside, kept_savings, bound, AreLinked, Accepts}
 use Rattle.retention_flow.specs.declared.arcs.RequestArc.{RequestArc}
 use Rattle.retention_flow.specs.Network.{IsArc, AreArcs, plan_of, marks, prices_of, IsCalmRise, IsCalmArc, AreCalmArcs, IsCalm, AreSpent}
 use Rattle.retention_flow.proofs.WeighedPrices.{weighed, weighed_over, weighed-const}

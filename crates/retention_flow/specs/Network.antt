@@ -1,6 +1,6 @@
 -- The requests and their links as a network. Its nodes stand between the places of the requests: node 0 before place 1,
 -- and each other node between the place of its number and the next.
-use Rattle.std.specs.Prelude.{◌≡◌, ◌≤◌, ◌<◌, ℕ, ◌+◌, ◌-◌, Bool, true, false, List, [], ◌∷◌, length, map, slice_index, Option, Some, None, if◌then◌else◌}
+use Rattle.std.specs.Prelude.{◌≡◌, ◌≤◌, ◌<◌, ℕ, ◌+◌, ◌-◌, Bool, true, false, List, [], ◌∷◌, length, map, slice_index, Option, Some, None}
 use Rattle.known_state.specs.Requests.{Asked}
 use Rattle.known_state.specs.Plans.{Asking, after_request, Plan, links, kept_over}
 use Rattle.retention_flow.specs.declared.arcs.RequestArc.{RequestArc}

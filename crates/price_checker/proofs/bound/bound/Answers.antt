@@ -1,4 +1,4 @@
-use Rattle.std.proofs.Common.{◌-◌, ◌*◌, ◌^◌, ◌≤◌, arith}
+use Rattle.std.proofs.Common.{◌-◌, ◌^◌, ◌≤◌, arith}
 use Rattle.std.proofs.Math.Nat.{mul-le-mul}
 use Rattle.price_checker.proofs.SumsOfPrices.{prices_sum}
 use Rattle.price_checker.proofs.bound.bound.Goals as goal

@@ -1,6 +1,6 @@
 use Rattle.std.proofs.Common.{◌≡◌, ℕ, ◌≤◌, ◌-◌, ◌^◌, Bool, List, length, rules, arith, ap, ◌∙◌, subst, sym}
 use Rattle.std.specs.List.{AllByRecursion}
-use Rattle.known_state.specs.Plans.{at_start, links, AreLinked, kept_over, kept_savings, bound}
+use Rattle.known_state.specs.Plans.{at_start, links, AreLinked, kept_over, bound}
 use Rattle.price_checker.proofs.PlansAreAccepted.{found_within, accepted}
 use Rattle.price_checker.proofs.plan_check.check_plan.Goals as goal
 

@@ -1,4 +1,3 @@
-use Rattle.std.proofs.Common.{◌≡◌, length, rules}
 use Rattle.price_checker.proofs.RoomIsKept.{room_kept, room_below}
 use Rattle.price_checker.proofs.room.have_room.Goals as goal
 

@@ -1,4 +1,4 @@
-use Rattle.std.proofs.Common.{◌≡◌, ◌≤◌, true, false, length, sym, ◌∙◌, refl, rules, arith}
+use Rattle.std.proofs.Common.{◌≡◌, true, false, sym, ◌∙◌, refl, rules, arith}
 use Rattle.table_types.specs.Rosters.{is_same_name}
 use Rattle.known_state.specs.Plans.{at_start}
 use Rattle.price_checker.specs.NamesHeld.{names_held}

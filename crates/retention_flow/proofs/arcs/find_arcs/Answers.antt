@@ -1,5 +1,4 @@
-use Rattle.std.proofs.Common.{◌≡◌, ◌+◌, ◌∷◌, [], ◌++◌, List, drop, sym, ap, ◌∙◌, append_assoc}
-use Rattle.known_state.specs.Plans.{at_start}
+use Rattle.std.proofs.Common.{◌+◌, ◌∷◌, [], ◌++◌, List, drop, sym, ap, ◌∙◌, append_assoc}
 use Rattle.retention_flow.specs.declared.arcs.RequestArc.{RequestArc}
 use Rattle.retention_flow.specs.Network.{arcs_from}
 use Rattle.retention_flow.proofs.PlacesInATree.{arcs_more, arcs_first, asking_in}
