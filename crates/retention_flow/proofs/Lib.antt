@@ -1,3 +1,4 @@
 pub mod PlacesInATree
 pub mod WeighedPrices
 pub mod CalmHeights
+pub mod TheStartIsCalm

@@ -6,4 +6,4 @@ mod arcs;
 mod laws;
 
 pub use arcs::{RequestArc, find_arcs};
-pub use laws::calm_heights_are_accepted;
+pub use laws::{calm_heights_are_accepted, the_start_is_calm};
