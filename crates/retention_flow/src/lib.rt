@@ -4,6 +4,16 @@
 
 mod arcs;
 mod laws;
+mod leaving;
+mod raising;
+mod room;
+mod steps;
+mod way_search;
 
 pub use arcs::{RequestArc, find_arcs};
 pub use laws::{calm_heights_are_accepted, the_start_is_calm};
+pub use leaving::least_leaving;
+pub use raising::raise;
+pub use room::find_room;
+pub use steps::{Leaving, Step, Way};
+pub use way_search::search;
