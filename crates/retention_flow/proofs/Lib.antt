@@ -7,3 +7,4 @@ pub mod HeightsAreBounded
 pub mod WaysStayOpen
 pub mod RoomIsLeft
 pub mod SearchGoesOn
+pub mod TurnedArcs

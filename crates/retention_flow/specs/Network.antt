@@ -1,6 +1,6 @@
 -- The requests and their links as a network. Its nodes stand between the places of the requests: node 0 before place 1,
 -- and each other node between the place of its number and the next.
-use Rattle.std.specs.Prelude.{◌≡◌, ◌≤◌, ◌<◌, ℕ, ◌+◌, ◌-◌, Bool, true, false, List, [], ◌∷◌, length, map, slice_index, slice_index_or, is_some, Option, Some, None, if◌then◌else◌, IfSome, ◌⊎◌}
+use Rattle.std.specs.Prelude.{◌≡◌, ◌≤◌, ◌<◌, ℕ, ◌+◌, ◌-◌, Bool, true, false, List, [], ◌∷◌, length, map, slice_index, slice_index_or, slice_set, is_some, Option, Some, None, if◌then◌else◌, IfSome, ◌⊎◌}
 use Rattle.known_state.specs.Requests.{Asked}
 use Rattle.known_state.specs.Plans.{Asking, after_request, Plan, Link, links, kept_over}
 use Rattle.retention_flow.specs.declared.arcs.RequestArc.{RequestArc}
@@ -174,3 +174,22 @@ pub record IsSearch (heights room : List ℕ) (arcs : List RequestArc) (steps : 
   pub last : is_reached steps (length arcs) ≡ true
   pub ways : (node : ℕ) (step : Step) → step_at steps node ≡ Some step → (node ≤ length arcs) × (step.rank < count) × IsWay heights room arcs step.way node 0
   pub from : (node : ℕ) (step : Step) → step_at steps node ≡ Some step → IsReachedFrom arcs steps node step
+
+-- the room after the arc by which a node is reached is turned
+abbrev pub turned_room : Way → ℕ → List ℕ → List ℕ
+turned_room ways.Start node room = room
+turned_room ways.Right node room = slice_set room (node - 1) (slice_index room (node - 1) + 1)
+turned_room ways.Left node room = slice_set room node (slice_index room node - 1)
+turned_room (ways.Back later) node room = room
+turned_room ways.On node room = room
+
+-- and the arcs
+abbrev pub arc_kept : Bool → RequestArc → RequestArc
+arc_kept kept arc = record { from = arc.from; saving = arc.saving; kept = kept }
+
+abbrev pub turned_arcs : Way → ℕ → List RequestArc → List RequestArc
+turned_arcs ways.Start node arcs = arcs
+turned_arcs ways.Right node arcs = arcs
+turned_arcs ways.Left node arcs = arcs
+turned_arcs (ways.Back later) node arcs = slice_set arcs later (arc_kept false (arc_at arcs later))
+turned_arcs ways.On node arcs = slice_set arcs node (arc_kept true (arc_at arcs node))

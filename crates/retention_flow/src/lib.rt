@@ -8,6 +8,7 @@ mod leaving;
 mod raising;
 mod room;
 mod steps;
+mod turning;
 mod way_search;
 
 pub use arcs::{RequestArc, find_arcs};
@@ -16,4 +17,5 @@ pub use leaving::least_leaving;
 pub use raising::raise;
 pub use room::find_room;
 pub use steps::{Leaving, Step, Way};
+pub use turning::turn_one;
 pub use way_search::search;
