@@ -9,7 +9,8 @@ use crate::names_held::Held;
 use known_state::Request;
 use table_types::{Name, is_same_name};
 
-/// The place at which the name was requested last: 0 where it wasn't and is held at the start.
+/// The place at which the name was requested last: 0 where it wasn't and is held at the start, and `None` where it isn't
+/// held either.
 fn last_place(held: Held<'_>, before: &[Request], name: &Name) -> Option<usize>
     ensures { result ≡ (after_requests (at_start (names_held held.entry)) before.now).last name.now }
 {

@@ -1,0 +1,10 @@
+pub mod PlacesInATree
+pub mod WeighedPrices
+pub mod CalmHeights
+pub mod TheStartIsCalm
+pub mod RaisedIsCalm
+pub mod HeightsAreBounded
+pub mod WaysStayOpen
+pub mod RoomIsLeft
+pub mod SearchGoesOn
+pub mod TurnedArcs

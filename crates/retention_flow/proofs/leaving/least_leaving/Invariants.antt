@@ -1,0 +1,10 @@
+use Rattle.std.proofs.Common.{ℕ, ◌<◌}
+use Rattle.std.specs.Prelude.{IfSome}
+use Rattle.retention_flow.specs.Network.{is_reached, IsNoMore, IsSlackAt, Leaves}
+use Rattle.retention_flow.proofs.leaving.least_leaving.Given as goal
+
+abbrev pub invariant-loop-node : goal.invariant-loop-node
+invariant-loop-node l = record {
+  slack : (by : ℕ) → IsNoMore by l.least → (node : ℕ) → node < l.node → IsSlackAt l.heights l.room l.arcs (is_reached l.steps) by node;
+  leaves : IfSome l.least (Leaves l.heights l.room l.arcs l.steps);
+}

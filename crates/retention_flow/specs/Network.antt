@@ -1,0 +1,195 @@
+-- The requests and their links as a network. Its nodes stand between the places of the requests: node 0 before place 1,
+-- and each other node between the place of its number and the next.
+use Rattle.std.specs.Prelude.{◌≡◌, ◌≤◌, ◌<◌, ℕ, ◌+◌, ◌-◌, Bool, true, false, List, [], ◌∷◌, length, map, slice_index, slice_index_or, slice_set, is_some, Option, Some, None, if◌then◌else◌, IfSome, ◌⊎◌}
+use Rattle.known_state.specs.Requests.{Asked}
+use Rattle.known_state.specs.Plans.{Asking, after_request, Plan, Link, links, kept_over}
+use Rattle.retention_flow.specs.declared.arcs.RequestArc.{RequestArc}
+use Rattle.retention_flow.specs.declared.steps.Step.{Step}
+use Rattle.retention_flow.specs.declared.steps.Leaving.{Leaving}
+use Rattle.retention_flow.specs.declared.steps.Way.{Way}
+use Rattle.retention_flow.specs.declared.steps.Way.TheVariants as ways
+
+-- The arc of a request's link, kept: from the node at which the link begins to the one before the request, past the
+-- places inside of it. Without a link it is a loop that saves nothing, and isn't kept.
+abbrev pub arc_of : Option ℕ → ℕ → Asked → RequestArc
+arc_of None node r = record { from = node; saving = 0; kept = false }
+arc_of (Some from) node r = record { from = from; saving = r.write_cost - r.read_cost; kept = true }
+
+-- the arcs of requests, one after another, all kept that are links
+abbrev pub arcs_from : Asking → List Asked → List RequestArc
+arcs_from asking [] = []
+arcs_from asking (r ∷ rs) = arc_of (asking.last r.name) asking.place r ∷ arcs_from (after_request asking r) rs
+
+-- the arc is that of a request, whether it is kept or not
+abbrev pub IsArc : Option ℕ → ℕ → Asked → RequestArc → Type 0
+IsArc None node r arc = arc ≡ arc_of None node r
+IsArc (Some from) node r arc = (arc.from ≡ from) × (arc.saving ≡ r.write_cost - r.read_cost)
+
+-- the arcs are those of the requests, whichever of them are kept
+abbrev pub AreArcs : Asking → List Asked → List RequestArc → Type 0
+AreArcs asking [] [] = Unit {0}
+AreArcs asking (r ∷ rs) (arc ∷ arcs) = IsArc (asking.last r.name) asking.place r arc × AreArcs (after_request asking r) rs arcs
+AreArcs asking rs arcs = ⊥
+
+-- which requests are kept
+abbrev pub marks : List RequestArc → List Bool
+marks arcs = map (λ arc. arc.kept) arcs
+
+-- ---- heights
+
+-- the price of a place is how far the heights rise over it
+abbrev pub prices_of : List ℕ → List ℕ
+prices_of [] = []
+prices_of (height ∷ []) = []
+prices_of (height ∷ (next ∷ heights)) = (next - height) ∷ prices_of (next ∷ heights)
+
+-- the plan of what is kept, at the prices of heights
+abbrev pub plan_of : List ℕ → List RequestArc → Plan
+plan_of heights arcs = record { keep = marks arcs; prices = prices_of heights }
+
+-- Nothing is gained by a change of what is kept: where an arc is kept, the heights rise by no more than its saving from
+-- its one end to the other, and where it isn't, by no less.
+abbrev pub IsCalmRise : Bool → ℕ → ℕ → ℕ → Type 0
+IsCalmRise true saving low high = high ≤ low + saving
+IsCalmRise false saving low high = low + saving ≤ high
+
+abbrev pub IsCalmArc : List ℕ → ℕ → RequestArc → Type 0
+IsCalmArc heights node arc = IsCalmRise arc.kept arc.saving (slice_index heights arc.from) (slice_index heights node)
+
+abbrev pub AreCalmArcs : List ℕ → ℕ → List RequestArc → Type 0
+AreCalmArcs heights node [] = Unit {0}
+AreCalmArcs heights node (arc ∷ arcs) = IsCalmArc heights node arc × AreCalmArcs heights (node + 1) arcs
+
+-- The heights are calm: there is one for each node; they never fall from a node to the next, and rise over a place only
+-- where no slot is left there; and no arc of a request gains. The first number of `room` is that of place 1.
+pub record IsCalm (heights room : List ℕ) (arcs : List RequestArc) : Type 0 where
+  pub count : length heights ≡ length arcs + 1
+  pub rises : (node : ℕ) → node < length arcs → slice_index heights node ≤ slice_index heights (node + 1)
+  pub full : (node : ℕ) → node < length arcs → 0 < slice_index room node → slice_index heights (node + 1) ≤ slice_index heights node
+  pub calm : AreCalmArcs heights 0 arcs
+
+-- at each place the slots left and the links kept over it are so many together
+abbrev pub AreSpent : ℕ → List ℕ → List (List ℕ) → List Asked → List RequestArc → Type 0
+AreSpent slots room held rs arcs = (node : ℕ) → node < length rs → slice_index room node + kept_over (links held rs (marks arcs)) (node + 1) ≡ slots
+
+-- ---- slots left
+
+-- the link of the arc of the request after a node
+abbrev pub link_at : ℕ → RequestArc → Link
+link_at node arc = record { from = arc.from; to = node + 1; saving = arc.saving; kept = arc.kept }
+
+-- the links of arcs, of which the first is that of the request after this node
+abbrev pub links_of : ℕ → List RequestArc → List Link
+links_of node [] = []
+links_of node (arc ∷ arcs) = link_at node arc ∷ links_of (node + 1) arcs
+
+-- the arc of the request after a node
+abbrev pub arc_at : List RequestArc → ℕ → RequestArc
+arc_at arcs node = slice_index_or arcs node (record { from = 0; saving = 0; kept = false })
+
+-- no arc begins behind its request
+abbrev pub GoBack : List RequestArc → Type 0
+GoBack arcs = (node : ℕ) → node < length arcs → (arc_at arcs node).from ≤ node
+
+-- at each place the slots left and the arcs kept over it are so many together
+pub record IsRoom (slots : ℕ) (room : List ℕ) (arcs : List RequestArc) : Type 0 where
+  pub count : length room ≡ length arcs
+  pub spent : (node : ℕ) → node < length arcs → slice_index room node + kept_over (links_of 0 arcs) (node + 1) ≡ slots
+
+-- ---- a search
+
+-- the node is reached
+abbrev pub is_reached : List (Option Step) → ℕ → Bool
+is_reached steps node = is_some (slice_index_or steps node None)
+
+-- the heights of the nodes reached rise by so much, and no others
+abbrev pub IsRaised : List ℕ → List ℕ → (ℕ → Bool) → ℕ → Type 0
+IsRaised heights new reached by = (node : ℕ) → node < length heights → slice_index new node ≡ slice_index heights node + (if reached node then by else 0)
+
+-- An arc that may be turned leaves the nodes reached where its first end is reached and its other isn't: back from the
+-- later end where it is kept, on to it where it isn't. What it would lose is no less than `by`.
+abbrev pub IsSlackOf : Bool → ℕ → ℕ → ℕ → Bool → Bool → ℕ → Type 0
+IsSlackOf true saving low high reached_low reached_high by = reached_high ≡ true → reached_low ≡ false → high + by ≤ low + saving
+IsSlackOf false saving low high reached_low reached_high by = reached_low ≡ true → reached_high ≡ false → low + saving + by ≤ high
+
+-- nothing that leaves the nodes reached would lose less than `by`: to a next node, to one before where a slot is left, or
+-- over an arc
+pub record IsSlack (heights room : List ℕ) (arcs : List RequestArc) (reached : ℕ → Bool) (by : ℕ) : Type 0 where
+  pub right : (node : ℕ) → node < length arcs → reached node ≡ true → reached (node + 1) ≡ false → slice_index heights node + by ≤ slice_index heights (node + 1)
+  pub left : (node : ℕ) → node < length arcs → 0 < slice_index room node → reached (node + 1) ≡ true → reached node ≡ false → slice_index heights (node + 1) + by ≤ slice_index heights node
+  pub over : (node : ℕ) → node < length arcs →
+      IsSlackOf (arc_at arcs node).kept (arc_at arcs node).saving (slice_index heights (arc_at arcs node).from) (slice_index heights node) (reached (arc_at arcs node).from) (reached node) by
+
+-- no arc saves more than the greatest message
+abbrev pub SaveLittle : List RequestArc → Type 0
+SaveLittle arcs = (node : ℕ) → node < length arcs → (arc_at arcs node).saving ≤ 32768
+
+-- The arc by which a node is reached may be turned, and would lose so much: from the node before it; from the node after
+-- it, where a slot is left between them; back over an arc that is kept; on over one that isn't.
+abbrev pub IsWay : List ℕ → List ℕ → List RequestArc → Way → ℕ → ℕ → Type 0
+IsWay heights room arcs ways.Start node slack = node ≡ length arcs
+IsWay heights room arcs ways.Right node slack = (1 ≤ node) × (node ≤ length arcs) × (slice_index heights (node - 1) + slack ≡ slice_index heights node)
+IsWay heights room arcs ways.Left node slack = (node < length arcs) × (0 < slice_index room node) × (slice_index heights (node + 1) + slack ≡ slice_index heights node)
+IsWay heights room arcs (ways.Back later) node slack =
+    (later < length arcs) × ((arc_at arcs later).kept ≡ true) × ((arc_at arcs later).from ≡ node) × (slice_index heights later + slack ≡ slice_index heights node + (arc_at arcs later).saving)
+IsWay heights room arcs ways.On node slack =
+    (node < length arcs) × ((arc_at arcs node).kept ≡ false) × (slice_index heights (arc_at arcs node).from + (arc_at arcs node).saving + slack ≡ slice_index heights node)
+
+-- the node from which it is reached
+abbrev pub before_way : List RequestArc → Way → ℕ → ℕ
+before_way arcs ways.Start node = node
+before_way arcs ways.Right node = node - 1
+before_way arcs ways.Left node = node + 1
+before_way arcs (ways.Back later) node = later
+before_way arcs ways.On node = (arc_at arcs node).from
+
+-- the arc leaves the nodes reached
+abbrev pub Leaves : List ℕ → List ℕ → List RequestArc → List (Option Step) → Leaving → Type 0
+Leaves heights room arcs steps leaving =
+    (leaving.node ≤ length arcs) × IsWay heights room arcs leaving.way leaving.node leaving.slack × (is_reached steps leaving.node ≡ false) × (is_reached steps (before_way arcs leaving.way leaving.node) ≡ true)
+
+-- nothing that leaves the nodes reached over the place after a node, nor over the arc of its request, would lose less
+abbrev pub IsSlackAt : List ℕ → List ℕ → List RequestArc → (ℕ → Bool) → ℕ → ℕ → Type 0
+IsSlackAt heights room arcs reached by node =
+    (reached node ≡ true → reached (node + 1) ≡ false → slice_index heights node + by ≤ slice_index heights (node + 1))
+    × (0 < slice_index room node → reached (node + 1) ≡ true → reached node ≡ false → slice_index heights (node + 1) + by ≤ slice_index heights node)
+    × IsSlackOf (arc_at arcs node).kept (arc_at arcs node).saving (slice_index heights (arc_at arcs node).from) (slice_index heights node) (reached (arc_at arcs node).from) (reached node) by
+
+-- `by` is no more than the least
+abbrev pub IsNoMore : ℕ → Option Leaving → Type 0
+IsNoMore by least = IfSome least (λ leaving. by ≤ leaving.slack)
+
+-- the step by which a node was reached
+abbrev pub step_at : List (Option Step) → ℕ → Option Step
+step_at steps node = slice_index_or steps node None
+
+-- a node is the last, or reached from one that was reached earlier
+abbrev pub IsReachedFrom : List RequestArc → List (Option Step) → ℕ → Step → Type 0
+IsReachedFrom arcs steps node step = (step.way ≡ ways.Start) ⊎ ((before : Step) × (step_at steps (before_way arcs step.way node) ≡ Some before) × (before.rank < step.rank))
+
+-- the last node is reached, and each other over an arc that may be turned and by which nothing is lost, from one that was
+-- reached earlier
+pub record IsSearch (heights room : List ℕ) (arcs : List RequestArc) (steps : List (Option Step)) (count : ℕ) : Type 0 where
+  pub long : length steps ≡ length arcs + 1
+  pub last : is_reached steps (length arcs) ≡ true
+  pub ways : (node : ℕ) (step : Step) → step_at steps node ≡ Some step → (node ≤ length arcs) × (step.rank < count) × IsWay heights room arcs step.way node 0
+  pub from : (node : ℕ) (step : Step) → step_at steps node ≡ Some step → IsReachedFrom arcs steps node step
+
+-- the room after the arc by which a node is reached is turned
+abbrev pub turned_room : Way → ℕ → List ℕ → List ℕ
+turned_room ways.Start node room = room
+turned_room ways.Right node room = slice_set room (node - 1) (slice_index room (node - 1) + 1)
+turned_room ways.Left node room = slice_set room node (slice_index room node - 1)
+turned_room (ways.Back later) node room = room
+turned_room ways.On node room = room
+
+-- and the arcs
+abbrev pub arc_kept : Bool → RequestArc → RequestArc
+arc_kept kept arc = record { from = arc.from; saving = arc.saving; kept = kept }
+
+abbrev pub turned_arcs : Way → ℕ → List RequestArc → List RequestArc
+turned_arcs ways.Start node arcs = arcs
+turned_arcs ways.Right node arcs = arcs
+turned_arcs ways.Left node arcs = arcs
+turned_arcs (ways.Back later) node arcs = slice_set arcs later (arc_kept false (arc_at arcs later))
+turned_arcs ways.On node arcs = slice_set arcs node (arc_kept true (arc_at arcs node))

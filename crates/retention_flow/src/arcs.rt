@@ -1,0 +1,71 @@
+//! The arcs of requests.
+
+ghost use Rattle.std.specs.Prelude.{◌≡◌, ℕ, List, IfOk};
+ghost use Rattle.std.specs.BTreeMap.{get_by};
+ghost use Rattle.std.specs.Cmp.Lexicographic.{slice_cmp};
+ghost use Rattle.std.specs.Ordering.{nat_cmp};
+ghost use Rattle.known_state.specs.Plans.{at_start};
+ghost use Rattle.retention_flow.specs.Network.{arc_of, arcs_from};
+
+use known_state::Request;
+use std::alloc::Global;
+use std::collections::BTreeMap;
+use table_types::{Memory, Name};
+
+/// The arc of a request's link: from the node at which the link begins to the node before the request. A request without
+/// a link has an arc from the node before it to that node, which saves nothing.
+#[derive(Clone, Copy, Debug)]
+pub struct RequestArc {
+    /// The node at which it begins.
+    pub from: usize,
+    /// How many bytes are saved where it is kept.
+    pub saving: u64,
+    /// Whether it is kept.
+    pub kept: bool,
+}
+
+/// The arc of a request behind a node, whose name was last requested there or held, if anywhere.
+fn arc_of(from: Option<usize>, node: usize, request: &Request) -> RequestArc
+    ensures { result ≡ arc_of from node request.now }
+{
+    match from {
+        Some(from) => RequestArc {
+            from,
+            saving: u64::from(request.write_cost() - request.read_cost()),
+            kept: true,
+        },
+        None => RequestArc {
+            from: node,
+            saving: 0,
+            kept: false,
+        },
+    }
+}
+
+/// Place 0 for each of these names.
+fn held_at_start<'a>(alloc: Global, held: &'a [Name]) -> Result<BTreeMap<&'a [u8], usize>, Memory>
+    ensures { IfOk result (λ last. (name : List ℕ) → get_by (λ key. slice_cmp nat_cmp name key.now) last ≡ (at_start held.now).last name) }
+{
+    let mut last = BTreeMap::new(alloc);
+    for name in held {
+        last.insert(name.as_slice(), 0)?;
+    }
+    Ok(last)
+}
+
+/// The arcs of the requests where these names are held at the start, with all links kept.
+pub fn find_arcs(
+    alloc: Global,
+    held: &[Name],
+    requests: &[Request],
+) -> Result<Vec<RequestArc>, Memory>
+    ensures { IfOk result (λ arcs. arcs.items ≡ arcs_from (at_start held.now) requests.now) }
+{
+    let mut last = held_at_start(alloc, held)?;
+    let mut arcs = Vec::new(alloc);
+    for (index, request) in requests.iter().enumerate() {
+        let from = last.insert(request.name().as_slice(), index + 1)?;
+        arcs.push(arc_of(from, index, request))?;
+    }
+    Ok(arcs)
+}
