@@ -8,3 +8,7 @@ pub mod WaysStayOpen
 pub mod RoomIsLeft
 pub mod SearchGoesOn
 pub mod TurnedArcs
+pub mod TurnedWays
+pub mod WaysAreTurned
+pub mod TurnedIsSpent
+pub mod ArcsAreSpent
