@@ -1,6 +1,6 @@
-//! Examples that were worked out by hand, and what the libraries below make of them: integers, tables, rows, slots,
-//! messages, decoders and known states. There is nothing here but tests: they stand above the libraries and
-//! use their public calls alone, so that no library is proved a second time.
+//! Examples that were worked out by hand, and what the libraries below make of them: integers, rows, slots, messages, decoders
+//! and known states. There is nothing here but tests: they stand above the libraries and use their public calls alone, so that
+//! no library is proved a second time.
 #![tactic(auto)]
 
 #[cfg(test)]
@@ -15,5 +15,3 @@ mod messages;
 mod rows;
 #[cfg(test)]
 mod slots;
-#[cfg(test)]
-mod tables;
