@@ -1,9 +1,7 @@
-//! Lessons, learners and devices that were worked out by hand, and what the libraries below make of them. There is
-//! nothing here but tests, of public calls alone.
+//! Lessons and learners that were worked out by hand, and what the libraries below make of them. There is nothing here but
+//! tests, of public calls alone.
 #![tactic(auto)]
 
-#[cfg(test)]
-mod devices;
 #[cfg(test)]
 mod learners;
 #[cfg(test)]
