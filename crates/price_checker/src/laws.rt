@@ -1,15 +1,18 @@
 //! What holds of verdicts, whatever the program does.
 
-ghost use Rattle.std.specs.Prelude.{◌≡◌, ◌≢◌, ◌↔◌, ℕ, List, length, None};
+ghost use Rattle.std.specs.Prelude.{◌≡◌, ◌≢◌, ◌≤◌, ◌↔◌, ◌+◌, ℕ, List, length, None};
 ghost use Rattle.table_types.specs.declared.update.Update.{Update};
 ghost use Rattle.table_types.specs.Rosters.{roster_fault};
 ghost use Rattle.peers_msg.specs.declared.message.Message.{Message};
-ghost use Rattle.peers_msg.specs.Spelling.{stream_of};
+ghost use Rattle.peers_msg.specs.Spelling.{size_of_all, stream_of};
+ghost use Rattle.known_state.specs.State.{State, Legal};
+ghost use Rattle.known_state.specs.Cost.{full};
+ghost use Rattle.known_state.specs.Plans.{Plan, Accepts, kept_savings, links, names_in};
 ghost use Rattle.known_state.specs.Known.{KnownState, AreOwn};
 ghost use Rattle.known_state.specs.Shortest.{Shortest};
 ghost use Rattle.price_checker.specs.declared.verdict.Verdict.{Verdict};
 ghost use Rattle.price_checker.specs.declared.verdict.Verdict.TheVariants as verdicts;
-ghost use Rattle.price_checker.specs.Verdicts.{Carries, Says, IsNotLegal, IsNotCarried};
+ghost use Rattle.price_checker.specs.Verdicts.{requests, Carries, Says, IsNotLegal, IsNotCarried};
 
 /// A stream is read in one way, and of a stream and prices one thing is said.
 pub fn one_verdict()
@@ -35,4 +38,14 @@ pub fn shortest_is_said()
         roster_fault k.roster ≡ None → AreOwn k.roster k.state.received.tables → length k.state.slots ≡ 128 →
         Says k us stream prices (verdicts.Shortest bytes) →
         (ms : List Message) × (stream ≡ stream_of ms) × (bytes ≡ length stream) × Shortest k us ms }
+{}
+
+/// A legal list that carries the batch, and saves what the links save that an accepted plan keeps, is said to be shortest at
+/// the plan's prices.
+pub fn accepted_is_said()
+    ensures { (k : KnownState) (e : State) (ms : List Message) (us : List Update) (plan : Plan) →
+        roster_fault k.roster ≡ None → AreOwn k.roster k.state.received.tables → length k.state.slots ≡ 128 →
+        Accepts 128 (names_in k.state.slots) (requests k us) plan → Legal k.roster k.state ms us e →
+        size_of_all ms + kept_savings (links (names_in k.state.slots) (requests k us) plan.keep) ≤ full k.roster k.state us →
+        Says k us (stream_of ms) plan.prices (verdicts.Shortest (length (stream_of ms))) }
 {}

@@ -15,7 +15,7 @@ mod search;
 mod verdict;
 mod verifying;
 
-pub use laws::{one_verdict, said_of_streams, shortest_is_said};
+pub use laws::{accepted_is_said, one_verdict, said_of_streams, shortest_is_said};
 pub use plan_check::check_plan;
 pub use verdict::{Illegal, Verdict};
 pub use verifying::verify;

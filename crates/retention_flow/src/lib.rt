@@ -5,6 +5,7 @@
 mod arcs;
 mod laws;
 mod leaving;
+mod planning;
 mod raising;
 mod room;
 mod steps;
@@ -14,6 +15,7 @@ mod way_search;
 pub use arcs::{RequestArc, find_arcs};
 pub use laws::{calm_heights_are_accepted, the_start_is_calm};
 pub use leaving::least_leaving;
+pub use planning::{PlanError, plan};
 pub use raising::raise;
 pub use room::find_room;
 pub use steps::{Leaving, Step, Way};

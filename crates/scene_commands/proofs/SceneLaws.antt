@@ -1,15 +1,12 @@
 -- What a scene asks for is what was taught or learned.
-use Rattle.std.proofs.Common.{Bool, ◌≡◌, ◌≢◌, ◌∙◌, ◌⊎◌, ◌++◌, inl, inr, List, ap, refl, subst, sym, ℕ, length}
+use Rattle.std.proofs.Common.{◌≡◌, ◌≢◌, ◌∙◌, ◌⊎◌, ◌++◌, inl, inr, List, refl, subst, sym, ℕ, length}
 use Rattle.std.specs.Prelude.{Result, Ok, Err, Some}
 use Rattle.table_types.specs.Tables.{Definition}
 use Rattle.table_types.specs.declared.update.Update.{Update}
 use Rattle.peers_msg.specs.Spelling.{stream_of}
-use Rattle.known_state.specs.State.{State, Legal}
 use Rattle.peers_msg.specs.declared.message.Message.{Message}
 use Rattle.known_state.specs.Known.{KnownState}
-use Rattle.known_state.specs.Requests.{AreNameless}
 use Rattle.known_state.specs.Shortest.{Shortest}
-use Rattle.teach_writer.specs.Sending.{GoesThrough}
 use Rattle.learner.specs.declared.fault.Fault.{Fault}
 use Rattle.learner.specs.declared.fault.Fault.TheVariants as faults
 use Rattle.learner.specs.Learning.{LearnerFeeds, Learning, unlearned}
@@ -19,31 +16,41 @@ use Rattle.price_checker.specs.declared.verdict.Verdict.{Verdict}
 use Rattle.price_checker.specs.declared.verdict.Verdict.TheVariants as verdicts
 use Rattle.scene_commands.specs.Settings.{prices_of, start_of}
 use Rattle.scene_commands.specs.Checking.{IsVerdict}
-use Rattle.scene_commands.specs.Teaching.{IsLesson}
+use Rattle.scene_commands.specs.Teaching.{AreTaught, IsLesson}
 use Rattle.scene_commands.specs.Learning.{AreInRisingId, IsLearned, IsPrinted, acks_text, rows_text}
 use Rattle.scene_commands.specs.declared.ending.Ending.{Ending}
 use Rattle.scene_commands.specs.declared.ending.Ending.TheVariants as endings
 
 -- what is taught from the known state of a scene and for its batch is the scene's lesson
-pub lesson_of_scene : (scene : Scene) (known : KnownState) (batch : List Update) (ms : List Message) (after : State)
-    → known ≡ start_of scene → batch ≡ scene.updates.items
-    → Legal known.roster known.state ms batch after → (AreNameless batch → Shortest known batch ms) → (marks : List Bool) × GoesThrough known batch marks (stream_of ms) after
-    → IsLesson scene ms
+pub lesson_of_scene : (scene : Scene) (known : KnownState) (batch : List Update) (ms : List Message) (prices : List ℕ) → known ≡ start_of scene → batch ≡ scene.updates.items → AreTaught known batch ms prices → IsLesson scene ms prices
 unfolding IsLesson
-lesson_of_scene scene known batch ms after start batch_is legal shortest order =
-    let of_batch : (e : State) × Legal known.roster known.state ms scene.updates.items e × (AreNameless scene.updates.items → Shortest known scene.updates.items ms) × (marks : List Bool) × GoesThrough known scene.updates.items marks (stream_of ms) e =
-    subst (λ (us : List Update). (e : State) × Legal known.roster known.state ms us e × (AreNameless us → Shortest known us ms) × (marks : List Bool) × GoesThrough known us marks (stream_of ms) e) batch_is (after, legal, shortest, order.0, order.1) in
-    subst (λ (k : KnownState). (e : State) × Legal k.roster k.state ms scene.updates.items e × (AreNameless scene.updates.items → Shortest k scene.updates.items ms) × (marks : List Bool) × GoesThrough k scene.updates.items marks (stream_of ms) e) start of_batch
+lesson_of_scene scene known batch ms prices start batch_is taught =
+    subst (λ (k : KnownState). AreTaught k scene.updates.items ms prices) start (subst (λ (us : List Update). AreTaught known us ms prices) batch_is taught)
+
+-- and it is said of its stream and prices that it is shortest, and nothing else
+pub lesson_checked : (scene checked : Scene) (ms : List Message) (prices : List ℕ) (verdict : Verdict) → IsLesson scene ms prices → start_of checked ≡ start_of scene → checked.updates.items ≡ scene.updates.items → checked.stream.items ≡ stream_of ms → prices_of checked ≡ prices → IsVerdict checked verdict → verdict ≡ verdicts.Shortest (length (stream_of ms))
+unfolding IsLesson IsVerdict
+lesson_checked scene checked ms prices verdict (after, legal, shortest, planned, said) start batch_is stream_is prices_is (says, exactly, found) =
+    let shown : Verdict = verdicts.Shortest (length (stream_of ms)) in
+    exactly shown
+    (subst (λ (k : KnownState). Says k checked.updates.items checked.stream.items (prices_of checked) shown) (sym start)
+    (subst (λ (us : List Update). Says (start_of scene) us checked.stream.items (prices_of checked) shown) (sym batch_is)
+    (subst (λ (s : List ℕ). Says (start_of scene) scene.updates.items s (prices_of checked) shown) (sym stream_is)
+    (subst (λ (ps : List ℕ). Says (start_of scene) scene.updates.items (stream_of ms) ps shown) (sym prices_is) said))))
 
 -- what is said of a stream and prices that are the scene's is the verdict on the scene
 pub verdict_on_scene : (scene : Scene) (known : KnownState) (batch : List Update) (stream prices : List ℕ) (verdict : Verdict)
     → known ≡ start_of scene → batch ≡ scene.updates.items → stream ≡ scene.stream.items → prices ≡ prices_of scene
     → Says known batch stream prices verdict
+    → ((other : Verdict) → Says known batch stream prices other → verdict ≡ other)
     → ((bytes : ℕ) → verdict ≡ verdicts.Shortest bytes → (ms : List Message) × (stream ≡ stream_of ms) × (bytes ≡ length stream) × Shortest known batch ms)
     → IsVerdict scene verdict
 unfolding IsVerdict
-verdict_on_scene scene known batch stream prices verdict start batch_is stream_is prices_is says shortest = (
+verdict_on_scene scene known batch stream prices verdict start batch_is stream_is prices_is says exactly shortest = (
   subst (λ (k : KnownState). Says k scene.updates.items scene.stream.items (prices_of scene) verdict) start (subst (λ (us : List Update). Says known us scene.stream.items (prices_of scene) verdict) batch_is (subst (λ (s : List ℕ). Says known batch s (prices_of scene) verdict) stream_is (subst (λ (ps : List ℕ). Says known batch stream ps verdict) prices_is says))),
+  (λ other said.
+      exactly other
+      (subst (λ (ps : List ℕ). Says known batch stream ps other) (sym prices_is) (subst (λ (s : List ℕ). Says known batch s (prices_of scene) other) (sym stream_is) (subst (λ (us : List Update). Says known us scene.stream.items (prices_of scene) other) (sym batch_is) (subst (λ (k : KnownState). Says k scene.updates.items scene.stream.items (prices_of scene) other) (sym start) said))))),
   (λ bytes is.
       let short = shortest bytes is in
       (short.0, sym stream_is ∙ short.1, subst (λ (k : KnownState). Shortest k scene.updates.items short.0) start (subst (λ (us : List Update). Shortest known us short.0) batch_is short.3))),

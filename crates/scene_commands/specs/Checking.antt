@@ -11,11 +11,12 @@ use Rattle.scene_commands.specs.Settings.{prices_of, start_of}
 use Rattle.scene_commands.specs.declared.ending.Ending.{Ending}
 use Rattle.scene_commands.specs.declared.ending.Ending.TheVariants as endings
 
--- The verdict on the scene's stream and prices, for the batch of its updates. Where it says that the stream is shortest, that
--- is so.
+-- The verdict on the scene's stream and prices, for the batch of its updates: this and no other is said of them. Where it says
+-- that the stream is shortest, that is so.
 unfoldable pub IsVerdict : Scene → Verdict → Type 0
 IsVerdict scene verdict =
     Says (start_of scene) scene.updates.items scene.stream.items (prices_of scene) verdict
+    × ((other : Verdict) → Says (start_of scene) scene.updates.items scene.stream.items (prices_of scene) other → verdict ≡ other)
     × ((bytes : ℕ) → verdict ≡ verdicts.Shortest bytes →
     (ms : List Message) × (scene.stream.items ≡ stream_of ms) × Shortest (start_of scene) scene.updates.items ms)
 

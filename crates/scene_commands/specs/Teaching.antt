@@ -1,18 +1,29 @@
 -- What the lesson of a scene is.
-use Rattle.std.specs.Prelude.{Bool, List}
+use Rattle.std.specs.Prelude.{◌≡◌, ℕ, List, length}
+use Rattle.table_types.specs.declared.update.Update.{Update}
 use Rattle.peers_msg.specs.declared.message.Message.{Message}
 use Rattle.peers_msg.specs.Spelling.{stream_of}
 use Rattle.known_state.specs.State.{State, Legal}
-use Rattle.known_state.specs.Requests.{AreNameless}
+use Rattle.known_state.specs.Known.{KnownState}
+use Rattle.known_state.specs.Plans.{Plan}
 use Rattle.known_state.specs.Shortest.{Shortest}
+use Rattle.price_checker.specs.Verdicts.{Says}
+use Rattle.price_checker.specs.declared.verdict.Verdict.TheVariants as verdicts
+use Rattle.teach_writer.specs.Planning.{IsPlanFor}
 use Rattle.teach_writer.specs.Sending.{GoesThrough}
 use Rattle.scene_text.specs.declared.scene.Scene.{Scene}
 use Rattle.scene_commands.specs.Settings.{start_of}
 
--- The messages are legal from there and carry the scene's updates; they tell one update after another, and nothing else;
--- and where no update has a name, no others that are legal and carry the same have fewer bytes.
-unfoldable pub IsLesson : Scene → List Message → Type 0
-IsLesson scene messages =
-    (after : State) × Legal scene.tables.items (start_of scene).state messages scene.updates.items after
-    × (AreNameless scene.updates.items → Shortest (start_of scene) scene.updates.items messages)
-    × (marks : List Bool) × GoesThrough (start_of scene) scene.updates.items marks (stream_of messages) after
+-- The messages are legal from the known state and carry the updates, and no others that do have fewer bytes; they tell one
+-- update after another, and nothing else, and read the names that an accepted plan keeps, at whose prices it is said that they
+-- are shortest.
+abbrev pub AreTaught : KnownState → List Update → List Message → List ℕ → Type 0
+AreTaught k us messages prices =
+    (after : State) × Legal k.roster k.state messages us after
+    × Shortest k us messages
+    × ((plan : Plan) × IsPlanFor k us plan × (prices ≡ plan.prices) × GoesThrough k us plan.keep (stream_of messages) after)
+    × Says k us (stream_of messages) prices (verdicts.Shortest (length (stream_of messages)))
+
+-- so the scene's updates are taught, to a learner that knows what the scene says
+unfoldable pub IsLesson : Scene → List Message → List ℕ → Type 0
+IsLesson scene messages prices = AreTaught (start_of scene) scene.updates.items messages prices

@@ -3,11 +3,13 @@
 
 mod checking;
 mod ending;
+mod laws;
 mod learning;
 mod setting;
 mod teaching;
 
 pub use checking::check;
 pub use ending::Ending;
+pub use laws::taught_lessons_are_shortest;
 pub use learning::learn;
 pub use teaching::lesson;

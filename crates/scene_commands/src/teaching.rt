@@ -1,9 +1,8 @@
 //! The subcommand `lesson`.
-ghost use Rattle.std.specs.Prelude.{◌≡◌, ◌≢◌, List, map, IfErr, IfOk};
+ghost use Rattle.std.specs.Prelude.{◌≡◌, ◌≢◌, ℕ, List, map, IfErr, IfOk};
 ghost use Rattle.std.specs.Io.KnownBytes.{Appends};
 ghost use Rattle.peers_msg.specs.Spelling.{spelled, stream_of};
 ghost use Rattle.peers_msg.specs.declared.message.Message.{Message};
-ghost use Rattle.teach_writer.specs.Naming.{no_prices};
 ghost use Rattle.learner.specs.declared.fault.Fault.{Fault};
 ghost use Rattle.scene_text.specs.Lessons.{printed};
 ghost use Rattle.scene_text.specs.declared.scene.Scene.{Scene};
@@ -18,7 +17,7 @@ use std::alloc::Global;
 use std::io::{Read, Write};
 use teach_writer::{Lesson, teach};
 
-/// Reads a scene, and writes the lesson that teaches its updates.
+/// Reads a scene, and writes the lesson that teaches its updates, which is a shortest one, and the prices that show it.
 ///
 /// Where it ends early, the writer for errors gets a line that says why, and nothing is written on
 /// the output, unless a device failed.
@@ -28,8 +27,8 @@ pub fn lesson<R: Read + Faults, W: Write + Faults, E: Write + Faults>(
     output: &mut W,
     errors: &mut E,
 ) -> Ending
-    ensures done { result ≡ Ending.Done → (scene : Scene) × (messages : List Message) × IsLesson scene messages
-        × Appends (W.contents output.old) (W.contents output.new) (printed (map spelled messages) (no_prices scene.updates.items)) }
+    ensures done { result ≡ Ending.Done → (scene : Scene) × (messages : List Message) × (prices : List ℕ) × IsLesson scene messages prices
+        × Appends (W.contents output.old) (W.contents output.new) (printed (map spelled messages) prices) }
     ensures silent { result ≢ Ending.Done → result ≢ Ending.Device → output.new ≡ output.old }
     ensures streamless { (fault : Fault) → result ≢ Ending.Stream fault }
     ensures said { result ≢ Ending.Device → Appends (E.contents errors.old) (E.contents errors.new) (line_of result) }
@@ -46,8 +45,8 @@ pub fn lesson<R: Read + Faults, W: Write + Faults, E: Write + Faults>(
 
 /// What is printed for the scene of an input.
 fn lesson_text<R: Read + Faults>(alloc: Global, input: &mut R) -> Result<Vec<u8>, Ending>
-    ensures text { IfOk result (λ text. (scene : Scene) × (messages : List Message) × IsLesson scene messages
-        × (text.items ≡ printed (map spelled messages) (no_prices scene.updates.items))) }
+    ensures text { IfOk result (λ text. (scene : Scene) × (messages : List Message) × (prices : List ℕ) × IsLesson scene messages prices
+        × (text.items ≡ printed (map spelled messages) prices)) }
     ensures early { IfErr result IsEarly }
 {
     let text = read_to_end(alloc, input)?;
@@ -59,8 +58,7 @@ fn lesson_text<R: Read + Faults>(alloc: Global, input: &mut R) -> Result<Vec<u8>
 
 /// The lesson of a scene.
 fn lesson_of(alloc: Global, scene: Scene) -> Result<Lesson, Ending>
-    ensures lesson { IfOk result (λ lesson. (messages : List Message) × (lesson.bytes ≡ stream_of messages) × IsLesson scene messages) }
-    ensures prices { IfOk result (λ lesson. lesson.prices ≡ no_prices scene.updates.items) }
+    ensures lesson { IfOk result (λ lesson. (messages : List Message) × (lesson.bytes ≡ stream_of messages) × IsLesson scene messages lesson.prices) }
     ensures early { IfErr result IsEarly }
 {
     let setting = setting_of(alloc, scene)?;

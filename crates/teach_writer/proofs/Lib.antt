@@ -2,7 +2,5 @@ pub mod SentUpdatesCost
 pub mod KeptNext
 pub mod MarkedSteps
 pub mod UpdateStepsAreLegal
-pub mod NamelessLessonsAreShortest
-pub mod AskedNamesAreRetained
-pub mod UpdatesGoInOrder
+pub mod SelectionsAreCheapest
 pub mod MarksAreReads

@@ -35,10 +35,13 @@ use Rattle.known_state.proofs.ShortestLaws.{size_of_stream}
 use Rattle.known_state.proofs.CostLaws.{framed_longer, told_shorter, selection_falls, last-put, name_alike, read_alike, read_shorter}
 use Rattle.known_state.proofs.KnownLemmas.{table_at-id}
 use Rattle.known_state.proofs.StepPays.{name_fitting, moved_last, is_there, own_stays}
+use Rattle.price_checker.specs.Verdicts.{Says}
+use Rattle.price_checker.specs.declared.verdict.Verdict.TheVariants as verdicts
+use Rattle.price_checker.proofs.ShortestIsSaid.{accepted_said}
 use Rattle.teach_writer.specs.Naming.{IsNamed, starts_at_first, starts_after, marks_after}
 use Rattle.teach_writer.specs.Sending.{is_table, selection, slot_of, is_stored, update_sent, IsSent, AreSent}
 use Rattle.teach_writer.proofs.UpdateStepsAreLegal.{selection_selects, selection_none, listed_by_id, legal-append, legal-one}
-use Rattle.teach_writer.proofs.NamelessLessonsAreShortest.{selection_size, selected_received, knows_retained, selection_knows}
+use Rattle.teach_writer.proofs.SelectionsAreCheapest.{selection_size, selected_received, knows_retained, selection_knows}
 
 -- ---- sizes by the name field
 
@@ -248,6 +251,7 @@ sent_within roster s e k starts (u ∷ us) marks ms sound own knows all (field, 
 -- a lesson that is sent as an accepted plan keeps requests is a shortest one, and the plan's prices show it
 pub planned_shortest : (k : KnownState) (us : List Update) (plan : Plan) (ms : List Message) (e : State) → roster_fault k.roster ≡ None → AreOwn k.roster k.state.received.tables → length k.state.slots ≡ 128 → IsBatchFor k.roster us → Accepts 128 (names_in k.state.slots) (requests_of k.roster (knowledge_of k.state) us) plan → AreSent k.roster k.state (starts_at_first k.state.slots) us plan.keep ms e
     → Legal k.roster k.state ms us e × (length (stream_of ms) + bound 128 (all_links (names_in k.state.slots) (requests_of k.roster (knowledge_of k.state) us)) plan.prices ≡ full k.roster k.state us) × Shortest k us ms
+    × Says k us (stream_of ms) plan.prices (verdicts.Shortest (length (stream_of ms)))
 planned_shortest k us plan ms e sound own many batch accepts sent =
     let rs = requests_of k.roster (knowledge_of k.state) us in
     let held = names_in k.state.slots in
@@ -256,7 +260,7 @@ planned_shortest k us plan ms e sound own many batch accepts sent =
     let whole : full k.roster k.state us ≡ cost k.roster k.state us = full_is_cost k.roster k.state us in
     let short : size_of_all ms + kept_savings (links held rs plan.keep) ≤ full k.roster k.state us = omega (arith, within.1) in
     let tight = accepted_shortest k e ms us plan sound own many accepts within.0 short in
-    (within.0, ap (λ (n : ℕ). n + bound 128 (all_links held rs) plan.prices) (sym (size_of_stream ms)) ∙ tight.0, tight.1)
+    (within.0, ap (λ (n : ℕ). n + bound 128 (all_links held rs) plan.prices) (sym (size_of_stream ms)) ∙ tight.0, tight.1, accepted_said k e ms us plan sound own many accepts within.0 short)
   where
     knows_itself : (x : Knowledge) → KnowsLess x x
     knows_itself x = record {

@@ -139,10 +139,6 @@ legal-one roster m s e us own step = ((own, tt), (us, [], e, sym (append-none us
     append-none [] = refl
     append-none (x ∷ xs) = ap (λ (l : List Update). x ∷ l) (append-none xs)
 
--- no message
-pub legal-none : (roster : List Definition) (s : State) → Legal roster s [] [] s
-legal-none roster s = (tt, (refl, refl))
-
 -- what selects a table of the roster is taken
 pub selection_taken : (k : KnownState) (d : Definition) (m : Message) → AreOwn k.roster k.state.received.tables → table_at k.roster d.id ≡ Some d → m ∷ [] ≡ selection k.state.received d → IsTakenBy k m
 selection_taken k d m own listed is = at (is_table (selected_table k.state.received) d.id) refl (is_some (table_at k.state.received.tables d.id)) refl
@@ -183,11 +179,6 @@ stream-one m = append-nothing (spelled m)
     append-nothing : (xs : List ℕ) → xs ++ [] ≡ xs
     append-nothing [] = refl
     append-nothing (x ∷ xs) = ap (λ (l : List ℕ). x ∷ l) (append-nothing xs)
-
--- a selection and an update sent after it are legal, and carry the update
-pub sent_legal : (roster : List Definition) (s mid e : State) (ms : List Message) (m : Message) (u : Update) (us : List Update) → Legal roster s ms [] mid → IsOwn roster m → us ≡ u ∷ [] → Step mid m us e → Legal roster s (ms ++ m ∷ []) (u ∷ []) e
-sent_legal roster s mid e ms m u us first own is step =
-    legal-append roster ms (m ∷ []) s mid e [] (u ∷ []) first (legal-one roster m mid e (u ∷ []) own (subst (λ (x : List Update). Step mid m x e) is step))
 
 -- a table of the roster stands there under its own id
 pub listed_by_id : (roster : List Definition) (id : ℕ) (d : Definition) → table_at roster id ≡ Some d → table_at roster d.id ≡ Some d

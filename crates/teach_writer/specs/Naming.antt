@@ -1,6 +1,6 @@
 -- Through which slots the names of a lesson go (profile). A request is an update with a name; each has a mark, whether it is
 -- retained. A request has a link where its name was requested before, or stands in a slot at the start.
-use Rattle.std.specs.Prelude.{◌≡◌, ◌≤◌, ℕ, ◌+◌, Bool, true, false, List, [], ◌∷◌, is_some, Option, Some, None, if◌then◌else◌}
+use Rattle.std.specs.Prelude.{◌≡◌, ◌≤◌, ℕ, ◌+◌, Bool, true, false, List, [], ◌∷◌, Option, Some, None, if◌then◌else◌}
 use Rattle.table_types.specs.declared.update.Update.{Update}
 use Rattle.table_types.specs.Rosters.{is_same_name}
 use Rattle.table_types.specs.SlotIds.{is_slot}
@@ -60,8 +60,3 @@ IsNamed starts us (false ∷ marks) stored (Some name) (names.Written slot writt
     × ((other : ℕ) → IsOpen starts us (false ∷ marks) other → slot ≤ other)
 IsNamed starts us marks stored (Some name) field = ⊥
 IsNamed starts us marks stored None field = field ≡ written_field stored None
-
--- a price of 0 for each update with a name
-abbrev pub no_prices : List Update → List ℕ
-no_prices [] = []
-no_prices (u ∷ us) = if is_some u.name then 0 ∷ no_prices us else no_prices us

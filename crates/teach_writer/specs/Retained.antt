@@ -1,12 +1,10 @@
 -- Which slots of the dictionary retain their names, as lessons are made (profile).
-use Rattle.std.specs.Prelude.{◌≡◌, ◌≤◌, ℕ, ◌-◌, Bool, true, false, ◌||◌, List, [], ◌∷◌, replicate, slice_index_or, slice_set, Option, Some, None}
-use Rattle.table_types.specs.declared.update.Update.{Update}
+use Rattle.std.specs.Prelude.{◌≡◌, ◌≤◌, ℕ, ◌-◌, Bool, true, false, List, replicate, slice_index_or, Option, Some, None}
 use Rattle.table_types.specs.SlotIds.{is_slot}
 use Rattle.dict_slots.specs.Slots.{Holds}
 use Rattle.peers_msg.specs.declared.name_field.NameField.{NameField}
 use Rattle.peers_msg.specs.declared.name_field.NameField.TheVariants as names
 use Rattle.known_state.specs.Cost.{written_field}
-use Rattle.teach_writer.specs.Naming.{is_that_name}
 
 -- no slot's name is retained
 abbrev pub none_retained : List Bool
@@ -36,26 +34,3 @@ IsNameField retained slots stored (Some name) (names.Written slot written) =
     × ((other : ℕ) → IsFree retained other → slot ≤ other)
 IsNameField retained slots stored (Some name) field = ⊥
 IsNameField retained slots stored None field = field ≡ written_field stored None
-
--- whether an update asks for the name
-abbrev pub is_asked : List ℕ → List Update → Bool
-is_asked name [] = false
-is_asked name (u ∷ us) = is_that_name name u.name || is_asked name us
-
--- a slot may retain its name from the start: it is the lowest that holds that name, and an update asks for it
-abbrev pub MayRetain : List (Option (List ℕ)) → List Update → ℕ → Type 0
-MayRetain slots us slot =
-    (name : List ℕ) × Holds slots slot name
-    × ((other : ℕ) → Holds slots other name → slot ≤ other)
-    × (is_asked name us ≡ true)
-
--- before the first of the updates only such slots retain their names; not all of them have to
-abbrev pub IsRetainedAtStart : List (Option (List ℕ)) → List Update → List Bool → Type 0
-IsRetainedAtStart slots us retained = (slot : ℕ) → is_slot slot ≡ true → retained_at retained slot ≡ true → MayRetain slots us slot
-
--- After an update whose name went through that slot, the slot may retain the name where a later update asks for it, and
--- else retains nothing; every other slot stays as it was. After an update without a name nothing changes.
-abbrev pub IsSettled : List Bool → Option ℕ → Option (List ℕ) → List Update → List Bool → Type 0
-IsSettled retained (Some slot) (Some name) later next =
-    (retains : Bool) × (retains ≡ true → is_asked name later ≡ true) × (next ≡ slice_set retained (slot - 1) retains)
-IsSettled retained slot name later next = next ≡ retained

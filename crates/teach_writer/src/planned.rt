@@ -9,9 +9,12 @@ ghost use Rattle.peers_msg.specs.Spelling.{stream_of};
 ghost use Rattle.known_state.specs.Cost.{full, knowledge_of};
 ghost use Rattle.known_state.specs.Known.{AreOwn};
 ghost use Rattle.known_state.specs.Lessons.{IsLessonFor};
-ghost use Rattle.known_state.specs.Plans.{Accepts, AreLinked, all_links, at_start, bound, kept_over, links, names_in};
+ghost use Rattle.known_state.specs.Plans.{AreLinked, at_start, kept_over, links, names_in};
 ghost use Rattle.known_state.specs.Requests.{requests_of};
 ghost use Rattle.known_state.specs.Shortest.{Shortest};
+ghost use Rattle.price_checker.specs.Verdicts.{Says, bound_shown};
+ghost use Rattle.price_checker.specs.declared.verdict.Verdict.TheVariants as verdicts;
+ghost use Rattle.teach_writer.specs.Planning.{IsPlanFor};
 ghost use Rattle.teach_writer.specs.Retention.{settled, place_after};
 ghost use Rattle.teach_writer.specs.Sending.{GoesThrough};
 
@@ -78,14 +81,14 @@ pub fn teach_by(
 ) -> Result<Lesson, Memory>
     requires batch { IsBatchFor known.now.roster batch.now }
     requires requests { requests.now ≡ requests_of known.now.roster (knowledge_of known.now.state) batch.now }
-    requires accepted { Accepts 128 (names_in known.now.state.slots) requests.now plan }
+    requires accepted { IsPlanFor known.now batch.now plan }
     ensures taught { IfOk result (λ lesson. IsLessonFor known.now batch.now lesson.bytes lesson.known) }
     ensures order { IfOk result (λ lesson. GoesThrough known.now batch.now plan.keep lesson.bytes lesson.known.state) }
     ensures shortest { IfOk result (λ lesson. (ms : List Message) × (lesson.bytes ≡ stream_of ms) × Shortest known.now batch.now ms) }
     ensures prices { IfOk result (λ lesson. lesson.prices ≡ plan.prices) }
-    ensures tight { IfOk result (λ lesson.
-        length lesson.bytes + bound 128 (all_links (names_in known.now.state.slots) requests.now) lesson.prices
+    ensures tight { IfOk result (λ lesson. length lesson.bytes + bound_shown known.now batch.now lesson.prices
         ≡ full known.now.roster known.now.state batch.now) }
+    ensures said { IfOk result (λ lesson. Says known.now batch.now lesson.bytes lesson.prices (verdicts.Shortest (length lesson.bytes))) }
 {
     let (_tables, _count) = (known.roster().tables(), known.slots().len());
     let (keep, prices) = plan.into_parts();

@@ -1,6 +1,6 @@
 //! Which slots hold a name that is retained.
 
-ghost use Rattle.std.specs.Prelude.{◌≡◌, ◌≤◌, ◌-◌, ℕ, true, false, ◌⊎◌, IsTrue, ◌↔◌, Some, IfSome, IsNone, option_copied, length, slice_set};
+ghost use Rattle.std.specs.Prelude.{◌≡◌, ◌≤◌, ◌-◌, ℕ, true, IsTrue, ◌↔◌, Some, IfSome, IsNone, option_copied, length, slice_set};
 ghost use Rattle.dict_slots.specs.Slots.{slot_at};
 ghost use Rattle.table_types.specs.SlotIds.{is_slot};
 ghost use Rattle.teach_writer.specs.Retained.{none_retained, Retains, IsFree};
@@ -53,7 +53,6 @@ impl Retained {
     pub fn none() -> Retained
         ensures none { result ≡ none_retained }
         ensures count { length result ≡ 128 }
-        ensures free { IsFree result 1 }
     {
         Retained {
             flags: [false; 128],
@@ -94,29 +93,5 @@ impl Retained {
         ensures count { length self.new ≡ 128 }
     {
         self.flags[usize::from(slot) - 1] = retained;
-    }
-
-    /// What the slot holds is retained no longer.
-    pub fn release(&mut self, slot: u8)
-        requires { is_slot slot ≡ true }
-        ensures released { self.new ≡ slice_set self.old (slot - 1) false }
-        ensures free { IsFree self.new slot }
-    {
-        self.flags[usize::from(slot) - 1] = false;
-    }
-
-    /// What the slot holds is retained, where another slot stays free.
-    pub fn retain(&mut self, slot: u8)
-        requires { is_slot slot ≡ true }
-        ensures retained { ((other : ℕ) × IsFree (slice_set self.old (slot - 1) true) other) → self.new ≡ slice_set self.old (slot - 1) true }
-        ensures full { (((other : ℕ) × IsFree (slice_set self.old (slot - 1) true) other) → ⊥) → self.new ≡ self.old }
-        ensures free { ((other : ℕ) × IsFree self.old other) → (other : ℕ) × IsFree self.new other }
-        ensures either { (self.new ≡ slice_set self.old (slot - 1) true) ⊎ (self.new ≡ self.old) }
-    {
-        let mut flags = self.flags;
-        flags[usize::from(slot) - 1] = true;
-        if lowest_free(&flags).is_some() {
-            self.flags = flags;
-        }
     }
 }

