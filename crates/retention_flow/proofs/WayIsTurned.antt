@@ -1,5 +1,5 @@
 -- Turning the arcs of a whole way, from the first node to the last.
-use Rattle.std.proofs.Common.{◌≡◌, ℕ, ◌+◌, ◌-◌, ◌<◌, ◌≤◌, Bool, true, false, ◌⊎◌, inl, inr, List, length, slice_index, Option, Some, None, refl, sym, ap, ◌∙◌, subst, arith}
+use Rattle.std.proofs.Common.{◌≡◌, ℕ, ◌-◌, ◌<◌, ◌≤◌, Bool, true, false, inl, inr, List, length, Option, Some, None, refl, sym, ap, ◌∙◌, subst, arith}
 use Rattle.std.specs.Prelude.{slice_set}
 use Rattle.std.proofs.lemmas.Bool.{cases_eq}
 use Rattle.known_state.specs.Requests.{Asked}
@@ -13,7 +13,7 @@ use Rattle.retention_flow.proofs.WaysStayOpen.{some_step, some_same}
 use Rattle.retention_flow.proofs.TurnedArcs.{arc_other, arc_set, from_set, arcs_set}
 use Rattle.retention_flow.proofs.TurnedWays.{turned_room-length, turned_arcs-length, turned_is_calm}
 use Rattle.retention_flow.proofs.WaysAreTurned.{way_stays}
-use Rattle.retention_flow.proofs.TurnedIsSpent.{side, side_yes, side_no, AreWalked, turned_is_walked}
+use Rattle.retention_flow.proofs.TurnedIsSpent.{side_yes, side_no, AreWalked, turned_is_walked}
 
 -- ---- one arc that is turned
 
