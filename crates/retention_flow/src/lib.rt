@@ -7,6 +7,7 @@ mod laws;
 mod leaving;
 mod raising;
 mod room;
+mod spreading;
 mod steps;
 mod turning;
 mod way_search;
