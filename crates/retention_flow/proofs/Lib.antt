@@ -7,6 +7,7 @@ pub mod HeightsAreBounded
 pub mod WaysStayOpen
 pub mod RoomIsLeft
 pub mod SearchGoesOn
+pub mod SpreadGoesOn
 pub mod TurnedArcs
 pub mod TurnedWays
 pub mod WaysAreTurned

@@ -8,7 +8,7 @@ use Rattle.retention_flow.specs.declared.steps.Step.{Step}
 use Rattle.retention_flow.specs.declared.steps.Leaving.{Leaving}
 use Rattle.retention_flow.specs.declared.steps.Way.{Way}
 use Rattle.retention_flow.specs.declared.steps.Way.TheVariants as ways
-use Rattle.retention_flow.specs.Network.{arc_at, GoBack, SaveLittle, IsCalm, IsRoom, IsSlack, IsNoMore, IsRaised, is_reached, IsWay, before_way, Leaves, step_at, IsReachedFrom, IsSearch}
+use Rattle.retention_flow.specs.Network.{arc_at, GoBack, SaveLittle, IsCalm, IsRoom, IsSlack, IsNoMore, IsRaised, is_reached, IsWay, before_way, Leaves, step_at, IsReachedFrom, IsSearch, unreached}
 use Rattle.retention_flow.proofs.RaisedIsCalm.{raised_is_calm, risen, risen-length, risen_at}
 use Rattle.retention_flow.proofs.HeightsAreBounded.{height_bounded}
 use Rattle.retention_flow.proofs.WaysStayOpen.{some_same, length_set}
@@ -76,12 +76,6 @@ some_leaves hs room arcs steps slots None some first calm spent back little star
     absurd (omega (arith, high, height_bounded new room arcs slots (length arcs) some (omega (arith, low)) new_calm spent back little (omega arith)))
 
 -- ---- its end
-
--- how many nodes aren't reached
-abbrev pub unreached : List (Option Step) → ℕ
-unreached [] = 0
-unreached (None ∷ steps) = suc (unreached steps)
-unreached (Some step ∷ steps) = unreached steps
 
 pub unreached-most : (steps : List (Option Step)) → unreached steps ≤ length steps
 unreached-most [] = omega arith

@@ -52,7 +52,7 @@ set_calm hs arcs i kept below tight calm j within = elim (cases_eq j i) [
     by true = omega (arith, tight)
     by false = omega (arith, tight)
 
-arcs_calm : (hs room : List ℕ) (arcs : List RequestArc) → IsCalm hs room arcs → (j : ℕ) → j < length arcs → IsCalmArc hs j (arc_at arcs j)
+pub arcs_calm : (hs room : List ℕ) (arcs : List RequestArc) → IsCalm hs room arcs → (j : ℕ) → j < length arcs → IsCalmArc hs j (arc_at arcs j)
 arcs_calm hs room arcs calm j below = let same : 0 + j ≡ j = omega arith in subst (λ (n : ℕ). IsCalmArc hs n (arc_at arcs j)) same (calm_at hs 0 j arcs calm.calm below)
 
 all_calm : (hs : List ℕ) (arcs new : List RequestArc) → length new ≡ length arcs → ((j : ℕ) → j < length arcs → IsCalmArc hs j (arc_at new j)) → (i : ℕ) → i < length new → IsCalmArc hs (0 + i) (arc_at new i)

@@ -1,6 +1,7 @@
 -- The requests and their links as a network. Its nodes stand between the places of the requests: node 0 before place 1,
 -- and each other node between the place of its number and the next.
-use Rattle.std.specs.Prelude.{◌≡◌, ◌≤◌, ◌<◌, ℕ, ◌+◌, ◌-◌, Bool, true, false, List, [], ◌∷◌, length, map, slice_index, slice_index_or, slice_set, is_some, Option, Some, None, if◌then◌else◌, IfSome, ◌⊎◌}
+use Rattle.std.specs.Prelude.{◌≡◌, ◌≤◌, ◌<◌, ℕ, suc, ◌+◌, ◌-◌, Bool, true, false, List, [], ◌∷◌, length, map, slice_index, slice_index_or, slice_set, is_some, Option, Some, None, if◌then◌else◌, IfSome, ◌⊎◌}
+use Rattle.std.specs.List.{AllByRecursion}
 use Rattle.known_state.specs.Requests.{Asked}
 use Rattle.known_state.specs.Plans.{Asking, after_request, Plan, Link, links, kept_over}
 use Rattle.retention_flow.specs.declared.arcs.RequestArc.{RequestArc}
@@ -174,6 +175,18 @@ pub record IsSearch (heights room : List ℕ) (arcs : List RequestArc) (steps : 
   pub last : is_reached steps (length arcs) ≡ true
   pub ways : (node : ℕ) (step : Step) → step_at steps node ≡ Some step → (node ≤ length arcs) × (step.rank < count) × IsWay heights room arcs step.way node 0
   pub from : (node : ℕ) (step : Step) → step_at steps node ≡ Some step → IsReachedFrom arcs steps node step
+
+-- how many nodes are not reached
+abbrev pub unreached : List (Option Step) → ℕ
+unreached [] = 0
+unreached (None ∷ steps) = suc (unreached steps)
+unreached (Some step ∷ steps) = unreached steps
+
+-- so far the nodes of this list are reached, one after another
+pub record IsSpread (heights room : List ℕ) (arcs : List RequestArc) (steps : List (Option Step)) (order : List ℕ) : Type 0 where
+  pub found : IsSearch heights room arcs steps (length order)
+  pub nodes : AllByRecursion (λ node. node ≤ length arcs) order
+  pub many : length order + unreached steps ≤ length arcs + 1
 
 -- the room after the arc by which a node is reached is turned
 abbrev pub turned_room : Way → ℕ → List ℕ → List ℕ

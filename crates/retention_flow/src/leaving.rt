@@ -16,7 +16,7 @@ fn is_reached(steps: &[Option<Step>], node: usize) -> bool
 }
 
 /// What leaves the nodes reached over the place after a node.
-fn over_place(
+pub fn over_place(
     heights: &[u64],
     room: &[usize],
     steps: &[Option<Step>],
@@ -53,7 +53,7 @@ fn over_place(
 }
 
 /// What leaves the nodes reached over the arc of the request after a node.
-fn over_arc(
+pub fn over_arc(
     heights: &[u64],
     arcs: &[RequestArc],
     steps: &[Option<Step>],

@@ -8,6 +8,7 @@ mod leaving;
 mod planning;
 mod raising;
 mod room;
+mod spreading;
 mod steps;
 mod turning;
 mod way_search;

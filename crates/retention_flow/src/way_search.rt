@@ -1,12 +1,13 @@
 //! A search for a way from the last node to the first.
 
-ghost use Rattle.std.specs.Prelude.{◌≡◌, ℕ, ◌-◌, ◌^◌, ◌≤◌, ◌<◌, true, None, Some, length, replicate, slice_index, slice_set, IfOk};
+ghost use Rattle.std.specs.Prelude.{◌≡◌, ℕ, ◌-◌, ◌^◌, ◌≤◌, ◌<◌, true, false, None, Some, length, replicate, slice_index, slice_set, IfOk};
 ghost use Rattle.retention_flow.specs.declared.steps.Way.TheVariants.{Start};
-ghost use Rattle.retention_flow.specs.Network.{is_reached, GoBack, SaveLittle, IsCalm, IsRoom, IsSearch};
+ghost use Rattle.retention_flow.specs.Network.{is_reached, GoBack, SaveLittle, IsCalm, IsRoom, IsSearch, IsSpread};
 
 use crate::arcs::RequestArc;
 use crate::leaving::least_leaving;
 use crate::raising::raise;
+use crate::spreading::{later_ends, reach, spread};
 use crate::steps::{Step, Way};
 use std::alloc::Global;
 use table_types::Memory;
@@ -22,6 +23,65 @@ fn first_step(alloc: Global, nodes: usize) -> Result<Vec<Option<Step>>, Memory>
         way: Way::Start,
     });
     Ok(steps)
+}
+
+/// Raises the heights of the nodes reached until nothing is lost by an arc that leaves them, and goes on from there.
+fn go_on(
+    heights: &mut [u64],
+    room: &[usize],
+    arcs: &[RequestArc],
+    later: &[usize],
+    steps: &mut [Option<Step>],
+    order: &mut Vec<usize>,
+) -> Result<(), Memory>
+    requires most { length arcs.now ≤ 512 }
+    requires back { GoBack arcs.now }
+    requires little { SaveLittle arcs.now }
+    requires calm { IsCalm heights.old room.now arcs.now }
+    requires first { slice_index heights.old 0 ≡ 0 }
+    requires room { (slots : ℕ) × (1 ≤ slots) × IsRoom slots room.now arcs.now }
+    requires later { (length later.now ≡ length arcs.now) × ((node : ℕ) → node < length arcs.now → slice_index later.now node < length arcs.now) }
+    requires start { is_reached steps.old 0 ≡ false }
+    requires spread { IsSpread heights.old room.now arcs.now steps.old order.old.items }
+    ensures calm { IfOk result (λ done. IsCalm heights.new room.now arcs.now) }
+    ensures first { IfOk result (λ done. slice_index heights.new 0 ≡ 0) }
+    ensures grows { IfOk result (λ done. length order.old.items < length order.new.items) }
+    ensures spread { IfOk result (λ done. IsSpread heights.new room.now arcs.now steps.new order.new.items) }
+{
+    let leaving = least_leaving(heights, room, arcs, steps).unwrap();
+    raise(heights, steps, leaving.slack);
+    reach(leaving, steps, order)?;
+    spread(heights, room, arcs, later, steps, order)?;
+    Ok(())
+}
+
+/// Reaches nodes over arcs by which nothing is lost, and goes on until the first is reached.
+fn reach_first(
+    heights: &mut [u64],
+    room: &[usize],
+    arcs: &[RequestArc],
+    later: &[usize],
+    steps: &mut [Option<Step>],
+    order: &mut Vec<usize>,
+) -> Result<(), Memory>
+    requires most { length arcs.now ≤ 512 }
+    requires back { GoBack arcs.now }
+    requires little { SaveLittle arcs.now }
+    requires calm { IsCalm heights.old room.now arcs.now }
+    requires first { slice_index heights.old 0 ≡ 0 }
+    requires room { (slots : ℕ) × (1 ≤ slots) × IsRoom slots room.now arcs.now }
+    requires later { (length later.now ≡ length arcs.now) × ((node : ℕ) → node < length arcs.now → slice_index later.now node < length arcs.now) }
+    requires spread { IsSpread heights.old room.now arcs.now steps.old order.old.items }
+    ensures calm { IfOk result (λ done. IsCalm heights.new room.now arcs.now) }
+    ensures first { IfOk result (λ done. slice_index heights.new 0 ≡ 0) }
+    ensures reached { IfOk result (λ done. is_reached steps.new 0 ≡ true) }
+    ensures spread { IfOk result (λ done. IsSpread heights.new room.now arcs.now steps.new order.new.items) }
+{
+    spread(heights, room, arcs, later, steps, order)?;
+    while steps[0].is_none() {
+        go_on(heights, room, arcs, later, steps, order)?;
+    }
+    Ok(())
 }
 
 /// Raises heights until the first node is reached from the last over arcs by which nothing is lost, and answers how each
@@ -44,16 +104,10 @@ pub fn search(
     ensures reached { IfOk result (λ steps. is_reached steps.items 0 ≡ true) }
     ensures steps { IfOk result (λ steps. (count : ℕ) × IsSearch heights.new room.now arcs.now steps.items count) }
 {
+    let later = later_ends(alloc, arcs)?;
     let mut steps = first_step(alloc, heights.len())?;
-    let mut rank = 1;
-    while steps[0].is_none() {
-        let leaving = least_leaving(heights, room, arcs, &steps).unwrap();
-        raise(heights, &steps, leaving.slack);
-        steps[leaving.node] = Some(Step {
-            rank,
-            way: leaving.way,
-        });
-        rank += 1;
-    }
+    let mut order = Vec::new(alloc);
+    order.push(arcs.len())?;
+    reach_first(heights, room, arcs, &later, &mut steps, &mut order)?;
     Ok(steps)
 }

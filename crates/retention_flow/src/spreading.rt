@@ -1,0 +1,194 @@
+//! Reaching nodes over arcs by which nothing is lost.
+
+ghost use Rattle.std.specs.Prelude.{◌≡◌, ℕ, ◌+◌, ◌^◌, ◌≤◌, ◌<◌, List, [], ◌∷◌, ◌++◌, Some, slice_set, length, slice_index, IfOk, IfSome};
+ghost use Rattle.retention_flow.specs.declared.arcs.RequestArc.{RequestArc};
+ghost use Rattle.retention_flow.specs.Network.{arc_at, GoBack, SaveLittle, IsCalmArc, IsCalm, Leaves, IsSpread};
+
+use crate::arcs::RequestArc;
+use crate::leaving::{over_arc, over_place};
+use crate::steps::{Leaving, Step};
+use std::alloc::Global;
+use table_types::Memory;
+
+/// For each node but the last a later one, behind which is the request whose arc begins there, if there is one.
+pub fn later_ends(alloc: Global, arcs: &[RequestArc]) -> Result<Vec<usize>, Memory>
+    requires back { GoBack arcs.now }
+    ensures long { IfOk result (λ later. length later.items ≡ length arcs.now) }
+    ensures within { IfOk result (λ later. (node : ℕ) → node < length arcs.now → slice_index later.items node < length arcs.now) }
+{
+    let mut later = vec![in alloc; 0; arcs.len()]?;
+    for (node, arc) in arcs.iter().enumerate() {
+        later[arc.from] = node;
+    }
+    Ok(later)
+}
+
+/// Reaches a node over this arc.
+pub fn reach(
+    leaving: Leaving,
+    steps: &mut [Option<Step>],
+    order: &mut Vec<usize>,
+) -> Result<(), Memory>
+    requires { leaving.node < length steps.old }
+    ensures steps { IfOk result (λ done. steps.new ≡ slice_set steps.old leaving.node (Some (record { rank = length order.old.items; way = leaving.way }))) }
+    ensures order { IfOk result (λ done. order.new.items ≡ order.old.items ++ leaving.node ∷ []) }
+{
+    let rank = order.len();
+    order.push(leaving.node)?;
+    steps[leaving.node] = Some(Step {
+        rank,
+        way: leaving.way,
+    });
+    Ok(())
+}
+
+/// Reaches a node over this arc, if nothing is lost by it.
+fn reach_freely(
+    leaving: Option<Leaving>,
+    steps: &mut [Option<Step>],
+    order: &mut Vec<usize>,
+) -> Result<(), Memory>
+    requires { IfSome leaving (λ arc. arc.node < length steps.old) }
+    ensures grows { IfOk result (λ done. length order.old.items ≤ length order.new.items) }
+    ensures spread { IfOk result (λ done. (heights room : List ℕ) → (arcs : List RequestArc) → GoBack arcs → length heights ≡ length arcs + 1 →
+        IfSome leaving (Leaves heights room arcs steps.old) → IsSpread heights room arcs steps.old order.old.items → IsSpread heights room arcs steps.new order.new.items) }
+{
+    let Some(leaving) = leaving else {
+        return Ok(());
+    };
+    if leaving.slack > 0 {
+        return Ok(());
+    }
+    reach(leaving, steps, order)?;
+    Ok(())
+}
+
+/// Reaches a node over the place after a node, where nothing is lost by it.
+fn reach_over_place(
+    heights: &[u64],
+    room: &[usize],
+    arcs: &[RequestArc],
+    node: usize,
+    steps: &mut [Option<Step>],
+    order: &mut Vec<usize>,
+) -> Result<(), Memory>
+    requires calm { IsCalm heights.now room.now arcs.now }
+    requires back { GoBack arcs.now }
+    requires room { length room.now ≡ length arcs.now }
+    requires node { node < length arcs.now }
+    requires spread { IsSpread heights.now room.now arcs.now steps.old order.old.items }
+    ensures grows { IfOk result (λ done. length order.old.items ≤ length order.new.items) }
+    ensures spread { IfOk result (λ done. IsSpread heights.now room.now arcs.now steps.new order.new.items) }
+{
+    let leaving = over_place(heights, room, steps, node);
+    reach_freely(leaving, steps, order)?;
+    Ok(())
+}
+
+/// Reaches the node before a node, if there is one and nothing is lost by it.
+fn reach_before(
+    heights: &[u64],
+    room: &[usize],
+    arcs: &[RequestArc],
+    node: usize,
+    steps: &mut [Option<Step>],
+    order: &mut Vec<usize>,
+) -> Result<(), Memory>
+    requires calm { IsCalm heights.now room.now arcs.now }
+    requires back { GoBack arcs.now }
+    requires room { length room.now ≡ length arcs.now }
+    requires node { node ≤ length arcs.now }
+    requires spread { IsSpread heights.now room.now arcs.now steps.old order.old.items }
+    ensures grows { IfOk result (λ done. length order.old.items ≤ length order.new.items) }
+    ensures spread { IfOk result (λ done. IsSpread heights.now room.now arcs.now steps.new order.new.items) }
+{
+    if node == 0 {
+        return Ok(());
+    }
+    reach_over_place(heights, room, arcs, node - 1, steps, order)?;
+    Ok(())
+}
+
+/// Reaches a node over the arc of the request after a node, where nothing is lost by it.
+fn reach_over_arc(
+    heights: &[u64],
+    arcs: &[RequestArc],
+    node: usize,
+    steps: &mut [Option<Step>],
+    order: &mut Vec<usize>,
+) -> Result<(), Memory>
+    requires back { GoBack arcs.now }
+    requires little { SaveLittle arcs.now }
+    requires small { (node : ℕ) → node < length heights.now → slice_index heights.now node ≤ 2 ^ 32 }
+    requires node { node < length arcs.now }
+    requires long { (length heights.now ≡ length arcs.now + 1) × (length steps.old ≡ length arcs.now + 1) }
+    requires calm { IsCalmArc heights.now node (arc_at arcs.now node) }
+    ensures grows { IfOk result (λ done. length order.old.items ≤ length order.new.items) }
+    ensures spread { IfOk result (λ done. (room : List ℕ) → IsSpread heights.now room arcs.now steps.old order.old.items → IsSpread heights.now room arcs.now steps.new order.new.items) }
+{
+    let leaving = over_arc(heights, arcs, steps, node);
+    reach_freely(leaving, steps, order)?;
+    Ok(())
+}
+
+/// Reaches the nodes next to one over arcs by which nothing is lost, those before it first.
+fn spread_from(
+    heights: &[u64],
+    room: &[usize],
+    arcs: &[RequestArc],
+    later: &[usize],
+    node: usize,
+    steps: &mut [Option<Step>],
+    order: &mut Vec<usize>,
+) -> Result<(), Memory>
+    requires calm { IsCalm heights.now room.now arcs.now }
+    requires back { GoBack arcs.now }
+    requires little { SaveLittle arcs.now }
+    requires room { length room.now ≡ length arcs.now }
+    requires small { (node : ℕ) → node < length heights.now → slice_index heights.now node ≤ 2 ^ 32 }
+    requires later { (length later.now ≡ length arcs.now) × ((node : ℕ) → node < length arcs.now → slice_index later.now node < length arcs.now) }
+    requires node { node ≤ length arcs.now }
+    requires spread { IsSpread heights.now room.now arcs.now steps.old order.old.items }
+    ensures grows { IfOk result (λ done. length order.old.items ≤ length order.new.items) }
+    ensures spread { IfOk result (λ done. IsSpread heights.now room.now arcs.now steps.new order.new.items) }
+{
+    reach_before(heights, room, arcs, node, steps, order)?;
+    if node == arcs.len() {
+        return Ok(());
+    }
+    reach_over_arc(heights, arcs, node, steps, order)?;
+    reach_over_arc(heights, arcs, later[node], steps, order)?;
+    reach_over_place(heights, room, arcs, node, steps, order)?;
+    Ok(())
+}
+
+/// Reaches node after node over arcs by which nothing is lost, until the first node is reached or no such arc is left.
+pub fn spread(
+    heights: &[u64],
+    room: &[usize],
+    arcs: &[RequestArc],
+    later: &[usize],
+    steps: &mut [Option<Step>],
+    order: &mut Vec<usize>,
+) -> Result<(), Memory>
+    requires calm { IsCalm heights.now room.now arcs.now }
+    requires back { GoBack arcs.now }
+    requires little { SaveLittle arcs.now }
+    requires room { length room.now ≡ length arcs.now }
+    requires small { (node : ℕ) → node < length heights.now → slice_index heights.now node ≤ 2 ^ 32 }
+    requires later { (length later.now ≡ length arcs.now) × ((node : ℕ) → node < length arcs.now → slice_index later.now node < length arcs.now) }
+    requires spread { IsSpread heights.now room.now arcs.now steps.old order.old.items }
+    ensures grows { IfOk result (λ done. length order.old.items ≤ length order.new.items) }
+    ensures spread { IfOk result (λ done. IsSpread heights.now room.now arcs.now steps.new order.new.items) }
+{
+    let mut index = 0;
+    while index < order.len() {
+        if steps[0].is_some() {
+            return Ok(());
+        }
+        let node = order[index];
+        spread_from(heights, room, arcs, later, node, steps, order)?;
+        index += 1;
+    }
+    Ok(())
+}
