@@ -5,6 +5,7 @@
 mod arcs;
 mod laws;
 mod leaving;
+mod planning;
 mod raising;
 mod room;
 mod spreading;
@@ -15,6 +16,7 @@ mod way_search;
 pub use arcs::{RequestArc, find_arcs};
 pub use laws::{calm_heights_are_accepted, the_start_is_calm};
 pub use leaving::least_leaving;
+pub use planning::{PlanError, plan};
 pub use raising::raise;
 pub use room::find_room;
 pub use steps::{Leaving, Step, Way};
