@@ -1,5 +1,5 @@
 -- A search for a way to the first node.
-use Rattle.std.proofs.Common.{◌≡◌, ℕ, zero, suc, ◌+◌, ◌-◌, ◌*◌, ◌^◌, ◌<◌, ◌≤◌, Bool, true, false, cond, ◌⊎◌, inl, inr, List, [], ◌∷◌, length, replicate, slice_index, Option, Some, None, refl, sym, ap, ◌∙◌, subst, arith}
+use Rattle.std.proofs.Common.{◌≡◌, ℕ, zero, suc, ◌+◌, ◌-◌, ◌*◌, ◌^◌, ◌<◌, ◌≤◌, Bool, true, false, cond, inl, inr, List, [], ◌∷◌, length, replicate, slice_index, Option, Some, None, refl, sym, ap, ◌∙◌, subst, arith}
 use Rattle.std.specs.Prelude.{slice_set, is_some, IsSome}
 use Rattle.std.proofs.lemmas.Bool.{cases_eq}
 use Rattle.std.proofs.lemmas.List.{get_or-set_same, get_or-set_other, length-replicate}
@@ -8,7 +8,7 @@ use Rattle.retention_flow.specs.declared.steps.Step.{Step}
 use Rattle.retention_flow.specs.declared.steps.Leaving.{Leaving}
 use Rattle.retention_flow.specs.declared.steps.Way.{Way}
 use Rattle.retention_flow.specs.declared.steps.Way.TheVariants as ways
-use Rattle.retention_flow.specs.Network.{arc_at, GoBack, SaveLittle, IsCalm, IsRoom, IsSlack, IsNoMore, IsRaised, is_reached, IsWay, before_way, Leaves, step_at, IsReachedFrom, IsSearch, unreached}
+use Rattle.retention_flow.specs.Network.{GoBack, SaveLittle, IsCalm, IsRoom, IsSlack, IsNoMore, IsRaised, is_reached, IsWay, Leaves, step_at, IsSearch, unreached}
 use Rattle.retention_flow.proofs.RaisedIsCalm.{raised_is_calm, risen, risen-length, risen_at}
 use Rattle.retention_flow.proofs.HeightsAreBounded.{height_bounded}
 use Rattle.retention_flow.proofs.WaysStayOpen.{some_same, length_set}

@@ -1,16 +1,14 @@
 -- What turning the arc by which a node is reached leaves as it was.
-use Rattle.std.proofs.Common.{◌≡◌, ℕ, zero, suc, ◌+◌, ◌-◌, ◌<◌, ◌≤◌, Bool, true, false, ◌&&◌, cond, ◌⊎◌, inl, inr, List, [], ◌∷◌, length, slice_index, get_or, Option, Some, None, refl, sym, ap, ◌∙◌, subst, arith}
-use Rattle.std.specs.Prelude.{slice_set, nat_lt}
-use Rattle.std.proofs.lemmas.Bool.{cases_eq, cases_lt}
-use Rattle.std.proofs.lemmas.Bool.Decides.{nat_tests}
+use Rattle.std.proofs.Common.{◌≡◌, ℕ, zero, suc, ◌+◌, ◌-◌, ◌<◌, ◌≤◌, Bool, true, false, ◌⊎◌, inl, inr, List, [], ◌∷◌, length, slice_index, refl, sym, ap, ◌∙◌, subst, arith}
+use Rattle.std.specs.Prelude.{slice_set}
+use Rattle.std.proofs.lemmas.Bool.{cases_eq}
 use Rattle.std.proofs.lemmas.List.{get_or-set_same, get_or-set_other}
-use Rattle.known_state.specs.Plans.{is_inside, kept_over}
 use Rattle.retention_flow.specs.declared.arcs.RequestArc.{RequestArc}
 use Rattle.retention_flow.specs.declared.steps.Way.{Way}
 use Rattle.retention_flow.specs.declared.steps.Way.TheVariants as ways
-use Rattle.retention_flow.specs.Network.{GoBack, IsCalmRise, IsCalmArc, IsCalm, link_at, links_of, arc_at, arc_kept, IsWay, before_way, turned_room, turned_arcs}
+use Rattle.retention_flow.specs.Network.{IsCalmRise, IsCalmArc, IsCalm, arc_at, arc_kept, IsWay, turned_room, turned_arcs}
 use Rattle.retention_flow.proofs.RaisedIsCalm.{calm_at, calm_all}
-use Rattle.retention_flow.proofs.TurnedArcs.{over_set, arc_other, arc_set, from_set}
+use Rattle.retention_flow.proofs.TurnedArcs.{arc_other, arc_set}
 
 pub set-length : {A : Type 0} (l : List A) (i : ℕ) (a : A) → length (slice_set l i a) ≡ length l
 set-length [] i a = refl

@@ -1,4 +1,4 @@
-use Rattle.std.proofs.Common.{◌≡◌, ℕ, List, length, ◌∷◌, [], ◌++◌, Option, Some, None, sym, subst, arith}
+use Rattle.std.proofs.Common.{◌≡◌, ℕ, List, length, Option, Some, sym, subst, arith}
 use Rattle.std.specs.Prelude.{slice_set, IfSome}
 use Rattle.retention_flow.specs.declared.steps.Leaving.{Leaving}
 use Rattle.retention_flow.specs.declared.steps.Step.{Step}

@@ -1,4 +1,4 @@
-use Rattle.std.proofs.Common.{◌≡◌, ◌+◌, ◌-◌, ◌≤◌, length}
+use Rattle.std.proofs.Common.{◌+◌, ◌-◌, ◌≤◌, length}
 use Rattle.retention_flow.specs.Network.{IsSpread}
 use Rattle.retention_flow.proofs.spreading.spread.Given as goal
 

@@ -1,4 +1,4 @@
-use Rattle.std.proofs.Common.{◌≤◌, ◌<◌, arith}
+use Rattle.std.proofs.Common.{arith}
 use Rattle.retention_flow.proofs.SearchGoesOn.{heights_small}
 use Rattle.retention_flow.proofs.way_search.reach_first.Goals as goal
 

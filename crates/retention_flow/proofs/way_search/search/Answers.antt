@@ -1,4 +1,4 @@
-use Rattle.std.proofs.Common.{rules, ◌≡◌, ℕ, ◌+◌, ◌≤◌, ◌<◌, List, length, take, drop, ◌∷◌, [], ◌++◌, Option, Some, None, sym, ap, ◌∙◌, subst, arith}
+use Rattle.std.proofs.Common.{rules, ◌≡◌, ℕ, List, length, drop, ◌∷◌, [], Option, sym, subst, arith}
 use Rattle.retention_flow.specs.declared.steps.Step.{Step}
 use Rattle.retention_flow.specs.Network.{IsSearch, IsSpread}
 use Rattle.retention_flow.proofs.SearchGoesOn.{heights_small}
