@@ -1,8 +1,8 @@
 -- What is spent at each place, by the arcs and by the links of requests.
-use Rattle.std.proofs.Common.{◌≡◌, ℕ, ◌+◌, ◌<◌, Bool, true, false, ◌&&◌, cond, List, [], ◌∷◌, ◌++◌, length, slice_index, Option, Some, None, refl, sym, ap, ◌∙◌, arith}
+use Rattle.std.proofs.Common.{◌≡◌, ℕ, ◌+◌, ◌&&◌, cond, List, [], ◌∷◌, ◌++◌, length, Option, Some, None, refl, ap, arith}
 use Rattle.std.specs.Prelude.{nat_lt}
 use Rattle.known_state.specs.Requests.{Asked}
-use Rattle.known_state.specs.Plans.{Asking, Link, at_start, after_request, link_of, links_from, is_inside, kept_over}
+use Rattle.known_state.specs.Plans.{Asking, at_start, after_request, link_of, links_from, is_inside, kept_over}
 use Rattle.retention_flow.specs.declared.arcs.RequestArc.{RequestArc}
 use Rattle.retention_flow.specs.Network.{IsArc, AreArcs, AreSpent, IsRoom, marks, link_at, links_of}
 

@@ -62,17 +62,17 @@ kept_saving true saving inside low high rise calm = omega arith
 kept_saving false saving inside low high rise calm = omega arith
 
 -- no name was requested last after the places so far
-abbrev AreSoFar : Asking → Type 0
+abbrev pub AreSoFar : Asking → Type 0
 AreSoFar asking = (name : List ℕ) (place : ℕ) → asking.last name ≡ Some place → place ≤ asking.place
 
-start_so_far : (held : List (List ℕ)) → AreSoFar (at_start held)
+pub start_so_far : (held : List (List ℕ)) → AreSoFar (at_start held)
 start_so_far held name place is = by (list_any (is_same_name name) held) is
   where
     by : (b : Bool) → cond b (Some 0) None ≡ Some place → place ≤ 0
     by true e = let zero_is : 0 ≡ place = cc in omega arith
     by false e = absurd (cc)
 
-more_so_far : (asking : Asking) (r : Asked) → AreSoFar asking → AreSoFar (after_request asking r)
+pub more_so_far : (asking : Asking) (r : Asked) → AreSoFar asking → AreSoFar (after_request asking r)
 more_so_far asking r so_far = λ name place is. by name place (is_same_name r.name name) is
   where
     by : (name : List ℕ) (place : ℕ) (b : Bool) → cond b (Some (asking.place + 1)) (asking.last name) ≡ Some place → place ≤ asking.place + 1
@@ -112,7 +112,7 @@ three_sums hs asking (r ∷ rs) (arc ∷ arcs) rises so_far below (arc_is, are) 
     one_link hs asking r arc (links_from (after_request asking r) rs (marks arcs)) (links_from (after_request asking r) rs (map (λ r. true) rs)) (asking.last r.name) refl rises so_far (omega arith) arc_is calm_arc
     (three_sums hs (after_request asking r) rs arcs rises (more_so_far asking r so_far) (omega arith) are calm)
 
-arcs-length : (asking : Asking) (rs : List Asked) (arcs : List RequestArc) → AreArcs asking rs arcs → length arcs ≡ length rs
+pub arcs-length : (asking : Asking) (rs : List Asked) (arcs : List RequestArc) → AreArcs asking rs arcs → length arcs ≡ length rs
 arcs-length asking [] [] are = refl
 arcs-length asking [] (arc ∷ arcs) are = absurd are
 arcs-length asking (r ∷ rs) [] are = absurd are

@@ -12,3 +12,7 @@ pub mod TurnedWays
 pub mod WaysAreTurned
 pub mod TurnedIsSpent
 pub mod ArcsAreSpent
+pub mod ArcsGoBack
+pub mod WayIsTurned
+pub mod KeptAndPriced
+pub mod PlanIsAccepted

@@ -1,5 +1,5 @@
 -- What is left and kept at each place as the arcs of a way are turned one by one.
-use Rattle.std.proofs.Common.{◌≡◌, ℕ, zero, suc, ◌+◌, ◌-◌, ◌<◌, ◌≤◌, Bool, true, false, ◌&&◌, cond, ◌⊎◌, inl, inr, List, length, slice_index, refl, sym, ap, ◌∙◌, subst, arith}
+use Rattle.std.proofs.Common.{◌≡◌, ℕ, ◌+◌, ◌-◌, ◌<◌, ◌≤◌, Bool, true, false, ◌&&◌, cond, inl, inr, List, length, slice_index, refl, sym, ap, ◌∙◌, arith}
 use Rattle.std.specs.Prelude.{slice_set, nat_lt}
 use Rattle.std.proofs.lemmas.Bool.{cases_lt}
 use Rattle.std.proofs.lemmas.List.{get_or-set_same, get_or-set_other}
@@ -13,16 +13,16 @@ use Rattle.retention_flow.proofs.TurnedArcs.{over_set}
 use Rattle.retention_flow.proofs.TurnedWays.{set-length}
 
 -- whether a place is before a node, and whether an arc passes it, as numbers
-abbrev side : ℕ → ℕ → ℕ
+abbrev pub side : ℕ → ℕ → ℕ
 side place node = cond (nat_lt place node) 1 0
 
 abbrev passed : ℕ → ℕ → ℕ → ℕ
 passed from to place = cond (nat_lt from (place + 1) && nat_lt (place + 1) (to + 1)) 1 0
 
-side_yes : (place node : ℕ) → place < node → side place node ≡ 1
+pub side_yes : (place node : ℕ) → place < node → side place node ≡ 1
 side_yes place node before = grind (arith, nat_tests)
 
-side_no : (place node : ℕ) → node ≤ place → side place node ≡ 0
+pub side_no : (place node : ℕ) → node ≤ place → side place node ≡ 0
 side_no place node behind = grind (arith, nat_tests)
 
 passed_yes : (from to place : ℕ) → from ≤ place → place < to → passed from to place ≡ 1

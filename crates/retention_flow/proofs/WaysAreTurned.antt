@@ -1,12 +1,12 @@
 -- Ways to other nodes stay open as the arc by which one node is reached is turned.
-use Rattle.std.proofs.Common.{◌≡◌, ℕ, ◌+◌, ◌-◌, ◌<◌, ◌≤◌, Bool, true, false, ◌⊎◌, inl, inr, List, length, slice_index, refl, sym, ap, ◌∙◌, subst, arith}
+use Rattle.std.proofs.Common.{◌≡◌, ℕ, ◌+◌, ◌-◌, ◌<◌, Bool, true, false, inl, inr, List, length, slice_index, refl, sym, ap, ◌∙◌, subst, arith}
 use Rattle.std.specs.Prelude.{slice_set}
 use Rattle.std.proofs.lemmas.Bool.{cases_eq}
 use Rattle.retention_flow.specs.declared.arcs.RequestArc.{RequestArc}
 use Rattle.retention_flow.specs.declared.steps.Way.{Way}
 use Rattle.retention_flow.specs.declared.steps.Way.TheVariants as ways
-use Rattle.retention_flow.specs.Network.{arc_at, arc_kept, IsWay, before_way, turned_room, turned_arcs}
-use Rattle.retention_flow.proofs.TurnedArcs.{arc_other, arc_set, from_set}
+use Rattle.retention_flow.specs.Network.{arc_at, arc_kept, IsWay, turned_room, turned_arcs}
+use Rattle.retention_flow.proofs.TurnedArcs.{arc_other, arc_set}
 use Rattle.retention_flow.proofs.TurnedWays.{set_at, set-length}
 
 -- where room stays at a place or grows, what is left there stays

@@ -1,11 +1,11 @@
 //! The arcs of requests.
 
-ghost use Rattle.std.specs.Prelude.{◌≡◌, ℕ, List, IfOk};
+ghost use Rattle.std.specs.Prelude.{◌≡◌, ◌≤◌, ℕ, List, IfOk};
 ghost use Rattle.std.specs.BTreeMap.{get_by};
 ghost use Rattle.std.specs.Cmp.Lexicographic.{slice_cmp};
 ghost use Rattle.std.specs.Ordering.{nat_cmp};
 ghost use Rattle.known_state.specs.Plans.{at_start};
-ghost use Rattle.retention_flow.specs.Network.{arc_of, arcs_from};
+ghost use Rattle.retention_flow.specs.Network.{arc_of, arcs_from, GoBack, SaveLittle};
 
 use known_state::Request;
 use std::alloc::Global;
@@ -26,7 +26,8 @@ pub struct RequestArc {
 
 /// The arc of a request behind a node, whose name was last requested there or held, if anywhere.
 fn arc_of(from: Option<usize>, node: usize, request: &Request) -> RequestArc
-    ensures { result ≡ arc_of from node request.now }
+    ensures arc { result ≡ arc_of from node request.now }
+    ensures little { result.saving ≤ 32768 }
 {
     match from {
         Some(from) => RequestArc {
@@ -59,7 +60,9 @@ pub fn find_arcs(
     held: &[Name],
     requests: &[Request],
 ) -> Result<Vec<RequestArc>, Memory>
-    ensures { IfOk result (λ arcs. arcs.items ≡ arcs_from (at_start held.now) requests.now) }
+    ensures arcs { IfOk result (λ arcs. arcs.items ≡ arcs_from (at_start held.now) requests.now) }
+    ensures back { IfOk result (λ arcs. GoBack arcs.items) }
+    ensures little { IfOk result (λ arcs. SaveLittle arcs.items) }
 {
     let mut last = held_at_start(alloc, held)?;
     let mut arcs = Vec::new(alloc);

@@ -1,7 +1,9 @@
 //! Turning the arcs of a way.
 
 ghost use Rattle.std.specs.Prelude.{◌≡◌, ℕ, ◌+◌, ◌-◌, ◌^◌, ◌≤◌, ◌<◌, List, true, length, slice_index};
-ghost use Rattle.retention_flow.specs.Network.{is_reached, arc_at, GoBack, SaveLittle, IsCalm, IsRoom, IsSearch, IsWay, before_way, turned_room, turned_arcs};
+ghost use Rattle.known_state.specs.Requests.{Asked};
+ghost use Rattle.known_state.specs.Plans.{at_start};
+ghost use Rattle.retention_flow.specs.Network.{is_reached, AreArcs, GoBack, SaveLittle, IsCalm, IsRoom, IsSearch, IsWay, before_way, turned_room, turned_arcs};
 
 use crate::arcs::RequestArc;
 use crate::steps::{Step, Way};
@@ -34,5 +36,27 @@ pub fn turn_one(room: &mut [usize], arcs: &mut [RequestArc], way: Way, node: usi
             arcs[node].kept = true;
             arcs[node].from
         }
+    }
+}
+
+/// Turns the arcs of the way by which the first node is reached from the last. Then a slot less is left or taken at each
+/// place, and nothing is gained by a change still.
+pub fn turn(room: &mut [usize], arcs: &mut [RequestArc], steps: &[Option<Step>])
+    requires small { length arcs.old ≤ 512 }
+    requires back { GoBack arcs.old }
+    requires little { SaveLittle arcs.old }
+    requires reached { is_reached steps.now 0 ≡ true }
+    requires search { (heights : List ℕ) × (count : ℕ) × (slots : ℕ) × (slots ≤ 512)
+        × IsCalm heights room.old arcs.old × IsSearch heights room.old arcs.old steps.now count × IsRoom slots room.old arcs.old }
+    ensures turned { (heights : List ℕ) → (count slots : ℕ) → IsCalm heights room.old arcs.old → IsSearch heights room.old arcs.old steps.now count → IsRoom slots room.old arcs.old →
+        IsCalm heights room.new arcs.new × IsRoom (slots - 1) room.new arcs.new }
+    ensures arcs { (held : List (List ℕ)) → (rs : List Asked) → AreArcs (at_start held) rs arcs.old → AreArcs (at_start held) rs arcs.new }
+    ensures back { GoBack arcs.new }
+    ensures little { SaveLittle arcs.new }
+{
+    let mut node = 0;
+    while node < arcs.len() {
+        let step = steps[node].unwrap();
+        node = turn_one(room, arcs, step.way, node);
     }
 }

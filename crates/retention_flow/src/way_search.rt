@@ -1,6 +1,6 @@
 //! A search for a way from the last node to the first.
 
-ghost use Rattle.std.specs.Prelude.{◌≡◌, ℕ, ◌-◌, ◌≤◌, true, None, Some, length, replicate, slice_index, slice_set, IfOk};
+ghost use Rattle.std.specs.Prelude.{◌≡◌, ℕ, ◌-◌, ◌^◌, ◌≤◌, ◌<◌, true, None, Some, length, replicate, slice_index, slice_set, IfOk};
 ghost use Rattle.retention_flow.specs.declared.steps.Way.TheVariants.{Start};
 ghost use Rattle.retention_flow.specs.Network.{is_reached, GoBack, SaveLittle, IsCalm, IsRoom, IsSearch};
 
@@ -40,6 +40,7 @@ pub fn search(
     requires room { (slots : ℕ) × (1 ≤ slots) × IsRoom slots room.now arcs.now }
     ensures calm { IfOk result (λ steps. IsCalm heights.new room.now arcs.now) }
     ensures first { IfOk result (λ steps. slice_index heights.new 0 ≡ 0) }
+    ensures small { IfOk result (λ steps. (node : ℕ) → node < length heights.new → slice_index heights.new node ≤ 2 ^ 24) }
     ensures reached { IfOk result (λ steps. is_reached steps.items 0 ≡ true) }
     ensures steps { IfOk result (λ steps. (count : ℕ) × IsSearch heights.new room.now arcs.now steps.items count) }
 {

@@ -1,4 +1,4 @@
-use Rattle.std.proofs.Common.{◌≡◌, ℕ, ◌+◌, ◌≤◌, ◌&&◌, length, slice_index, if◌then◌else◌}
+use Rattle.std.proofs.Common.{◌≡◌, ℕ, ◌+◌, ◌&&◌, length, slice_index, if◌then◌else◌}
 use Rattle.std.specs.Prelude.{nat_lt}
 use Rattle.retention_flow.proofs.room.add_passed.Given as goal
 

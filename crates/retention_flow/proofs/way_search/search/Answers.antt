@@ -98,3 +98,6 @@ returns-clause-reached c =
 
 pub returns-clause-steps : goal.returns-clause-steps
 returns-clause-steps c = (c.loop-heights.rank, c.loop-heights.invariant.found)
+
+pub returns-clause-small : goal.returns-clause-small
+returns-clause-small c = heights_small c.loop-heights.heights c.args.room.now c.args.arcs.now c.requires.room.0 c.requires.most (omega (arith, c.requires.room.1)) c.loop-heights.invariant.first c.loop-heights.invariant.calm c.requires.room.2 c.requires.back c.requires.little

@@ -1,0 +1,84 @@
+use Rattle.std.proofs.Common.{◌≡◌, ℕ, ◌+◌, ◌-◌, List, Option, sym, subst, arith}
+use Rattle.retention_flow.specs.declared.steps.Step.{Step}
+use Rattle.retention_flow.specs.Network.{IsRoom, IsSearch}
+use Rattle.retention_flow.proofs.planning.take_away.Goals as goal
+
+pub loop-init : goal.loop-init
+loop-init c = record {
+  calm = c.requires.calm;
+  first = c.requires.zero 0;
+  small = λ node below. omega (arith, c.requires.zero node);
+  back = c.requires.back;
+  little = c.requires.little;
+  room = λ slots spent. let same : slots ≡ slots - 0 = omega arith in subst (λ (n : ℕ). IsRoom n c.args.room.now c.args.arcs.now) same spent;
+  arcs = λ held rs are. are;
+}
+
+pub search-requires-clause-back : goal.search-requires-clause-back
+search-requires-clause-back c = c.loop.invariant.back
+
+pub search-requires-clause-little : goal.search-requires-clause-little
+search-requires-clause-little c = c.loop.invariant.little
+
+pub search-requires-clause-calm : goal.search-requires-clause-calm
+search-requires-clause-calm c = c.loop.invariant.calm
+
+pub search-requires-clause-first : goal.search-requires-clause-first
+search-requires-clause-first c = c.loop.invariant.first
+
+pub search-requires-clause-room : goal.search-requires-clause-room
+search-requires-clause-room c =
+    let r = c.requires.room in
+    (r.0 - c.loop.counter, omega (arith, r.1, c.loop-test.true), c.loop.invariant.room r.0 r.3)
+
+pub turn-requires-clause-back : goal.turn-requires-clause-back
+turn-requires-clause-back c = c.loop.invariant.back
+
+pub turn-requires-clause-little : goal.turn-requires-clause-little
+turn-requires-clause-little c = c.loop.invariant.little
+
+pub turn-requires-clause-search : goal.turn-requires-clause-search
+turn-requires-clause-search c =
+    let r = c.requires.room in
+    let found = c.in_ok-steps.ensures.steps in (
+      c.search.new.heights,
+      found.0,
+      r.0 - c.loop.counter,
+      omega (arith, r.2),
+      c.in_ok-steps.ensures.calm,
+      subst (λ (l : List (Option Step)). IsSearch c.search.new.heights c.loop.room c.loop.arcs l found.0) (sym c.deref.ensures.value) found.1,
+      c.loop.invariant.room r.0 r.3,
+    )
+
+pub loop-preserved : goal.loop-preserved
+loop-preserved c =
+    let r = c.requires.room in
+    let hs = c.search.new.heights in
+    let calm = c.in_ok-steps.ensures.calm in
+    let count = c.in_ok-steps.ensures.steps.0 in
+    let found = subst (λ (l : List (Option Step)). IsSearch hs c.loop.room c.loop.arcs l count) (sym c.deref.ensures.value) c.in_ok-steps.ensures.steps.1 in
+    record {
+      calm = (c.turn.ensures.turned hs count (r.0 - c.loop.counter) calm found (c.loop.invariant.room r.0 r.3)).0;
+      first = c.in_ok-steps.ensures.first;
+      small = c.in_ok-steps.ensures.small;
+      back = c.turn.ensures.back;
+      little = c.turn.ensures.little;
+      room = λ slots spent.
+          let same : slots - c.loop.counter - 1 ≡ slots - (c.loop.counter + 1) = omega arith in
+          subst (λ (n : ℕ). IsRoom n c.turn.new.room c.turn.new.arcs) same (c.turn.ensures.turned hs count (slots - c.loop.counter) calm found (c.loop.invariant.room slots spent)).1;
+      arcs = λ held rs are. c.turn.ensures.arcs held rs (c.loop.invariant.arcs held rs are);
+    }
+
+pub returns-clause-calm : goal.returns-clause-calm
+returns-clause-calm c = c.loop.invariant.calm
+
+pub returns-clause-small : goal.returns-clause-small
+returns-clause-small c = c.loop.invariant.small
+
+pub returns-clause-room : goal.returns-clause-room
+returns-clause-room c = λ slots spent.
+    let same : slots - c.loop.counter ≡ slots - c.args.count = omega (arith, c.loop.auto.counter-end, c.loop-test.false) in
+    subst (λ (n : ℕ). IsRoom n c.loop.room c.loop.arcs) same (c.loop.invariant.room slots spent)
+
+pub returns-clause-arcs : goal.returns-clause-arcs
+returns-clause-arcs c = c.loop.invariant.arcs

@@ -1,0 +1,16 @@
+use Rattle.std.proofs.Common.{◌≡◌, ℕ, ◌-◌, ◌^◌, ◌<◌, ◌≤◌, List, length, slice_index}
+use Rattle.known_state.specs.Requests.{Asked}
+use Rattle.known_state.specs.Plans.{at_start}
+use Rattle.retention_flow.specs.Network.{AreArcs, GoBack, SaveLittle, IsCalm, IsRoom}
+use Rattle.retention_flow.proofs.planning.take_away.Given as goal
+
+abbrev pub invariant-loop : goal.invariant-loop
+invariant-loop l = record {
+  calm : IsCalm l.heights l.room l.arcs;
+  first : slice_index l.heights 0 ≡ 0;
+  small : (node : ℕ) → node < length l.heights → slice_index l.heights node ≤ 2 ^ 24;
+  back : GoBack l.arcs;
+  little : SaveLittle l.arcs;
+  room : (slots : ℕ) → IsRoom slots l.fn.room l.fn.arcs → IsRoom (slots - l.counter) l.room l.arcs;
+  arcs : (held : List (List ℕ)) (rs : List Asked) → AreArcs (at_start held) rs l.fn.arcs → AreArcs (at_start held) rs l.arcs;
+}

@@ -1,0 +1,66 @@
+use Rattle.std.proofs.Common.{ap, arith}
+use Rattle.std.specs.Prelude.{is_some}
+use Rattle.retention_flow.proofs.WayIsTurned.{first_walk, way_here, rank_falls, next_walk, next_arcs, last_walk}
+use Rattle.retention_flow.proofs.turning.turn.Goals as goal
+
+pub loop-node-init : goal.loop-node-init
+loop-node-init c = record {
+  walk = λ hs count slots calm found spent. first_walk hs c.args.room.now c.args.arcs.now c.args.steps.now count slots c.requires.back c.requires.little c.requires.reached calm found spent;
+  arcs = λ held rs are. are;
+}
+
+pub unwrap-step-requires : goal.unwrap-step-requires
+unwrap-step-requires c =
+    let s = c.requires.search in
+    let walk = c.loop-node.invariant.walk s.0 s.1 s.2 s.4 s.5 s.6 in
+    ap is_some walk.here.1
+
+pub turn_one-node-requires-clause-most : goal.turn_one-node-requires-clause-most
+turn_one-node-requires-clause-most c = λ place below.
+    let s = c.requires.search in
+    let walk = c.loop-node.invariant.walk s.0 s.1 s.2 s.4 s.5 s.6 in
+    omega (arith, walk.walked place (omega (arith, walk.long)), s.3)
+
+pub turn_one-node-requires-clause-way : goal.turn_one-node-requires-clause-way
+turn_one-node-requires-clause-way c =
+    let s = c.requires.search in
+    let walk = c.loop-node.invariant.walk s.0 s.1 s.2 s.4 s.5 s.6 in
+    (s.0, way_here s.0 c.loop-node.room c.loop-node.arcs c.args.steps.now s.2 c.loop-node.node c.unwrap-step.result walk c.unwrap-step.ensures)
+
+pub loop-node-smaller : goal.loop-node-smaller
+loop-node-smaller c =
+    let s = c.requires.search in
+    let walk = c.loop-node.invariant.walk s.0 s.1 s.2 s.4 s.5 s.6 in
+    rank_falls s.0 c.loop-node.room c.loop-node.arcs c.args.steps.now s.2 c.loop-node.node c.turn_one-node.result c.unwrap-step.result walk c.unwrap-step.ensures c.loop-node-test.true c.turn_one-node.ensures.before
+
+pub loop-node-preserved : goal.loop-node-preserved
+loop-node-preserved c =
+    let s = c.requires.search in
+    let walk = c.loop-node.invariant.walk s.0 s.1 s.2 s.4 s.5 s.6 in
+    record {
+      walk = λ hs count slots calm found spent.
+          next_walk hs c.loop-node.room c.loop-node.arcs c.args.steps.now slots c.loop-node.node c.unwrap-step.result c.turn_one-node.new.room c.turn_one-node.new.arcs c.turn_one-node.result
+          c.unwrap-step.ensures c.loop-node-test.true c.turn_one-node.ensures.room c.turn_one-node.ensures.arcs c.turn_one-node.ensures.before (c.loop-node.invariant.walk hs count slots calm found spent);
+      arcs = λ held rs are.
+          next_arcs held rs s.0 c.loop-node.room c.loop-node.arcs c.args.steps.now s.2 c.loop-node.node c.unwrap-step.result c.turn_one-node.new.arcs
+          c.unwrap-step.ensures c.loop-node-test.true c.turn_one-node.ensures.arcs walk (c.loop-node.invariant.arcs held rs are);
+    }
+
+pub returns-clause-turned : goal.returns-clause-turned
+returns-clause-turned c = λ hs count slots calm found spent.
+    last_walk hs c.loop-node.room c.loop-node.arcs c.args.steps.now slots c.loop-node.node c.loop-node-test.false (c.loop-node.invariant.walk hs count slots calm found spent)
+
+pub returns-clause-arcs : goal.returns-clause-arcs
+returns-clause-arcs c = c.loop-node.invariant.arcs
+
+pub returns-clause-back : goal.returns-clause-back
+returns-clause-back c =
+    let s = c.requires.search in
+    let walk = c.loop-node.invariant.walk s.0 s.1 s.2 s.4 s.5 s.6 in
+    walk.back
+
+pub returns-clause-little : goal.returns-clause-little
+returns-clause-little c =
+    let s = c.requires.search in
+    let walk = c.loop-node.invariant.walk s.0 s.1 s.2 s.4 s.5 s.6 in
+    walk.little
