@@ -10,12 +10,13 @@ use teach_writer::{Lesson, teach};
 
 const LIFE: Option<u32> = Some(30_000);
 
-/// The parts of a known state, the updates that are taught from there, the bytes of their lesson, and what is known
+/// The parts of a known state, the updates that are taught from there, the bytes and the prices of their lesson, and what is known
 /// after it: the last number of the table, which is defined and selected, and the slots that hold `s1`.
 struct Taught {
     from: KnownParts,
     updates: &'static [UpdateParts],
     bytes: &'static [u8],
+    prices: &'static [u64],
     last: u32,
     held: &'static [u8],
 }
@@ -31,6 +32,7 @@ static TAUGHT: [Taught; 5] = [
         },
         updates: &[],
         bytes: &[],
+        prices: &[],
         last: 5,
         held: &[],
     },
@@ -65,6 +67,7 @@ static TAUGHT: [Taught; 5] = [
             0, 1, 0, 0, 0x75, 0x30, 0, 0, 0, 7, 5, 0x0A, 0x86, 0x0A, 0, 0, 0x75, 0x30, 0, 0, 0, 8,
             0xF0, 0,
         ],
+        prices: &[],
         last: 2,
         held: &[],
     },
@@ -85,6 +88,7 @@ static TAUGHT: [Taught; 5] = [
             name: b"",
         }],
         bytes: &[0x0A, 0x86, 9, 0, 0, 0x75, 0x30, 0, 0, 0, 7, 5],
+        prices: &[],
         last: 0,
         held: &[],
     },
@@ -119,6 +123,7 @@ static TAUGHT: [Taught; 5] = [
             0x0A, 0x85, 0x0F, 0, 0, 0, 1, 0, 0, 0x75, 0x30, 1, 0x61, 4, 1, 2, 0x73, 0x31, 0x0A,
             0x86, 8, 0, 0, 0x75, 0x30, 1, 0x62, 1, 1,
         ],
+        prices: &[0, 0],
         last: 2,
         held: &[1],
     },
@@ -139,6 +144,7 @@ static TAUGHT: [Taught; 5] = [
             name: b"s1",
         }],
         bytes: &[0x0A, 0x86, 8, 0, 0, 0x75, 0x30, 1, 0x61, 1, 1],
+        prices: &[0],
         last: 6,
         held: &[1, 2],
     },
@@ -165,6 +171,7 @@ fn stands_at(known: &Known, id: u64, last: u32, held: &[u8]) -> bool {
 
 fn is_right(lesson: &Lesson, taught: &Taught) -> bool {
     lesson.bytes.as_slice() == taught.bytes
+        && lesson.prices.as_slice() == taught.prices
         && stands_at(
             &lesson.known,
             taught.from.table.id,

@@ -27,19 +27,19 @@ const ONE_SLOT: Case = Case {
     asked: &[(b'A', 30), (b'A', 30), (b'B', 30), (b'A', 30)],
 };
 
-/// `B` and `A` where a slot holds `A`: with two slots, and with that one alone.
-const HELD: [Case; 2] = [
-    Case {
-        slots: 2,
-        held: b"A",
-        asked: &[(b'B', 30), (b'A', 30)],
-    },
-    Case {
-        slots: 1,
-        held: b"A",
-        asked: &[(b'B', 30), (b'A', 30)],
-    },
-];
+/// `B` and `A` where a slot holds `A`: with two slots.
+const HELD_IN_ONE_OF_TWO: Case = Case {
+    slots: 2,
+    held: b"A",
+    asked: &[(b'B', 30), (b'A', 30)],
+};
+
+/// And with that slot alone.
+const HELD_ALONE: Case = Case {
+    slots: 1,
+    held: b"A",
+    asked: &[(b'B', 30), (b'A', 30)],
+};
 
 fn names(alloc: Global, letters: &[u8]) -> Option<Vec<Name>> {
     let mut names = Vec::new(alloc);
@@ -65,6 +65,31 @@ fn plan(alloc: Global, marks: usize, kept: &[usize], prices: &[u64]) -> Option<P
         keep.push(kept.contains(&(place + 1))).ok()?;
     }
     Some(Plan::new(keep, Vec::from_slice(alloc, prices).ok()?))
+}
+
+/// Whether the plan keeps the requests at these places, and no other.
+fn keeps(plan: &Plan, kept: &[usize]) -> bool {
+    for (index, keep) in plan.keep().iter().enumerate() {
+        if *keep != kept.contains(&(index + 1)) {
+            return false;
+        }
+    }
+    true
+}
+
+/// Whether the plan that is made keeps the requests at these places, and is accepted.
+fn is_planned(alloc: Global, case: &Case, kept: &[usize]) -> Option<bool> {
+    let held = names(alloc, case.held)?;
+    let requests = requests(alloc, case.asked)?;
+    if case.slots < 1 || case.slots > 128 || held.len() > case.slots {
+        return None;
+    }
+    if requests.len() > Batch::MOST {
+        return None;
+    }
+    let (held, requests) = (held.as_slice(), requests.as_slice());
+    let made = retention_flow::plan(alloc, case.slots, held, requests).ok()?;
+    Some(keeps(&made, kept) && check_plan(case.slots, held, requests, &made))
 }
 
 /// Whether that plan is accepted.
@@ -139,8 +164,30 @@ fn one_slot(rt: HostRuntime) {
 #[test]
 fn name_held(rt: HostRuntime) {
     for (case, (marks, kept, prices, accepted)) in &WITH_A_NAME_HELD {
-        let case = if *case == 0 { &HELD[0] } else { &HELD[1] };
+        let case = if *case == 0 {
+            &HELD_IN_ONE_OF_TWO
+        } else {
+            &HELD_ALONE
+        };
         let answer = is_accepted(rt.alloc(), case, *marks, *kept, *prices);
         assert!(rt; answer == Some(*accepted), "{kept:?} {prices:?}");
+    }
+}
+
+/// Requests, and the places of those that are kept by the plan that is made of them.
+static PLANNED: [(Case, &[usize]); 4] = [
+    (TWO_SLOTS, &[5]),
+    (ONE_SLOT, &[2]),
+    (HELD_IN_ONE_OF_TWO, &[2]),
+    (HELD_ALONE, &[]),
+];
+
+#[test]
+fn plans(rt: HostRuntime) {
+    for (case, kept) in &PLANNED {
+        assert!(rt;
+            is_planned(rt.alloc(), case, *kept) == Some(true),
+            "{kept:?}"
+        );
     }
 }
