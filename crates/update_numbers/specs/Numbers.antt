@@ -1,9 +1,7 @@
 -- The numbers of a table's updates (HAProxy, doc/peers-v2.0.txt, "Update Messages"): each change of a row takes the next
 -- number, and the row's key gives up the number that it had.
-use Rattle.std.specs.Prelude.{◌≡◌, Option, Some, ℕ, ◌+◌, Bool, not, nat_lt, List, [], ◌∷◌, ◌++◌, filter}
-use Rattle.std.specs.Ordering.{is_eq, nat_cmp}
-use Rattle.std.specs.Map.{lookup}
-use Rattle.std.specs.BTreeMap.{is_at}
+use Rattle.std.specs.Prelude.{ℕ, ◌+◌, Bool, not, nat_lt, List, [], ◌∷◌, ◌++◌, filter}
+use Rattle.std.specs.Ordering.{is_eq}
 use Rattle.table_types.specs.declared.key.Key.{Key}
 use Rattle.table_types.specs.Keys.{key_cmp}
 
@@ -30,12 +28,3 @@ dropped key ns = record { pairs = without key ns.pairs; next = ns.next }
 -- the pairs above a number
 abbrev pub above : ℕ → List (ℕ × Key) → List (ℕ × Key)
 above number pairs = filter (λ pair. nat_lt number pair.0) pairs
-
--- what a map has at a number, and at a key
-abbrev pub key_at : ℕ → List (ℕ × Key) → Option Key
-key_at number pairs = lookup (is_at (nat_cmp number)) pairs
-
-abbrev pub number_at : Key → List (Key × ℕ) → Option ℕ
-number_at key pairs = lookup (is_at (key_cmp key)) pairs
-
--- the map by number and the map by key have the same pairs
