@@ -19,13 +19,14 @@ row_at key rows = lookup (is_at (key_cmp key)) rows
 abbrev pub rows_without : Key → List (Key × StoredRow) → List (Key × StoredRow)
 rows_without key rows = remove_entry (is_at (key_cmp key)) rows
 
+-- what has no end, or an end above the moment, goes on past it
+abbrev pub goes_past : ℕ → Option ℕ → Bool
+goes_past now None = true
+goes_past now (Some end) = nat_lt now end
+
 -- a row is live at a moment where it has no end, or its end is above the moment
 abbrev pub is_live : ℕ → StoredRow → Bool
-is_live now row = lives_on row.ends
-  where
-    lives_on : Option ℕ → Bool
-    lives_on None = true
-    lives_on (Some end) = nat_lt now end
+is_live now row = goes_past now row.ends
 
 -- what ends sooner comes first, and what never ends comes last
 abbrev pub ends_cmp : Option ℕ → Option ℕ → Ordering
