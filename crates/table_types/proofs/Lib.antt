@@ -2,3 +2,4 @@ pub mod TableLemmas
 pub mod BatchLaws
 pub mod ShapeLaws
 pub mod KindLaws
+pub mod KeyLaws

@@ -1,0 +1,179 @@
+//! Rows in an ordered map.
+
+ghost use Rattle.std.specs.Prelude.{◌≡◌, [], ◌∷◌, cond, false, true, IfOk, IfSome, OnErr, OnOk, Some};
+ghost use Rattle.std.specs.BTreeMap.{insert_entry};
+ghost use Rattle.std.specs.Ordering.{is_eq};
+ghost use Rattle.table_types.specs.Keys.{key_cmp};
+ghost use Rattle.table_types.specs.Rows.{StoredRow};
+ghost use Rattle.table_rows.specs.declared.ending.Ending.{Ending};
+ghost use Rattle.table_rows.specs.Endings.{AreIndexed, IsOlder, is_among, is_among_without, row_of};
+ghost use Rattle.table_rows.specs.Rows.{row_at};
+
+use crate::ending::{Ending, end_of};
+use crate::rows::Rows;
+use std::alloc::Global;
+use std::collections::{BTreeMap, BTreeSet};
+use std::marker::Model;
+use table_types::{Key, Memory, Moment, Row};
+
+/// The rows of a table in an ordered map by key, with a set of where they stand in the order in which they end. Each
+/// call but `list` and `copy` takes a time that grows as the logarithm of the number of rows.
+#[derive(Drop)]
+pub struct MapRows {
+    alloc: Global,
+    rows: BTreeMap<Key, Row>,
+    endings: BTreeSet<Ending>,
+}
+
+impl Model for MapRows {
+    ghost use Rattle.std.specs.Prelude.{List};
+    ghost use Rattle.table_types.specs.declared.key.Key.{Key};
+    ghost use Rattle.table_types.specs.Rows.{StoredRow};
+    ghost use Rattle.table_rows.specs.Endings.{AreIndexed};
+
+    ghost Value = { List (Key × StoredRow) };
+
+    ghost view = { λ a. a.rows.entries };
+
+    ghost invariant = { λ a. AreIndexed a.rows.entries a.endings.keys };
+}
+
+/// Where the row stands that another one of its key replaces; `None` where there is no such row, or where the other
+/// stands there too.
+fn older_ending(
+    alloc: Global,
+    rows: &BTreeMap<Key, Row>,
+    key: &Key,
+    row: &Row,
+) -> Result<Option<Ending>, Memory>
+    ensures { IfOk result (IsOlder (row_of rows.now.entries) key.now row.now) }
+{
+    let Some(old) = rows.get(key) else {
+        return Ok(None);
+    };
+    if end_of(old) == end_of(row) && old.number() == row.number() {
+        return Ok(None);
+    }
+    Ok(Some(Ending::of(key.copy(alloc)?, old)))
+}
+
+fn drop_older(endings: &mut BTreeSet<Ending>, older: Option<Ending>)
+    ensures { (ending : Ending) → is_among endings.new.keys ending ≡ is_among_without older (is_among endings.old.keys) ending }
+{
+    if let Some(older) = older {
+        endings.remove(&older);
+    }
+}
+
+/// Puts a row in place of the key's. After `Memory` the rows are as before.
+fn put(
+    alloc: Global,
+    rows: &mut BTreeMap<Key, Row>,
+    endings: &mut BTreeSet<Ending>,
+    key: Key,
+    row: Row,
+) -> Result<Option<Row>, Memory>
+    requires { AreIndexed rows.old.entries endings.old.keys }
+    ensures before { IfOk result (λ before. before ≡ row_at key rows.old.entries) }
+    ensures put { OnOk result (rows.new.entries ≡ insert_entry key_cmp rows.old.entries key row) }
+    ensures stays { OnErr result (rows.new.entries ≡ rows.old.entries) }
+    ensures indexed { AreIndexed rows.new.entries endings.new.keys }
+{
+    let older = older_ending(alloc, rows, &key, &row)?;
+    let ending = Ending::of(key.copy(alloc)?, &row);
+    endings.insert(ending)?;
+    match rows.insert(key, row) {
+        Ok(before) => {
+            drop_older(endings, older);
+            Ok(before)
+        }
+        Err(refused) => {
+            // Only a new key is refused, so the ending is a new one too.
+            let (key, row) = refused.value;
+            endings.remove(&Ending::of(key, &row));
+            Err(Memory)
+        }
+    }
+}
+
+impl MapRows {
+    /// No rows. Takes no memory.
+    pub fn new(alloc: Global) -> MapRows
+        ensures { result ≡ [] }
+    {
+        MapRows {
+            alloc,
+            rows: BTreeMap::new(alloc),
+            endings: BTreeSet::new(alloc),
+        }
+    }
+}
+
+/// Puts an equal row under an equal key.
+fn put_copy(rows: &mut MapRows, key: &Key, row: &Row) -> Result<(), Memory>
+    ensures { OnOk result (rows.new ≡ insert_entry key_cmp rows.old key.now row.now) }
+{
+    let key = key.copy(rows.alloc)?;
+    let row = row.copy(rows.alloc)?;
+    rows.put(key, row)?;
+    Ok(())
+}
+
+impl Rows for MapRows {
+    ghost content = { λ rows. rows };
+
+    fn get(&self, key: &Key) -> Option<&Row> {
+        self.rows.get(key)
+    }
+
+    fn put(&mut self, key: Key, row: Row) -> Result<Option<Row>, Memory> {
+        put(self.alloc, &mut self.rows, &mut self.endings, key, row)
+    }
+
+    fn take(&mut self, key: &Key) -> Option<Row> {
+        let (key, row) = self.rows.remove_entry(key)?;
+        self.endings.remove(&Ending::of(key, &row));
+        Some(row)
+    }
+
+    fn first_to_end(&self) -> Option<&Key> {
+        match self.endings.first() {
+            Some(ending) => Some(&ending.key),
+            None => None,
+        }
+    }
+
+    fn take_ended(&mut self, now: Moment) -> Option<(Key, Row)> {
+        let first = match self.endings.first() {
+            Some(ending) => ending.end,
+            None => return None,
+        };
+        if first > now.milliseconds() {
+            return None;
+        }
+        let ending = self.endings.pop_first()?;
+        let row = self.rows.remove(&ending.key)?;
+        let Ending { key, .. } = ending;
+        Some((key, row))
+    }
+
+    fn len(&self) -> usize {
+        self.rows.len()
+    }
+
+    fn list(&self) -> Result<Vec<(Key, Row)>, Memory> {
+        let mut list = Vec::with_capacity(self.alloc, self.rows.len())?;
+        for (key, row) in &self.rows {
+            list.push((key.copy(self.alloc)?, row.copy(self.alloc)?))?;
+        }
+        Ok(list)
+    }
+
+    fn copy(&self) -> Result<MapRows, Memory> {
+        let mut copy = MapRows::new(self.alloc);
+        for (key, row) in &self.rows {
+            put_copy(&mut copy, key, row)?;
+        }
+        Ok(copy)
+    }
+}

@@ -1,0 +1,166 @@
+//! Numbers of updates.
+
+ghost use Rattle.std.specs.Prelude.{◌≡◌, ◌↔◌, ◌≤◌, ◌<◌, ◌^◌, [], ◌∷◌, ◌++◌, ◌+◌, Err, IfOk, OnOk, OnErr, Some, option_map, slice_get, take};
+ghost use Rattle.std.specs.List.{AllByRecursion, list_any};
+ghost use Rattle.std.specs.List.Sorted.{IsStrictlySortedBy};
+ghost use Rattle.std.specs.Map.{keys_of, values_of};
+ghost use Rattle.std.specs.Ordering.{nat_cmp};
+ghost use Rattle.update_numbers.specs.declared.numbers.NumberError.TheVariants as errors;
+ghost use Rattle.update_numbers.specs.Numbers.{above, dropped, given, is_of, without};
+ghost use Rattle.update_numbers.specs.Index.{AreIndexed};
+
+use std::alloc::Global;
+use std::collections::BTreeMap;
+use std::marker::Model;
+use std::ops::Bound;
+use table_types::{Key, Memory};
+use thiserror::Error;
+
+/// Why no number was given. Nothing has changed.
+#[derive(Clone, Copy, Debug, PartialEq, Eq, Error)]
+pub enum NumberError {
+    /// Each number up to 2^32 - 1 was given.
+    #[error("spent")]
+    Spent,
+    /// A growth was refused.
+    #[error("memory")]
+    Memory,
+}
+
+/// Gives numbers to keys: each the next one, in place of the key's older one.
+#[derive(Drop)]
+pub struct Numbers {
+    alloc: Global,
+    by_number: BTreeMap<u32, Key>,
+    by_key: BTreeMap<Key, u32>,
+    /// 2^32 where all are spent.
+    next: u64,
+}
+
+impl Model for Numbers {
+    ghost use Rattle.update_numbers.specs.Index.{AreIndexed};
+    ghost use Rattle.update_numbers.specs.Numbers.{Numbering};
+
+    ghost Value = { Numbering };
+
+    ghost view = { λ a. record { pairs = a.by_number.entries; next = a.next } };
+
+    ghost invariant = { λ a. AreIndexed a.by_number.entries a.by_key.entries a.next };
+}
+
+/// Puts a key at a number above all others, in place of its older one. After `Memory` nothing has changed.
+fn place(
+    alloc: Global,
+    by_number: &mut BTreeMap<u32, Key>,
+    by_key: &mut BTreeMap<Key, u32>,
+    number: u32,
+    key: &Key,
+) -> Result<(), Memory>
+    requires { AreIndexed by_number.old.entries by_key.old.entries number }
+    ensures placed { OnOk result (by_number.new.entries ≡ without key.now by_number.old.entries ++ (number, key.now) ∷ []) }
+    ensures indexed { OnOk result (AreIndexed by_number.new.entries by_key.new.entries (number + 1)) }
+    ensures stays { OnErr result (by_number.new.entries ≡ by_number.old.entries) }
+    ensures keys_stay { OnErr result (by_key.new.entries ≡ by_key.old.entries) }
+{
+    let number_key = key.copy(alloc)?;
+    let own_key = key.copy(alloc)?;
+    by_number.insert(number, number_key)?;
+    match by_key.insert(own_key, number) {
+        Ok(None) => {}
+        Ok(Some(older)) => {
+            by_number.remove(&older);
+        }
+        Err(_) => {
+            by_number.remove(&number);
+            return Err(Memory);
+        }
+    }
+    Ok(())
+}
+
+impl Numbers {
+    /// No numbers given yet, and `first` given next. Takes no memory.
+    pub fn new(alloc: Global, first: u32) -> Numbers
+        requires { 1 ≤ first }
+        ensures { result ≡ record { pairs = []; next = first } }
+    {
+        Numbers {
+            alloc,
+            by_number: BTreeMap::new(alloc),
+            by_key: BTreeMap::new(alloc),
+            next: u64::from(first),
+        }
+    }
+
+    /// The number that is given next, or 2^32 where all are spent.
+    pub fn next(&self) -> u64
+        ensures next { result ≡ self.now.next }
+        ensures most { result ≤ 2 ^ 32 }
+        ensures rising { IsStrictlySortedBy nat_cmp (keys_of self.now.pairs) }
+        ensures below { AllByRecursion (λ pair. pair.0 < self.now.next) self.now.pairs }
+    {
+        self.next
+    }
+
+    /// Gives a key the next number in place of its older one.
+    pub fn give(&mut self, key: &Key) -> Result<u32, NumberError>
+        ensures given { OnOk result (self.new ≡ given key.now self.old) }
+        ensures number { IfOk result (λ number. number ≡ self.old.next) }
+        ensures spent { (result ≡ Err errors.Spent) ↔ (2 ^ 32 ≤ self.old.next) }
+        ensures stays { OnErr result (self.new ≡ self.old) }
+    {
+        let Ok(number) = u32::try_from(self.next) else {
+            return Err(NumberError::Spent);
+        };
+        place(
+            self.alloc,
+            &mut self.by_number,
+            &mut self.by_key,
+            number,
+            key,
+        )
+        .map_err(|_| NumberError::Memory)?;
+        self.next += 1;
+        Ok(number)
+    }
+
+    /// Drops the number of a key, and answers whether it had one. Takes no memory.
+    pub fn drop_key(&mut self, key: &Key) -> bool
+        ensures had { result ≡ list_any (is_of key.now) self.old.pairs }
+        ensures dropped { self.new ≡ dropped key.now self.old }
+    {
+        let Some(number) = self.by_key.remove(key) else {
+            return false;
+        };
+        self.by_number.remove(&number);
+        true
+    }
+
+    /// The first number above that one, with its key. Takes no memory.
+    pub fn first_above(&self, number: u32) -> Option<(u32, &Key)>
+        ensures { option_map (λ pair. (pair.0, pair.1.now)) result ≡ slice_get (above number self.now.pairs) 0 }
+    {
+        let mut pairs = self
+            .by_number
+            .range((Bound::Excluded(number), Bound::Unbounded));
+        let (number, key) = pairs.next()?;
+        Some((*number, key))
+    }
+
+    /// The first numbers above that one, with equal keys, in rising number: all of them, and no more than `limit`.
+    pub fn above(&self, number: u32, limit: usize) -> Result<Vec<(u32, Key)>, Memory>
+        ensures { IfOk result (λ pairs. pairs.items ≡ take limit (above number self.now.pairs)) }
+    {
+        let mut found = Vec::new(self.alloc);
+        for (number, key) in self
+            .by_number
+            .range((Bound::Excluded(number), Bound::Unbounded))
+        {
+            if found.len() == limit {
+                break;
+            }
+            found.push((*number, key.copy(self.alloc)?))?;
+        }
+        Ok(found)
+    }
+}
