@@ -5,5 +5,7 @@ pub mod Lessons
 pub mod Names
 pub mod Numbers
 pub mod Rows
+pub mod Scripts
+pub mod Updates
 pub mod Words
 pub mod Verdicts

@@ -6,14 +6,14 @@ ghost use Rattle.scene_text.specs.Numbers.{from_one, number_of};
 use crate::bytes::hexadecimal;
 use crate::error::LineError;
 use crate::names::name;
-use crate::numbers::{number, number32};
+use crate::numbers::{moment, number, number32};
 use crate::scene::Scene;
 use crate::tables::table_of;
 use crate::updates::update_of;
 use crate::words::words;
 use dict_slots::Slots;
 use std::alloc::Global;
-use table_types::{Batch, Moment, Roster, TableDef};
+use table_types::{Batch, Roster, TableDef};
 
 impl Scene {
     /// Takes in what a line says, which comes without its LF. After a refusal the scene isn't to be
@@ -111,11 +111,10 @@ impl Scene {
     }
 
     fn read_moment(&mut self, words: &[&[u8]]) -> Result<(), LineError> {
-        let [moment] = words else {
+        let [word] = words else {
             return Err(LineError::Refused);
         };
-        let milliseconds = number(moment, u64::MAX).ok_or(LineError::Refused)?;
-        let moment = Moment::new(milliseconds).ok_or(LineError::Refused)?;
+        let moment = moment(word).ok_or(LineError::Refused)?;
         set_once(&mut self.moment, moment)
     }
 
@@ -173,7 +172,7 @@ fn slot(word: &[u8]) -> Option<u8>
 }
 
 /// Gives a value to what has none yet.
-fn set_once<T: Drop>(place: &mut Option<T>, value: T) -> Result<(), LineError>
+pub(crate) fn set_once<T: Drop>(place: &mut Option<T>, value: T) -> Result<(), LineError>
     ensures set { OnOk result ((place.old ≡ None) × (place.new ≡ Some value)) }
     ensures refused { OnErr result (IsSome place.old) }
 {

@@ -1,9 +1,10 @@
 //! Numbers in decimal.
 ghost use Rattle.std.specs.Prelude.{◌≡◌, ◌≤◌, ◌^◌, ◌-◌, ◌++◌, IfSome, OnOk};
 ghost use Rattle.std.specs.Fmt.{decimal};
-ghost use Rattle.scene_text.specs.Numbers.{number_of};
+ghost use Rattle.scene_text.specs.Numbers.{from_one, number_of};
 
 use std::alloc::{AllocError, Global};
+use table_types::Moment;
 
 /// The number that a word writes in decimal, with no needless zeros; `None` where it is no number
 /// or is above `most`.
@@ -37,6 +38,20 @@ pub(crate) fn number32(word: &[u8]) -> Option<u32>
         Some(value) => Some(value as u32),
         None => None,
     }
+}
+
+/// The number of 1 to `most` that a word writes, as `number` reads it.
+pub(crate) fn number_from_one(word: &[u8], most: u32) -> Option<u32>
+    ensures exactly { result ≡ from_one (number_of word.now most) }
+    ensures within { IfSome result (λ value. (1 ≤ value) × (value ≤ most)) }
+{
+    let value = number(word, u64::from(most))?;
+    if value == 0 { None } else { Some(value as u32) }
+}
+
+/// The moment whose milliseconds a word writes, as `number` reads them.
+pub(crate) fn moment(word: &[u8]) -> Option<Moment> {
+    Moment::new(number(word, u64::MAX)?)
 }
 
 /// Adds a number in decimal.

@@ -1,6 +1,7 @@
 //! Values of rows.
 ghost use Rattle.std.specs.Prelude.{◌≡◌, ◌++◌, OnOk, flat_map};
 ghost use Rattle.scene_text.specs.Rows.{cell_text};
+ghost use Rattle.scene_text.specs.Updates.{value_text};
 
 use crate::error::LineError;
 use crate::numbers::{number, number32};
@@ -67,5 +68,35 @@ fn push_cell(alloc: Global, text: &mut Vec<u8>, cell: Cell) -> Result<(), AllocE
             current,
             previous,
         } => text.extend_from_slice(format!(in alloc; " {start}/{current}/{previous}")?.as_bytes()),
+    }
+}
+
+/// Adds the values of an update, each after a space.
+pub(crate) fn push_values(
+    alloc: Global,
+    text: &mut Vec<u8>,
+    values: &[Value],
+) -> Result<(), AllocError>
+    ensures { OnOk result (text.new.items ≡ text.old.items ++ flat_map value_text values.now) }
+{
+    for value in values {
+        push_value(alloc, text, *value)?;
+    }
+    Ok(())
+}
+
+/// Adds a count, or a rate as `elapsed/current/previous`, after a space.
+fn push_value(alloc: Global, text: &mut Vec<u8>, value: Value) -> Result<(), AllocError>
+    ensures { OnOk result (text.new.items ≡ text.old.items ++ value_text value) }
+{
+    match value {
+        Value::Count(count) => text.extend_from_slice(format!(in alloc; " {count}")?.as_bytes()),
+        Value::Rate {
+            elapsed,
+            current,
+            previous,
+        } => {
+            text.extend_from_slice(format!(in alloc; " {elapsed}/{current}/{previous}")?.as_bytes())
+        }
     }
 }
