@@ -39,9 +39,9 @@ stopped_state t e faults.Closed (shut, is) = ap (λ (x : Taking). x.state) is
 stopped_state t e (faults.Breach breach) (is_open, at, is) = ap (λ (x : Taking). x.state) is
 
 cut_rise : (l e : Learning) → AreRising l.intake.state.last_numbers → IsCutShort l e → AreRising e.intake.state.last_numbers
-cut_rise l e rise (takable, rows, roster, behind) = elim behind [
-  | inl same ↦ subst (λ (x : State). AreRising x.last_numbers) (sym same) rise
-  | inr one ↦ subst (λ (x : State). AreRising x.last_numbers) (sym one.4) (rising-step l.intake.state one.2.state one.0 one.3.3 rise one.3.4)
+cut_rise l e rise (takable, rows, behind) = elim behind [
+  | inl same ↦ subst (λ (x : Taking). AreRising x.state.last_numbers) (sym same) rise
+  | inr one ↦ rising-step l.intake.state e.intake.state one.0 one.2.3 rise one.2.4
 ]
 
 -- whatever a learner is fed, they do

@@ -37,7 +37,7 @@ roster_stays now l e (m ∷ ms) us (first, rest, next, all, begins, later) =
 
 -- a fault at the front, told as learning one message does
 pub stops_one : (now : ℕ) (l e : Learning) (fault : Fault) → Stops l.intake fault e.intake → e.rows ≡ l.rows → LearnsOne now l (Err fault) e
-stops_one now l e faults.Memory stops rows = (stops.1, rows, ap (λ (x : Taking). x.roster) stops.2, inl (ap (λ (x : Taking). x.state) stops.2))
+stops_one now l e faults.Memory stops rows = (stops.1, rows, inl stops.2)
 stops_one now l e faults.Closed stops rows = (stops, rows)
 stops_one now l e faults.NoNumber stops rows = (stops, rows)
 stops_one now l e faults.EmptySlot stops rows = (stops, rows)
@@ -65,11 +65,11 @@ gives_rows now l e answer rows count (m, takes, tells) is counted =
 
 -- memory is wanted before anything changes
 pub cut_here : (now : ℕ) (l : Learning) → IsTakable l.intake → LearnsOne now l (Err faults.Memory) l
-cut_here now l takable = (takable, refl, refl, inl refl)
+cut_here now l takable = (takable, refl, inl refl)
 
 -- memory is wanted for a row
 pub gives_cut : (now : ℕ) (l : Learning) (e : Taking) (answer : Taken) → IsTakable l.intake → Gives l.intake (Ok answer) e → LearnsOne now l (Err faults.Memory) (record { intake = e; rows = l.rows })
-gives_cut now l e answer takable (m, takes, tells) = (takable, refl, ap (λ (t : Taking). t.roster) takes.6, inr (m, rows_of answer, e, takes, refl))
+gives_cut now l e answer takable (m, takes, tells) = (takable, refl, inr (m, rows_of answer, takes))
 
 -- what is open isn't told to be closed
 pub not_closed : (now : ℕ) (l e : Learning) (fault : Fault) → l.intake.closed ≡ false → LearnsOne now l (Err fault) e → fault ≢ faults.Closed

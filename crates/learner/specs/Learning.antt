@@ -48,14 +48,14 @@ AreLearned now l (m ∷ ms) us e =
 abbrev pub IsWaiting : Taking → Type 0
 IsWaiting t = (t.closed ≡ false) × (message_at t.state.received t.unread ≡ Ok None)
 
--- the state in which these messages leave it, or one more
-abbrev pub IsStateAfter : Taking → State → Type 0
-IsStateAfter t s = (s ≡ t.state) ⊎ ((m : Message) × (us : List Update) × (next : Taking) × Takes t m us next × (s ≡ next.state))
+-- all is as it was, or the message at the front is taken
+abbrev pub IsAtMostOneOn : Taking → Taking → Type 0
+IsAtMostOneOn t e = (e ≡ t) ⊎ ((m : Message) × (own : List Update) × Takes t m own e)
 
--- What is left where memory is wanted for the message at the front, which is whole and has no fault: the rows are those of
--- whole messages, none in part.
+-- What is left where memory is wanted for the message at the front, which is whole and has no fault: the rows are as they
+-- were, whether that message was taken or not, so that they are those of whole messages, none in part.
 abbrev pub IsCutShort : Learning → Learning → Type 0
-IsCutShort l e = IsTakable l.intake × (e.rows ≡ l.rows) × (e.intake.roster ≡ l.intake.roster) × IsStateAfter l.intake e.intake.state
+IsCutShort l e = IsTakable l.intake × (e.rows ≡ l.rows) × IsAtMostOneOn l.intake e.intake
 
 -- what learning one message does, where the answer is how many rows were put
 abbrev pub LearnsOne : ℕ → Learning → Result (Option ℕ) Fault → Learning → Type 0

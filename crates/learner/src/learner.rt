@@ -1,6 +1,6 @@
 //! Learners.
 
-ghost use Rattle.std.specs.Prelude.{◌≡◌, ◌≢◌, ◌<◌, ◌≤◌, ℕ, List, [], false, IfOk, IfErr, OnOk, OnErr, IsNone, IsSome, IfSome, Some, length, map, option_copied};
+ghost use Rattle.std.specs.Prelude.{◌≡◌, ◌≢◌, ◌↔◌, ◌<◌, ◌≤◌, ℕ, List, [], false, IfOk, IfErr, OnOk, OnErr, IsNone, IsSome, IfSome, Some, None, length, map, option_copied};
 ghost use Rattle.table_types.specs.declared.update.Update.{Update};
 ghost use Rattle.table_types.specs.Rows.{cell_of, row_of};
 ghost use Rattle.std.specs.Map.{keys_of};
@@ -288,6 +288,7 @@ impl Learner {
     /// The rows of the local table of that id by their keys; `None` where the roster lacks it.
     pub fn table(&self, table: u64) -> Option<&BTreeMap<Key, Row>>
         ensures rows { IfSome result (λ rows. rows.now.entries ≡ rows_at self.now.intake.roster table self.now.rows) }
+        ensures exactly { IsNone result ↔ (index_of self.now.intake.roster table ≡ None) }
         ensures absent { IsNone result → rows_at self.now.intake.roster table self.now.rows ≡ [] }
     {
         match index_of(self.roster().tables(), table) {
