@@ -7,5 +7,6 @@ pub mod Numbers
 pub mod Rows
 pub mod Scripts
 pub mod Updates
+pub mod Events
 pub mod Words
 pub mod Verdicts

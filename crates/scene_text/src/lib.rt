@@ -1,11 +1,13 @@
-//! The text of the program, in both directions: scenes and scripts as they are read, and lessons, verdicts, rows, updates
-//! and acknowledgements as they are printed. What a scene writes and what is printed have the same form, and each form stands in one module.
+//! The text of the program, in both directions: scenes and scripts as they are read, and lessons, verdicts, rows, updates,
+//! events and acknowledgements as they are printed. What a scene writes and what is printed have the same form, and each form
+//! stands in one module.
 #![tactic(auto)]
 
 mod acks;
 mod bytes;
 mod calls;
 mod error;
+mod events;
 mod keys;
 mod laws;
 mod lessons;
@@ -24,6 +26,7 @@ mod words;
 pub use acks::push_acks;
 pub use calls::Call;
 pub use error::SceneError;
+pub use events::{push_learn, push_track};
 pub use laws::printed_is_read;
 pub use lessons::printed_lesson;
 pub use rows::{push_row, push_stored_row};

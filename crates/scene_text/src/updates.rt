@@ -98,7 +98,11 @@ fn push_head(
 }
 
 /// Adds how long a row still lives, or `-` where that isn't given.
-fn push_life(alloc: Global, text: &mut Vec<u8>, life: Option<u32>) -> Result<(), AllocError>
+pub(crate) fn push_life(
+    alloc: Global,
+    text: &mut Vec<u8>,
+    life: Option<u32>,
+) -> Result<(), AllocError>
     ensures { OnOk result (text.new.items ≡ text.old.items ++ number_or_dash life) }
 {
     match life {
