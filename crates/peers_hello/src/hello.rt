@@ -1,0 +1,194 @@
+//! The hello: three lines.
+
+ghost use Rattle.std.specs.Prelude.{◌≡◌, ◌≤◌, ◌-◌, true, false, None, Some, IfOk, IfErr, IfSome, OnOk, OnErr, ◌++◌, IsNone, length, drop};
+ghost use Rattle.peers_hello.specs.Lines.{line, past, after_lines, no_lines};
+ghost use Rattle.peers_hello.specs.Hellos.{hello_text, introduction_text, answer_of, IsAccepted, local_of, is_greeting, is_number, is_introduction, fault_of, is_among};
+
+use crate::lines::{NoLine, cut, is_same, split};
+use std::alloc::{AllocError, Global};
+use table_types::{Memory, Name};
+
+const PROTOCOL_ERROR: u16 = 501;
+
+const BAD_VERSION: u16 = 502;
+
+const OTHER_NAME: u16 = 503;
+
+const UNKNOWN_PEER: u16 = 504;
+
+/// What a peer opens a session with: whom it means, and who it is.
+///
+/// ```text
+/// HAProxyS 2.1 LF
+/// REMOTE LF
+/// LOCAL SP PID SP RELATIVE LF
+/// ```
+#[derive(Debug, Drop, PartialEq, Eq)]
+pub struct Hello {
+    /// The name of the peer that is spoken to.
+    pub remote: Name,
+    /// The name of the peer that speaks.
+    pub local: Name,
+    /// The id of its process.
+    pub pid: u32,
+    /// That process's number among the peer's processes.
+    pub relative: u32,
+}
+
+/// What a hello is answered with.
+#[derive(Debug, Drop, PartialEq, Eq)]
+pub enum Answer {
+    /// The peer of this name is let in; the hello had so many bytes.
+    Accepted(Name, usize),
+    /// The code of the status to answer, 501 to 504, and how many bytes it is the answer to.
+    Refused(u16, usize),
+    /// The hello isn't whole yet.
+    More,
+}
+
+impl Hello {
+    /// The hello's bytes.
+    pub fn write(&self, alloc: Global) -> Result<Vec<u8>, Memory>
+        ensures { IfOk result (λ bytes. bytes.items ≡ hello_text self.now) }
+    {
+        let mut text = Vec::new(alloc);
+        push_hello(alloc, &mut text, self)?;
+        Ok(text)
+    }
+
+    /// What the peer `own`, who knows these peers, answers to the hello at the front of the bytes. Memory is wanted only
+    /// where it is accepted.
+    pub fn read(alloc: Global, bytes: &[u8], own: &Name, peers: &[Name]) -> Result<Answer, Memory>
+        ensures answer { IfOk result (λ answer. answer ≡ answer_of own.now peers.now bytes.now) }
+        ensures memory { OnErr result (IsAccepted (answer_of own.now peers.now bytes.now)) }
+    {
+        let lines = match lines_of(bytes) {
+            Ok(lines) => lines,
+            Err(NoLine::TooLong) => return Ok(Answer::Refused(PROTOCOL_ERROR, bytes.len())),
+            Err(NoLine::More) => return Ok(Answer::More),
+        };
+        if let Some(code) = fault_of(&lines, own) {
+            return Ok(Answer::Refused(code, lines.used));
+        }
+        match peer_called(peers, local_of(lines.third)) {
+            Some(peer) => Ok(Answer::Accepted(peer.copy(alloc)?, lines.used)),
+            None => Ok(Answer::Refused(UNKNOWN_PEER, lines.used)),
+        }
+    }
+}
+
+fn push_hello(alloc: Global, text: &mut Vec<u8>, hello: &Hello) -> Result<(), AllocError>
+    ensures { OnOk result (text.new.items ≡ text.old.items ++ hello_text hello.now) }
+{
+    text.extend_from_slice(b"HAProxyS 2.1\n")?;
+    text.extend_from_slice(hello.remote.as_slice())?;
+    text.push(b'\n')?;
+    push_introduction(alloc, text, hello)
+}
+
+/// Adds the third line.
+fn push_introduction(alloc: Global, text: &mut Vec<u8>, hello: &Hello) -> Result<(), AllocError>
+    ensures { OnOk result (text.new.items ≡ text.old.items ++ introduction_text hello.now) }
+{
+    let (pid, relative) = (hello.pid, hello.relative);
+    text.extend_from_slice(hello.local.as_slice())?;
+    text.extend_from_slice(format!(in alloc; " {pid} {relative}\n")?.as_bytes())
+}
+
+/// The three lines of a hello, and how many bytes they are.
+#[derive(Drop)]
+struct Lines<'a> {
+    first: &'a [u8],
+    second: &'a [u8],
+    third: &'a [u8],
+    used: usize,
+}
+
+fn lines_of(bytes: &[u8]) -> Result<Lines<'_>, NoLine>
+    ensures stand { IfOk result (λ _. no_lines 3 bytes.now ≡ None) }
+    ensures first { IfOk result (λ lines. lines.first.now ≡ line bytes.now) }
+    ensures second { IfOk result (λ lines. lines.second.now ≡ line (past 10 bytes.now)) }
+    ensures third { IfOk result (λ lines. lines.third.now ≡ line (past 10 (past 10 bytes.now))) }
+    ensures used { IfOk result (λ lines. lines.used ≡ length bytes.now - length (after_lines 3 bytes.now)) }
+    ensures lack { IfErr result (λ reason. no_lines 3 bytes.now ≡ Some reason) }
+{
+    let (first, rest) = cut(bytes)?;
+    let (second, rest) = cut(rest)?;
+    let (third, rest) = cut(rest)?;
+    Ok(Lines {
+        first,
+        second,
+        third,
+        used: bytes.len() - rest.len(),
+    })
+}
+
+/// The code of the first thing that is wrong with the lines, whoever the peers are.
+fn fault_of(lines: &Lines<'_>, own: &Name) -> Option<u16>
+    ensures { result ≡ fault_of own.now lines.now.first.now lines.now.second.now lines.now.third.now }
+{
+    if !is_greeting(lines.first) || !is_introduction(lines.third) {
+        return Some(PROTOCOL_ERROR);
+    }
+    if !is_same(&lines.first[9..], b"2.1".as_slice()) {
+        return Some(BAD_VERSION);
+    }
+    if !is_same(lines.second, own.as_slice()) {
+        return Some(OTHER_NAME);
+    }
+    None
+}
+
+/// Whether a first line names the protocol, whatever its version.
+fn is_greeting(line: &[u8]) -> bool
+    ensures exactly { result ≡ is_greeting line.now }
+    ensures long { result ≡ true → 9 ≤ length line.now }
+{
+    line.len() >= 9 && is_same(&line[..9], b"HAProxyS ".as_slice())
+}
+
+/// Whether a third line is a name, a process id and a relative pid.
+fn is_introduction(line: &[u8]) -> bool
+    ensures { result ≡ is_introduction line.now }
+{
+    let (local, numbers) = split(b' ', line);
+    let (pid, relative) = split(b' ', numbers);
+    !local.is_empty() && local.len() <= 255 && is_number(pid) && is_number(relative)
+}
+
+/// Whether a text is one or more decimal digits.
+fn is_number(text: &[u8]) -> bool
+    ensures { result ≡ is_number text.now }
+{
+    if text.is_empty() {
+        return false;
+    }
+    for byte in text {
+        if !byte.is_ascii_digit() {
+            return false;
+        }
+    }
+    true
+}
+
+/// The local name in a third line.
+fn local_of(line: &[u8]) -> &[u8]
+    ensures { result.now ≡ local_of line.now }
+{
+    let (local, _) = split(b' ', line);
+    local
+}
+
+/// The peer of that name.
+fn peer_called<'a>(peers: &'a [Name], name: &[u8]) -> Option<&'a Name>
+    ensures found { IfSome result (λ peer. peer.now ≡ name.now) }
+    ensures among { IfSome result (λ _. is_among name.now peers.now ≡ true) }
+    ensures none { IsNone result → is_among name.now peers.now ≡ false }
+{
+    for peer in peers {
+        if is_same(peer.as_slice(), name) {
+            return Some(peer);
+        }
+    }
+    None
+}
