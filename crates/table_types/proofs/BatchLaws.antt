@@ -1,6 +1,7 @@
 -- Updates are a batch exactly where nothing is wrong with them.
-use Rattle.std.proofs.Common.{◌≡◌, ℕ, ◌+◌, ◌≤◌, Bool, true, false, List, [], ◌∷◌, length, Option, Some, None, refl, sym, ap, ◌∙◌, arith}
-use Rattle.std.specs.Prelude.{nat_lt}
+use Rattle.std.proofs.Common.{◌≡◌, ℕ, ◌+◌, ◌≤◌, Bool, true, false, List, [], ◌∷◌, length, Option, Some, None, refl, sym, ap, ◌∙◌, arith, inl, inr}
+use Rattle.std.proofs.lemmas.Bool.{cases_eq, eq-eqb, ne_eqb}
+use Rattle.std.specs.Prelude.{nat_lt, is_none}
 use Rattle.std.specs.List.{AllByRecursion}
 use Rattle.std.proofs.lemmas.Bool.Decides.{nat_tests}
 use Rattle.table_types.specs.declared.update.Update.{Update}
@@ -63,3 +64,31 @@ pub batch_has_no_fault : (roster : List Definition) (us : List Update) → IsBat
 batch_has_no_fault roster us (few, all) =
     let small : nat_lt 512 (length us) ≡ false = grind (arith, nat_tests) in
     rw small (no_faults 0 roster us all)
+
+-- an update for a table alone is one for a roster that has the table at its id
+update_of_one : (d : Definition) (roster : List Definition) (u : Update) → table_at roster d.id ≡ Some d → IsUpdateFor (d ∷ []) u → IsUpdateFor roster u
+update_of_one d roster u listed (e, found, fit, timed) = elim (cases_eq d.id u.table) [
+  | inl same ↦
+      let is : Some d ≡ Some e = sym (rw (eq-eqb d.id u.table same) refl) ∙ found in
+      let there : table_at roster u.table ≡ Some e = ap (table_at roster) (sym same) ∙ listed ∙ is in
+      (e, there, fit, timed)
+  | inr other ↦ let bad : ◌≡◌ {A = Option Definition} None (Some e) = sym (rw (ne_eqb d.id u.table other) refl) ∙ found in absurd cc
+]
+
+updates_of_one : (d : Definition) (roster : List Definition) (us : List Update) → table_at roster d.id ≡ Some d → AllByRecursion (IsUpdateFor (d ∷ [])) us → AllByRecursion (IsUpdateFor roster) us
+updates_of_one d roster [] listed all = tt
+updates_of_one d roster (u ∷ us) listed all = (update_of_one d roster u listed all.0, updates_of_one d roster us listed all.1)
+
+pub batch_of_one : (d : Definition) (roster : List Definition) (us : List Update) → table_at roster d.id ≡ Some d → IsBatchFor (d ∷ []) us → IsBatchFor roster us
+batch_of_one d roster us listed (few, all) = (few, updates_of_one d roster us listed all)
+
+-- at most so many updates are a batch for a roster exactly where there is no fault from the first on
+pub is_for : (roster : List Definition) (us : List Update) (r : Bool) → length us ≤ 512 → r ≡ is_none (faults_from 0 roster us) → (r ≡ true → IsBatchFor roster us) × (IsBatchFor roster us → r ≡ true)
+is_for roster us r few is = (
+  (λ yes. batch_of_parts roster us few (absent (faults_from 0 roster us) (sym is ∙ yes))),
+  (λ batch. is ∙ ap is_none (no_faults 0 roster us batch.1)),
+)
+  where
+    absent : (o : Option BatchError) → is_none o ≡ true → o ≡ None
+    absent None e = refl
+    absent (Some f) e = absurd cc

@@ -9,3 +9,5 @@ pub mod Shapes
 pub mod Batches
 pub mod SlotIds
 pub mod Rows
+pub mod Rotation
+pub mod Changes

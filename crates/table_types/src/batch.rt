@@ -1,13 +1,14 @@
 //! Updates that are taught together.
 
-ghost use Rattle.std.specs.Prelude.{◌≡◌, ◌+◌, ◌≤◌, None, IfOk, IfErr, Some, length};
+ghost use Rattle.std.specs.Prelude.{◌≡◌, ◌↔◌, ◌+◌, ◌≤◌, ◌∷◌, [], None, IfOk, IfErr, IsTrue, Some, length, option_copied};
 ghost use Rattle.table_types.specs.Batches.{fault_in, batch_fault, faults_from, IsBatchFor};
 ghost use Rattle.table_types.specs.Rosters.{table_at};
 
 use crate::items::Items;
 use crate::memory::Memory;
 use crate::roster::Roster;
-use crate::update::Update;
+use crate::table_def::TableDef;
+use crate::update::{Update, are_same_updates};
 use std::alloc::Global;
 use std::marker::Model;
 use thiserror::Error;
@@ -50,10 +51,10 @@ impl Model for Batch {
     ghost invariant = { λ a. length a.updates ≤ 512 };
 }
 
-fn fault_in(roster: &Roster, place: usize, update: &Update) -> Option<BatchError>
-    ensures { result ≡ fault_in place (table_at roster.now update.now.table) update.now }
+fn fault_in(table: Option<&TableDef>, place: usize, update: &Update) -> Option<BatchError>
+    ensures { result ≡ fault_in place (option_copied table.entry) update.now }
 {
-    match roster.table(update.table) {
+    match table {
         None => Some(BatchError::NoTable(place)),
         Some(table) if !table.fits(update) => Some(BatchError::Misfit(place)),
         Some(_) if update.life.is_none() => Some(BatchError::Untimed(place)),
@@ -65,7 +66,26 @@ fn fault_of(roster: &Roster, updates: &[Update]) -> Option<BatchError>
     ensures { result ≡ faults_from 0 roster.now updates.now }
 {
     for (place, update) in updates.iter().enumerate() {
-        let fault = fault_in(roster, place, update);
+        let fault = fault_in(roster.table(update.table), place, update);
+        if fault.is_some() {
+            return fault;
+        }
+    }
+    None
+}
+
+/// The table itself, where that is its id.
+fn only_table(table: &TableDef, id: u64) -> Option<&TableDef>
+    ensures { option_copied result ≡ table_at (table.now ∷ []) id }
+{
+    if table.id() == id { Some(table) } else { None }
+}
+
+fn fault_of_table(table: &TableDef, updates: &[Update]) -> Option<BatchError>
+    ensures { result ≡ faults_from 0 (table.now ∷ []) updates.now }
+{
+    for (place, update) in updates.iter().enumerate() {
+        let fault = fault_in(only_table(table, update.table), place, update);
         if fault.is_some() {
             return fault;
         }
@@ -91,6 +111,37 @@ impl Batch {
         Ok(Batch {
             updates: Items::new(updates),
         })
+    }
+
+    /// The batch of these updates, in this order, all of that table. It is one for each roster in which the table's id
+    /// stands for that table (`a_batch_of_one_table`).
+    pub fn of_table(table: &TableDef, updates: Vec<Update>) -> Result<Batch, BatchError>
+        ensures made { IfOk result (λ batch. (batch ≡ updates.items) × IsBatchFor (table.now ∷ []) updates.items) }
+        ensures refused { IfErr result (λ e. batch_fault (table.now ∷ []) updates.items ≡ Some e) }
+    {
+        if updates.len() > Batch::MOST {
+            return Err(BatchError::TooMany);
+        }
+        if let Some(fault) = fault_of_table(table, updates.as_slice()) {
+            return Err(fault);
+        }
+        Ok(Batch {
+            updates: Items::new(updates),
+        })
+    }
+
+    /// Whether the batch is one for that roster, for whatever roster or table it was made.
+    pub fn is_for(&self, roster: &Roster) -> bool
+        ensures { IsTrue result ↔ IsBatchFor roster.now self.now }
+    {
+        fault_of(roster, self.updates()).is_none()
+    }
+
+    /// Whether both are the same updates in the same order.
+    pub fn is_same(&self, other: &Batch) -> bool
+        ensures { IsTrue result ↔ (self.now ≡ other.now) }
+    {
+        are_same_updates(self.updates(), other.updates())
     }
 
     /// The updates in order.

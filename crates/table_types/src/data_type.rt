@@ -1,7 +1,7 @@
 //! What a stick table can store beside a key.
 
-ghost use Rattle.std.specs.Prelude.{◌≡◌, IfSome, Some};
-ghost use Rattle.table_types.specs.DataTypes.{id_of, name_of, shape_of, is_rate};
+ghost use Rattle.std.specs.Prelude.{◌≡◌, ◌↔◌, IfSome, IsTrue, Some};
+ghost use Rattle.table_types.specs.DataTypes.{id_of, name_of, shape_of, is_rate, is_same_type};
 
 /// How a data type's value is sent.
 #[derive(Clone, Copy, Debug, PartialEq, Eq)]
@@ -122,6 +122,14 @@ impl DataType {
             19 => DataType::ServerKey,
             _ => return None,
         })
+    }
+
+    /// Whether both are the same data type.
+    pub fn is_same(self, other: DataType) -> bool
+        ensures same { result ≡ is_same_type self other }
+        ensures equal { IsTrue result ↔ (self ≡ other) }
+    {
+        self.id() == other.id()
     }
 
     /// The name of the data type in HAProxy's configuration.

@@ -1,7 +1,9 @@
-//! What stick tables are made of: keys, data types, values, definitions, updates, rosters and batches.
+//! What stick tables are made of: keys, data types, values, definitions, updates, rosters, batches, rows and their
+//! changes.
 #![tactic(auto)]
 
 mod batch;
+mod change;
 mod data_type;
 mod items;
 mod key;
@@ -10,22 +12,26 @@ mod memory;
 mod moment;
 mod name;
 mod roster;
+mod rotation;
 mod row;
 mod shapes;
 mod slot_ids;
 mod table_def;
+mod tracked;
 mod update;
 
 pub use batch::{Batch, BatchError};
+pub use change::Change;
 pub use data_type::{DataType, Shape};
 pub use items::Items;
 pub use key::{Key, KeyKind};
-pub use laws::a_batch_has_no_fault;
+pub use laws::{a_batch_has_no_fault, a_batch_of_one_table};
 pub use memory::Memory;
 pub use moment::Moment;
 pub use name::{Name, is_name};
 pub use roster::{Roster, RosterError, has_id, is_same_name, table_at};
-pub use row::{Cell, Row};
+pub use rotation::{read_rate, rotate};
+pub use row::{Cell, Row, are_same_cells};
 pub use slot_ids::is_slot;
 pub use table_def::{DefError, TableDef};
-pub use update::{Update, Value, are_same_values};
+pub use update::{Update, Value, are_same_updates, are_same_values};

@@ -37,6 +37,15 @@ impl Moment {
         }
     }
 
+    /// The least moment.
+    pub fn least() -> Moment
+        ensures { result ≡ 2 ^ 32 }
+    {
+        Moment {
+            milliseconds: 1 << 32,
+        }
+    }
+
     /// Its milliseconds.
     pub fn milliseconds(self) -> u64
         ensures value { result ≡ self }
@@ -45,6 +54,7 @@ impl Moment {
     {
         self.milliseconds
     }
+
     /// So many milliseconds later; past the greatest moment it is that one.
     pub fn later_by(self, milliseconds: u32) -> Moment
         ensures { result ≡ later_by milliseconds self }

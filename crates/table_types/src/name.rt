@@ -75,6 +75,17 @@ impl Name {
         self == other
     }
 
+    /// Whether both are the same name, or there is none in either place.
+    pub fn are_same(one: &Option<Name>, other: &Option<Name>) -> bool
+        ensures { IsTrue result ↔ (one.now ≡ other.now) }
+    {
+        match (one, other) {
+            (Some(one), Some(other)) => one.is_same(other),
+            (None, None) => true,
+            _ => false,
+        }
+    }
+
     /// An equal name.
     pub fn copy(&self, alloc: Global) -> Result<Name, Memory>
         ensures { IfOk result (λ copy. copy ≡ self.now) }

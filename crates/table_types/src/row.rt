@@ -1,6 +1,6 @@
 //! Rows of stick tables.
 
-ghost use Rattle.std.specs.Prelude.{◌≡◌, ◌↔◌, IfOk, IsTrue, map, option_copied, true};
+ghost use Rattle.std.specs.Prelude.{◌≡◌, ◌↔◌, IfOk, IsTrue, map, option_copied, true, false};
 ghost use Rattle.table_types.specs.Rows.{cell_of, end_of, row_of};
 
 use crate::items::Items;
@@ -78,6 +78,13 @@ fn cells_of(alloc: Global, values: &[Value], moment: Moment) -> Result<Vec<Cell>
     Ok(cells)
 }
 
+/// Whether both are the same cells, one for one.
+pub fn are_same_cells(one: &[Cell], other: &[Cell]) -> bool
+    ensures { IsTrue result ↔ (one.now ≡ other.now) }
+{
+    one == other
+}
+
 impl Row {
     /// The row that an update teaches at a moment, with its key, in a table whose rows expire after `expire`
     /// milliseconds, or never where that is 0.
@@ -103,6 +110,22 @@ impl Row {
         } = update;
         let ends = Row::end(life, expire, moment);
         Ok((key, Row::learned_with(number, ends, cells, name)))
+    }
+
+    /// The row that an update teaches at a moment, as `Row::learned` makes it, under a number of this node's own.
+    pub fn learned_as(
+        alloc: Global,
+        update: &Update,
+        number: u32,
+        expire: u32,
+        moment: Moment,
+    ) -> Result<Row, Memory>
+        ensures { IfOk result (λ row. row ≡ row_of moment expire (record update.now { number = number })) }
+    {
+        let cells = cells_of(alloc, update.values.as_slice(), moment)?;
+        let name = Name::copy_of(alloc, &update.name)?;
+        let ends = Row::end(update.life, expire, moment);
+        Ok(Row::learned_with(number, ends, cells, name))
     }
 
     /// When a row ends that an update of that life, in milliseconds, teaches at a moment, in a table whose rows expire
@@ -134,6 +157,24 @@ impl Row {
             cells: Items::new(cells),
             name,
             learned: true,
+        }
+    }
+
+    /// A row of this node's own, of these parts.
+    pub fn local_with(
+        number: u32,
+        ends: Option<Moment>,
+        cells: Vec<Cell>,
+        name: Option<Name>,
+    ) -> Row
+        ensures { result ≡ record { number = number; ends = ends; cells = cells.items; name = name; learned = false } }
+    {
+        Row {
+            number,
+            ends,
+            cells: Items::new(cells),
+            name,
+            learned: false,
         }
     }
 
@@ -170,6 +211,17 @@ impl Row {
         ensures { result ≡ self.now.learned }
     {
         self.learned
+    }
+
+    /// Whether both are the same row, part for part.
+    pub fn is_same(&self, other: &Row) -> bool
+        ensures { IsTrue result ↔ (self.now ≡ other.now) }
+    {
+        self.number == other.number
+            && self.learned == other.learned
+            && self.ends == other.ends
+            && are_same_cells(self.cells.as_slice(), other.cells.as_slice())
+            && Name::are_same(&self.name, &other.name)
     }
 
     /// An equal row.

@@ -95,7 +95,7 @@ fn have_periods(types: &[(DataType, Option<u32>)]) -> bool
     true
 }
 
-fn stores(types: &[(DataType, Option<u32>)], wanted: DataType) -> bool
+pub(crate) fn stores(types: &[(DataType, Option<u32>)], wanted: DataType) -> bool
     ensures { result ≡ stores wanted types.now }
 {
     for entry in types {

@@ -66,14 +66,21 @@ pub fn are_same_values(one: &[Value], other: &[Value]) -> bool
     one == other
 }
 
-fn is_same_name(one: &Option<Name>, other: &Option<Name>) -> bool
+/// Whether both are the same updates, one for one.
+pub fn are_same_updates(one: &[Update], other: &[Update]) -> bool
     ensures { IsTrue result ↔ (one.now ≡ other.now) }
 {
-    match (one, other) {
-        (Some(one), Some(other)) => one.is_same(other),
-        (None, None) => true,
-        _ => false,
+    let mut rest = other;
+    for update in one {
+        let Some((first, others)) = rest.split_first() else {
+            return false;
+        };
+        if !update.is_same(first) {
+            return false;
+        }
+        rest = others;
     }
+    rest.is_empty()
 }
 
 impl Update {
@@ -86,7 +93,7 @@ impl Update {
             && self.life == other.life
             && self.key.is_same(&other.key)
             && are_same_values(self.values.as_slice(), other.values.as_slice())
-            && is_same_name(&self.name, &other.name)
+            && Name::are_same(&self.name, &other.name)
     }
 
     /// An equal update.

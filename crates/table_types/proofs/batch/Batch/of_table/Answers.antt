@@ -1,0 +1,14 @@
+use Rattle.std.proofs.Common.{◌≡◌, ◌≤◌, ◌∷◌, [], None, length, rules, sym, ap, ◌∙◌, List}
+use Rattle.table_types.specs.declared.update.Update.{Update}
+use Rattle.table_types.specs.Tables.{Definition}
+use Rattle.table_types.specs.Batches.{faults_from}
+use Rattle.table_types.proofs.BatchLaws.{batch_of_parts}
+use Rattle.table_types.proofs.batch.Batch.of_table.Goals as goal
+
+pub returns-clause-made : goal.returns-clause-made
+returns-clause-made c =
+    let us : List Update = c.args.updates.items in
+    let roster : List Definition = c.args.table.now ∷ [] in
+    let few : length us ≤ 512 = search rules in
+    let none : faults_from 0 roster us ≡ None = ap (λ (l : List Update). faults_from 0 roster l) (sym c.as_slice.ensures.value) ∙ sym c.fault_of_table.ensures ∙ c.in_default.is in
+    (c.new.ensures, batch_of_parts roster us few none)
