@@ -1,0 +1,4 @@
+pub mod RowsLaws
+pub mod CellLaws
+pub mod RunLaws
+pub mod StepLaws
