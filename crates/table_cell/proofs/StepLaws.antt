@@ -205,7 +205,7 @@ between_due d kind low now a next (e ∷ es) (first, rise) =
     ((above, omega arith), rest))
     (λ _. rest)
 
-all_take : {A : Type 0} (P : A → Type 0) (n : ℕ) (xs : List A) → AllByRecursion P xs → AllByRecursion P (take n xs)
+pub all_take : {A : Type 0} (P : A → Type 0) (n : ℕ) (xs : List A) → AllByRecursion P xs → AllByRecursion P (take n xs)
 all_take P zero xs all = tt
 all_take P (suc n) [] all = tt
 all_take P (suc n) (x ∷ xs) (first, rest) = (first, all_take P n xs rest)
@@ -220,7 +220,7 @@ last_of_some low next least (u ∷ us) (first, rest) some = last_between low nex
 
 -- ---- steps
 
-later_sound : (s : TableState) (now : ℕ) → IsSound s → s.latest ≤ now → AllByRecursion (EntryFits s.definition now) s.rows
+pub later_sound : (s : TableState) (now : ℕ) → IsSound s → s.latest ≤ now → AllByRecursion (EntryFits s.definition now) s.rows
 later_sound s now sound later = all_so (EntryFits s.definition s.latest) (EntryFits s.definition now) (entry_later s.definition s.latest now later) s.rows sound.entries
 
 taught_below : (s : TableState) (session : ℕ) (kind : CopyKind) (limit now : ℕ) (mark : Mark) → mark_of session s ≡ Some mark → IsSound s → nat_eq (length (unacked s session kind now limit)) 0 ≡ false
