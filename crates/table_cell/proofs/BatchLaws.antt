@@ -1,8 +1,8 @@
 -- What is copied of a sound table is a batch of it.
-use Rattle.std.proofs.Common.{◌≡◌, ℕ, zero, suc, ◌+◌, ◌-◌, ◌*◌, ◌^◌, ◌<◌, ◌≤◌, Bool, true, false, not, ◌&&◌, List, [], ◌∷◌, length, Option, Some, None, refl, sym, ap, subst, ◌∙◌, arith, inl, inr, true≢false}
+use Rattle.std.proofs.Common.{◌≡◌, ℕ, zero, suc, ◌+◌, ◌-◌, ◌*◌, ◌^◌, ◌<◌, ◌≤◌, true, false, not, ◌&&◌, List, [], ◌∷◌, length, Option, Some, None, refl, sym, ap, subst, ◌∙◌, arith, inl, inr, true≢false}
 use Rattle.std.specs.Prelude.{filter, map, take, nat_lt, nat_le, nat_eq, cond}
 use Rattle.std.specs.List.{AllByRecursion, zip, list_all}
-use Rattle.std.proofs.lemmas.Bool.{cases_Bool, eq-eqb, ne_eqb, cond-true, cond-false, cond_both, ltb-true, ltb-false, lt-ltb, leb-true, le-leb, and_parts, and_from}
+use Rattle.std.proofs.lemmas.Bool.{cases_Bool, eq-eqb, ne_eqb, cond-true, cond-false, cond_both, ltb-true, lt-ltb, leb-true, le-leb, and_parts, and_from}
 use Rattle.table_types.specs.declared.key.Key.{Key}
 use Rattle.table_types.specs.declared.data_type.DataType.{DataType}
 use Rattle.table_types.specs.declared.data_type.Shape.{Shape}
@@ -10,7 +10,6 @@ use Rattle.table_types.specs.declared.data_type.Shape.TheVariants as shapes
 use Rattle.table_types.specs.declared.row.Cell.{Cell}
 use Rattle.table_types.specs.declared.row.Cell.TheVariants as cells
 use Rattle.table_types.specs.declared.update.Value.{Value}
-use Rattle.table_types.specs.declared.update.Update.{Update}
 use Rattle.table_types.specs.Keys.{key_fits, fits_length}
 use Rattle.table_types.specs.Names.{is_name}
 use Rattle.table_types.specs.DataTypes.{shape_of, is_rate, is_rate_shape}
@@ -23,10 +22,9 @@ use Rattle.table_types.specs.Changes.{cell_types}
 use Rattle.table_types.specs.Batches.{IsUpdateFor, IsBatchFor}
 use Rattle.table_rows.specs.Rows.{is_live}
 use Rattle.table_cell.specs.declared.events.CopyKind.{CopyKind}
-use Rattle.table_cell.specs.Telling.{value_of, values_of, life_left, update_of}
+use Rattle.table_cell.specs.Telling.{value_of, life_left, update_of}
 use Rattle.table_cell.specs.Machine.{TableState, is_due, is_told, acknowledged_by, mark_of, unacked}
 use Rattle.table_cell.specs.Soundness.{CellFits, CellsFit, EndFits, EntryFits, IsSound}
-use Rattle.table_cell.proofs.RowsLaws.{all_so}
 use Rattle.table_cell.proofs.StepLaws.{all_take, later_sound}
 
 -- ---- values
