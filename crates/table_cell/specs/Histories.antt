@@ -1,0 +1,130 @@
+-- A table with its history: each event and its reply, from a state at which the history begins (profile).
+use Rattle.std.specs.Prelude.{◌≡◌, ℕ, ◌+◌, ◌-◌, ◌^◌, Bool, false, ◌==◌, min, List, [], ◌∷◌, ◌++◌, length, take, slice_get, Option, Some, None, Result, Ok, Err, if◌then◌else◌}
+use Rattle.table_types.specs.declared.key.Key.{Key}
+use Rattle.table_types.specs.declared.update.Update.{Update}
+use Rattle.table_types.specs.Tables.{Definition}
+use Rattle.table_cell.specs.Machine.{TableState, Step, unacked, track_refusal, learn_refusal, copy_refusal, ack_refusal, open_refusal, close_refusal, purge_refusal}
+use Rattle.table_types.specs.declared.change.Change.{Change}
+use Rattle.table_cell.specs.declared.events.CopyKind.{CopyKind}
+use Rattle.table_cell.specs.declared.events.Settled.{Settled}
+use Rattle.table_cell.specs.declared.events.Reply.{Reply}
+use Rattle.table_cell.specs.declared.events.CellEvent.{CellEvent}
+use Rattle.table_cell.specs.declared.events.CellEvent.TheVariants as events
+use Rattle.table_cell.specs.declared.events.CellReply.{CellReply}
+use Rattle.table_cell.specs.declared.events.CellReply.TheVariants as replies
+use Rattle.table_cell.specs.declared.errors.TrackError.{TrackError}
+use Rattle.table_cell.specs.declared.errors.TrackError.TheVariants as untracked
+use Rattle.table_cell.specs.declared.errors.LearnError.{LearnError}
+use Rattle.table_cell.specs.declared.errors.LearnError.TheVariants as unlearned
+use Rattle.table_cell.specs.declared.errors.CopyError.{CopyError}
+use Rattle.table_cell.specs.declared.errors.CopyError.TheVariants as uncopied
+use Rattle.table_cell.specs.declared.errors.AckError.{AckError}
+use Rattle.table_cell.specs.declared.errors.AckError.TheVariants as unacknowledged
+use Rattle.table_cell.specs.declared.errors.OpenError.{OpenError}
+use Rattle.table_cell.specs.declared.errors.OpenError.TheVariants as unopened
+use Rattle.table_cell.specs.declared.errors.CloseError.{CloseError}
+use Rattle.table_cell.specs.declared.errors.CloseError.TheVariants as unclosed
+use Rattle.table_cell.specs.declared.errors.PurgeError.{PurgeError}
+use Rattle.table_cell.specs.declared.errors.PurgeError.TheVariants as unpurged
+
+-- ---- replay
+
+-- the machine goes through these events with these replies, from s to e
+abbrev pub Replays : TableState → List (CellEvent × CellReply) → TableState → Type 0
+Replays s [] e = e ≡ s
+Replays s (h ∷ hs) e = (mid : TableState) × Step s h.0 h.1 mid × Replays mid hs e
+
+-- A table with its history: where the history begins, how many events were dropped before that, the events with their
+-- replies, and the state after them.
+pub record CellState : Type 0 where
+  pub base : TableState
+  pub dropped : ℕ
+  pub history : List (CellEvent × CellReply)
+  pub state : TableState
+
+-- the state is what replaying the history leads to
+abbrev pub IsReplayed : CellState → Type 0
+IsReplayed c = Replays c.base c.history c.state
+
+-- each kept batch is what its session had not acknowledged where the batch stands in the history
+abbrev pub Kept : CellState → Type 0
+Kept c =
+    (place session limit now : ℕ) (kind : CopyKind) (us : List Update) →
+    slice_get c.history place ≡ Some (events.Copy session kind limit now, replies.Copy us) →
+    (mid : TableState) × Replays c.base (take place c.history) mid × (us ≡ unacked mid session kind now limit)
+
+-- ---- room
+
+-- how many events there were, and for how many more there is room
+abbrev pub events_of : CellState → ℕ
+events_of c = c.dropped + length c.history
+
+abbrev pub room_of : CellState → ℕ
+room_of c = min (1000000 - length c.history) (2 ^ 63 - events_of c)
+
+abbrev pub full : CellState → Bool
+full c = room_of c == 0
+
+-- ---- what the calls do
+
+-- there is one event more, with its reply, and the state goes on
+abbrev pub Made : CellState → CellEvent → CellReply → CellState → Type 0
+Made c event reply e =
+    Step c.state event reply e.state
+    × (e ≡ record c { history = c.history ++ (event, reply) ∷ []; state = e.state })
+
+abbrev pub Tracks : CellState → ℕ → Key → Change → ℕ → Result Reply TrackError → CellState → Type 0
+Tracks c seat key change now (Ok r) e = (full c ≡ false) × Made c (events.Track seat key change now) (replies.Track r) e
+Tracks c seat key change now (Err untracked.Memory) e = (track_refusal (full c) c.state key change now ≡ None) × (e ≡ c)
+Tracks c seat key change now (Err error) e = (track_refusal (full c) c.state key change now ≡ Some error) × (e ≡ c)
+
+abbrev pub Learns : CellState → ℕ → Update → ℕ → Result Reply LearnError → CellState → Type 0
+Learns c session u now (Ok r) e = (full c ≡ false) × Made c (events.Learn session u now) (replies.Learn r) e
+Learns c session u now (Err unlearned.Memory) e = (learn_refusal (full c) c.state session u now ≡ None) × (e ≡ c)
+Learns c session u now (Err error) e = (learn_refusal (full c) c.state session u now ≡ Some error) × (e ≡ c)
+
+abbrev pub Copies : CellState → ℕ → CopyKind → ℕ → ℕ → Result (List Update) CopyError → CellState → Type 0
+Copies c session kind limit now (Ok us) e = (full c ≡ false) × Made c (events.Copy session kind limit now) (replies.Copy us) e
+Copies c session kind limit now (Err uncopied.Memory) e = (copy_refusal (full c) c.state session kind limit now ≡ None) × (e ≡ c)
+Copies c session kind limit now (Err error) e = (copy_refusal (full c) c.state session kind limit now ≡ Some error) × (e ≡ c)
+
+abbrev pub Acknowledges : CellState → ℕ → ℕ → Result Settled AckError → CellState → Type 0
+Acknowledges c session number (Ok answer) e = (full c ≡ false) × Made c (events.Ack session number) (replies.Ack answer) e
+Acknowledges c session number (Err unacknowledged.Memory) e = (ack_refusal (full c) c.state session number ≡ None) × (e ≡ c)
+Acknowledges c session number (Err error) e = (ack_refusal (full c) c.state session number ≡ Some error) × (e ≡ c)
+
+abbrev pub Opens : CellState → ℕ → Result (Unit {0}) OpenError → CellState → Type 0
+Opens c session (Ok done) e = (full c ≡ false) × Made c (events.Open session) replies.Open e
+Opens c session (Err unopened.Memory) e = (open_refusal (full c) c.state session ≡ None) × (e ≡ c)
+Opens c session (Err error) e = (open_refusal (full c) c.state session ≡ Some error) × (e ≡ c)
+
+abbrev pub Closes : CellState → ℕ → Result (Unit {0}) CloseError → CellState → Type 0
+Closes c session (Ok done) e = (full c ≡ false) × Made c (events.Close session) replies.Close e
+Closes c session (Err unclosed.Memory) e = (close_refusal (full c) c.state session ≡ None) × (e ≡ c)
+Closes c session (Err error) e = (close_refusal (full c) c.state session ≡ Some error) × (e ≡ c)
+
+abbrev pub Purges : CellState → ℕ → Result ℕ PurgeError → CellState → Type 0
+Purges c now (Ok count) e = (full c ≡ false) × Made c (events.Purge now) (replies.Purge count) e
+Purges c now (Err unpurged.Memory) e = (purge_refusal (full c) c.state now ≡ None) × (e ≡ c)
+Purges c now (Err error) e = (purge_refusal (full c) c.state now ≡ Some error) × (e ≡ c)
+
+-- ---- the latest batch of a session
+
+-- the batch that the latest Copy of a session in the history gave
+abbrev pub latest_batch : ℕ → List (CellEvent × CellReply) → Option (List Update)
+latest_batch session [] = None
+latest_batch session (h ∷ hs) = or_that (latest_batch session hs) h.0 h.1
+  where
+    or_that : Option (List Update) → CellEvent → CellReply → Option (List Update)
+    or_that (Some us) event reply = Some us
+    or_that None (events.Copy id kind limit now) (replies.Copy us) = if id == session then Some us else None
+    or_that None event reply = None
+
+-- ---- a new table
+
+-- a table without rows and sessions, which gives that number next
+abbrev pub new_table : Definition → ℕ → Bool → ℕ → TableState
+new_table d size nopurge first = record { definition = d; size = size; nopurge = nopurge; rows = []; next = first; latest = 2 ^ 32; sessions = [] }
+
+abbrev pub new_cell : Definition → ℕ → Bool → ℕ → CellState
+new_cell d size nopurge first = record { base = new_table d size nopurge first; dropped = 0; history = []; state = new_table d size nopurge first }

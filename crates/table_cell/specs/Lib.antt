@@ -1,0 +1,4 @@
+pub mod Telling
+pub mod Machine
+pub mod Soundness
+pub mod Histories

@@ -1,0 +1,109 @@
+//! What happens to a table, and what it answers.
+
+use table_types::{Batch, Change, Key, Moment, Row, Update};
+
+/// Which rows a batch is to tell of.
+#[derive(Clone, Copy, Debug, PartialEq, Eq)]
+pub enum CopyKind {
+    /// This node's own rows.
+    Push,
+    /// Learned rows too.
+    Resync,
+}
+
+/// What an acknowledgement settled.
+#[derive(Clone, Copy, Debug, PartialEq, Eq)]
+pub enum Settled {
+    /// The whole batch: none is out any more.
+    All,
+    /// A part of the batch that is out.
+    Some,
+    /// Nothing: that number was acknowledged before.
+    Older,
+}
+
+/// What a row has become.
+#[derive(Debug, Drop)]
+pub struct Reply {
+    /// The number that it was given.
+    pub number: u32,
+    /// The row after the change.
+    pub row: Row,
+}
+
+/// An event of a table: a call that changed it, with its arguments.
+#[derive(Debug, Drop)]
+pub enum CellEvent {
+    /// A change of a row of this node's own.
+    Track {
+        /// The seat that made it.
+        seat: u32,
+        /// The row's key.
+        key: Key,
+        /// The change.
+        change: Change,
+        /// When it was made.
+        moment: Moment,
+    },
+    /// A row that a peer taught.
+    Learn {
+        /// The session with the peer.
+        session: u32,
+        /// What the peer sent.
+        update: Update,
+        /// When it was learned.
+        moment: Moment,
+    },
+    /// A batch for a session.
+    Copy {
+        /// The session.
+        session: u32,
+        /// Which rows it tells of.
+        kind: CopyKind,
+        /// How many of them at most.
+        limit: usize,
+        /// When they were copied.
+        moment: Moment,
+    },
+    /// An acknowledgement.
+    Ack {
+        /// The session.
+        session: u32,
+        /// The number acknowledged.
+        number: u32,
+    },
+    /// A session was opened.
+    Open {
+        /// The session.
+        session: u32,
+    },
+    /// A session was closed.
+    Close {
+        /// The session.
+        session: u32,
+    },
+    /// Rows that had ended were taken out.
+    Purge {
+        /// At which moment.
+        moment: Moment,
+    },
+}
+
+/// What a table answered to an event.
+#[derive(Debug, Drop)]
+pub enum CellReply {
+    /// The row that was changed.
+    Track(Reply),
+    /// The row that was learned.
+    Learn(Reply),
+    /// The batch, which is kept here.
+    Copy(Batch),
+    /// What was settled.
+    Ack(Settled),
+    /// The session is open.
+    Open,
+    /// The session is closed.
+    Close,
+    /// How many rows were taken out.
+    Purge(usize),
+}

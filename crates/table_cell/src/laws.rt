@@ -1,0 +1,37 @@
+//! What holds of the definitions, whatever the program does.
+
+ghost use Rattle.std.specs.Prelude.{◌≡◌, ◌≤◌, ◌∷◌, ◌++◌, ◌^◌, [], Bool, ℕ, List, true};
+ghost use Rattle.table_types.specs.Tables.{Definition, is_definition};
+ghost use Rattle.table_cell.specs.declared.events.CellEvent.{CellEvent};
+ghost use Rattle.table_cell.specs.declared.events.CellReply.{CellReply};
+ghost use Rattle.table_cell.specs.Machine.{TableState, Step, unacked};
+ghost use Rattle.table_types.specs.Batches.{IsBatchFor};
+ghost use Rattle.table_cell.specs.declared.events.CopyKind.{CopyKind};
+ghost use Rattle.table_cell.specs.Soundness.{IsSound};
+ghost use Rattle.table_cell.specs.Histories.{CellState, Replays, IsReplayed, Kept, Made, new_table};
+
+/// A run goes on by one step, and the state at the end of a history is its replay again after one event more.
+pub fn a_run_goes_on()
+    ensures longer { (s mid e : TableState) (hs : List (CellEvent × CellReply)) (event : CellEvent) (reply : CellReply) →
+        Replays s hs mid → Step mid event reply e → Replays s (hs ++ (event, reply) ∷ []) e }
+    ensures made { (c e : CellState) (event : CellEvent) (reply : CellReply) → IsReplayed c → Made c event reply e → IsReplayed e }
+{}
+
+/// Where the state is the replay of the history, each kept batch is what was not acknowledged at its place.
+pub fn batches_are_kept()
+    ensures { (c : CellState) → IsReplayed c → Kept c }
+{}
+
+/// Each step leaves a sound table sound, and so does a whole run. A new table is sound.
+pub fn a_table_stays_sound()
+    ensures step { (s e : TableState) (event : CellEvent) (reply : CellReply) → IsSound s → Step s event reply e → IsSound e }
+    ensures run { (s e : TableState) (hs : List (CellEvent × CellReply)) → IsSound s → Replays s hs e → IsSound e }
+    ensures new { (d : Definition) (size first : ℕ) (nopurge : Bool) → is_definition d ≡ true → 1 ≤ first → first ≤ 2 ^ 32 → IsSound (new_table d size nopurge first) }
+{}
+
+/// What a session hasn't acknowledged of a sound table is a batch for that table, and so for each roster in which the
+/// table's id stands for it: it has a life of 1 to the table's expire, and all else is in its range.
+pub fn what_is_copied_is_a_batch()
+    ensures { (s : TableState) (session limit now : ℕ) (kind : CopyKind) → IsSound s → s.latest ≤ now → limit ≤ 512 →
+        IsBatchFor (s.definition ∷ []) (unacked s session kind now limit) }
+{}

@@ -1,0 +1,13 @@
+//! A stick table that keeps its history, and each batch that it handed out.
+#![tactic(auto)]
+
+mod errors;
+mod events;
+mod laws;
+mod sessions;
+
+pub use errors::{
+    AckError, CloseError, CopyError, LearnError, OpenError, PurgeError, StrangeBatch, TrackError,
+};
+pub use events::{CellEvent, CellReply, CopyKind, Reply, Settled};
+pub use laws::{a_run_goes_on, a_table_stays_sound, batches_are_kept, what_is_copied_is_a_batch};
