@@ -1,0 +1,8 @@
+//! Numbers and rows that were worked out by hand, and what the libraries below make of them. There is nothing here but
+//! tests, of public calls alone.
+#![tactic(auto)]
+
+#[cfg(test)]
+mod numbers;
+#[cfg(test)]
+mod rows;
