@@ -56,6 +56,7 @@ one_key a b same = at (key_cmp a b) refl
   where
     apart : is_eq (key_cmp a b) ≡ false → ⊥
     apart other = cc
+
     at : (o : Ordering) → key_cmp a b ≡ o → a ≡ b
     at Equal e = exact_keys a b e
     at Less e = absurd (apart (rw e refl))
