@@ -138,15 +138,12 @@ introduces : (h : Hello) → h.pid < 2 ^ 32 → h.relative < 2 ^ 32 → is_name 
 introduces h pid relative named word =
     let space = word_lacks_space h.local word in
     let none = number_lacks 32 h.pid (omega arith) pid in
-    let some : not (length h.local == 0) ≡ true = grind (arith, nat_tests) in
-    let short : nat_le (length h.local) 255 ≡ true = grind (arith, nat_tests) in
     rw (
       until_stop 32 h.local (decimal h.pid ++ 32 ∷ decimal h.relative) space,
       past_stop 32 h.local (decimal h.pid ++ 32 ∷ decimal h.relative) space,
       until_stop 32 (decimal h.pid) (decimal h.relative) none,
       past_stop 32 (decimal h.pid) (decimal h.relative) none,
-      some,
-      short,
+      named,
       numbered h.pid pid,
       numbered h.relative relative,
     ) refl

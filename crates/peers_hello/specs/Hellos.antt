@@ -33,13 +33,12 @@ is_number text = not (length text == 0) && list_all (λ byte. nat_le 48 byte && 
 abbrev pub local_of : List ℕ → List ℕ
 local_of text = until 32 text
 
--- a third line: a name of 1 to 255 bytes without a space, and two numbers, with a space between each
+-- a third line: a name without a space, and two numbers, with a space between each
 abbrev pub is_introduction : List ℕ → Bool
 is_introduction text =
-    not (length (local_of text) == 0)
-    && (nat_le (length (local_of text)) 255
+    is_name (local_of text)
     && (is_number (until 32 (past 32 text))
-    && is_number (past 32 (past 32 text))))
+    && is_number (past 32 (past 32 text)))
 
 -- what is wrong with the three lines, whoever the peers are: they are none of a hello (501), of another version (502), or
 -- for another peer (503)

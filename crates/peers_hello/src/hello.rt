@@ -6,7 +6,7 @@ ghost use Rattle.peers_hello.specs.Hellos.{hello_text, introduction_text, answer
 
 use crate::lines::{NoLine, cut, is_same, split};
 use std::alloc::{AllocError, Global};
-use table_types::{Memory, Name};
+use table_types::{Memory, Name, is_name};
 
 const PROTOCOL_ERROR: u16 = 501;
 
@@ -153,7 +153,7 @@ fn is_introduction(line: &[u8]) -> bool
 {
     let (local, numbers) = split(b' ', line);
     let (pid, relative) = split(b' ', numbers);
-    !local.is_empty() && local.len() <= 255 && is_number(pid) && is_number(relative)
+    is_name(local) && is_number(pid) && is_number(relative)
 }
 
 /// Whether a text is one or more decimal digits.

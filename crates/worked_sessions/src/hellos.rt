@@ -13,7 +13,7 @@ enum Answered {
     More,
 }
 
-static HELLOS: [(&[u8], Answered); 17] = [
+static HELLOS: [(&[u8], Answered); 19] = [
     (b"HAProxyS 2.0\nc\na 1 1\n", Answered::Refused(502, 21)),
     (b"HAProxyS 2.1\nc\na 1 1\n", Answered::Refused(503, 21)),
     (b"HAProxyS 2.1\nb\nz 1 1\n", Answered::Refused(504, 21)),
@@ -27,10 +27,12 @@ static HELLOS: [(&[u8], Answered); 17] = [
     (b"HAProxyX 2.0\n", Answered::More),
     (b"HAProxyS 2.1\nb", Answered::More),
     (b"HAProxyS 2.1\nb\na 1 1", Answered::More),
-    // No hello: the first line, an empty name, one number, a third one, a number with a letter.
+    // No hello: the first line, an empty name, one number, a name with a NUL, a third number, a number with a letter.
     (b"HAProxyS\nb\na 1 1\n", Answered::Refused(501, 17)),
     (b"HAProxyS 2.1\nb\n 1 1\n", Answered::Refused(501, 20)),
     (b"HAProxyS 2.1\nb\na 1\n", Answered::Refused(501, 19)),
+    (b"HAProxyS 2.1\nb\na\x00 1 1\n", Answered::Refused(501, 22)),
+    (b"HAProxyS 2.0\nb\na\x00 1 1\n", Answered::Refused(501, 22)),
     (b"HAProxyS 2.1\nb\na 1 1 1\n", Answered::Refused(501, 23)),
     (b"HAProxyS 2.1\nb\na 1 x\n", Answered::Refused(501, 21)),
     // The first that applies.
