@@ -18,7 +18,7 @@ pub enum Settled {
     All,
     /// A part of the batch that is out.
     Some,
-    /// Nothing: that number was acknowledged before.
+    /// Nothing: the number isn't above the one acknowledged.
     Older,
 }
 
