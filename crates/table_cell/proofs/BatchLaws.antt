@@ -21,7 +21,7 @@ use Rattle.table_types.specs.Rotation.{rotated, turned}
 use Rattle.table_types.specs.Changes.{cell_types}
 use Rattle.table_types.specs.Batches.{IsUpdateFor, IsBatchFor}
 use Rattle.table_rows.specs.Rows.{is_live}
-use Rattle.table_cell.specs.declared.events.CopyKind.{CopyKind}
+use Rattle.table_types.specs.declared.copies.CopyKind.{CopyKind}
 use Rattle.table_cell.specs.Telling.{value_of, life_left, update_of}
 use Rattle.table_cell.specs.Machine.{TableState, is_due, is_told, acknowledged_by, mark_of, unacked}
 use Rattle.table_cell.specs.Soundness.{CellFits, CellsFit, EndFits, EntryFits, IsSound}

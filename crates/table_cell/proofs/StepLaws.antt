@@ -14,7 +14,7 @@ use Rattle.table_types.specs.Updates.{row_fits, values_fit, may_be_named, stores
 use Rattle.table_types.specs.Rows.{StoredRow}
 use Rattle.table_types.specs.Changes.{change_fits, changed_name, name_before, cells_before, cell_types}
 use Rattle.table_rows.specs.Rows.{row_at, is_live, IsFirstToEnd}
-use Rattle.table_cell.specs.declared.events.CopyKind.{CopyKind}
+use Rattle.table_types.specs.declared.copies.CopyKind.{CopyKind}
 use Rattle.table_cell.specs.declared.events.CellEvent.{CellEvent}
 use Rattle.table_cell.specs.declared.events.CellEvent.TheVariants as events
 use Rattle.table_cell.specs.declared.events.CellReply.{CellReply}

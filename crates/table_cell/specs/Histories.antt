@@ -5,8 +5,8 @@ use Rattle.table_types.specs.declared.update.Update.{Update}
 use Rattle.table_types.specs.Tables.{Definition}
 use Rattle.table_cell.specs.Machine.{TableState, Step, unacked, track_refusal, learn_refusal, copy_refusal, ack_refusal, open_refusal, close_refusal, purge_refusal}
 use Rattle.table_types.specs.declared.change.Change.{Change}
-use Rattle.table_cell.specs.declared.events.CopyKind.{CopyKind}
-use Rattle.table_cell.specs.declared.events.Settled.{Settled}
+use Rattle.table_types.specs.declared.copies.CopyKind.{CopyKind}
+use Rattle.table_types.specs.declared.copies.Settled.{Settled}
 use Rattle.table_cell.specs.declared.events.Reply.{Reply}
 use Rattle.table_cell.specs.declared.events.CellEvent.{CellEvent}
 use Rattle.table_cell.specs.declared.events.CellEvent.TheVariants as events

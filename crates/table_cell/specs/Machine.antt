@@ -15,10 +15,10 @@ use Rattle.table_rows.specs.Rows.{row_at, is_live, IsFirstToEnd}
 use Rattle.table_types.specs.declared.change.Change.{Change}
 use Rattle.table_types.specs.Changes.{change_fits, tracked as tracked_row}
 use Rattle.table_cell.specs.Telling.{update_of}
-use Rattle.table_cell.specs.declared.events.CopyKind.{CopyKind}
-use Rattle.table_cell.specs.declared.events.CopyKind.TheVariants as kinds
-use Rattle.table_cell.specs.declared.events.Settled.{Settled}
-use Rattle.table_cell.specs.declared.events.Settled.TheVariants as settled
+use Rattle.table_types.specs.declared.copies.CopyKind.{CopyKind}
+use Rattle.table_types.specs.declared.copies.CopyKind.TheVariants as kinds
+use Rattle.table_types.specs.declared.copies.Settled.{Settled}
+use Rattle.table_types.specs.declared.copies.Settled.TheVariants as settled
 use Rattle.table_cell.specs.declared.events.CellEvent.{CellEvent}
 use Rattle.table_cell.specs.declared.events.CellEvent.TheVariants as events
 use Rattle.table_cell.specs.declared.events.CellReply.{CellReply}

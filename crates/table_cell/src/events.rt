@@ -1,26 +1,6 @@
 //! What happens to a table, and what it answers.
 
-use table_types::{Batch, Change, Key, Moment, Row, Update};
-
-/// Which rows a batch is to tell of.
-#[derive(Clone, Copy, Debug, PartialEq, Eq)]
-pub enum CopyKind {
-    /// This node's own rows.
-    Push,
-    /// Learned rows too.
-    Resync,
-}
-
-/// What an acknowledgement settled.
-#[derive(Clone, Copy, Debug, PartialEq, Eq)]
-pub enum Settled {
-    /// The whole batch: none is out any more.
-    All,
-    /// A part of the batch that is out.
-    Some,
-    /// Nothing: the number isn't above the one acknowledged.
-    Older,
-}
+use table_types::{Batch, Change, CopyKind, Key, Moment, Row, Settled, Update};
 
 /// What a row has become.
 #[derive(Debug, Drop)]

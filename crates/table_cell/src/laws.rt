@@ -6,7 +6,7 @@ ghost use Rattle.table_cell.specs.declared.events.CellEvent.{CellEvent};
 ghost use Rattle.table_cell.specs.declared.events.CellReply.{CellReply};
 ghost use Rattle.table_cell.specs.Machine.{TableState, Step, unacked};
 ghost use Rattle.table_types.specs.Batches.{IsBatchFor};
-ghost use Rattle.table_cell.specs.declared.events.CopyKind.{CopyKind};
+ghost use Rattle.table_types.specs.declared.copies.CopyKind.{CopyKind};
 ghost use Rattle.table_cell.specs.Soundness.{IsSound};
 ghost use Rattle.table_cell.specs.Histories.{CellState, Replays, IsReplayed, Kept, Made, new_table};
 

@@ -9,5 +9,5 @@ mod sessions;
 pub use errors::{
     AckError, CloseError, CopyError, LearnError, OpenError, PurgeError, StrangeBatch, TrackError,
 };
-pub use events::{CellEvent, CellReply, CopyKind, Reply, Settled};
+pub use events::{CellEvent, CellReply, Reply};
 pub use laws::{a_run_goes_on, a_table_stays_sound, batches_are_kept, what_is_copied_is_a_batch};

@@ -4,6 +4,7 @@
 
 mod batch;
 mod change;
+mod copies;
 mod data_type;
 mod items;
 mod key;
@@ -22,6 +23,7 @@ mod update;
 
 pub use batch::{Batch, BatchError};
 pub use change::Change;
+pub use copies::{CopyKind, Settled};
 pub use data_type::{DataType, Shape};
 pub use items::Items;
 pub use key::{Key, KeyKind};
