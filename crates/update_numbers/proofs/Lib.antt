@@ -1,2 +1,3 @@
 pub mod IndexLaws
 pub mod NumberLaws
+pub mod KeptLaws

@@ -1,9 +1,9 @@
 -- A map by number and a map by key that have the same pairs.
-use Rattle.std.specs.Prelude.{◌≡◌, ℕ, ◌≤◌, ◌<◌, ◌^◌, List, Option, Some}
+use Rattle.std.specs.Prelude.{◌≡◌, ℕ, ◌≤◌, ◌<◌, ◌^◌, cond, List, [], ◌∷◌, ◌++◌, Option, Some, None}
 use Rattle.std.specs.List.{AllByRecursion}
 use Rattle.std.specs.List.Sorted.{IsStrictlySortedBy}
-use Rattle.std.specs.Ordering.{nat_cmp}
-use Rattle.std.specs.Map.{keys_of, lookup}
+use Rattle.std.specs.Ordering.{is_eq, nat_cmp}
+use Rattle.std.specs.Map.{keys_of, lookup, remove_entry}
 use Rattle.std.specs.BTreeMap.{is_at}
 use Rattle.table_types.specs.declared.key.Key.{Key}
 use Rattle.table_types.specs.Keys.{key_cmp}
@@ -26,3 +26,28 @@ pub record AreIndexed (by_number : List (ℕ × Key)) (by_key : List (Key × ℕ
   pub rising : IsStrictlySortedBy nat_cmp (keys_of by_number)
   pub below : AllByRecursion (λ pair. pair.0 < next) by_number
   pub most : next ≤ 2 ^ 32
+
+-- without the pair of that number, if there is one
+abbrev pub pairs_without : Option ℕ → List (ℕ × Key) → List (ℕ × Key)
+pairs_without None pairs = pairs
+pairs_without (Some number) pairs = remove_entry (is_at (nat_cmp number)) pairs
+
+-- what a map has at each number without the pair of that one, if there is one
+abbrev pub key_without : Option ℕ → (ℕ → Option Key) → ℕ → Option Key
+key_without None key_of n = key_of n
+key_without (Some number) key_of n = cond (is_eq (nat_cmp number n)) None (key_of n)
+
+-- the maps that were, and what they are once a key has a number above all others besides the one that it had
+pub record IsKept (by_number : List (ℕ × Key)) (by_key : List (Key × ℕ)) (number : ℕ) (key : Key) (older : Option ℕ) (by_number_now : List (ℕ × Key)) (by_key_now : List (Key × ℕ)) : Type 0 where
+  pub indexed : AreIndexed by_number by_key number
+  pub left : number < 2 ^ 32
+  pub had : older ≡ number_at by_key key
+  pub numbers : by_number_now ≡ by_number ++ (number, key) ∷ []
+  pub keys : (k : Key) → number_at by_key_now k ≡ cond (is_eq (key_cmp key k)) (Some number) (number_at by_key k)
+  pub placed : (n : ℕ) → key_at by_number_now n ≡ cond (is_eq (nat_cmp number n)) (Some key) (key_at by_number n)
+  pub rising : IsStrictlySortedBy nat_cmp (keys_of by_number_now)
+
+-- a number is reserved for some key
+abbrev pub AreReserved : ℕ → Option ℕ → List (ℕ × Key) → List (Key × ℕ) → Type 0
+AreReserved number older by_number_now by_key_now =
+    (by_number : List (ℕ × Key)) × (by_key : List (Key × ℕ)) × (key : Key) × IsKept by_number by_key number key older by_number_now by_key_now

@@ -3,4 +3,4 @@
 
 mod numbers;
 
-pub use numbers::{NumberError, Numbers};
+pub use numbers::{NumberError, Numbers, Reserved};

@@ -1,13 +1,15 @@
 //! Numbers of updates.
 
-ghost use Rattle.std.specs.Prelude.{◌≡◌, ◌↔◌, ◌≤◌, ◌<◌, ◌^◌, [], ◌∷◌, ◌++◌, ◌+◌, Err, IfOk, OnOk, OnErr, Some, option_map, slice_get, take};
+ghost use Rattle.std.specs.Prelude.{◌≡◌, ℕ, ◌↔◌, ◌≤◌, ◌<◌, ◌^◌, [], cond, Err, IfErr, IfOk, IsSome, OnOk, OnErr, length, option_map, slice_get, take};
 ghost use Rattle.std.specs.List.{AllByRecursion, list_any};
 ghost use Rattle.std.specs.List.Sorted.{IsStrictlySortedBy};
-ghost use Rattle.std.specs.Map.{keys_of, values_of};
-ghost use Rattle.std.specs.Ordering.{nat_cmp};
+ghost use Rattle.std.specs.Map.{keys_of};
+ghost use Rattle.std.specs.Ordering.{is_eq, nat_cmp};
+ghost use Rattle.table_types.specs.declared.key.Key.{Key};
+ghost use Rattle.table_types.specs.Keys.{key_cmp};
 ghost use Rattle.update_numbers.specs.declared.numbers.NumberError.TheVariants as errors;
-ghost use Rattle.update_numbers.specs.Numbers.{above, dropped, given, is_of, without};
-ghost use Rattle.update_numbers.specs.Index.{AreIndexed};
+ghost use Rattle.update_numbers.specs.Numbers.{above, dropped, given, is_of};
+ghost use Rattle.update_numbers.specs.Index.{AreIndexed, IsKept, key_at, key_without, number_at, pairs_without};
 
 use std::alloc::Global;
 use std::collections::BTreeMap;
@@ -48,34 +50,121 @@ impl Model for Numbers {
     ghost invariant = { λ a. AreIndexed a.by_number.entries a.by_key.entries a.next };
 }
 
-/// Puts a key at a number above all others, in place of its older one. After `Memory` nothing has changed.
-fn place(
+/// A number that a key has besides its older one, until it is given to the key or let go.
+#[derive(Drop)]
+pub struct Reserved {
+    alloc: Global,
+    by_number: BTreeMap<u32, Key>,
+    by_key: BTreeMap<Key, u32>,
+    number: u32,
+    older: Option<u32>,
+}
+
+impl Model for Reserved {
+    ghost use Rattle.std.specs.Prelude.{◌+◌, Some};
+    ghost use Rattle.update_numbers.specs.Index.{AreReserved, pairs_without};
+    ghost use Rattle.update_numbers.specs.Numbers.{Reservation};
+
+    ghost Value = { Reservation };
+
+    ghost view = { λ a. record { before = record { pairs = pairs_without (Some a.number) a.by_number.entries; next = a.number }; after = record { pairs = pairs_without a.older a.by_number.entries; next = a.number + 1 } } };
+
+    ghost invariant = { λ a. AreReserved a.number a.older a.by_number.entries a.by_key.entries };
+}
+
+/// Puts a key at a number above all others, and answers the one that it had. After `Memory` nothing has changed.
+fn keep(
     alloc: Global,
     by_number: &mut BTreeMap<u32, Key>,
     by_key: &mut BTreeMap<Key, u32>,
     number: u32,
     key: &Key,
-) -> Result<(), Memory>
+) -> Result<Option<u32>, Memory>
     requires { AreIndexed by_number.old.entries by_key.old.entries number }
-    ensures placed { OnOk result (by_number.new.entries ≡ without key.now by_number.old.entries ++ (number, key.now) ∷ []) }
-    ensures indexed { OnOk result (AreIndexed by_number.new.entries by_key.new.entries (number + 1)) }
+    ensures kept { IfOk result (λ older. IsKept by_number.old.entries by_key.old.entries number key.now older by_number.new.entries by_key.new.entries) }
     ensures stays { OnErr result (by_number.new.entries ≡ by_number.old.entries) }
     ensures keys_stay { OnErr result (by_key.new.entries ≡ by_key.old.entries) }
 {
     let number_key = key.copy(alloc)?;
     let own_key = key.copy(alloc)?;
     by_number.insert(number, number_key)?;
-    match by_key.insert(own_key, number) {
-        Ok(None) => {}
-        Ok(Some(older)) => {
-            by_number.remove(&older);
-        }
-        Err(_) => {
-            by_number.remove(&number);
-            return Err(Memory);
+    let Ok(older) = by_key.insert(own_key, number) else {
+        by_number.remove(&number);
+        return Err(Memory);
+    };
+    Ok(older)
+}
+
+/// Takes out the pair of a key's older number, if it had one.
+fn drop_older(by_number: &mut BTreeMap<u32, Key>, older: Option<u32>)
+    requires { IsStrictlySortedBy nat_cmp (keys_of by_number.old.entries) }
+    ensures dropped { by_number.new.entries ≡ pairs_without older by_number.old.entries }
+    ensures others { (n : ℕ) → key_at by_number.new.entries n ≡ key_without older (key_at by_number.old.entries) n }
+    ensures rising { IsStrictlySortedBy nat_cmp (keys_of by_number.new.entries) }
+{
+    if let Some(older) = older {
+        by_number.remove(&older);
+    }
+}
+
+/// Gives a key that has a number the one that it had before, if it had one, or else none. Takes no memory.
+fn give_back(by_key: &mut BTreeMap<Key, u32>, key: Key, older: Option<u32>)
+    requires { IsSome (number_at by_key.old.entries key) }
+    ensures { (k : Key) → number_at by_key.new.entries k ≡ cond (is_eq (key_cmp key k)) older (number_at by_key.old.entries k) }
+{
+    match older {
+        Some(number) => match by_key.insert(key, number) {
+            // A key that is there is never refused.
+            Ok(_) | Err(_) => {}
+        },
+        None => {
+            by_key.remove(&key);
         }
     }
-    Ok(())
+}
+
+impl Reserved {
+    /// The key takes the number in place of its older one. Takes no memory.
+    pub fn commit(self) -> Numbers
+        ensures { result ≡ self.after }
+    {
+        let Reserved {
+            alloc,
+            mut by_number,
+            by_key,
+            number,
+            older,
+        } = self;
+        drop_older(&mut by_number, older);
+        Numbers {
+            alloc,
+            by_number,
+            by_key,
+            next: u64::from(number) + 1,
+        }
+    }
+
+    /// All is as before the number was reserved. Takes no memory.
+    pub fn release(self) -> Numbers
+        ensures { result ≡ self.before }
+    {
+        let Reserved {
+            alloc,
+            mut by_number,
+            mut by_key,
+            number,
+            older,
+        } = self;
+        if let Some(key) = by_number.remove(&number) {
+            give_back(&mut by_key, key, older);
+        }
+        Numbers {
+            alloc,
+            by_number,
+            by_key,
+            next: u64::from(number),
+        }
+    }
 }
 
 impl Numbers {
@@ -102,6 +191,13 @@ impl Numbers {
         self.next
     }
 
+    /// How many keys have a number.
+    pub fn len(&self) -> usize
+        ensures { result ≡ length self.now.pairs }
+    {
+        self.by_number.len()
+    }
+
     /// Gives a key the next number in place of its older one.
     pub fn give(&mut self, key: &Key) -> Result<u32, NumberError>
         ensures given { OnOk result (self.new ≡ given key.now self.old) }
@@ -112,16 +208,54 @@ impl Numbers {
         let Ok(number) = u32::try_from(self.next) else {
             return Err(NumberError::Spent);
         };
-        place(
+        let Ok(older) = keep(
             self.alloc,
             &mut self.by_number,
             &mut self.by_key,
             number,
             key,
-        )
-        .map_err(|_| NumberError::Memory)?;
+        ) else {
+            return Err(NumberError::Memory);
+        };
+        drop_older(&mut self.by_number, older);
         self.next += 1;
         Ok(number)
+    }
+
+    /// Reserves the next number for a key, with all memory that giving it takes.
+    pub fn reserve(self, key: &Key) -> Result<Reserved, (NumberError, Numbers)>
+        ensures reserved { IfOk result (λ reserved. reserved ≡ record { before = self; after = given key.now self }) }
+        ensures left { OnOk result (self.next < 2 ^ 32) }
+        ensures spent { IfErr result (λ refused. (refused.0 ≡ errors.Spent) ↔ (2 ^ 32 ≤ self.next)) }
+        ensures stays { IfErr result (λ refused. refused.1 ≡ self) }
+    {
+        let Ok(number) = u32::try_from(self.next) else {
+            return Err((NumberError::Spent, self));
+        };
+        let Numbers {
+            alloc,
+            mut by_number,
+            mut by_key,
+            next,
+        } = self;
+        match keep(alloc, &mut by_number, &mut by_key, number, key) {
+            Ok(older) => Ok(Reserved {
+                alloc,
+                by_number,
+                by_key,
+                number,
+                older,
+            }),
+            Err(_) => {
+                let numbers = Numbers {
+                    alloc,
+                    by_number,
+                    by_key,
+                    next,
+                };
+                Err((NumberError::Memory, numbers))
+            }
+        }
     }
 
     /// Drops the number of a key, and answers whether it had one. Takes no memory.
