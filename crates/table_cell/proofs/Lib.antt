@@ -1,5 +1,7 @@
 pub mod RowsLaws
 pub mod CellLaws
 pub mod RunLaws
+pub mod StockLaws
+pub mod StockSteps
 pub mod StepLaws
 pub mod BatchLaws

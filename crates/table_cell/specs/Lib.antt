@@ -1,4 +1,5 @@
 pub mod Telling
 pub mod Machine
 pub mod Soundness
+pub mod Stock
 pub mod Histories

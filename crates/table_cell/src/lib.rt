@@ -5,6 +5,7 @@ mod errors;
 mod events;
 mod laws;
 mod sessions;
+mod stock;
 
 pub use errors::{
     AckError, CloseError, CopyError, LearnError, OpenError, PurgeError, StrangeBatch, TrackError,

@@ -1,0 +1,205 @@
+-- What the calls of a stock leave of the rows by key and of their numbers.
+use Rattle.std.proofs.Common.{◌≡◌, ◌≢◌, ℕ, ◌+◌, ◌<◌, ◌≤◌, ◌^◌, Bool, true, false, not, List, [], ◌∷◌, ◌++◌, length, Option, Some, None, Result, Ok, Err, IfSome, IfNone, OnOk, OnErr, refl, sym, ap, ◌∙◌, subst, arith}
+use Rattle.std.specs.Prelude.{filter, map, nat_lt, slice_get}
+use Rattle.std.specs.List.{AllByRecursion}
+use Rattle.std.specs.List.Sorted.{IsStrictlySortedBy}
+use Rattle.std.specs.BTreeMap.{insert_entry}
+use Rattle.std.specs.Ordering.{is_eq}
+use Rattle.table_types.specs.declared.key.Key.{Key}
+use Rattle.table_types.specs.Keys.{key_cmp}
+use Rattle.table_types.specs.Rows.{StoredRow}
+use Rattle.table_types.proofs.KeyLaws.{one_key}
+use Rattle.table_rows.specs.Rows.{AreLive, is_live, row_at, rows_without}
+use Rattle.update_numbers.specs.Numbers.{Numbering, above, dropped, given}
+use Rattle.table_cell.specs.Machine.{without}
+use Rattle.table_cell.specs.Soundness.{KeysDiffer}
+use Rattle.table_cell.specs.Stock.{AreKept, AreTied, IsStock, Stocked, leave, numbered, rows_of, stocked}
+use Rattle.table_cell.proofs.RowsLaws.{all_filter, none_parts}
+use Rattle.table_cell.proofs.StockLaws.{all_found, are_kept, as_many, live_rows, numbered-above, put_sound, put_tied, same_row, seen_stock, taken_sound, taken_tied}
+
+-- ---- answers
+
+pub if_some : {A : Type 0} (P Q : A → Type 0) → ((a : A) → P a → Q a) → (o : Option A) → IfSome o P → IfSome o Q
+if_some P Q f (Some a) p = f a p
+if_some P Q f None p = p
+
+pub if_none : {A : Type 0} {P Q : Type 0} → (P → Q) → (o : Option A) → IfNone o P → IfNone o Q
+if_none f (Some a) p = p
+if_none f None p = f p
+
+pub on_ok : {A B P P' Q : Type 0} (r : Result A B) → OnOk r P → OnOk r P' → (P → P' → Q) → OnOk r Q
+on_ok (Ok a) p q f = f p q
+on_ok (Err b) p q f = p
+
+pub either_way : {A B P P' Q Q' T : Type 0} (r : Result A B) → OnOk r P → OnOk r P' → OnErr r Q → OnErr r Q' → (P → P' → T) → (Q → Q' → T) → T
+either_way (Ok a) p p' q q' f g = f p p'
+either_way (Err b) p p' q q' f g = g q q'
+
+-- ---- no rows yet
+
+pub new_kept : (content : List (Key × StoredRow)) (numbers : Numbering) (first : ℕ) → content ≡ [] → numbers ≡ record { pairs = []; next = first } → 1 ≤ first → first ≤ 2 ^ 32 → AreKept content numbers.pairs numbers.next
+unfolding IsStrictlySortedBy
+new_kept content numbers first none is least most =
+    rw (none, is) (record {
+      tied = record { numbers = refl; same = λ k. refl; rising = tt };
+      sound = record { numbers = least; keys = tt; most = most };
+    })
+
+-- ---- lists
+
+without_absent : (key : Key) (es : List (Key × StoredRow)) → row_at key es ≡ None → without key es ≡ es
+without_absent key [] none = refl
+without_absent key (e ∷ es) none =
+    let parts = none_parts key e es none in
+    rw parts.0 (ap (λ (fs : List (Key × StoredRow)). e ∷ fs) (without_absent key es parts.1))
+
+one_less : (key : Key) (row : StoredRow) (es : List (Key × StoredRow)) → KeysDiffer es → row_at key es ≡ Some row → length (without key es) + 1 ≡ length es
+one_less key row [] differ at = absurd cc
+one_less key row (e ∷ es) (none, differ) at = by (is_eq (key_cmp key e.0)) refl (λ there. one_less key row es differ there)
+  where
+    by : (b : Bool) → is_eq (key_cmp key e.0) ≡ b → (row_at key es ≡ Some row → length (without key es) + 1 ≡ length es) → length (without key (e ∷ es)) + 1 ≡ length (e ∷ es)
+    by true here rest =
+        let gone : row_at key es ≡ None = ap (λ (k : Key). row_at k es) (one_key key e.0 here) ∙ none in
+        let same : length (without key es) ≡ length es = ap (λ (fs : List (Key × StoredRow)). length fs) (without_absent key es gone) in
+        rw here (omega (arith, same))
+    by false other rest =
+        let less = rest (sym (rw other refl) ∙ at) in
+        rw other (omega (arith, less))
+
+gone_live : (now : ℕ) (key : Key) (es : List (Key × StoredRow)) → AllByRecursion (λ e. is_eq (key_cmp key e.0) ≡ true → is_live now e.1 ≡ false) es → filter (λ e. is_live now e.1) (without key es) ≡ filter (λ e. is_live now e.1) es
+gone_live now key [] ended = refl
+gone_live now key (e ∷ es) ended = by (is_eq (key_cmp key e.0)) refl (is_live now e.1) refl (gone_live now key es ended.1)
+  where
+    by : (a : Bool) → is_eq (key_cmp key e.0) ≡ a → (b : Bool) → is_live now e.1 ≡ b → filter (λ f. is_live now f.1) (without key es) ≡ filter (λ f. is_live now f.1) es
+        → filter (λ f. is_live now f.1) (without key (e ∷ es)) ≡ filter (λ f. is_live now f.1) (e ∷ es)
+    by true here b is rest = rw (here, ended.0 here) rest
+    by false other true live rest = rw (other, live) (ap (λ (fs : List (Key × StoredRow)). e ∷ fs) rest)
+    by false other false over rest = rw (other, over) rest
+
+pub filter_live : (now : ℕ) (es : List (Key × StoredRow)) → AreLive now es → filter (λ e. is_live now e.1) es ≡ es
+filter_live now [] live = refl
+filter_live now (e ∷ es) live = rw live.0 (ap (λ (fs : List (Key × StoredRow)). e ∷ fs) (filter_live now es live.1))
+
+pub both_parts : (p : Key × StoredRow → Bool) (es : List (Key × StoredRow)) → length (filter p es) + length (filter (λ e. not (p e)) es) ≡ length es
+both_parts p [] = refl
+both_parts p (e ∷ es) = by (p e) refl (both_parts p es)
+  where
+    by : (b : Bool) → p e ≡ b → length (filter p es) + length (filter (λ f. not (p f)) es) ≡ length es → length (filter p (e ∷ es)) + length (filter (λ f. not (p f)) (e ∷ es)) ≡ length (e ∷ es)
+    by true is rest = rw is (omega (arith, rest))
+    by false is rest = rw is (omega (arith, rest))
+
+pub no_entries : (es : List (Key × StoredRow)) → length es ≤ 0 → es ≡ []
+no_entries [] none = refl
+no_entries (e ∷ es) none = absurd (omega (arith, none))
+
+-- a row put at the end, and another key's taken out
+pub left_last : (rows : List (Key × StoredRow)) (key leaving : Key) (row : StoredRow) → (leaving ≡ key → ⊥) → without leaving (without key rows ++ (key, row) ∷ []) ≡ without key (without leaving rows) ++ (key, row) ∷ []
+left_last [] key leaving row other = by (is_eq (key_cmp leaving key)) refl
+  where
+    by : (b : Bool) → is_eq (key_cmp leaving key) ≡ b → without leaving ((key, row) ∷ []) ≡ (key, row) ∷ []
+    by true same = absurd (other (one_key leaving key same))
+    by false apart = rw apart refl
+left_last (e ∷ es) key leaving row other = by (is_eq (key_cmp key e.0)) refl (is_eq (key_cmp leaving e.0)) refl (left_last es key leaving row other)
+  where
+    by : (a : Bool) → is_eq (key_cmp key e.0) ≡ a → (b : Bool) → is_eq (key_cmp leaving e.0) ≡ b → without leaving (without key es ++ (key, row) ∷ []) ≡ without key (without leaving es) ++ (key, row) ∷ []
+        → without leaving (without key (e ∷ es) ++ (key, row) ∷ []) ≡ without key (without leaving (e ∷ es)) ++ (key, row) ∷ []
+    by true own true left rest = rw (own, left) rest
+    by true own false stays rest = rw (own, stays, own) rest
+    by false apart true left rest = rw (apart, left) rest
+    by false apart false stays rest = rw (apart, stays, apart) (ap (λ (fs : List (Key × StoredRow)). e ∷ fs) rest)
+
+pub put_left : (s mid after : Stocked) (key leaving : Key) (row : StoredRow) (o : Option Key) → o ≡ Some leaving → IfSome o (λ k. k ≢ key) → mid ≡ stocked (s.next + 1) (without key s.rows ++ (key, row) ∷ []) → after ≡ stocked mid.next (without leaving mid.rows)
+    → after ≡ stocked (s.next + 1) (without key (leave o s.rows) ++ (key, row) ∷ [])
+put_left s mid after key leaving row o is apart stored taken =
+    let other : leaving ≡ key → ⊥ = subst (λ (q : Option Key). IfSome q (λ k. k ≢ key)) is apart in
+    taken
+    ∙ ap (λ (m : Stocked). stocked m.next (without leaving m.rows)) stored
+    ∙ ap (stocked (s.next + 1)) (left_last s.rows key leaving row other)
+    ∙ ap (λ (q : Option Key). stocked (s.next + 1) (without key (leave q s.rows) ++ (key, row) ∷ [])) (sym is)
+
+-- ---- the first above a number
+
+pub first_none : (es : List (Key × StoredRow)) → ◌≡◌ {A = Option (ℕ × Key)} None (slice_get (map numbered es) 0) → slice_get es 0 ≡ None
+first_none [] none = refl
+first_none (e ∷ es) none = absurd cc
+
+pub first_some : (es : List (Key × StoredRow)) (n : ℕ) (key : Key) (T : Key × StoredRow → Type 0) → AllByRecursion T es → ◌≡◌ {A = Option (ℕ × Key)} (Some (n, key)) (slice_get (map numbered es) 0) → (row : StoredRow) × (slice_get es 0 ≡ Some (key, row)) × T (key, row)
+first_some [] n key T all at = absurd cc
+first_some (e ∷ es) n key T all at =
+    let pair : (n, key) ≡ numbered e = cc in
+    let same : key ≡ e.0 = ap (λ (p : ℕ × Key). p.1) pair in
+    (e.1, rw same refl, rw same all.0)
+
+module _ (content : List (Key × StoredRow)) (numbers : Numbering) (kept : AreKept content numbers.pairs numbers.next) where
+  abbrev rows : List (Key × StoredRow)
+  rows = rows_of content numbers.pairs
+
+  pub above_rows : (number : ℕ) → above number numbers.pairs ≡ map numbered (filter (λ e. nat_lt number e.1.number) rows)
+  above_rows number = ap (above number) kept.tied.numbers ∙ numbered-above number rows
+
+  pub none_above : (number : ℕ) → ◌≡◌ {A = Option (ℕ × Key)} None (slice_get (above number numbers.pairs) 0) → slice_get (filter (λ e. nat_lt number e.1.number) rows) 0 ≡ None
+  none_above number none = first_none (filter (λ e. nat_lt number e.1.number) rows) (none ∙ ap (λ (ps : List (ℕ × Key)). slice_get ps 0) (above_rows number))
+
+  pub one_above : (number n : ℕ) (key : Key) → ◌≡◌ {A = Option (ℕ × Key)} (Some (n, key)) (slice_get (above number numbers.pairs) 0)
+      → (row : StoredRow) × (slice_get (filter (λ e. nat_lt number e.1.number) rows) 0 ≡ Some (key, row)) × (row_at key content ≡ Some row)
+  one_above number n key at =
+      first_some (filter (λ e. nat_lt number e.1.number) rows) n key (λ e. row_at e.0 content ≡ Some e.1)
+      (all_filter (λ e. row_at e.0 content ≡ Some e.1) (λ e. nat_lt number e.1.number) rows (all_found rows kept.sound.keys (λ e. row_at e.0 content ≡ Some e.1) (λ k row there. kept.tied.same k ∙ there)))
+      (at ∙ ap (λ (ps : List (ℕ × Key)). slice_get ps 0) (above_rows number))
+
+  pub count : length numbers.pairs ≡ length rows
+  count = ap (λ (ps : List (ℕ × Key)). length ps) kept.tied.numbers ∙ as_many rows
+
+  -- nothing has changed
+  pub stays_kept : (content_after : List (Key × StoredRow)) (numbers_after : Numbering) → content_after ≡ content → numbers_after ≡ numbers → AreKept content_after numbers_after.pairs numbers_after.next
+  stays_kept content_after numbers_after same_content same_numbers = rw (same_content, same_numbers) kept
+
+  pub all_live : (now : ℕ) → AreLive now content → filter (λ e. is_live now e.1) rows ≡ rows
+  all_live now live = filter_live now rows (live_rows content numbers.pairs rows kept.tied kept.sound.keys now live)
+
+  -- the row of a key was put
+  module _ (key : Key) (row : StoredRow) (is : row.number ≡ numbers.next) (left : numbers.next < 2 ^ 32) (content_after : List (Key × StoredRow)) (numbers_after : Numbering) (numbered_so : numbers_after ≡ given key numbers) (put : content_after ≡ insert_entry key_cmp content key row) where
+    tied_put : AreTied content_after numbers_after.pairs (without key rows ++ (key, row) ∷ [])
+    tied_put = put_tied content numbers.pairs rows kept.tied key row numbers.next is content_after numbers_after.pairs put (ap (λ (ns : Numbering). ns.pairs) numbered_so)
+
+    sound_put : IsStock (stocked numbers_after.next (without key rows ++ (key, row) ∷ []))
+    sound_put = subst (λ (n : ℕ). IsStock (stocked n (without key rows ++ (key, row) ∷ []))) (sym (ap (λ (ns : Numbering). ns.next) numbered_so)) (put_sound rows numbers.next key row is left kept.sound)
+
+    pub put_kept : AreKept content_after numbers_after.pairs numbers_after.next
+    put_kept = are_kept content_after numbers_after.pairs (without key rows ++ (key, row) ∷ []) tied_put sound_put.keys numbers_after.next sound_put
+
+    pub put_seen : stocked numbers_after.next (rows_of content_after numbers_after.pairs) ≡ stocked (numbers.next + 1) (without key rows ++ (key, row) ∷ [])
+    put_seen =
+        seen_stock content_after numbers_after.pairs (without key rows ++ (key, row) ∷ []) tied_put sound_put.keys numbers_after.next
+        ∙ ap (λ (ns : Numbering). stocked ns.next (without key rows ++ (key, row) ∷ [])) numbered_so
+
+  -- the row of a key was taken out
+  module _ (key : Key) (content_after : List (Key × StoredRow)) (numbers_after : Numbering) (taken : content_after ≡ rows_without key content) (gone : numbers_after ≡ dropped key numbers) where
+    tied_taken : AreTied content_after numbers_after.pairs (without key rows)
+    tied_taken = taken_tied content numbers.pairs rows kept.tied key content_after numbers_after.pairs taken (ap (λ (ns : Numbering). ns.pairs) gone)
+
+    sound_taken : IsStock (stocked numbers_after.next (without key rows))
+    sound_taken = subst (λ (n : ℕ). IsStock (stocked n (without key rows))) (sym (ap (λ (ns : Numbering). ns.next) gone)) (taken_sound rows numbers.next key kept.sound)
+
+    pub taken_kept : AreKept content_after numbers_after.pairs numbers_after.next
+    taken_kept = are_kept content_after numbers_after.pairs (without key rows) tied_taken sound_taken.keys numbers_after.next sound_taken
+
+    pub taken_seen : stocked numbers_after.next (rows_of content_after numbers_after.pairs) ≡ stocked numbers.next (without key rows)
+    taken_seen =
+        seen_stock content_after numbers_after.pairs (without key rows) tied_taken sound_taken.keys numbers_after.next
+        ∙ ap (λ (ns : Numbering). stocked ns.next (without key rows)) gone
+
+    -- and it had ended
+    module _ (now : ℕ) (row : StoredRow) (at : row_at key content ≡ Some row) (over : is_live now row ≡ false) where
+      there : row_at key rows ≡ Some row
+      there = sym (kept.tied.same key) ∙ at
+
+      pub ended_live : filter (λ e. is_live now e.1) (rows_of content_after numbers_after.pairs) ≡ filter (λ e. is_live now e.1) rows
+      ended_live =
+          ap (λ (s : Stocked). filter (λ (e : Key × StoredRow). is_live now e.1) s.rows) taken_seen
+          ∙ gone_live now key rows (all_found rows kept.sound.keys (λ e. is_eq (key_cmp key e.0) ≡ true → is_live now e.1 ≡ false) (λ k other found same.
+          let one : row ≡ other = same_row row other (sym there ∙ ap (λ (q : Key). row_at q rows) (one_key key k same) ∙ found) in
+          ap (is_live now) (sym one) ∙ over))
+
+      pub ended_one : length (rows_of content_after numbers_after.pairs) + 1 ≡ length rows
+      ended_one = ap (λ (s : Stocked). length s.rows + 1) taken_seen ∙ one_less key row rows kept.sound.keys there

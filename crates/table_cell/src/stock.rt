@@ -1,0 +1,202 @@
+//! The rows of a table with their numbers.
+
+ghost use Rattle.std.specs.Prelude.{◌≡◌, ◌≢◌, ◌≤◌, ◌<◌, ◌+◌, ◌^◌, [], ◌∷◌, ◌++◌, nat_lt, not, filter, length, IfNone, IfOk, IfSome, OnErr, OnOk, option_copied, option_map, slice_get};
+ghost use Rattle.std.specs.Bool.{OnFalse, OnTrue};
+ghost use Rattle.std.specs.BTreeMap.{insert_entry};
+ghost use Rattle.std.specs.List.Sorted.{IsStrictlySortedBy};
+ghost use Rattle.std.specs.Map.{keys_of};
+ghost use Rattle.table_types.specs.declared.key.Key.{Key};
+ghost use Rattle.table_types.specs.Keys.{key_cmp};
+ghost use Rattle.table_rows.specs.Rows.{IsFirstToEnd, is_live, row_at};
+ghost use Rattle.update_numbers.specs.Numbers.{given};
+ghost use Rattle.table_cell.specs.Machine.{without};
+ghost use Rattle.table_cell.specs.Stock.{IsStock, leave};
+
+use std::alloc::Global;
+use std::marker::Model;
+use std::mem;
+use table_rows::Rows;
+use table_types::{Key, Memory, Moment, Row};
+use update_numbers::Numbers;
+
+/// The rows of a table by their keys, with the numbers that they were given, and the number that is given next.
+#[derive(Drop)]
+pub(crate) struct Stock<R: Rows> {
+    alloc: Global,
+    rows: R,
+    numbers: Numbers,
+}
+
+impl<R: Rows> Model for Stock<R> {
+    ghost use Rattle.table_cell.specs.Stock.{AreKept, Stocked, rows_of, stocked};
+
+    ghost Value = { Stocked };
+
+    ghost view = { λ a. stocked a.numbers.next (rows_of (R.content a.rows) a.numbers.pairs) };
+
+    ghost invariant = { λ a. AreKept (R.content a.rows) a.numbers.pairs a.numbers.next };
+}
+
+/// Puts a row under its key and gives the key the next number. After `Memory` nothing has changed.
+fn put_numbered<R: Rows>(
+    numbers: Numbers,
+    rows: &mut R,
+    key: Key,
+    row: Row,
+) -> (Numbers, Result<(), Memory>)
+    requires { numbers.next < 2 ^ 32 }
+    ensures numbers { OnOk result.1 (result.0 ≡ given key numbers) }
+    ensures rows { OnOk result.1 (R.content rows.new ≡ insert_entry key_cmp (R.content rows.old) key row) }
+    ensures numbers_stay { OnErr result.1 (result.0 ≡ numbers) }
+    ensures rows_stay { OnErr result.1 (R.content rows.new ≡ R.content rows.old) }
+{
+    let reserved = match numbers.reserve(&key) {
+        Ok(reserved) => reserved,
+        Err((_, numbers)) => return (numbers, Err(Memory)),
+    };
+    match rows.put(key, row) {
+        Ok(_) => (reserved.commit(), Ok(())),
+        Err(_) => (reserved.release(), Err(Memory)),
+    }
+}
+
+impl<R: Rows> Stock<R> {
+    /// No rows, and `first` given next. Takes no memory.
+    pub(crate) fn new(alloc: Global, rows: R, first: u32) -> Stock<R>
+        requires none { R.content rows ≡ [] }
+        requires first { 1 ≤ first }
+        ensures { result ≡ record { rows = []; next = first } }
+    {
+        Stock {
+            alloc,
+            rows,
+            numbers: Numbers::new(alloc, first),
+        }
+    }
+
+    /// The number that is given next, or 2^32 where all are spent.
+    pub(crate) fn next(&self) -> u64
+        ensures next { result ≡ self.now.next }
+        ensures sound { IsStock self.now }
+    {
+        self.numbers.next()
+    }
+
+    /// How many rows there are.
+    pub(crate) fn len(&self) -> usize
+        ensures { result ≡ length self.now.rows }
+    {
+        self.numbers.len()
+    }
+
+    /// The row of a key.
+    pub(crate) fn row(&self, key: &Key) -> Option<&Row>
+        ensures { option_copied result ≡ row_at key.now self.now.rows }
+    {
+        self.rows.get(key)
+    }
+
+    /// The key of the row that is the first to end; `None` where there are no rows.
+    pub(crate) fn first_to_end(&self) -> Option<&Key>
+        ensures first { IfSome result (λ key. IsFirstToEnd self.now.rows key.now) }
+        ensures none { IfNone result (self.now.rows ≡ []) }
+    {
+        self.rows.first_to_end()
+    }
+
+    /// Stores a row, which has the next number, in place of the key's. After `Memory` nothing has changed.
+    fn store(&mut self, key: Key, row: Row) -> Result<(), Memory>
+        requires number { row.number ≡ self.old.next }
+        requires left { self.old.next < 2 ^ 32 }
+        ensures stored { OnOk result (self.new ≡ record { rows = without key self.old.rows ++ (key, row) ∷ []; next = self.old.next + 1 }) }
+        ensures stays { OnErr result (self.new ≡ self.old) }
+    {
+        let numbers = mem::replace(&mut self.numbers, Numbers::new(self.alloc, 1));
+        let (numbers, stored) = put_numbered(numbers, &mut self.rows, key, row);
+        self.numbers = numbers;
+        stored
+    }
+
+    /// Takes out the row of a key. Takes no memory.
+    fn take(&mut self, key: &Key)
+        ensures { self.new ≡ record { rows = without key.now self.old.rows; next = self.old.next } }
+    {
+        self.rows.take(key);
+        self.numbers.drop_key(key);
+    }
+
+    /// Stores a row, which has the next number, in place of the key's, and takes out that of `leaving`. After `Memory`
+    /// nothing has changed.
+    pub(crate) fn put(&mut self, key: Key, row: Row, leaving: Option<Key>) -> Result<(), Memory>
+        requires number { row.number ≡ self.old.next }
+        requires left { self.old.next < 2 ^ 32 }
+        requires apart { IfSome leaving (λ leaving. leaving ≢ key) }
+        ensures put { OnOk result (self.new ≡ record { rows = without key (leave leaving self.old.rows) ++ (key, row) ∷ []; next = self.old.next + 1 }) }
+        ensures stays { OnErr result (self.new ≡ self.old) }
+    {
+        self.store(key, row)?;
+        if let Some(leaving) = leaving {
+            self.take(&leaving);
+        }
+        Ok(())
+    }
+
+    /// Takes out one row that isn't live at that moment, and answers whether there was one. Takes no memory.
+    fn take_one_ended(&mut self, now: Moment) -> bool
+        ensures live { filter (λ e. is_live now e.1) self.new.rows ≡ filter (λ e. is_live now e.1) self.old.rows }
+        ensures next { self.new.next ≡ self.old.next }
+        ensures one { OnTrue result (length self.new.rows + 1 ≡ length self.old.rows) }
+        ensures none { OnFalse result (filter (λ e. is_live now e.1) self.new.rows ≡ self.new.rows) }
+    {
+        match self.rows.take_ended(now) {
+            Some((key, _)) => {
+                self.numbers.drop_key(&key);
+                true
+            }
+            None => false,
+        }
+    }
+
+    /// Takes out what isn't live at that moment. Takes no memory.
+    fn drop_ended(&mut self, now: Moment)
+        ensures { self.new ≡ record { rows = filter (λ e. is_live now e.1) self.old.rows; next = self.old.next } }
+    {
+        let most = self.len();
+        for _ in 0..most {
+            if !self.take_one_ended(now) {
+                return;
+            }
+        }
+    }
+
+    /// Takes out what isn't live at that moment, and says how many rows that was. Takes no memory.
+    pub(crate) fn take_ended(&mut self, now: Moment) -> usize
+        ensures live { self.new ≡ record { rows = filter (λ e. is_live now e.1) self.old.rows; next = self.old.next } }
+        ensures count { result ≡ length (filter (λ e. not (is_live now e.1)) self.old.rows) }
+    {
+        let before = self.len();
+        self.drop_ended(now);
+        before - self.len()
+    }
+
+    /// The first row above that number, in rising number, with its key. Takes no memory.
+    pub(crate) fn first_above(&self, number: u32) -> Option<(&Key, &Row)>
+        ensures { option_map (λ e. (e.0.now, e.1.now)) result ≡ slice_get (filter (λ e. nat_lt number e.1.number) self.now.rows) 0 }
+    {
+        let Some((_, key)) = self.numbers.first_above(number) else {
+            return None;
+        };
+        let Some(row) = self.rows.get(key) else {
+            return None;
+        };
+        Some((key, row))
+    }
+
+    /// Equal rows with their keys, in rising key.
+    pub(crate) fn list(&self) -> Result<Vec<(Key, Row)>, Memory>
+        ensures rising { IfOk result (λ list. IsStrictlySortedBy key_cmp (keys_of list.items)) }
+        ensures each { IfOk result (λ list. (key : Key) → row_at key list.items ≡ row_at key self.now.rows) }
+    {
+        self.rows.list()
+    }
+}
