@@ -24,12 +24,3 @@ name_of_fits d u fit = and-right (row_fits d u.key u.values) (may_be_named d u.n
 
 pub life_of_fits : (d : Definition) (u : Update) → fits d u ≡ true → life_fits d u.life ≡ true
 life_of_fits d u fit = and-right (row_fits d u.key u.values && may_be_named d u.name) (life_fits d u.life) fit
-
-at_place : (roster : List Definition) (us : List Update) (i : ℕ) (u : Update) → AllByRecursion (IsUpdateFor roster) us → i < length us → u ≡ get_or us i u → IsUpdateOf roster u
-at_place roster [] i u all lt at = absurd (omega arith)
-at_place roster (x ∷ xs) zero u all lt at = subst (λ (y : Update). IsUpdateOf roster y) (sym at) (all.0.0, all.0.1, all.0.2)
-at_place roster (x ∷ xs) (suc i) u all lt at = at_place roster xs i u all.1 (omega arith) at
-
--- each update of a batch is one of a table of the roster
-pub batch_taught : (roster : List Definition) (us : List Update) (i : ℕ) (u : Update) → IsBatchFor roster us → i < length us → u ≡ get_or us i u → IsUpdateOf roster u
-batch_taught roster us i u batch lt at = at_place roster us i u batch.1 lt at

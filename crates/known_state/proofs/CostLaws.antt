@@ -25,7 +25,8 @@ use Rattle.peers_msg.specs.Messages.{UpdateFields}
 use Rattle.peers_msg.specs.Spelling.{spelled, size_of, framed, counted, definition_text, update_text, update_type, optional_word, word, key_text, value_text, name_text}
 use Rattle.known_state.proofs.KnownLemmas.{table_at-id}
 use Rattle.known_state.proofs.StepLemmas.{has_id-table_at}
-use Rattle.known_state.specs.Cost.{Knowledge, KnowsLess, with_selected, knowledge_after, follows, number_sent, sent_as, written_field, is_named_table, written_cost, is_selected, definition_cost, selection_cost, cost_from, saving, is_held, IsOfRoster}
+use Rattle.known_state.specs.Cost.{Knowledge, knowledge_after, follows, number_sent, sent_as, written_field, is_named_table, written_cost, is_selected, definition_cost, selection_cost, cost_from, saving, is_held, IsOfRoster}
+use Rattle.known_state.proofs.LesserKnowledge.{KnowsLess, with_selected}
 
 -- framed data grow with the data
 pub framed_longer : (c k c' k' : ℕ) (a b : List ℕ) → length a ≤ length b → length (framed c k a) ≤ length (framed c' k' b)
@@ -112,10 +113,6 @@ or_swap true true c h = refl
 or_swap true false c h = refl
 or_swap false true c h = refl
 or_swap false false c h = h
-
-or_again : (a c : Bool) → (a || (a || c)) ≡ true → (a || c) ≡ true
-or_again true c h = refl
-or_again false c h = h
 
 -- after an update of that table nothing is gained
 gains_nothing : (k : Knowledge) (more : Knowledge) (t : ℕ) (u : Update) → u.table ≡ t → ((id : ℕ) → more.is_defined id ≡ true → (id == t || k.is_defined id) ≡ true) → ((id : ℕ) → more.last id ≡ k.last id) → KnowsLess (knowledge_after more u) (knowledge_after k u)

@@ -10,9 +10,8 @@ use Rattle.peers_msg.specs.declared.message.Message.TheVariants as messages
 use Rattle.peers_msg.specs.Spelling.{size_of, size_of_all}
 use Rattle.known_state.specs.State.{State, Step, IsOwn, Legal}
 use Rattle.known_state.specs.Known.{AreOwn}
-use Rattle.known_state.specs.Requests.{AreNameless}
 use Rattle.known_state.specs.Cost.{Knowledge, knowledge_of, knowledge_after, is_selected, defining, definition_cost, selecting, selection_cost, written, written_lesson, full, cost, cost_from, IsOfRoster, Pays, Saves}
-use Rattle.known_state.proofs.StepPays.{step_pays, list_pays, none_shorter}
+use Rattle.known_state.proofs.StepPays.{step_pays, list_pays}
 
 -- what selects a table has the size that it costs
 pub selecting_size : (roster : List Definition) (k : Knowledge) (id : ℕ) → size_of_all (selecting roster k id) ≡ selection_cost roster k id
@@ -51,7 +50,3 @@ pub list_pays_full : (roster : List Definition) (s e : State) (ms : List Message
 list_pays_full roster s e ms us own all legal =
     let paid = list_pays roster s e ms us own all legal in
     (paid.0, paid.1, omega (arith, full_is_cost roster s us, paid.2))
-
-pub none_shorter_full : (roster : List Definition) (s e : State) (ms : List Message) (us : List Update) → AreOwn roster s.received.tables → AreNameless us → AllByRecursion (IsOfRoster roster) us → Legal roster s ms us e → full roster s us ≤ size_of_all ms
-none_shorter_full roster s e ms us own unnamed all legal =
-    omega (arith, full_is_cost roster s us, none_shorter roster s e ms us own unnamed all legal)

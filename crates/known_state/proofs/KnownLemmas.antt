@@ -37,14 +37,6 @@ pub or-false-right : (a b : Bool) → (a || b) ≡ false → b ≡ false
 or-false-right true b h = cc
 or-false-right false b h = h
 
--- a table that is found stores no name where none does
-pub table_at-nameless : (ds : List Definition) (id : ℕ) (d : Definition) → list_any stores_name ds ≡ false → table_at ds id ≡ Some d → stores_name d ≡ false
-table_at-nameless [] id d none h = cc
-table_at-nameless (x ∷ xs) id d none h = elim (cases_eq x.id id) [
-  | inl same ↦ let here : Some x ≡ Some d = sym (rw (eq-eqb x.id id same) refl) ∙ h in let is : x ≡ d = cc in subst (λ (t : Definition). stores_name t ≡ false) is (or-false-left (stores_name x) (list_any stores_name xs) none)
-  | inr other ↦ table_at-nameless xs id d (or-false-right (stores_name x) (list_any stores_name xs) none) (sym (rw (ne_eqb x.id id other) refl) ∙ h)
-]
-
 pub AreOwn-filter : (roster : List Definition) (p : Definition → Bool) (ds : List Definition) → AreOwn roster ds → AreOwn roster (filter p ds)
 AreOwn-filter roster p [] own = tt
 AreOwn-filter roster p (x ∷ xs) own =

@@ -1,6 +1,7 @@
 pub mod StepIsDeterministic
 pub mod LastNumbersLemmas
 pub mod KnowledgeLemmas
+pub mod LesserKnowledge
 pub mod KnownLemmas
 pub mod StepLemmas
 pub mod ResolvingLemmas

@@ -21,7 +21,8 @@ use Rattle.known_state.specs.State.{State, Step, Teaches, Named, IsOwn, Legal, r
 use Rattle.known_state.specs.LastNumbers.{keeps_last, last_of, set_last}
 use Rattle.known_state.specs.Known.{AreOwn}
 use Rattle.known_state.specs.Cost.{Knowledge, knowledge_of, knowledge_after, sent_as, number_sent, written_cost, written_field, is_named_table, is_held, saving, full, IsOfRoster, Saves}
-use Rattle.known_state.specs.Requests.{Asked, held_cost, asked, requests_of, knowledge_after_all, mark_of, reads_of, read_savings}
+use Rattle.known_state.specs.Requests.{Asked, held_cost, asked, requests_of, mark_of, reads_of, read_savings}
+use Rattle.known_state.proofs.RequestLemmas.{knowledge_after_all}
 use Rattle.known_state.proofs.KnownLemmas.{table_at-id, table_at-passes, define_selects}
 use Rattle.known_state.proofs.RosterLemmas.{name_itself, roster_names, still_received, two_names}
 use Rattle.known_state.proofs.RefusalLaws.{selection}

@@ -15,7 +15,8 @@ use Rattle.peers_msg.specs.declared.message.Message.TheVariants as messages
 use Rattle.peers_msg.specs.Fitting.{name_fits}
 use Rattle.known_state.specs.State.{State, Step, Teaches, Named, resolved}
 use Rattle.known_state.specs.Cost.{Knowledge}
-use Rattle.known_state.specs.Requests.{Asked, asked, requests_of, knowledge_after_all, mark_of, reads_of}
+use Rattle.known_state.specs.Requests.{Asked, asked, requests_of, mark_of, reads_of}
+use Rattle.known_state.proofs.RequestLemmas.{knowledge_after_all}
 use Rattle.known_state.specs.Plans.{AreLinked, at_start, kept_over, links, name_held, names_in}
 use Rattle.known_state.proofs.RefusalLaws.{selection}
 use Rattle.known_state.proofs.RosterLemmas.{name_itself}

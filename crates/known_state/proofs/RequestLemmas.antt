@@ -1,6 +1,6 @@
 -- What updates ask for and what they cost, one after another.
 use Rattle.std.proofs.Common.{◌≡◌, ℕ, ◌+◌, ◌*◌, ◌≤◌, true, false, ◌&&◌, Bool, List, [], ◌∷◌, ◌++◌, length, Option, Some, None, refl, sym, ap, ◌∙◌, arith, append_assoc, length-append}
-use Rattle.std.specs.Prelude.{if◌then◌else◌}
+use Rattle.std.specs.Prelude.{fold}
 use Rattle.table_types.specs.declared.update.Update.{Update}
 use Rattle.table_types.specs.Tables.{Definition}
 use Rattle.table_types.specs.Updates.{fits, stores_name, may_be_named}
@@ -11,8 +11,12 @@ use Rattle.peers_msg.specs.declared.name_field.NameField.TheVariants as names
 use Rattle.peers_msg.specs.declared.message.Message.TheVariants as messages
 use Rattle.peers_msg.specs.Spelling.{size_of}
 use Rattle.known_state.specs.Cost.{Knowledge, knowledge_after, sent_as, written_field, is_named_table, written_cost, selection_cost, cost_from}
-use Rattle.known_state.specs.Requests.{Asked, held_cost, asked, requests_of, knowledge_after_all}
+use Rattle.known_state.specs.Requests.{Asked, held_cost, asked, requests_of}
 use Rattle.known_state.proofs.BatchLemmas.{name_of_fits}
+
+-- what is known after updates
+abbrev pub knowledge_after_all : Knowledge → List Update → Knowledge
+knowledge_after_all k us = fold knowledge_after k us
 
 append-none : (xs : List Asked) → xs ++ [] ≡ xs
 append-none [] = refl
@@ -65,35 +69,6 @@ named-stores d u name is fit = left (stores_name d) (is_name name) (ap (may_be_n
     left : (a b : Bool) → (a && b) ≡ true → a ≡ true
     left true b h = refl
     left false b h = h
-
--- what an update with a name costs
-pub written-named : (roster : List Definition) (k : Knowledge) (u : Update) (name : List ℕ) (d : Definition) → table_at roster u.table ≡ Some d → fits d u ≡ true → u.name ≡ Some name → written_cost roster k u ≡ size_of (messages.Update (sent_as (k.last u.table) (names.Written 1 name) u))
-written-named roster k u name d listed fit is =
-    let stores : stores_name d ≡ true = named-stores d u name is (name_of_fits d u fit) in
-    let field : written_field (is_named_table (table_at roster u.table)) u.name ≡ names.Written 1 name =
-    ap (λ (o : Option Definition). written_field (is_named_table o) u.name) listed ∙ ap (λ (b : Bool). written_field b u.name) stores ∙ ap (written_field true) is in
-    ap (λ (f : NameField). size_of (messages.Update (sent_as (k.last u.table) f u))) field
-
--- and one without
-pub written-nameless : (roster : List Definition) (k : Knowledge) (u : Update) (d : Definition) → table_at roster u.table ≡ Some d → u.name ≡ None → written_cost roster k u ≡ size_of (messages.Update (sent_as (k.last u.table) (if stores_name d then names.NoName else names.NotStored) u))
-written-nameless roster k u d listed is =
-    let field : written_field (is_named_table (table_at roster u.table)) u.name ≡ (if stores_name d then names.NoName else names.NotStored) =
-    ap (λ (o : Option Definition). written_field (is_named_table o) u.name) listed ∙ ap (written_field (stores_name d)) is ∙ without (stores_name d) in
-    ap (λ (f : NameField). size_of (messages.Update (sent_as (k.last u.table) f u))) field
-  where
-    without : (b : Bool) → written_field b None ≡ (if b then names.NoName else names.NotStored)
-    without true = refl
-    without false = refl
-
-abbrev asking : List ℕ → Knowledge → Update → ℕ → Asked
-asking name k u cost = record { name = name; read_cost = held_cost k u; write_cost = cost }
-
--- the request of an update with a name
-pub asked-named : (roster : List Definition) (k : Knowledge) (u : Update) (name : List ℕ) (d : Definition) → table_at roster u.table ≡ Some d → fits d u ≡ true → u.name ≡ Some name
-    → record { name = name; read_cost = size_of (messages.Update (sent_as (k.last u.table) (names.Held 1) u)); write_cost = size_of (messages.Update (sent_as (k.last u.table) (names.Written 1 name) u)) } ∷ [] ≡ asked roster k u u.name
-asked-named roster k u name d listed fit is =
-    let whole : asking name k u (size_of (messages.Update (sent_as (k.last u.table) (names.Written 1 name) u))) ∷ [] ≡ asked roster k u (Some name) = ap (λ (n : ℕ). asking name k u n ∷ []) (sym (written-named roster k u name d listed fit is)) in
-    whole ∙ ap (λ (n : Option (List ℕ)). asked roster k u n) (sym is)
 
 -- there are no more requests than updates
 pub few-asked : (roster : List Definition) (k : Knowledge) (us : List Update) → length (requests_of roster k us) ≤ length us

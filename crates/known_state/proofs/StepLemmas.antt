@@ -18,8 +18,8 @@ use Rattle.peers_msg.specs.Spelling.{data_of, update_text, definition_text}
 use Rattle.peers_msg.specs.Fitting.{fits, update_fits, name_fits}
 use Rattle.peers_msg.proofs.DataLimits.{update_small, definition_small}
 use Rattle.known_state.specs.declared.known.StepError.TheVariants as step_errors
-use Rattle.known_state.specs.Known.{KnownState, AreOwn, stores_no_name, switch_refusal, update_refusal}
-use Rattle.known_state.proofs.KnownLemmas.{table_at-id, table_at-passes, table_at-nameless}
+use Rattle.known_state.specs.Known.{KnownState, AreOwn, switch_refusal, update_refusal}
+use Rattle.known_state.proofs.KnownLemmas.{table_at-id, table_at-passes}
 
 -- an id is one of the tables' where its table is found
 pub has_id-table_at : (ds : List Definition) (id : ℕ) → has_id id ds ≡ is_some (table_at ds id)
@@ -58,13 +58,6 @@ selected-found h d sel = at h.selected sel
     at None e = cc
     at (Some id) e = (id, e)
 
--- where no table stores a name, an update that fits has no name field
-pub nameless : (d : Definition) (field : NameField) → stores_name d ≡ false → name_fits d field ≡ true → field ≡ names.NotStored
-nameless d names.NotStored no_name fit = refl
-nameless d names.NoName no_name fit = cc
-nameless d (names.Held slot) no_name fit = let e : false ≡ true = sym (rw no_name refl) ∙ fit in cc
-nameless d (names.Written slot name) no_name fit = let e : false ≡ true = sym (rw no_name refl) ∙ fit in cc
-
 -- why switches are refused
 pub foreign_switch : (k : KnownState) (id : ℕ) → table_at k.roster id ≡ None → switch_refusal k id ≡ Some step_errors.Foreign
 foreign_switch k id e = rw (has_id-table_at k.roster id, e) refl
@@ -79,17 +72,3 @@ unfitting h u d sel not_fit = rw (sel, not_fit) refl
 -- why updates are refused
 pub misfit : (k : KnownState) (u : UpdateFields) (d : Definition) → selected_table k.state.received ≡ Some d → update_fits d u ≡ false → update_refusal k u (selected_table k.state.received) ≡ Some step_errors.Foreign
 misfit k u d sel not_fit = rw (sel, unfitting k.state.received u d sel not_fit) refl
-
--- the table selected in a known state is one of the roster's
-pub selected-own : (k : KnownState) (d : Definition) → AreOwn k.roster k.state.received.tables → selected_table k.state.received ≡ Some d → table_at k.roster d.id ≡ Some d
-selected-own k d own sel =
-    let found = selected-found k.state.received d sel in
-    table_at-passes (λ (t : Definition). table_at k.roster t.id ≡ Some t) k.state.received.tables found.0 d own found.1
-
--- and stores no name where none does
-pub selected-nameless : (k : KnownState) (d : Definition) → AreOwn k.roster k.state.received.tables → stores_no_name k.roster ≡ true → selected_table k.state.received ≡ Some d → stores_name d ≡ false
-selected-nameless k d own no_name sel = table_at-nameless k.roster d.id d (not-true (list_any stores_name k.roster) no_name) (selected-own k d own sel)
-  where
-    not-true : (b : Bool) → not b ≡ true → b ≡ false
-    not-true true h = cc
-    not-true false h = refl

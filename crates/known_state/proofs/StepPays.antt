@@ -18,11 +18,11 @@ use Rattle.peers_msg.specs.Spelling.{size_of, size_of_all, data_of}
 use Rattle.peers_msg.specs.Fitting.{fits, name_fits, update_fits}
 use Rattle.known_state.specs.State.{State, Step, Named, IsOwn, Legal, resolved, resolved_number}
 use Rattle.known_state.specs.LastNumbers.{keeps_last, last_of, set_last}
-use Rattle.known_state.specs.Known.{AreOwn, stores_no_name}
-use Rattle.known_state.specs.Requests.{AreNameless}
-use Rattle.known_state.specs.Cost.{KnowsLess, with_selected, knowledge_of, knowledge_after, cost, saving, selection_cost, definition_cost, is_held, Saves, IsOfRoster}
+use Rattle.known_state.specs.Known.{AreOwn}
+use Rattle.known_state.specs.Cost.{knowledge_of, knowledge_after, cost, saving, selection_cost, definition_cost, is_held, Saves, IsOfRoster}
+use Rattle.known_state.proofs.LesserKnowledge.{KnowsLess, with_selected}
 use Rattle.known_state.proofs.KnownLemmas.{table_at-id, table_at-passes, define_selects, AreOwn-defined}
-use Rattle.known_state.proofs.StepLemmas.{selected-id, selected-found, selected-nameless, nameless}
+use Rattle.known_state.proofs.StepLemmas.{selected-id, selected-found}
 use Rattle.known_state.proofs.RefusalLaws.{switch_found, selection}
 use Rattle.known_state.proofs.CostLaws.{falls, defining_pays, switched_pays, update_pays, found_before, last-dropped, last-filter, last-put}
 
@@ -170,14 +170,7 @@ own_stays roster s mid (messages.Error e) one own is_own (fit, none, is) = subst
 own_stays roster s mid (messages.Ack table number) one own is_own (fit, none, is) = subst (λ (x : State). AreOwn roster x.received.tables) (sym is) own
 own_stays roster s mid (messages.Other o) one own is_own (fit, none, is) = subst (λ (x : State). AreOwn roster x.received.tables) (sym is) own
 
--- what holds of each of the updates holds of each of the first, and of each of the rest
-pub all_first : (p : Update → Type 0) (one rest us : List Update) → us ≡ one ++ rest → AllByRecursion p us → AllByRecursion p one
-all_first p one rest us is all = ahead one (subst (λ (l : List Update). AllByRecursion p l) is all)
-  where
-    ahead : (one : List Update) → AllByRecursion p (one ++ rest) → AllByRecursion p one
-    ahead [] all = tt
-    ahead (u ∷ us) all = (all.0, ahead us all.1)
-
+-- what holds of each of the updates holds of each of the rest
 pub all_rest : (p : Update → Type 0) (one rest us : List Update) → us ≡ one ++ rest → AllByRecursion p us → AllByRecursion p rest
 all_rest p one rest us is all = behind one (subst (λ (l : List Update). AllByRecursion p l) is all)
   where
@@ -195,61 +188,3 @@ list_pays roster s e (m ∷ ms) us own all (owns, (one, rest, mid, is, step, lat
     let sum : size_of_all (m ∷ ms) ≡ size_of m + size_of_all ms = sum_by-cons size_of m ms in
     let both : cost roster s us ≡ cost roster s (one ++ rest) = ap (cost roster s) is in
     (saving roster (knowledge_of s) m one + others.0, (one, rest, mid, others.0, is, step, refl, others.1), omega arith)
-
--- a message that carries no name saves nothing
-saves_nothing : (roster : List Definition) (s mid : State) (m : Message) (one : List Update) → AreNameless one → Step s m one mid → saving roster (knowledge_of s) m one ≡ 0
-saves_nothing roster s mid (messages.Update m) one unnamed (fit, table, on, number, numbered, name, named, carried, received, last_numbers) =
-    let alone : AreNameless (resolved m table number name ∷ []) = subst (λ (l : List Update). AreNameless l) carried unnamed in
-    let unread : is_held m.name ≡ false = reads_none m.name name alone.0 named in
-    rw (carried, unread) refl
-  where
-    reads_none : (field : NameField) (name : Option (List ℕ)) → name ≡ None → Named s.slots field name mid.slots → is_held field ≡ false
-    reads_none names.NotStored name none named = refl
-    reads_none names.NoName name none named = refl
-    reads_none (names.Written slot bytes) name none named = refl
-    reads_none (names.Held slot) name none (bytes, held, is, same) = let bad : Some bytes ≡ None = sym is ∙ none in cc
-saves_nothing roster s mid (messages.Define d) one unnamed step = refl
-saves_nothing roster s mid (messages.Switch id) one unnamed step = refl
-saves_nothing roster s mid (messages.Control c) one unnamed step = refl
-saves_nothing roster s mid (messages.Error e) one unnamed step = refl
-saves_nothing roster s mid (messages.Ack table number) one unnamed step = refl
-saves_nothing roster s mid (messages.Other o) one unnamed step = refl
-
--- where no update has a name, no legal list is shorter than the whole cost
-pub none_shorter : (roster : List Definition) (s e : State) (ms : List Message) (us : List Update) → AreOwn roster s.received.tables → AreNameless us → AllByRecursion (IsOfRoster roster) us → Legal roster s ms us e → cost roster s us ≤ size_of_all ms
-none_shorter roster s e [] us own unnamed all (owns, (none, same)) = rw none (omega arith)
-none_shorter roster s e (m ∷ ms) us own unnamed all (owns, (one, rest, mid, is, step, later)) =
-    let of_roster = all_rest (IsOfRoster roster) one rest us is all in
-    let others = none_shorter roster mid e ms rest (own_stays roster s mid m one own owns.0 step) (all_rest (λ (u : Update). u.name ≡ None) one rest us is unnamed) of_roster (owns.1, later) in
-    let here = step_pays roster s mid m one rest own owns.0 of_roster step in
-    let nothing = saves_nothing roster s mid m one (all_first (λ (u : Update). u.name ≡ None) one rest us is unnamed) step in
-    let sum : size_of_all (m ∷ ms) ≡ size_of m + size_of_all ms = sum_by-cons size_of m ms in
-    let both : cost roster s us ≡ cost roster s (one ++ rest) = ap (cost roster s) is in
-    omega arith
-
--- where no table of the roster stores names, a message carries none
-carries_none : (roster : List Definition) (s mid : State) (m : Message) (one : List Update) → AreOwn roster s.received.tables → stores_no_name roster ≡ true → Step s m one mid → AreNameless one
-carries_none roster s mid (messages.Update m) one own no_name (fit, table, on, number, numbered, name, named, carried, received, last_numbers) =
-    let sel = selection s.received m fit in
-    let none : stores_name sel.0 ≡ false = selected-nameless (record { roster = roster; state = s }) sel.0 own no_name sel.1 in
-    let field : m.name ≡ names.NotStored = nameless sel.0 m.name none (name_fitting s.received m sel.0 fit sel.1) in
-    let unnamed : name ≡ None = (subst (λ (f : NameField). Named s.slots f name mid.slots) field named).0 in
-    subst (λ (l : List Update). AreNameless l) (sym carried) (unnamed, tt)
-carries_none roster s mid (messages.Define d) one own no_name (fit, none, is) = rw none tt
-carries_none roster s mid (messages.Switch id) one own no_name (fit, none, is) = rw none tt
-carries_none roster s mid (messages.Control c) one own no_name (fit, none, is) = rw none tt
-carries_none roster s mid (messages.Error e) one own no_name (fit, none, is) = rw none tt
-carries_none roster s mid (messages.Ack table number) one own no_name (fit, none, is) = rw none tt
-carries_none roster s mid (messages.Other o) one own no_name (fit, none, is) = rw none tt
-
--- nor does a legal list
-pub none_carried : (roster : List Definition) (s e : State) (ms : List Message) (us : List Update) → AreOwn roster s.received.tables → stores_no_name roster ≡ true → Legal roster s ms us e → AreNameless us
-none_carried roster s e [] us own no_name (owns, (none, same)) = rw none tt
-none_carried roster s e (m ∷ ms) us own no_name (owns, (one, rest, mid, is, step, later)) =
-    let first = carries_none roster s mid m one own no_name step in
-    let others = none_carried roster mid e ms rest (own_stays roster s mid m one own owns.0 step) no_name (owns.1, later) in
-    subst (λ (l : List Update). AreNameless l) (sym is) (joined one rest first others)
-  where
-    joined : (a b : List Update) → AreNameless a → AreNameless b → AreNameless (a ++ b)
-    joined [] b first second = second
-    joined (u ∷ us) b first second = (first.0, joined us b first.1 second)

@@ -31,16 +31,6 @@ knowledge_of s = record {
 abbrev pub knowledge_after : Knowledge → Update → Knowledge
 knowledge_after k u = record { is_defined = λ id. id == u.table || k.is_defined id; selected = Some u.table; last = λ id. if id == u.table then Some u.number else k.last id }
 
--- and after the selection of a table
-abbrev pub with_selected : Knowledge → ℕ → Knowledge
-with_selected k t = record { is_defined = λ id. id == t || k.is_defined id; selected = Some t; last = k.last }
-
--- less is known: what is defined was defined, and a last number is as it was or gone
-pub record KnowsLess (less more : Knowledge) : Type 0 where
-  pub defined : (id : ℕ) → less.is_defined id ≡ true → more.is_defined id ≡ true
-  pub selected : less.selected ≡ more.selected
-  pub last : (id : ℕ) → (less.last id ≡ more.last id) ⊎ (less.last id ≡ None)
-
 -- whether a number is one more than the last, modulo 2^32
 abbrev pub follows : Option ℕ → ℕ → Bool
 follows None number = false

@@ -31,10 +31,6 @@ pub record KnownState : Type 0 where
 abbrev pub AreOwn : List Definition → List Definition → Type 0
 AreOwn roster ds = AllByRecursion (λ d. table_at roster d.id ≡ Some d) ds
 
--- no table of the roster stores the server's name
-abbrev pub stores_no_name : List Definition → Bool
-stores_no_name roster = not (list_any stores_name roster)
-
 -- a learner of the roster that received nothing
 abbrev pub fresh_of : List Definition → KnownState
 fresh_of roster = record { roster = roster; state = record { received = nothing_received; last_numbers = []; slots = no_names } }

@@ -32,10 +32,6 @@ abbrev pub requests_of : List Definition → Knowledge → List Update → List 
 requests_of roster k [] = []
 requests_of roster k (u ∷ us) = asked roster k u u.name ++ requests_of roster (knowledge_after k u) us
 
--- what is known after updates
-abbrev pub knowledge_after_all : Knowledge → List Update → Knowledge
-knowledge_after_all k us = fold knowledge_after k us
-
 -- the update is one of a table of the roster
 abbrev pub IsUpdateOf : List Definition → Update → Type 0
 IsUpdateOf roster u = (d : Definition) × (table_at roster u.table ≡ Some d) × (fits d u ≡ true)
@@ -60,9 +56,3 @@ read_savings [] marks = 0
 read_savings (r ∷ rs) [] = 0
 read_savings (r ∷ rs) (true ∷ marks) = (r.write_cost - r.read_cost) + read_savings rs marks
 read_savings (r ∷ rs) (false ∷ marks) = read_savings rs marks
-
--- ---- batches that ask for nothing
-
--- no update has a name
-abbrev pub AreNameless : List Update → Type 0
-AreNameless us = AllByRecursion (λ u. u.name ≡ None) us

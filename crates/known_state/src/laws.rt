@@ -13,8 +13,8 @@ ghost use Rattle.peers_msg.specs.declared.name_field.NameField.{NameField};
 ghost use Rattle.known_state.specs.State.{State, Step, Teaches, Named, IsOwn, Legal, fresh, reads_empty, name_of, slots_after};
 ghost use Rattle.known_state.specs.LastNumbers.{last_of, AreRising};
 ghost use Rattle.known_state.specs.declared.known.StepError.{StepError};
-ghost use Rattle.known_state.specs.Known.{KnownState, AreOwn, build_fault, built, holds, stores_no_name, Refuses, known_of};
-ghost use Rattle.known_state.specs.Requests.{AreNameless, read_savings, reads_of, requests_of};
+ghost use Rattle.known_state.specs.Known.{KnownState, AreOwn, build_fault, built, holds, Refuses, known_of};
+ghost use Rattle.known_state.specs.Requests.{read_savings, reads_of, requests_of};
 ghost use Rattle.known_state.specs.Cost.{IsOfRoster, Knowledge, Pays, Saves, cost, full, knowledge_of};
 ghost use Rattle.known_state.specs.Shortest.{Shortest};
 
@@ -90,25 +90,6 @@ pub fn reads_pay()
         full roster s us ≤ size_of_all ms + read_savings (requests_of roster (knowledge_of s) us) (reads_of ms) }
     ensures marks { (roster : List Definition) (k : Knowledge) (s e : State) (ms : List Message) (us : List Update) →
         Teaches s ms us e → length (reads_of ms) ≡ length (requests_of roster k us) }
-{}
-
-/// Where no update has a name, no legal list is shorter than the lesson.
-pub fn none_is_shorter()
-    ensures { (roster : List Definition) (s e : State) (ms : List Message) (us : List Update) →
-        AreOwn roster s.received.tables → AreNameless us → AllByRecursion (IsOfRoster roster) us →
-        Legal roster s ms us e → full roster s us ≤ size_of_all ms }
-{}
-
-/// Where no table of the roster stores names, no legal list carries an update with a name.
-pub fn no_name_is_carried()
-    ensures { (roster : List Definition) (s e : State) (ms : List Message) (us : List Update) →
-        AreOwn roster s.received.tables → stores_no_name roster ≡ true → Legal roster s ms us e → AreNameless us }
-{}
-
-/// Which list is the shortest goes by the bytes alone: a legal list with the bytes of a shortest one is a shortest one.
-pub fn shortest_by_bytes()
-    ensures { (k : KnownState) (us : List Update) (ms ns : List Message) (e : State) →
-        Legal k.roster k.state ms us e → Shortest k us ns → stream_of ms ≡ stream_of ns → Shortest k us ms }
 {}
 
 /// What a teacher knows of a learner is enough. Where all that the learner received is the roster's own, and its last

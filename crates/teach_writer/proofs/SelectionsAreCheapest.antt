@@ -13,7 +13,8 @@ use Rattle.peers_msg.specs.Spelling.{size_of, size_of_all}
 use Rattle.known_state.specs.State.{State, Step}
 use Rattle.known_state.specs.LastNumbers.{keeps_last, last_of}
 use Rattle.known_state.specs.Known.{KnownState, AreOwn}
-use Rattle.known_state.specs.Cost.{KnowsLess, with_selected, knowledge_of, is_selected, selection_cost}
+use Rattle.known_state.specs.Cost.{knowledge_of, is_selected, selection_cost}
+use Rattle.known_state.proofs.LesserKnowledge.{KnowsLess, with_selected}
 use Rattle.known_state.proofs.KnownLemmas.{table_at-id, table_at-passes, define_selects}
 use Rattle.known_state.proofs.RosterLemmas.{roster_names, still_received, two_names}
 use Rattle.known_state.proofs.StepLemmas.{selected-found}

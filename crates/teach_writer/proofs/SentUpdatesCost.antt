@@ -23,7 +23,8 @@ use Rattle.peers_msg.specs.Spelling.{spelled, stream_of, size_of, size_of_all, u
 use Rattle.known_state.specs.State.{State, Step, Teaches, IsOwn, Legal, resolved}
 use Rattle.known_state.specs.LastNumbers.{last_of, set_last}
 use Rattle.known_state.specs.Known.{KnownState, AreOwn}
-use Rattle.known_state.specs.Cost.{Knowledge, KnowsLess, with_selected, knowledge_of, knowledge_after, number_sent, sent_as, written_field, is_named_table, written_cost, selection_cost, cost, cost_from, full}
+use Rattle.known_state.specs.Cost.{Knowledge, knowledge_of, knowledge_after, number_sent, sent_as, written_field, is_named_table, written_cost, selection_cost, cost, cost_from, full}
+use Rattle.known_state.proofs.LesserKnowledge.{KnowsLess, with_selected}
 use Rattle.known_state.specs.Requests.{Asked, asked, requests_of, read_savings}
 use Rattle.known_state.specs.Plans.{Plan, Accepts, all_links, bound, kept_savings, links, names_in}
 use Rattle.known_state.specs.Shortest.{Shortest}
