@@ -1,0 +1,165 @@
+-- The course of a session that is open, and what each message of the far side does to it (HAProxy, doc/peers-v2.0.txt,
+-- "Control Messages"; the rules of a resync are this profile's).
+use Rattle.std.specs.Prelude.{◌≡◌, ◌≢◌, ℕ, Bool, true, false, ◌==◌, List, [], ◌∷◌, ◌++◌, map, Option, Some, None, Result, Ok, Err, if◌then◌else◌}
+use Rattle.table_types.specs.Tables.{Definition}
+use Rattle.table_types.specs.declared.copies.CopyKind.{CopyKind}
+use Rattle.table_types.specs.declared.copies.CopyKind.TheVariants as kinds
+use Rattle.peers_msg.specs.declared.control.Control.{Control}
+use Rattle.peers_msg.specs.declared.control.Control.TheVariants as controls
+use Rattle.peers_msg.specs.declared.control.ErrorKind.{ErrorKind}
+use Rattle.learner.specs.declared.fault.Fault.{Fault}
+use Rattle.learner.specs.declared.fault.Fault.TheVariants as faults
+use Rattle.learner.specs.declared.taken.Taken.{Taken}
+use Rattle.learner.specs.declared.taken.Taken.TheVariants as taken
+use Rattle.learner.specs.Intake.{Taking, Gives, IntakeNext, Stops, begun, fed, acks_of}
+use Rattle.session_core.specs.declared.share.Share.{Share}
+use Rattle.session_core.specs.declared.action.Action.{Action}
+use Rattle.session_core.specs.declared.action.Action.TheVariants as actions
+use Rattle.session_core.specs.declared.state.State.{State}
+use Rattle.session_core.specs.declared.state.State.TheVariants as states
+use Rattle.session_core.specs.declared.due.Due.{Due}
+use Rattle.session_core.specs.declared.due.Due.TheVariants as dues
+use Rattle.session_core.specs.declared.halt.Halt.{Halt}
+use Rattle.session_core.specs.declared.halt.Halt.TheVariants as halts
+use Rattle.session_core.specs.Shares.{any_out, is_out, all_quiet, shares_of, unquieted, next_table}
+use Rattle.session_core.specs.Actions.{reopens, sends_control, sends_acks}
+
+-- What was taken of the far side's messages; whether this node is itself up to date; the tables, in roster order; the
+-- one asked last; whether the far side is taught all rows; whether its request for that waits; and which actions aren't
+-- answered yet, the first due first.
+pub record Course : Type 0 where
+  pub intake : Taking
+  pub up_to_date : Bool
+  pub shares : List Share
+  pub asked : Option ℕ
+  pub teaching : Bool
+  pub waits : Bool
+  pub due : List Due
+
+-- no message came yet
+abbrev pub course_begun : List Definition → Bool → Course
+course_begun roster up_to_date = record { intake = begun roster; up_to_date = up_to_date; shares = shares_of roster; asked = None; teaching = false; waits = false; due = [] }
+
+-- bytes of messages come
+abbrev pub course_fed : Course → List ℕ → Course
+course_fed c bytes = record c { intake = fed c.intake bytes }
+
+-- a resync begins: none is quiet
+abbrev pub teaching_anew : Course → Course
+teaching_anew c = record c { shares = unquieted c.shares; teaching = true; waits = false }
+
+-- ---- one message
+
+-- A request for a resync: where a batch is out it waits; else the session is reopened in each table, and teaching
+-- begins.
+abbrev pub requested : Bool → Course → List Action × Course
+requested true c = ([], record c { waits = true })
+requested false c = (reopens c.shares, teaching_anew c)
+
+-- an acknowledgement of a table that is out is passed on, and its answer is due; any other is passed over
+abbrev pub acknowledged : Bool → Course → ℕ → ℕ → List Action × Course
+acknowledged true c table number = (actions.Ack table number ∷ [], record c { due = c.due ++ (dues.Ack table ∷ []) })
+acknowledged false c table number = ([], c)
+
+-- the end of a resync is confirmed, asked for or not
+abbrev pub said : Course → Control → List Action × Course
+said c controls.ResyncRequest = requested (any_out c.shares) c
+said c controls.ResyncFinished = (sends_control controls.ResyncConfirmed ∷ [], c)
+said c controls.ResyncPartial = (sends_control controls.ResyncConfirmed ∷ [], c)
+said c controls.ResyncConfirmed = ([], c)
+said c controls.Heartbeat = ([], c)
+
+-- what a message asks for, and the course then
+abbrev pub heard : Course → Taken → List Action × Course
+heard c (taken.Row u) = (actions.Learn u ∷ [], c)
+heard c taken.Passed = ([], c)
+heard c (taken.Said control) = said c control
+heard c (taken.Acked table number) = acknowledged (is_out table c.shares) c table number
+heard c (taken.Failed kind) = ([], c)
+
+-- ---- messages one after another
+
+-- an error message ends the session
+abbrev pub is_failure : Taken → Bool
+is_failure (taken.Failed kind) = true
+is_failure t = false
+
+-- the message at the front is taken off the bytes, and isn't an error message
+abbrev pub Hears : Course → Taken → Course → Type 0
+Hears c t e = (is_failure t ≡ false) × Gives c.intake (Ok t) e.intake × (e ≡ record c { intake = e.intake })
+
+-- these messages are heard one after another, and ask for these actions
+abbrev pub AreHeard : Course → List Taken → List Action → Course → Type 0
+AreHeard c [] acts e = (acts ≡ []) × (e ≡ c)
+AreHeard c (t ∷ ts) acts e =
+    (mid : Course)
+    × (rest : List Action)
+    × Hears c t mid
+    × (acts ≡ (heard mid t).0 ++ rest)
+    × AreHeard (heard mid t).1 ts rest e
+
+-- why the message at the front isn't heard: it is an error message, or the intake has a fault
+abbrev pub IsHalted : Course → Halt → Type 0
+IsHalted c halts.Failed = (kind : ErrorKind) × (e : Taking) × Gives c.intake (Ok (taken.Failed kind)) e
+IsHalted c (halts.Fault fault) = (fault ≢ faults.Memory) × (e : Taking) × Stops c.intake fault e
+IsHalted c halts.Memory = Unit {0}
+
+-- want of memory is no fault of the far side
+abbrev pub halt_of : Fault → Halt
+halt_of faults.Memory = halts.Memory
+halt_of fault = halts.Fault fault
+
+-- The messages that are whole are heard one after another, up to the first that halts.
+abbrev pub HearsAll : Course → Result (Unit {0}) Halt → List Action → Course → Type 0
+HearsAll c (Ok _) acts e = (ts : List Taken) × AreHeard c ts acts e × IntakeNext e.intake (Ok None) e.intake
+HearsAll c (Err halt) acts e = (ts : List Taken) × (mid : Course) × AreHeard c ts acts mid × IsHalted mid halt
+
+-- the acknowledgements that are due are sent
+abbrev pub acks_sent : Course → Course
+acks_sent c = record c { intake = record c.intake { due = [] } }
+
+abbrev pub acks_given : Course → List Action
+acks_given c = sends_acks (acks_of c.intake)
+
+-- ---- a turn
+
+-- rows of this node's own, or in a resync all rows
+abbrev pub kind_of : Bool → CopyKind
+kind_of true = kinds.Resync
+kind_of false = kinds.Push
+
+-- the table that a turn asks: none while a resync request waits
+abbrev pub table_to_ask : Course → Option ℕ
+table_to_ask c = if c.waits then None else next_table c.teaching c.asked c.shares
+
+-- ---- answers
+
+abbrev pub is_same_due : Due → Due → Bool
+is_same_due (dues.Copy a) (dues.Copy b) = a == b
+is_same_due dues.Teach dues.Teach = true
+is_same_due (dues.Ack a) (dues.Ack b) = a == b
+is_same_due a b = false
+
+-- what is due first is that
+abbrev pub is_due : Due → List Due → Bool
+is_due d [] = false
+is_due d (first ∷ rest) = is_same_due first d
+
+abbrev pub none_due : List Due → Bool
+none_due [] = true
+none_due (d ∷ ds) = false
+
+-- what is due first is that, and is answered; what follows it stays due
+abbrev pub Answered : Course → Due → Course → Type 0
+Answered c d e = (c.due ≡ d ∷ e.due) × (e ≡ record c { due = e.due })
+
+-- all rows were taught: resync finished, or partial where this node isn't itself up to date
+abbrev pub finished : Bool → Control
+finished true = controls.ResyncFinished
+finished false = controls.ResyncPartial
+
+-- ---- what can be read
+
+abbrev pub state_of_course : Bool → State
+state_of_course true = states.Teaching
+state_of_course false = states.Ready

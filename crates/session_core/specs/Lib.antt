@@ -1,0 +1,4 @@
+pub mod Shares
+pub mod Actions
+pub mod Courses
+pub mod Sessions

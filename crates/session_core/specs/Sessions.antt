@@ -1,0 +1,275 @@
+-- The machine of a session: what it does at each event (HAProxy, doc/peers-v2.0.txt, "Handshake" and "Control
+-- Messages"; the rules of this profile are in docs/FORMATS.md).
+use Rattle.std.specs.Prelude.{◌≡◌, ◌≢◌, ℕ, Bool, true, false, ◌==◌, ◌&&◌, ◌||◌, not, List, [], ◌∷◌, ◌++◌, drop, Option, Some, None, Result, Ok, Err, if◌then◌else◌}
+use Rattle.table_types.specs.Tables.{Definition}
+use Rattle.table_types.specs.declared.update.Update.{Update}
+use Rattle.table_types.specs.declared.copies.Settled.{Settled}
+use Rattle.table_types.specs.declared.copies.Settled.TheVariants as settles
+use Rattle.peers_msg.specs.declared.fault.Breach.TheVariants as breaches
+use Rattle.peers_msg.specs.declared.control.Control.{Control}
+use Rattle.peers_msg.specs.declared.control.Control.TheVariants as controls
+use Rattle.peers_msg.specs.declared.control.ErrorKind.{ErrorKind}
+use Rattle.peers_msg.specs.declared.control.ErrorKind.TheVariants as kinds
+use Rattle.peers_hello.specs.declared.hello.Hello.{Hello}
+use Rattle.peers_hello.specs.declared.hello.Answer.{Answer}
+use Rattle.peers_hello.specs.declared.hello.Answer.TheVariants as answers
+use Rattle.peers_hello.specs.declared.status.Status.{Status}
+use Rattle.peers_hello.specs.declared.status.Status.TheVariants as statuses
+use Rattle.peers_hello.specs.Hellos.{hello_text, answer_of}
+use Rattle.peers_hello.specs.Statuses.{status_of}
+use Rattle.known_state.specs.Known.{KnownState, fresh_of}
+use Rattle.learner.specs.declared.fault.Fault.{Fault}
+use Rattle.learner.specs.declared.fault.Fault.TheVariants as faults
+use Rattle.session_core.specs.declared.action.Action.{Action}
+use Rattle.session_core.specs.declared.action.Action.TheVariants as actions
+use Rattle.session_core.specs.declared.event.Event.{Event}
+use Rattle.session_core.specs.declared.event.Event.TheVariants as events
+use Rattle.session_core.specs.declared.error.SessionError.{SessionError}
+use Rattle.session_core.specs.declared.error.SessionError.TheVariants as errors
+use Rattle.session_core.specs.declared.state.State.{State}
+use Rattle.session_core.specs.declared.state.State.TheVariants as states
+use Rattle.session_core.specs.declared.due.Due.{Due}
+use Rattle.session_core.specs.declared.due.Due.TheVariants as dues
+use Rattle.session_core.specs.declared.halt.Halt.{Halt}
+use Rattle.session_core.specs.declared.halt.Halt.TheVariants as halts
+use Rattle.session_core.specs.declared.phase.Greeter.{Greeter}
+use Rattle.session_core.specs.declared.phase.Greeter.TheVariants as greeters
+use Rattle.session_core.specs.declared.phase.Phase.{Phase}
+use Rattle.session_core.specs.declared.phase.Phase.TheVariants as phases
+use Rattle.session_core.specs.Shares.{any_out, all_quiet, out_set, quiet_set}
+use Rattle.session_core.specs.Actions.{sends_control, status_text, reopens, confirms}
+use Rattle.session_core.specs.Courses.{Course, course_begun, course_fed, teaching_anew, HearsAll, acks_sent, acks_given, kind_of, table_to_ask, is_due, none_due, Answered, finished, state_of_course}
+
+-- Where a session stands; what it knows of the far side as a learner; the fault of the far side's messages that ended
+-- it, if any; and whether it sent that a resync is confirmed.
+pub record SessionState : Type 0 where
+  pub phase : Phase
+  pub known : KnownState
+  pub fault : Option Fault
+  pub confirmed : Bool
+
+abbrev pub in_phase : SessionState → Phase → SessionState
+in_phase s phase = record { phase = phase; known = s.known; fault = s.fault; confirmed = s.confirmed }
+
+-- the session is over; what was known stays readable
+abbrev pub ended : SessionState → SessionState
+ended s = in_phase s phases.Ended
+
+-- the session goes on with that course
+abbrev pub going : SessionState → Course → SessionState
+going s c = in_phase s (phases.Open c)
+
+-- ---- the beginning
+
+-- the side that opens the connection, and greets
+abbrev pub connecting : Hello → List Definition → Bool → SessionState
+connecting hello roster up_to_date = record { phase = phases.New hello (course_begun roster up_to_date); known = fresh_of roster; fault = None; confirmed = false }
+
+-- the side that was connected to, which has that name and knows these peers
+abbrev pub accepting : List ℕ → List (List ℕ) → List Definition → Bool → SessionState
+accepting own peers roster up_to_date = record { phase = phases.Hello (greeters.Accepts own peers) [] (course_begun roster up_to_date); known = fresh_of roster; fault = None; confirmed = false }
+
+-- ---- rows that several phases share
+
+-- nothing is asked for, and the session stands there
+abbrev pub Stays : SessionState → Phase → List Action → SessionState → Type 0
+Stays s phase acts e = (acts ≡ []) × (e ≡ in_phase s phase)
+
+abbrev pub Closes : SessionState → List Action → SessionState → Type 0
+Closes s acts e = (acts ≡ actions.Close ∷ []) × (e ≡ ended s)
+
+-- ---- bytes of messages
+
+-- the error message that a fault is answered with
+abbrev pub kind_of_fault : Fault → ErrorKind
+kind_of_fault (faults.Breach breaches.SizeLimit) = kinds.SizeLimit
+kind_of_fault fault = kinds.Protocol
+
+-- whether it is confirmed now: it was, or is with these actions
+abbrev pub confirmed_by : List Action → SessionState → SessionState
+confirmed_by acts s = record { phase = s.phase; known = s.known; fault = s.fault; confirmed = s.confirmed || confirms acts }
+
+-- What follows the messages that were heard: where no message is whole any more, the acknowledgements that are due.
+-- An error message closes, and a fault parts, both without the acknowledgements.
+abbrev pub Concludes : SessionState → Course → Result (Unit {0}) Halt → List Action → List Action → SessionState → Type 0
+Concludes s c (Ok _) given acts e = (acts ≡ given ++ acks_given c) × (e ≡ confirmed_by acts (going s (acks_sent c)))
+Concludes s c (Err halts.Failed) given acts e = (acts ≡ given ++ (actions.Close ∷ [])) × (e ≡ confirmed_by acts (ended s))
+Concludes s c (Err (halts.Fault fault)) given acts e =
+    (acts ≡ given ++ (actions.Part (kind_of_fault fault) ∷ []))
+    × (e ≡ confirmed_by acts (record { phase = phases.Ended; known = s.known; fault = Some fault; confirmed = s.confirmed }))
+Concludes s c (Err halts.Memory) given acts e = ⊥
+
+-- The course c was fed bytes: its messages are heard one after another, after these first actions.
+abbrev pub Hearkens : SessionState → Course → List Action → List Action → SessionState → Type 0
+Hearkens s c first acts e =
+    (result : Result (Unit {0}) Halt)
+    × (given : List Action)
+    × (mid : Course)
+    × HearsAll c result given mid
+    × Concludes s mid result (first ++ given) acts e
+
+-- ---- New
+
+abbrev pub GoesNew : SessionState → Hello → Course → Event → List Action → SessionState → Type 0
+GoesNew s hello c events.Opened acts e = (acts ≡ actions.Send (hello_text hello) ∷ []) × (e ≡ in_phase s (phases.Hello greeters.Connects [] c))
+GoesNew s hello c events.Turn acts e = Stays s (phases.New hello c) acts e
+GoesNew s hello c events.End acts e = Closes s acts e
+GoesNew s hello c events.ReadFault acts e = Closes s acts e
+GoesNew s hello c events.WriteFault acts e = Closes s acts e
+GoesNew s hello c event acts e = ⊥
+
+-- ---- Hello
+
+-- status 200 is answered with a resync request, and what follows it are messages; any other closes
+abbrev pub IsWelcomed : Bool → SessionState → Course → List ℕ → List Action → SessionState → Type 0
+IsWelcomed true s c rest acts e = Hearkens s (course_fed c rest) (sends_control controls.ResyncRequest ∷ []) acts e
+IsWelcomed false s c rest acts e = Closes s acts e
+
+-- by the status; the bytes are kept until its line is whole
+abbrev pub Connects : Status → SessionState → List ℕ → Course → List Action → SessionState → Type 0
+Connects statuses.More s bytes c acts e = Stays s (phases.Hello greeters.Connects bytes c) acts e
+Connects (statuses.Code code used) s bytes c acts e = IsWelcomed (code == 200) s c (drop used bytes) acts e
+Connects (statuses.Other used) s bytes c acts e = Closes s acts e
+
+-- a hello that is accepted is answered with status 200, and what follows it are messages; any other with its code
+abbrev pub Accepts : Answer → SessionState → Greeter → List ℕ → Course → List Action → SessionState → Type 0
+Accepts answers.More s greeter bytes c acts e = Stays s (phases.Hello greeter bytes c) acts e
+Accepts (answers.Accepted name used) s greeter bytes c acts e = Hearkens s (course_fed c (drop used bytes)) (actions.Send (status_text 200) ∷ []) acts e
+Accepts (answers.Refused code used) s greeter bytes c acts e = (acts ≡ actions.Send (status_text code) ∷ (actions.Close ∷ [])) × (e ≡ ended s)
+
+-- by who greets, and the bytes so far
+abbrev pub Greets : SessionState → Greeter → List ℕ → Course → List Action → SessionState → Type 0
+Greets s greeters.Connects bytes c acts e = Connects (status_of bytes) s bytes c acts e
+Greets s (greeters.Accepts own peers) bytes c acts e = Accepts (answer_of own peers bytes) s (greeters.Accepts own peers) bytes c acts e
+
+abbrev pub GoesHello : SessionState → Greeter → List ℕ → Course → Event → List Action → SessionState → Type 0
+GoesHello s greeter bytes c (events.Bytes piece) acts e = Greets s greeter (bytes ++ piece) c acts e
+GoesHello s greeter bytes c events.Turn acts e = Stays s (phases.Hello greeter bytes c) acts e
+GoesHello s greeter bytes c events.End acts e = Closes s acts e
+GoesHello s greeter bytes c events.ReadFault acts e = Closes s acts e
+GoesHello s greeter bytes c events.WriteFault acts e = Closes s acts e
+GoesHello s greeter bytes c event acts e = ⊥
+
+-- ---- Ready and Teaching
+
+-- a turn copies from the next table, if there is one
+abbrev pub Turns : Option ℕ → SessionState → Course → List Action → SessionState → Type 0
+Turns None s c acts e = Stays s (phases.Open c) acts e
+Turns (Some table) s c acts e =
+    (acts ≡ actions.Copy table (kind_of c.teaching) ∷ [])
+    × (e ≡ going s (record c { asked = Some table; due = dues.Copy table ∷ [] }))
+
+-- a batch was copied: it is out, and is to be taught
+abbrev pub IsCopied : SessionState → Course → ℕ → List Update → List Action → SessionState → Type 0
+IsCopied s c table batch acts e =
+    (acts ≡ actions.Teach batch ∷ [])
+    × (e ≡ going s (record c { shares = out_set table true c.shares; due = dues.Teach ∷ c.due }))
+
+-- in a resync the last table that has nothing to teach ends it
+abbrev pub Quiets : Bool → SessionState → Course → List Action → SessionState → Type 0
+Quiets true s c acts e = (acts ≡ sends_control (finished c.up_to_date) ∷ []) × (e ≡ going s (record c { teaching = false }))
+Quiets false s c acts e = Stays s (phases.Open c) acts e
+
+-- a table has nothing to teach: in a resync it is quiet then
+abbrev pub HasNothing : Bool → SessionState → Course → ℕ → List Action → SessionState → Type 0
+HasNothing true s c table acts e = Quiets (all_quiet (quiet_set table c.shares)) s (record c { shares = quiet_set table c.shares }) acts e
+HasNothing false s c table acts e = Stays s (phases.Open c) acts e
+
+-- nothing is out any more: a request that waits begins its resync
+abbrev pub Frees : Bool → SessionState → Course → List Action → SessionState → Type 0
+Frees true s c acts e = (acts ≡ reopens c.shares) × (e ≡ going s (teaching_anew c))
+Frees false s c acts e = Stays s (phases.Open c) acts e
+
+-- an acknowledgement of a whole batch brings it in
+abbrev pub Settles : Settled → SessionState → Course → ℕ → List Action → SessionState → Type 0
+Settles settles.All s c table acts e = Frees (c.waits && not (any_out (out_set table false c.shares))) s (record c { shares = out_set table false c.shares }) acts e
+Settles settled s c table acts e = Stays s (phases.Open c) acts e
+
+abbrev pub GoesOpen : SessionState → Course → Event → List Action → SessionState → Type 0
+GoesOpen s c events.Turn acts e = (c.due ≡ []) × Turns (table_to_ask c) s c acts e
+GoesOpen s c (events.Bytes bytes) acts e = (c.due ≡ []) × Hearkens s (course_fed c bytes) [] acts e
+GoesOpen s c (events.Copied table batch) acts e = (mid : Course) × Answered c (dues.Copy table) mid × IsCopied s mid table batch acts e
+GoesOpen s c (events.Nothing table) acts e = (mid : Course) × Answered c (dues.Copy table) mid × HasNothing mid.teaching s mid table acts e
+GoesOpen s c (events.Written known) acts e =
+    (mid : Course)
+    × Answered c dues.Teach mid
+    × (acts ≡ [])
+    × (e ≡ record { phase = phases.Open mid; known = known; fault = s.fault; confirmed = s.confirmed })
+GoesOpen s c (events.Settled table settled) acts e = (mid : Course) × Answered c (dues.Ack table) mid × Settles settled s mid table acts e
+GoesOpen s c (events.Refused table) acts e =
+    (mid : Course)
+    × Answered c (dues.Ack table) mid
+    × (acts ≡ actions.Part kinds.Protocol ∷ [])
+    × (e ≡ ended s)
+GoesOpen s c events.End acts e = Closes s acts e
+GoesOpen s c events.ReadFault acts e = Closes s acts e
+GoesOpen s c events.WriteFault acts e = Closes s acts e
+GoesOpen s c events.Opened acts e = ⊥
+
+-- ---- any phase
+
+abbrev pub GoesIn : Phase → SessionState → Event → List Action → SessionState → Type 0
+GoesIn (phases.New hello c) s event acts e = GoesNew s hello c event acts e
+GoesIn (phases.Hello greeter bytes c) s event acts e = GoesHello s greeter bytes c event acts e
+GoesIn (phases.Open c) s event acts e = GoesOpen s c event acts e
+GoesIn phases.Ended s event acts e = ⊥
+
+-- the session s goes at an event to e, and asks for these actions
+abbrev pub Goes : SessionState → Event → List Action → SessionState → Type 0
+Goes s event acts e = GoesIn s.phase s event acts e
+
+-- ---- refusals
+
+-- whether an event of an open session answers what is due first, or comes where nothing is due
+abbrev pub is_asked_open : List Due → Event → Bool
+is_asked_open due events.Turn = none_due due
+is_asked_open due (events.Bytes bytes) = none_due due
+is_asked_open due (events.Copied table batch) = is_due (dues.Copy table) due
+is_asked_open due (events.Nothing table) = is_due (dues.Copy table) due
+is_asked_open due (events.Written known) = is_due dues.Teach due
+is_asked_open due (events.Settled table settled) = is_due (dues.Ack table) due
+is_asked_open due (events.Refused table) = is_due (dues.Ack table) due
+is_asked_open due events.Opened = false
+is_asked_open due event = true
+
+abbrev pub is_asked_new : Event → Bool
+is_asked_new events.Opened = true
+is_asked_new events.Turn = true
+is_asked_new events.End = true
+is_asked_new events.ReadFault = true
+is_asked_new events.WriteFault = true
+is_asked_new event = false
+
+abbrev pub is_asked_hello : Event → Bool
+is_asked_hello (events.Bytes bytes) = true
+is_asked_hello events.Turn = true
+is_asked_hello events.End = true
+is_asked_hello events.ReadFault = true
+is_asked_hello events.WriteFault = true
+is_asked_hello event = false
+
+-- whether an event may come there
+abbrev pub is_asked : Phase → Event → Bool
+is_asked (phases.New hello c) event = is_asked_new event
+is_asked (phases.Hello greeter bytes c) event = is_asked_hello event
+is_asked (phases.Open c) event = is_asked_open c.due event
+is_asked phases.Ended event = false
+
+-- why an event is refused, by whether it may come there: it isn't asked for, or memory was wanted for it
+abbrev pub IsWhy : Bool → SessionError → Type 0
+IsWhy true errors.Memory = Unit {0}
+IsWhy false errors.Unasked = Unit {0}
+IsWhy asked error = ⊥
+
+-- a session that is over refuses every event for that
+abbrev pub Refuses : Phase → Event → SessionError → Type 0
+Refuses phases.Ended event error = error ≡ errors.Ended
+Refuses phase event error = IsWhy (is_asked phase event) error
+
+-- ---- what can be read
+
+abbrev pub state_of : Phase → State
+state_of (phases.New hello c) = states.New
+state_of (phases.Hello greeter bytes c) = states.Hello
+state_of (phases.Open c) = state_of_course c.teaching
+state_of phases.Ended = states.Ended

@@ -1,0 +1,12 @@
+//! Which actions aren't answered yet.
+
+/// An action that isn't answered yet.
+#[derive(Clone, Copy, Debug, PartialEq, Eq)]
+pub(crate) enum Due {
+    /// `Copy` of the table of that id.
+    Copy(u64),
+    /// `Teach`.
+    Teach,
+    /// `Ack` of the table of that id.
+    Ack(u64),
+}

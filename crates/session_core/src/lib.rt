@@ -1,0 +1,21 @@
+//! A session between two peers as a machine: what it does at each event (HAProxy, doc/peers-v2.0.txt, "Handshake" and
+//! "Control Messages"). It reads and writes nothing itself: it answers with what is to be done.
+#![tactic(auto)]
+
+mod action;
+mod course;
+mod due;
+mod error;
+mod event;
+mod halt;
+mod hearing;
+mod phase;
+mod session;
+mod share;
+mod state;
+
+pub use action::Action;
+pub use error::SessionError;
+pub use event::Event;
+pub use session::Session;
+pub use state::State;

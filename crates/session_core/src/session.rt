@@ -1,0 +1,503 @@
+//! Sessions.
+
+ghost use Rattle.std.specs.Prelude.{◌≡◌, ◌≢◌, ◌∷◌, ◌++◌, [], None, Ok, Err, IfOk, IfErr, OnErr, drop};
+ghost use Rattle.known_state.specs.Known.{fresh_of};
+ghost use Rattle.peers_hello.specs.Hellos.{hello_text, answer_of};
+ghost use Rattle.peers_hello.specs.Statuses.{status_of};
+ghost use Rattle.session_core.specs.declared.action.Action.TheVariants as actions;
+ghost use Rattle.session_core.specs.declared.error.SessionError.{SessionError};
+ghost use Rattle.session_core.specs.declared.error.SessionError.TheVariants as errors;
+ghost use Rattle.session_core.specs.declared.halt.Halt.TheVariants as halts;
+ghost use Rattle.session_core.specs.declared.phase.Greeter.TheVariants as greeters;
+ghost use Rattle.session_core.specs.declared.phase.Phase.TheVariants as phases;
+ghost use Rattle.session_core.specs.Shares.{all_quiet};
+ghost use Rattle.session_core.specs.Actions.{status_text};
+ghost use Rattle.session_core.specs.Courses.{course_fed, table_to_ask};
+ghost use Rattle.session_core.specs.Sessions.{Goes, GoesNew, GoesHello, GoesOpen, Stays, Connects, Accepts, Greets, Hearkens, Concludes, Turns, IsCopied, HasNothing, Quiets, Settles, Refuses, IsWhy, is_asked_new, is_asked_hello, is_asked_open, connecting, accepting, in_phase, ended, state_of, kind_of_fault};
+
+use crate::action::{Action, confirms, only, push};
+use crate::course::Course;
+use crate::due::Due;
+use crate::error::SessionError;
+use crate::event::Event;
+use crate::halt::Halt;
+use crate::hearing::{control_text, push_control};
+use crate::phase::{Greeter, Phase};
+use crate::share::{all_quiet, any_out};
+use crate::state::State;
+use known_state::Known;
+use learner::Fault;
+use peers_hello::{Answer, Hello, Status, read_status};
+use peers_msg::{Breach, Control, ErrorKind};
+use std::alloc::Global;
+use std::marker::Model;
+use std::mem;
+use table_types::{Batch, Items, Memory, Moment, Name, Roster, Settled};
+
+/// A session between this node and another peer (HAProxy, doc/peers-v2.0.txt). It does no work itself: at each event it
+/// gives the actions that are to be done, in this order.
+#[derive(Drop)]
+pub struct Session {
+    alloc: Global,
+    phase: Phase,
+    known: Known,
+    fault: Option<Fault>,
+    confirmed: bool,
+}
+
+impl Model for Session {
+    ghost use Rattle.session_core.specs.Sessions.{SessionState};
+
+    ghost Value = { SessionState };
+
+    ghost view = { λ s. record { phase = s.phase; known = s.known; fault = s.fault; confirmed = s.confirmed } };
+}
+
+/// The bytes after the first so many.
+fn after(bytes: &[u8], used: usize) -> &[u8]
+    ensures { result.now ≡ drop used bytes.now }
+{
+    if used <= bytes.len() {
+        &bytes[used..]
+    } else {
+        &bytes[bytes.len()..]
+    }
+}
+
+/// The line of a status.
+fn status_text(alloc: Global, code: u16) -> Result<Items<u8>, Memory>
+    ensures { IfOk result (λ bytes. bytes ≡ status_text code) }
+{
+    let text = format!(in alloc; "{code}\n")?;
+    Ok(Items::new(Vec::from_slice(alloc, text.as_bytes())?))
+}
+
+/// The error message that a fault is answered with.
+fn kind_of(fault: Fault) -> ErrorKind
+    ensures { result ≡ kind_of_fault fault }
+{
+    match fault {
+        Fault::Breach(Breach::SizeLimit) => ErrorKind::SizeLimit,
+        Fault::Breach(_) | Fault::Memory | Fault::Closed | Fault::EmptySlot | Fault::NoNumber =>
+            ErrorKind::Protocol,
+    }
+}
+
+impl Session {
+    /// A session of the side that opens the connection, and sends that hello. `up_to_date` says whether this node has
+    /// all rows itself: so it ends the resyncs that it teaches as finished, otherwise as partial.
+    pub fn connect(
+        alloc: Global,
+        hello: Hello,
+        roster: Roster,
+        up_to_date: bool,
+    ) -> Result<Session, Memory>
+        ensures { IfOk result (λ session. session ≡ connecting hello roster up_to_date) }
+    {
+        let course = Course::new(alloc, roster.copy(alloc)?, up_to_date)?;
+        Ok(Session {
+            alloc,
+            phase: Phase::New(hello, course),
+            known: Known::fresh(alloc, roster),
+            fault: None,
+            confirmed: false,
+        })
+    }
+
+    /// A session of the side that was connected to: the peer `own`, who lets these peers in. `up_to_date` is as at
+    /// `connect`.
+    pub fn accept(
+        alloc: Global,
+        own: Name,
+        peers: Vec<Name>,
+        roster: Roster,
+        up_to_date: bool,
+    ) -> Result<Session, Memory>
+        ensures { IfOk result (λ session. session ≡ accepting own peers.items roster up_to_date) }
+    {
+        let course = Course::new(alloc, roster.copy(alloc)?, up_to_date)?;
+        let peers = Items::new(peers);
+        let bytes = Items::new(Vec::new(alloc));
+        Ok(Session {
+            alloc,
+            phase: Phase::Hello(Greeter::Accepts { own, peers }, bytes, course),
+            known: Known::fresh(alloc, roster),
+            fault: None,
+            confirmed: false,
+        })
+    }
+
+    /// Where the session stands.
+    pub fn state(&self) -> State
+        ensures { result ≡ state_of self.now.phase }
+    {
+        match &self.phase {
+            Phase::New(_, _) => State::New,
+            Phase::Hello(_, _, _) => State::Hello,
+            Phase::Open(course) => course.state(),
+            Phase::Ended => State::Ended,
+        }
+    }
+
+    /// What is known of the far side as a learner: what the lessons written so far make of it.
+    pub fn known(&self) -> &Known
+        ensures { result.now ≡ self.now.known }
+    {
+        &self.known
+    }
+
+    /// The fault of the far side's messages that ended the session.
+    pub fn fault(&self) -> Option<Fault>
+        ensures { result ≡ self.now.fault }
+    {
+        self.fault
+    }
+
+    /// Whether the session has given to be sent that a resync is confirmed.
+    pub fn confirmed(&self) -> bool
+        ensures { result ≡ self.now.confirmed }
+    {
+        self.confirmed
+    }
+
+    /// What is to be done at an event, in this order.
+    ///
+    /// Refuses with `Ended` where the session was over, with `Unasked` where the event can't come there, and with
+    /// `Memory`. After each of these it is over, and no action is given; `known`, `fault` and `confirmed` are as before.
+    pub fn on(&mut self, event: Event, _now: Moment) -> Result<Vec<Action>, SessionError>
+        ensures goes { IfOk result (λ acts. Goes self.old event acts.items self.new) }
+        ensures refused { IfErr result (λ e. Refuses self.old.phase event e) }
+        ensures exactly { (e : SessionError) → e ≢ errors.Memory → Refuses self.old.phase event e → result ≡ Err e }
+        ensures ended { OnErr result (self.new ≡ ended self.old) }
+    {
+        match mem::replace(&mut self.phase, Phase::Ended) {
+            Phase::New(hello, course) => self.go_new(hello, course, event),
+            Phase::Hello(greeter, bytes, course) => self.go_hello(greeter, bytes, course, event),
+            Phase::Open(course) => self.go_open(course, event),
+            Phase::Ended => Err(SessionError::Ended),
+        }
+    }
+
+    /// Stands there, and asks for nothing.
+    fn stay(&mut self, phase: Phase) -> Vec<Action>
+        ensures { Stays self.old phase result.items self.new }
+    {
+        self.phase = phase;
+        Vec::new(self.alloc)
+    }
+
+    /// An event of a session that is new.
+    fn go_new(
+        &mut self,
+        hello: Hello,
+        course: Course,
+        event: Event,
+    ) -> Result<Vec<Action>, SessionError>
+        requires { self.old.phase ≡ phases.Ended }
+        ensures goes { IfOk result (λ acts. GoesNew self.old hello course event acts.items self.new) }
+        ensures refused { IfErr result (λ e. IsWhy (is_asked_new event) e) }
+        ensures stays { OnErr result (self.new ≡ self.old) }
+    {
+        match event {
+            Event::Opened => Ok(self.greet(hello, course)?),
+            Event::Turn => Ok(self.stay(Phase::New(hello, course))),
+            Event::End | Event::ReadFault | Event::WriteFault => {
+                Ok(only(self.alloc, Action::Close)?)
+            }
+            Event::Bytes(_)
+            | Event::Copied(_, _)
+            | Event::Nothing(_)
+            | Event::Written(_)
+            | Event::Settled(_, _)
+            | Event::Refused(_) => Err(SessionError::Unasked),
+        }
+    }
+
+    /// Sends the hello.
+    fn greet(&mut self, hello: Hello, course: Course) -> Result<Vec<Action>, Memory>
+        ensures actions { IfOk result (λ acts. acts.items ≡ actions.Send (hello_text hello) ∷ []) }
+        ensures session { IfOk result (λ acts. self.new ≡ in_phase self.old (phases.Hello greeters.Connects [] course)) }
+        ensures stays { OnErr result (self.new ≡ self.old) }
+    {
+        let text = Items::new(hello.write(self.alloc)?);
+        let actions = only(self.alloc, Action::Send(text))?;
+        let bytes = Items::new(Vec::new(self.alloc));
+        self.phase = Phase::Hello(Greeter::Connects, bytes, course);
+        Ok(actions)
+    }
+
+    /// An event of a session in which the hello or the status isn't whole yet.
+    fn go_hello(
+        &mut self,
+        greeter: Greeter,
+        bytes: Items<u8>,
+        course: Course,
+        event: Event,
+    ) -> Result<Vec<Action>, SessionError>
+        requires { self.old.phase ≡ phases.Ended }
+        ensures goes { IfOk result (λ acts. GoesHello self.old greeter bytes course event acts.items self.new) }
+        ensures refused { IfErr result (λ e. IsWhy (is_asked_hello event) e) }
+        ensures stays { OnErr result (self.new ≡ self.old) }
+    {
+        match event {
+            Event::Bytes(piece) => {
+                let mut bytes = bytes.into_vec();
+                bytes
+                    .extend_from_slice(piece.as_slice())
+                    .map_err(Memory::from)?;
+                Ok(self.read_greeting(greeter, Items::new(bytes), course)?)
+            }
+            Event::Turn => Ok(self.stay(Phase::Hello(greeter, bytes, course))),
+            Event::End | Event::ReadFault | Event::WriteFault => {
+                Ok(only(self.alloc, Action::Close)?)
+            }
+            Event::Opened
+            | Event::Copied(_, _)
+            | Event::Nothing(_)
+            | Event::Written(_)
+            | Event::Settled(_, _)
+            | Event::Refused(_) => Err(SessionError::Unasked),
+        }
+    }
+
+    /// Reads the bytes that came of the hello or the status.
+    fn read_greeting(
+        &mut self,
+        greeter: Greeter,
+        bytes: Items<u8>,
+        course: Course,
+    ) -> Result<Vec<Action>, Memory>
+        requires { self.old.phase ≡ phases.Ended }
+        ensures goes { IfOk result (λ acts. Greets self.old greeter bytes course acts.items self.new) }
+        ensures stays { OnErr result (self.new ≡ self.old) }
+    {
+        match greeter {
+            Greeter::Connects => self.read_status(bytes, course),
+            Greeter::Accepts { own, peers } => self.read_hello(own, peers, bytes, course),
+        }
+    }
+
+    /// Reads the status that answers the hello.
+    fn read_status(&mut self, bytes: Items<u8>, course: Course) -> Result<Vec<Action>, Memory>
+        requires { self.old.phase ≡ phases.Ended }
+        ensures goes { IfOk result (λ acts. Connects (status_of bytes) self.old bytes course acts.items self.new) }
+        ensures stays { OnErr result (self.new ≡ self.old) }
+    {
+        match read_status(bytes.as_slice()) {
+            Status::More => Ok(self.stay(Phase::Hello(Greeter::Connects, bytes, course))),
+            Status::Code(code, used) => {
+                if code == 200 {
+                    let request = control_text(self.alloc, Control::ResyncRequest)?;
+                    let actions = only(self.alloc, Action::Send(request))?;
+                    self.hear(course, after(bytes.as_slice(), used), actions)
+                } else {
+                    only(self.alloc, Action::Close)
+                }
+            }
+            Status::Other(_) => only(self.alloc, Action::Close),
+        }
+    }
+
+    /// Reads the hello and answers it.
+    fn read_hello(
+        &mut self,
+        own: Name,
+        peers: Items<Name>,
+        bytes: Items<u8>,
+        course: Course,
+    ) -> Result<Vec<Action>, Memory>
+        requires { self.old.phase ≡ phases.Ended }
+        ensures goes { IfOk result (λ acts. Accepts (answer_of own peers bytes) self.old (greeters.Accepts own peers) bytes course acts.items self.new) }
+        ensures stays { OnErr result (self.new ≡ self.old) }
+    {
+        match Hello::read(self.alloc, bytes.as_slice(), &own, peers.as_slice())? {
+            Answer::More => {
+                Ok(self.stay(Phase::Hello(Greeter::Accepts { own, peers }, bytes, course)))
+            }
+            Answer::Accepted(_, used) => {
+                let actions = only(self.alloc, Action::Send(status_text(self.alloc, 200)?))?;
+                self.hear(course, after(bytes.as_slice(), used), actions)
+            }
+            Answer::Refused(code, _) => {
+                let mut actions = only(self.alloc, Action::Send(status_text(self.alloc, code)?))?;
+                push(&mut actions, Action::Close)?;
+                Ok(actions)
+            }
+        }
+    }
+
+    /// Hears the messages in these bytes, after these first actions.
+    fn hear(
+        &mut self,
+        course: Course,
+        bytes: &[u8],
+        first: Vec<Action>,
+    ) -> Result<Vec<Action>, Memory>
+        requires { self.old.phase ≡ phases.Ended }
+        ensures goes { IfOk result (λ acts. Hearkens self.old (course_fed course bytes.now) first.items acts.items self.new) }
+        ensures stays { OnErr result (self.new ≡ self.old) }
+    {
+        let (mut course, mut actions) = (course, first);
+        let heard = course.hear_bytes(self.alloc, bytes, &mut actions);
+        self.conclude(course, heard, actions)
+    }
+
+    /// What follows the messages that were heard.
+    fn conclude(
+        &mut self,
+        course: Course,
+        heard: Result<(), Halt>,
+        given: Vec<Action>,
+    ) -> Result<Vec<Action>, Memory>
+        requires { self.old.phase ≡ phases.Ended }
+        ensures goes { IfOk result (λ acts. Concludes self.old course heard given.items acts.items self.new) }
+        ensures memory { IfOk result (λ _. heard ≢ Err halts.Memory) }
+        ensures stays { OnErr result (self.new ≡ self.old) }
+    {
+        let mut actions = given;
+        match heard {
+            Ok(()) => {
+                let mut course = course;
+                course.send_acks(self.alloc, &mut actions)?;
+                self.phase = Phase::Open(course);
+            }
+            Err(Halt::Failed) => push(&mut actions, Action::Close)?,
+            Err(Halt::Fault(fault)) => {
+                push(&mut actions, Action::Part(kind_of(fault)))?;
+                self.fault = Some(fault);
+            }
+            Err(Halt::Memory) => return Err(Memory),
+        }
+        self.confirmed = self.confirmed || confirms(actions.as_slice());
+        Ok(actions)
+    }
+
+    /// An event of an open session.
+    fn go_open(&mut self, course: Course, event: Event) -> Result<Vec<Action>, SessionError>
+        requires { self.old.phase ≡ phases.Ended }
+        ensures goes { IfOk result (λ acts. GoesOpen self.old course event acts.items self.new) }
+        ensures refused { IfErr result (λ e. IsWhy (is_asked_open course.due event) e) }
+        ensures stays { OnErr result (self.new ≡ self.old) }
+    {
+        let mut course = course;
+        match event {
+            Event::Turn if course.none_due() => Ok(self.turn(course)?),
+            Event::Bytes(bytes) if course.none_due() => {
+                Ok(self.hear(course, bytes.as_slice(), Vec::new(self.alloc))?)
+            }
+            Event::Copied(table, batch) => {
+                course.answer(Due::Copy(table))?;
+                Ok(self.teach(course, table, batch)?)
+            }
+            Event::Nothing(table) => {
+                course.answer(Due::Copy(table))?;
+                Ok(self.nothing(course, table)?)
+            }
+            Event::Written(known) => {
+                course.answer(Due::Teach)?;
+                self.known = known;
+                Ok(self.stay(Phase::Open(course)))
+            }
+            Event::Settled(table, settled) => {
+                course.answer(Due::Ack(table))?;
+                Ok(self.settle(course, table, settled)?)
+            }
+            Event::Refused(table) => {
+                course.answer(Due::Ack(table))?;
+                Ok(only(self.alloc, Action::Part(ErrorKind::Protocol))?)
+            }
+            Event::End | Event::ReadFault | Event::WriteFault => {
+                Ok(only(self.alloc, Action::Close)?)
+            }
+            Event::Opened | Event::Turn | Event::Bytes(_) => Err(SessionError::Unasked),
+        }
+    }
+
+    /// Copies from the next table, if there is one.
+    fn turn(&mut self, course: Course) -> Result<Vec<Action>, Memory>
+        requires { self.old.phase ≡ phases.Ended }
+        ensures goes { IfOk result (λ acts. Turns (table_to_ask course) self.old course acts.items self.new) }
+        ensures stays { OnErr result (self.new ≡ self.old) }
+    {
+        let mut course = course;
+        let Some(table) = course.table_to_ask() else {
+            return Ok(self.stay(Phase::Open(course)));
+        };
+        let kind = course.kind();
+        let actions = only(self.alloc, Action::Copy { table, kind })?;
+        course.ask(table)?;
+        self.phase = Phase::Open(course);
+        Ok(actions)
+    }
+
+    /// A batch of the table of that id was copied, and is to be taught.
+    fn teach(&mut self, course: Course, table: u64, batch: Batch) -> Result<Vec<Action>, Memory>
+        requires { self.old.phase ≡ phases.Ended }
+        ensures goes { IfOk result (λ acts. IsCopied self.old course table batch acts.items self.new) }
+        ensures stays { OnErr result (self.new ≡ self.old) }
+    {
+        let mut course = course;
+        let actions = only(self.alloc, Action::Teach(batch))?;
+        course.set_out(table, true);
+        course.owe_lesson()?;
+        self.phase = Phase::Open(course);
+        Ok(actions)
+    }
+
+    /// The table of that id has nothing to teach.
+    fn nothing(&mut self, course: Course, table: u64) -> Result<Vec<Action>, Memory>
+        requires { self.old.phase ≡ phases.Ended }
+        ensures goes { IfOk result (λ acts. HasNothing course.teaching self.old course table acts.items self.new) }
+        ensures stays { OnErr result (self.new ≡ self.old) }
+    {
+        let mut course = course;
+        if !course.teaching {
+            return Ok(self.stay(Phase::Open(course)));
+        }
+        course.set_quiet(table);
+        self.quiet(course)
+    }
+
+    /// Ends the resync where all tables are quiet.
+    fn quiet(&mut self, course: Course) -> Result<Vec<Action>, Memory>
+        requires { self.old.phase ≡ phases.Ended }
+        ensures goes { IfOk result (λ acts. Quiets (all_quiet course.shares) self.old course acts.items self.new) }
+        ensures stays { OnErr result (self.new ≡ self.old) }
+    {
+        let mut course = course;
+        if !all_quiet(course.shares.as_slice()) {
+            return Ok(self.stay(Phase::Open(course)));
+        }
+        let mut actions = Vec::new(self.alloc);
+        push_control(self.alloc, &mut actions, course.finished())?;
+        course.teaching = false;
+        self.phase = Phase::Open(course);
+        Ok(actions)
+    }
+
+    /// An acknowledgement settled that much of the table of that id.
+    fn settle(
+        &mut self,
+        course: Course,
+        table: u64,
+        settled: Settled,
+    ) -> Result<Vec<Action>, Memory>
+        requires { self.old.phase ≡ phases.Ended }
+        ensures goes { IfOk result (λ acts. Settles settled self.old course table acts.items self.new) }
+        ensures stays { OnErr result (self.new ≡ self.old) }
+    {
+        let mut course = course;
+        match settled {
+            Settled::All => {}
+            Settled::Some | Settled::Older => return Ok(self.stay(Phase::Open(course))),
+        }
+        course.set_out(table, false);
+        if !course.waits || any_out(course.shares.as_slice()) {
+            return Ok(self.stay(Phase::Open(course)));
+        }
+        let mut actions = Vec::new(self.alloc);
+        course.begin_teaching(&mut actions)?;
+        self.phase = Phase::Open(course);
+        Ok(actions)
+    }
+}
