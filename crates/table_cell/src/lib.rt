@@ -1,6 +1,7 @@
 //! A stick table that keeps its history, and each batch that it handed out.
 #![tactic(auto)]
 
+mod above;
 mod errors;
 mod events;
 mod laws;

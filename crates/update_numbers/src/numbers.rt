@@ -13,6 +13,7 @@ ghost use Rattle.update_numbers.specs.Index.{AreIndexed, IsKept, key_at, key_wit
 
 use std::alloc::Global;
 use std::collections::BTreeMap;
+use std::collections::btree_map::Range;
 use std::marker::Model;
 use std::ops::Bound;
 use table_types::{Key, Memory};
@@ -274,11 +275,17 @@ impl Numbers {
     pub fn first_above(&self, number: u32) -> Option<(u32, &Key)>
         ensures { option_map (λ pair. (pair.0, pair.1.now)) result ≡ slice_get (above number self.now.pairs) 0 }
     {
-        let mut pairs = self
-            .by_number
-            .range((Bound::Excluded(number), Bound::Unbounded));
+        let mut pairs = self.all_above(number);
         let (number, key) = pairs.next()?;
         Some((*number, key))
+    }
+
+    /// The numbers above that one, with their keys, in rising number. Takes no memory.
+    pub fn all_above(&self, number: u32) -> Range<'_, u32, Key>
+        ensures { result ≡ above number self.now.pairs }
+    {
+        self.by_number
+            .range((Bound::Excluded(number), Bound::Unbounded))
     }
 
     /// The first numbers above that one, with equal keys, in rising number: all of them, and no more than `limit`.
@@ -286,10 +293,7 @@ impl Numbers {
         ensures { IfOk result (λ pairs. pairs.items ≡ take limit (above number self.now.pairs)) }
     {
         let mut found = Vec::new(self.alloc);
-        for (number, key) in self
-            .by_number
-            .range((Bound::Excluded(number), Bound::Unbounded))
-        {
+        for (number, key) in self.all_above(number) {
             if found.len() == limit {
                 break;
             }
