@@ -45,7 +45,6 @@ fn put_numbered<R: Rows>(
     key: Key,
     row: Row,
 ) -> (Numbers, Result<(), Memory>)
-    requires { numbers.next < 2 ^ 32 }
     ensures numbers { OnOk result.1 (result.0 ≡ given key numbers) }
     ensures rows { OnOk result.1 (R.content rows.new ≡ insert_entry key_cmp (R.content rows.old) key row) }
     ensures numbers_stay { OnErr result.1 (result.0 ≡ numbers) }

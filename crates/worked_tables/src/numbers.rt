@@ -56,3 +56,52 @@ fn the_last_number_is_spent(rt: HostRuntime) {
     assert!(rt; numbers.give(&Key::Int(1)) == Err(NumberError::Spent));
     assert!(rt; is_first_above(&numbers, 0, u32::MAX, 1));
 }
+
+#[test]
+fn a_reserved_number_is_let_go(rt: HostRuntime) {
+    let mut numbers = Numbers::new(rt.alloc(), 1);
+    assert!(rt; numbers.give(&Key::Int(5)) == Ok(1));
+    assert!(rt; numbers.give(&Key::Int(6)) == Ok(2));
+    let numbers = match numbers.reserve(&Key::Int(5)) {
+        Ok(reserved) => reserved.release(),
+        Err((_, numbers)) => numbers,
+    };
+    assert!(rt; is_first_above(&numbers, 0, 1, 5));
+    assert!(rt; numbers.next() == 3);
+    let numbers = match numbers.reserve(&Key::Int(7)) {
+        Ok(reserved) => reserved.release(),
+        Err((_, numbers)) => numbers,
+    };
+    assert!(rt; numbers.first_above(2).is_none());
+    assert!(rt; numbers.len() == 2);
+}
+
+#[test]
+fn a_reserved_number_is_given(rt: HostRuntime) {
+    let mut numbers = Numbers::new(rt.alloc(), 1);
+    assert!(rt; numbers.give(&Key::Int(5)) == Ok(1));
+    assert!(rt; numbers.give(&Key::Int(6)) == Ok(2));
+    let numbers = match numbers.reserve(&Key::Int(5)) {
+        Ok(reserved) => reserved.commit(),
+        Err((_, numbers)) => numbers,
+    };
+    assert!(rt; is_first_above(&numbers, 0, 2, 6));
+    assert!(rt; is_first_above(&numbers, 2, 3, 5));
+    let mut mentioned = 0;
+    for (number, _) in numbers.all_above(0) {
+        mentioned = mentioned * 10_u64 % 1_000 + u64::from(*number);
+    }
+    assert!(rt; mentioned == 23);
+    assert!(rt; numbers.next() == 4);
+}
+
+#[test]
+fn no_number_is_reserved_where_all_are_spent(rt: HostRuntime) {
+    let mut numbers = Numbers::new(rt.alloc(), u32::MAX);
+    assert!(rt; numbers.give(&Key::Int(1)) == Ok(u32::MAX));
+    let refused = match numbers.reserve(&Key::Int(2)) {
+        Ok(_) => None,
+        Err((error, _)) => Some(error),
+    };
+    assert!(rt; refused == Some(NumberError::Spent));
+}
