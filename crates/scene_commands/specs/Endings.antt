@@ -6,8 +6,8 @@ use Rattle.known_state.specs.declared.known.KnownError.{KnownError}
 use Rattle.known_state.specs.declared.known.KnownError.TheVariants as known
 use Rattle.peers_devices.specs.declared.input.ReadError.{ReadError}
 use Rattle.peers_devices.specs.declared.input.ReadError.TheVariants as input
-use Rattle.scene_text.specs.declared.error.SceneError.{SceneError}
-use Rattle.scene_text.specs.declared.error.SceneError.TheVariants as scenes
+use Rattle.line_words.specs.declared.error.SceneError.{SceneError}
+use Rattle.line_words.specs.declared.error.SceneError.TheVariants as scenes
 use Rattle.table_types.specs.declared.batch.BatchError.{BatchError}
 use Rattle.table_types.specs.declared.batch.BatchError.TheVariants as batches
 use Rattle.table_types.specs.declared.roster.RosterError.{RosterError}

@@ -6,8 +6,8 @@ ghost use Rattle.scene_commands.specs.declared.ending.Ending.TheVariants as endi
 
 use known_state::KnownError;
 use learner::Fault;
+use line_words::SceneError;
 use peers_devices::{Faults, ReadError, write_all};
-use scene_text::SceneError;
 use std::alloc::{AllocError, Global};
 use std::io::Write;
 use table_types::{BatchError, Memory, RosterError};

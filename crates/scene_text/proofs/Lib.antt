@@ -1,3 +1,1 @@
 mod LessonLines
-mod Numerals
-mod ReadAgain

@@ -1,7 +1,7 @@
 -- How a lesson is printed (profile).
 use Rattle.std.specs.Prelude.{◌++◌, ℕ, List, [], ◌∷◌, codes, flat_map, length}
 use Rattle.std.specs.Fmt.{decimal}
-use Rattle.scene_text.specs.Bytes.{digits_of}
+use Rattle.line_words.specs.Bytes.{digits_of}
 
 -- a message's line
 abbrev pub line_of : List ℕ → List ℕ

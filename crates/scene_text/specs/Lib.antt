@@ -1,12 +1,4 @@
 pub mod Acks
-pub mod Bytes
-pub mod Keys
 pub mod Lessons
-pub mod Names
-pub mod Numbers
 pub mod Rows
-pub mod Scripts
-pub mod Updates
-pub mod Events
-pub mod Words
 pub mod Verdicts

@@ -6,7 +6,7 @@ ghost use Rattle.peers_msg.specs.Spelling.{spelled, stream_of};
 ghost use Rattle.peers_msg.specs.declared.message.Message.{Message};
 ghost use Rattle.scene_text.specs.Lessons.{joined, line_of, price_text, printed, sums_of};
 
-use crate::bytes::push_hexadecimal;
+use line_words::push_hexadecimal;
 use peers_msg::split_message;
 use std::alloc::{AllocError, Global};
 

@@ -1,17 +1,13 @@
 //! The kinds of lines of a scene.
-ghost use Rattle.std.specs.Prelude.{◌≡◌, ◌∷◌, ◌++◌, ◌-◌, ◌^◌, ◌≤◌, ℕ, [], None, Some, Err, true, Contains, IfOk, IfSome, IsSome, OnOk, OnErr, vec_len};
+ghost use Rattle.std.specs.Prelude.{◌≡◌, ◌∷◌, ◌++◌, ◌-◌, ◌^◌, ◌≤◌, ℕ, [], Some, Err, true, Contains, IfOk, IfSome, OnOk, OnErr, vec_len};
 ghost use Rattle.table_types.specs.SlotIds.{is_slot};
-ghost use Rattle.scene_text.specs.Numbers.{from_one, number_of};
+ghost use Rattle.line_words.specs.Numbers.{from_one, number_of};
 
-use crate::bytes::hexadecimal;
-use crate::error::LineError;
-use crate::names::name;
-use crate::numbers::{moment, number, number32};
 use crate::scene::Scene;
-use crate::tables::table_of;
-use crate::updates::update_of;
-use crate::words::words;
 use dict_slots::Slots;
+use line_words::{
+    LineError, hexadecimal, moment, name, number, number32, set_once, table_of, update_of, words_of,
+};
 use std::alloc::Global;
 use table_types::{Batch, Roster, TableDef};
 
@@ -22,7 +18,7 @@ impl Scene {
         if line.is_empty() || line.starts_with(b"#") {
             return Ok(());
         }
-        let words = words(alloc, line)?.ok_or(LineError::Refused)?;
+        let words = words_of(alloc, line)?.ok_or(LineError::Refused)?;
         let [kind, words @ ..] = words.as_slice() else {
             return Err(LineError::Refused);
         };
@@ -169,18 +165,6 @@ fn slot(word: &[u8]) -> Option<u8>
 {
     let id = number(word, u64::from(Slots::COUNT))?;
     if id == 0 { None } else { Some(id as u8) }
-}
-
-/// Gives a value to what has none yet.
-pub(crate) fn set_once<T: Drop>(place: &mut Option<T>, value: T) -> Result<(), LineError>
-    ensures set { OnOk result ((place.old ≡ None) × (place.new ≡ Some value)) }
-    ensures refused { OnErr result (IsSome place.old) }
-{
-    if place.is_some() {
-        return Err(LineError::Refused);
-    }
-    *place = Some(value);
-    Ok(())
 }
 
 /// Adds an item to a list of at most so many.

@@ -1,8 +1,7 @@
 //! Scenes: the text that a subcommand reads.
 
-use crate::error::SceneError;
-use crate::words::cut;
 use dict_slots::Slots;
+use line_words::{SceneError, cut};
 use std::alloc::Global;
 use table_types::{Moment, TableDef, Update};
 

@@ -1,0 +1,68 @@
+//! Why a scene is refused.
+
+ghost use Rattle.std.specs.Prelude.{◌≡◌};
+ghost use Rattle.line_words.specs.declared.error.LineError.TheVariants as line_errors;
+
+use std::alloc::{AllocError, AllocFailed};
+use table_types::{DefError, Memory};
+use thiserror::Error;
+
+/// Why a scene wasn't read. What was read of it is dropped.
+#[derive(Clone, Copy, Debug, PartialEq, Eq, Error)]
+pub enum SceneError {
+    /// The line of this number, from 1, is the first that breaks a rule or a limit.
+    #[error("line {0}: refused")]
+    Line(usize),
+    /// No line is refused, but something that the subcommand needs is missing.
+    #[error("scene: refused")]
+    Scene,
+    /// Memory ran out.
+    #[error("memory")]
+    Memory,
+}
+
+/// Why a line wasn't taken.
+#[derive(Clone, Copy, Debug, PartialEq, Eq, Error)]
+pub enum LineError {
+    /// It breaks a rule or a limit.
+    #[error("refused")]
+    Refused,
+    /// Memory ran out.
+    #[error("memory")]
+    Memory,
+}
+
+impl LineError {
+    /// The refusal of the scene whose line of this number this is.
+    pub fn at_line(self, number: usize) -> SceneError {
+        match self {
+            LineError::Refused => SceneError::Line(number),
+            LineError::Memory => SceneError::Memory,
+        }
+    }
+}
+
+impl From<AllocError> for LineError {
+    ghost from_gives = { λ _ e. e ≡ line_errors.Memory };
+
+    fn from(_refused: AllocError) -> LineError {
+        LineError::Memory
+    }
+}
+
+impl<T: Drop> From<AllocFailed<T>> for LineError {
+    ghost from_gives = { λ _ e. e ≡ line_errors.Memory };
+
+    fn from(_refused: AllocFailed<T>) -> LineError {
+        LineError::Memory
+    }
+}
+
+impl From<DefError> for LineError {
+    fn from(error: DefError) -> LineError {
+        match error {
+            DefError::Memory => LineError::Memory,
+            _ => LineError::Refused,
+        }
+    }
+}

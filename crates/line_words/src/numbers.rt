@@ -1,0 +1,72 @@
+//! Numbers in decimal, and moments.
+ghost use Rattle.std.specs.Prelude.{◌≡◌, ◌≤◌, ◌^◌, ◌-◌, ◌++◌, IfSome, OnOk};
+ghost use Rattle.std.specs.Fmt.{decimal};
+ghost use Rattle.line_words.specs.Numbers.{end_text, from_one, number_of};
+
+use std::alloc::{AllocError, Global};
+use table_types::Moment;
+
+/// The number that a word writes in decimal, with no needless zeros; `None` where it is no number
+/// or is above `most`.
+pub fn number(word: &[u8], most: u64) -> Option<u64>
+    ensures exactly { result ≡ number_of word.now most }
+    ensures most { IfSome result (λ value. value ≤ most) }
+{
+    let has_needless_zero = word.len() > 1 && word[0] == b'0';
+    if word.is_empty() || has_needless_zero {
+        return None;
+    }
+    let mut value = 0u64;
+    for byte in word {
+        if !byte.is_ascii_digit() {
+            return None;
+        }
+        let next = u128::from(value) * 10 + u128::from(*byte - b'0');
+        if next > u128::from(most) {
+            return None;
+        }
+        value = next as u64;
+    }
+    Some(value)
+}
+
+/// The number below 2^32 that a word writes, as `number` reads it.
+pub fn number32(word: &[u8]) -> Option<u32>
+    ensures { result ≡ number_of word.now (2 ^ 32 - 1) }
+{
+    match number(word, u64::from(u32::MAX)) {
+        Some(value) => Some(value as u32),
+        None => None,
+    }
+}
+
+/// The number of 1 to `most` that a word writes, as `number` reads it.
+pub fn number_from_one(word: &[u8], most: u32) -> Option<u32>
+    ensures exactly { result ≡ from_one (number_of word.now most) }
+    ensures within { IfSome result (λ value. (1 ≤ value) × (value ≤ most)) }
+{
+    let value = number(word, u64::from(most))?;
+    if value == 0 { None } else { Some(value as u32) }
+}
+
+/// The moment whose milliseconds a word writes, as `number` reads them.
+pub fn moment(word: &[u8]) -> Option<Moment> {
+    Moment::new(number(word, u64::MAX)?)
+}
+
+/// Adds a number in decimal.
+pub fn push_number(alloc: Global, text: &mut Vec<u8>, number: u64) -> Result<(), AllocError>
+    ensures { OnOk result (text.new.items ≡ text.old.items ++ decimal number) }
+{
+    text.extend_from_slice(format!(in alloc; "{number}")?.as_bytes())
+}
+
+/// Adds the moment at which a row ends, or `-` where it lives for ever.
+pub fn push_end(alloc: Global, text: &mut Vec<u8>, ends: Option<Moment>) -> Result<(), AllocError>
+    ensures { OnOk result (text.new.items ≡ text.old.items ++ end_text ends) }
+{
+    match ends {
+        Some(moment) => push_number(alloc, text, moment.milliseconds()),
+        None => text.extend_from_slice(b"-"),
+    }
+}

@@ -1,0 +1,150 @@
+//! Events of a table, as a script has the calls that make them.
+ghost use Rattle.std.specs.Prelude.{◌≡◌, ◌++◌, OnOk, codes};
+ghost use Rattle.std.specs.Fmt.{decimal};
+ghost use Rattle.script_text.specs.Events.{copy_text, event_text, learn_head, learn_text, track_head, track_text};
+
+use crate::changes::push_change;
+use crate::copies::copy_kind_name;
+use crate::updates::push_life;
+use crate::values::push_values;
+use line_words::{push_key, push_stored_name};
+use std::alloc::{AllocError, Global};
+use table_cell::CellEvent;
+use table_types::{Change, CopyKind, Key, Moment, TableDef, Update};
+
+/// Adds an event of a table: the line of the call that made it, without its LF.
+pub fn push_event(
+    alloc: Global,
+    text: &mut Vec<u8>,
+    table: &TableDef,
+    event: &CellEvent,
+) -> Result<(), AllocError>
+    ensures { OnOk result (text.new.items ≡ text.old.items ++ event_text table.now event.now) }
+{
+    match event {
+        CellEvent::Track {
+            seat,
+            key,
+            change,
+            moment,
+        } => push_track(alloc, text, *seat, *moment, key, change),
+        CellEvent::Learn {
+            session,
+            update,
+            moment,
+        } => push_learn(alloc, text, table, *session, *moment, update),
+        CellEvent::Copy {
+            session,
+            kind,
+            limit,
+            moment,
+        } => push_copy(alloc, text, *session, *kind, *limit, moment.milliseconds()),
+        CellEvent::Ack { session, number } => {
+            text.extend_from_slice(format!(in alloc; "ack {session} {number}")?.as_bytes())
+        }
+        CellEvent::Open { session } => {
+            text.extend_from_slice(format!(in alloc; "open {session}")?.as_bytes())
+        }
+        CellEvent::Close { session } => {
+            text.extend_from_slice(format!(in alloc; "close {session}")?.as_bytes())
+        }
+        CellEvent::Purge { moment } => push_purge(alloc, text, moment.milliseconds()),
+    }
+}
+
+/// Adds the call of a change: `track`, the seat, the moment, the key, and the change.
+fn push_track(
+    alloc: Global,
+    text: &mut Vec<u8>,
+    seat: u32,
+    moment: Moment,
+    key: &Key,
+    change: &Change,
+) -> Result<(), AllocError>
+    ensures { OnOk result (text.new.items ≡ text.old.items ++ track_text seat moment key.now change.now) }
+{
+    push_track_head(alloc, text, seat, moment.milliseconds())?;
+    push_key(alloc, text, key)?;
+    push_change(alloc, text, change)?;
+    Ok(())
+}
+
+fn push_track_head(
+    alloc: Global,
+    text: &mut Vec<u8>,
+    seat: u32,
+    milliseconds: u64,
+) -> Result<(), AllocError>
+    ensures { OnOk result (text.new.items ≡ text.old.items ++ track_head seat milliseconds) }
+{
+    text.extend_from_slice(format!(in alloc; "track {seat} {milliseconds} ")?.as_bytes())
+}
+
+/// Adds the call of an update that is learned: `learn`, the session, the moment, the update's number, its life or `-`, its
+/// key, its values, and its name where the table stores one.
+fn push_learn(
+    alloc: Global,
+    text: &mut Vec<u8>,
+    table: &TableDef,
+    session: u32,
+    moment: Moment,
+    update: &Update,
+) -> Result<(), AllocError>
+    ensures { OnOk result (text.new.items ≡ text.old.items ++ learn_text table.now session moment update.now) }
+{
+    let milliseconds = moment.milliseconds();
+    push_learn_head(
+        alloc,
+        text,
+        session,
+        milliseconds,
+        update.number,
+        update.life,
+    )?;
+    push_key(alloc, text, &update.key)?;
+    push_values(alloc, text, update.values.as_slice())?;
+    push_stored_name(text, table.stores_name(), update.name.as_ref())?;
+    Ok(())
+}
+
+fn push_learn_head(
+    alloc: Global,
+    text: &mut Vec<u8>,
+    session: u32,
+    milliseconds: u64,
+    number: u32,
+    life: Option<u32>,
+) -> Result<(), AllocError>
+    ensures { OnOk result (text.new.items ≡ text.old.items ++ learn_head session milliseconds number life) }
+{
+    text.extend_from_slice(format!(in alloc;
+        "learn {session} {milliseconds} {number} "
+    )?.as_bytes())?;
+    push_life(alloc, text, life)?;
+    text.push(b' ')?;
+    Ok(())
+}
+
+/// Adds the call of a copy: `copy`, the session, the kind, the limit, and the moment.
+fn push_copy(
+    alloc: Global,
+    text: &mut Vec<u8>,
+    session: u32,
+    kind: CopyKind,
+    limit: usize,
+    milliseconds: u64,
+) -> Result<(), AllocError>
+    ensures { OnOk result (text.new.items ≡ text.old.items ++ copy_text session kind limit milliseconds) }
+{
+    let kind = copy_kind_name(kind);
+    text.extend_from_slice(format!(in alloc;
+        "copy {session} {kind} {limit} {milliseconds}"
+    )?.as_bytes())
+}
+
+/// Adds the call of a purge.
+fn push_purge(alloc: Global, text: &mut Vec<u8>, milliseconds: u64) -> Result<(), AllocError>
+    ensures { OnOk result (text.new.items ≡ text.old.items ++ (codes "purge " ++ decimal milliseconds)) }
+{
+    text.extend_from_slice(format!(in alloc; "purge {milliseconds}")?.as_bytes())
+}
