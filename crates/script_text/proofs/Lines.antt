@@ -1,6 +1,5 @@
 -- How many lines a text has, and the number of the line that is read.
-use Rattle.std.proofs.Common.{◌≡◌, ◌∙◌, ◌+◌, ◌<◌, ◌≤◌, ◌++◌, ◌==◌, Bool, true, false, ℕ, List, [], ◌∷◌, ap, arith, length, length-append, subst, sym}
-use Rattle.std.specs.Prelude.{Option, Some, None, IfSome}
+use Rattle.std.proofs.Common.{◌≡◌, ◌∙◌, ◌+◌, ◌<◌, ◌≤◌, ◌++◌, ◌==◌, Bool, false, ℕ, List, [], ◌∷◌, ap, arith, length, length-append, subst, sym}
 use Rattle.script_text.specs.Scripts.{IsLineOf, line_count}
 
 -- a line less is left

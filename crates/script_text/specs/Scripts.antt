@@ -1,5 +1,5 @@
 -- What a script says (profile).
-use Rattle.std.specs.Prelude.{◌≡◌, ◌≤◌, ◌+◌, ◌==◌, ℕ, List, [], ◌∷◌, Option, IfSome, if◌then◌else◌}
+use Rattle.std.specs.Prelude.{◌≤◌, ◌+◌, ◌==◌, ℕ, List, [], ◌∷◌, IfSome, if◌then◌else◌}
 use Rattle.std.specs.List.{AllByRecursion}
 use Rattle.script_text.specs.Calls.{IsCall}
 use Rattle.script_text.specs.declared.script.Script.{Script}

@@ -1,5 +1,5 @@
 //! Why a table refuses a call, as it is printed: the refusal's name. Want of memory has none, since it ends the program.
-ghost use Rattle.std.specs.Prelude.{◌≡◌, codes, option_copied};
+ghost use Rattle.std.specs.Prelude.{◌≡◌, option_copied};
 ghost use Rattle.script_text.specs.Refusals.{ack_refusal, close_refusal, copy_refusal, learn_refusal, open_refusal, purge_refusal, track_refusal};
 
 use table_cell::{AckError, CloseError, CopyError, LearnError, OpenError, PurgeError, TrackError};

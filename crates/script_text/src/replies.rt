@@ -1,6 +1,5 @@
 //! What a table answers, as it is printed.
-ghost use Rattle.std.specs.Prelude.{◌≡◌, ◌++◌, OnOk, codes, option_copied};
-ghost use Rattle.std.specs.Fmt.{decimal};
+ghost use Rattle.std.specs.Prelude.{◌≡◌, ◌++◌, OnOk, option_copied};
 ghost use Rattle.script_text.specs.Replies.{count_text, event_reply_text, key_of, reply_text, row_reply_text, settled_name};
 
 use crate::rows::push_stored_row;

@@ -1,5 +1,5 @@
 //! Scripts: the calls that the subcommand `table` makes of one table.
-ghost use Rattle.std.specs.Prelude.{◌≡◌, Err, IfOk, IfSome, OnOk, ℕ};
+ghost use Rattle.std.specs.Prelude.{◌≡◌, Err, IfOk, IfSome, ℕ};
 ghost use Rattle.script_text.specs.Scripts.{IsLineOf, IsScript, line_count};
 
 use crate::calls::{Call, call_of};
