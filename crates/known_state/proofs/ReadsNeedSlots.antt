@@ -71,7 +71,7 @@ pub slots_stay_all : (s e : State) (ms : List Message) (us : List Update) → Te
 slots_stay_all s e [] us (none, same) = ap (λ (x : State). length x.slots) same
 slots_stay_all s e (m ∷ ms) us (one, rest, mid, is, step, later) = slots_stay_all mid e ms rest later ∙ slots_stay s mid m one step
 
--- a message that carries nothing asks for nothing, and leaves the slots
+-- a message that carries nothing requests nothing, and leaves the slots
 nothing_met : (roster : List Definition) (k : Knowledge) (slots after : List (Option (List ℕ))) (one : List Update) (rs : List Asked) (marks : List Bool) → one ≡ [] → after ≡ slots → AreMet after rs marks → AreMet slots (requests_of roster k one ++ rs) marks
 nothing_met roster k slots after one rs marks none same met =
     subst (λ (l : List Update). AreMet slots (requests_of roster k l ++ rs) marks) (sym none)

@@ -1,4 +1,4 @@
--- What updates ask for and what they cost, one after another.
+-- The requests of updates and what they cost, one after another.
 use Rattle.std.proofs.Common.{◌≡◌, ℕ, ◌+◌, ◌*◌, ◌≤◌, true, false, ◌&&◌, Bool, List, [], ◌∷◌, ◌++◌, length, Option, Some, None, refl, sym, ap, ◌∙◌, arith, append_assoc, length-append}
 use Rattle.std.specs.Prelude.{fold}
 use Rattle.table_types.specs.declared.update.Update.{Update}

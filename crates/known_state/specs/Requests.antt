@@ -1,4 +1,4 @@
--- What a batch asks of the dictionary of server names (profile).
+-- What a batch requests of the dictionary of server names (profile).
 use Rattle.std.specs.Prelude.{◌≡◌, ℕ, ◌+◌, ◌-◌, Bool, true, false, List, [], ◌∷◌, ◌++◌, fold, Option, Some, None}
 use Rattle.std.specs.List.{AllByRecursion}
 use Rattle.table_types.specs.declared.update.Update.{Update}
@@ -12,7 +12,7 @@ use Rattle.peers_msg.specs.declared.message.Message.TheVariants as messages
 use Rattle.peers_msg.specs.Spelling.{size_of}
 use Rattle.known_state.specs.Cost.{Knowledge, knowledge_after, sent_as, written_cost}
 
--- a name that is asked for, and the sizes of the message that does with the name read and with it written
+-- a request for a name, and the sizes of the message that makes it with the name read and with it written
 pub record Asked : Type 0 where
   pub name : List ℕ
   pub read_cost : ℕ
@@ -22,12 +22,12 @@ pub record Asked : Type 0 where
 abbrev pub held_cost : Knowledge → Update → ℕ
 held_cost k u = size_of (messages.Update (sent_as (k.last u.table) (names.Held 1) u))
 
--- what an update asks for: its name, where it has one
+-- the request of an update, where it has a name
 abbrev pub asked : List Definition → Knowledge → Update → Option (List ℕ) → List Asked
 asked roster k u None = []
 asked roster k u (Some name) = record { name = name; read_cost = held_cost k u; write_cost = written_cost roster k u } ∷ []
 
--- what updates ask for, one after another
+-- the requests of updates, one after another
 abbrev pub requests_of : List Definition → Knowledge → List Update → List Asked
 requests_of roster k [] = []
 requests_of roster k (u ∷ us) = asked roster k u u.name ++ requests_of roster (knowledge_after k u) us

@@ -52,7 +52,7 @@ fn selection_cost(knowledge: &KnowledgeSoFar<'_>, roster: &Roster, id: u64) -> u
     }
 }
 
-/// Adds what an update asks for, if anything, and answers the size of its message with the name written.
+/// Adds the request of an update, if it has a name, and answers the size of its message with the name written.
 fn add_update(
     alloc: Global,
     knowledge: &KnowledgeSoFar<'_>,
@@ -82,7 +82,7 @@ fn add_update(
     Ok(written)
 }
 
-/// Adds what one more update asks for, if anything, and answers what it costs with its name written.
+/// Adds the request of one more update, if it has a name, and answers what it costs with its name written.
 fn add(
     alloc: Global,
     knowledge: &mut KnowledgeSoFar<'_>,

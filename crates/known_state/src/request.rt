@@ -47,7 +47,7 @@ impl Request {
         })
     }
 
-    /// The name that is asked for.
+    /// The name that is requested.
     pub fn name(&self) -> &Name
         ensures { result.now ≡ self.now.name }
     {

@@ -63,7 +63,7 @@ AreApartFrom index carried us =
 
 -- ---- prices
 
--- what the updates ask for
+-- the requests of the updates
 abbrev pub requests : KnownState → List Update → List Asked
 requests k us = requests_of k.roster (knowledge_of k.state) us
 

@@ -116,9 +116,9 @@ fn said(
     }
 }
 
-/// Says of a stream, which is to teach the batch to a learner in the known state, and of a price for each name that the
-/// batch asks for: whether the stream is legal; whether it carries the batch; and whether the prices show that no legal
-/// stream that carries it is shorter. It needs nothing of whoever made them.
+/// Says of a stream, which is to teach the batch to a learner in the known state, and of a price for each of the batch's
+/// requests: whether the stream is legal; whether it carries the batch; and whether the prices show that no legal stream
+/// that carries it is shorter. It needs nothing of whoever made them.
 ///
 /// The batch was made for the roster of the known state. The messages are read one after another, and each
 /// is compared with the batch; memory is wanted for a copy of the known state, the message at hand, and the requests.

@@ -3,6 +3,13 @@ use Rattle.std.proofs.Common.{◌≡◌, ℕ, zero, suc, ◌+◌, ◌<◌, ◌�
 use Rattle.retention_flow.specs.declared.arcs.RequestArc.{RequestArc}
 use Rattle.retention_flow.specs.Network.{IsCalmRise, IsCalmArc, AreCalmArcs, IsCalm, arc_at, GoBack, IsRaised, IsSlack, IsSlackOf}
 
+-- nothing that leaves the nodes reached over the place after a node, nor over the arc of its request, would lose less
+abbrev pub IsSlackAt : List ℕ → List ℕ → List RequestArc → (ℕ → Bool) → ℕ → ℕ → Type 0
+IsSlackAt heights room arcs reached by node =
+    (reached node ≡ true → reached (node + 1) ≡ false → slice_index heights node + by ≤ slice_index heights (node + 1))
+    × (0 < slice_index room node → reached (node + 1) ≡ true → reached node ≡ false → slice_index heights (node + 1) + by ≤ slice_index heights node)
+    × IsSlackOf (arc_at arcs node).kept (arc_at arcs node).saving (slice_index heights (arc_at arcs node).from) (slice_index heights node) (reached (arc_at arcs node).from) (reached node) by
+
 -- calm arcs by their indices
 pub calm_at : (hs : List ℕ) (node i : ℕ) (arcs : List RequestArc) → AreCalmArcs hs node arcs → i < length arcs → IsCalmArc hs (node + i) (arc_at arcs i)
 calm_at hs node i [] calm below = absurd (omega arith)

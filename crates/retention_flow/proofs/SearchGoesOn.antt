@@ -1,4 +1,4 @@
--- A search for a way to the first node.
+-- A search for a path to the first node.
 use Rattle.std.proofs.Common.{◌≡◌, ℕ, zero, suc, ◌+◌, ◌-◌, ◌*◌, ◌^◌, ◌<◌, ◌≤◌, Bool, true, false, cond, inl, inr, List, [], ◌∷◌, length, replicate, slice_index, Option, Some, None, refl, sym, ap, ◌∙◌, subst, arith}
 use Rattle.std.specs.Prelude.{slice_set, is_some, IsSome}
 use Rattle.std.proofs.lemmas.Bool.{cases_eq}
@@ -6,12 +6,12 @@ use Rattle.std.proofs.lemmas.List.{get_or-set_same, get_or-set_other, length-rep
 use Rattle.retention_flow.specs.declared.arcs.RequestArc.{RequestArc}
 use Rattle.retention_flow.specs.declared.steps.Step.{Step}
 use Rattle.retention_flow.specs.declared.steps.Leaving.{Leaving}
-use Rattle.retention_flow.specs.declared.steps.Way.{Way}
-use Rattle.retention_flow.specs.declared.steps.Way.TheVariants as ways
-use Rattle.retention_flow.specs.Network.{GoBack, SaveLittle, IsCalm, IsRoom, IsSlack, IsNoMore, IsRaised, is_reached, IsWay, Leaves, step_at, IsSearch, unreached}
+use Rattle.retention_flow.specs.declared.steps.ResidualArc.{ResidualArc}
+use Rattle.retention_flow.specs.declared.steps.ResidualArc.TheVariants as residuals
+use Rattle.retention_flow.specs.Network.{GoBack, SaveLittle, IsCalm, IsRoom, IsSlack, IsNoMore, IsRaised, is_reached, IsResidual, Leaves, step_at, IsSearch, unreached}
 use Rattle.retention_flow.proofs.RaisedIsCalm.{raised_is_calm, risen, risen-length, risen_at}
 use Rattle.retention_flow.proofs.HeightsAreBounded.{height_bounded}
-use Rattle.retention_flow.proofs.WaysStayOpen.{some_same, length_set}
+use Rattle.retention_flow.proofs.ResidualsStayOpen.{some_same, length_set}
 
 none_at : (n node : ℕ) → step_at (replicate n None) node ≡ None
 none_at zero node = refl
@@ -21,28 +21,28 @@ none_at (suc n) (suc node) = none_at n node
 -- ---- the start
 
 -- at first the last node alone is reached
-pub first_search : (hs room : List ℕ) (arcs : List RequestArc) (steps : List (Option Step)) (nodes : ℕ) → nodes ≡ length arcs + 1 → steps ≡ slice_set (replicate nodes None) (nodes - 1) (Some (record { rank = 0; way = ways.Start })) → IsSearch hs room arcs steps 1
+pub first_search : (hs room : List ℕ) (arcs : List RequestArc) (steps : List (Option Step)) (nodes : ℕ) → nodes ≡ length arcs + 1 → steps ≡ slice_set (replicate nodes None) (nodes - 1) (Some (record { rank = 0; arc = residuals.Start })) → IsSearch hs room arcs steps 1
 first_search hs room arcs steps nodes many is =
     let end : nodes - 1 ≡ length arcs = omega arith in
     subst (λ (l : List (Option Step)). IsSearch hs room arcs l 1) (sym (is ∙ ap (λ (n : ℕ). slice_set (replicate n None) (nodes - 1) (Some start)) many ∙ ap (λ (n : ℕ). slice_set none n (Some start)) end)) (record {
       long = length_set none (length arcs) (Some start) ∙ length-replicate (length arcs + 1) None;
       last = ap is_some here;
-      ways = λ node step at. elim (cases_eq node (length arcs)) [
+      tight = λ node step at. elim (cases_eq node (length arcs)) [
         | inl same ↦
             let step_is : step ≡ start = some_same step start (sym at ∙ ap (step_at first) same ∙ here) in
-            subst (λ (s : Step). (node ≤ length arcs) × (s.rank < 1) × IsWay hs room arcs s.way node 0) (sym step_is) (omega arith, omega arith, same)
+            subst (λ (s : Step). (node ≤ length arcs) × (s.rank < 1) × IsResidual hs room arcs s.arc node 0) (sym step_is) (omega arith, omega arith, same)
         | inr differs ↦ absurd (other node step differs at)
       ];
       from = λ node step at. elim (cases_eq node (length arcs)) [
         | inl same ↦
             let step_is : step ≡ start = some_same step start (sym at ∙ ap (step_at first) same ∙ here) in
-            inl (ap (λ (s : Step). s.way) step_is)
+            inl (ap (λ (s : Step). s.arc) step_is)
         | inr differs ↦ absurd (other node step differs at)
       ];
     })
   where
     start : Step
-    start = record { rank = 0; way = ways.Start }
+    start = record { rank = 0; arc = residuals.Start }
 
     none : List (Option Step)
     none = replicate (length arcs + 1) None
@@ -99,11 +99,11 @@ heights_small hs room arcs slots most some first calm spent back little node bel
 -- nor does an arc lose more than that and what it saves
 pub slack_small : (hs room : List ℕ) (arcs : List RequestArc) (steps : List (Option Step)) (leaving : Leaving) → length hs ≡ length arcs + 1 → SaveLittle arcs → ((node : ℕ) → node < length hs → slice_index hs node ≤ 2 ^ 24)
     → is_reached steps (length arcs) ≡ true → Leaves hs room arcs steps leaving → leaving.slack ≤ 2 ^ 25
-slack_small hs room arcs steps leaving long little small last (most, way, fresh, before) = by leaving.way way
+slack_small hs room arcs steps leaving long little small last (most, residual, fresh, before) = by leaving.arc residual
   where
-    by : (way : Way) → IsWay hs room arcs way leaving.node leaving.slack → leaving.slack ≤ 2 ^ 25
-    by ways.Start end = let bad : true ≡ false = sym last ∙ ap (is_reached steps) (sym end) ∙ fresh in absurd (cc)
-    by ways.Right (some, below, tight) = omega (arith, small leaving.node (omega arith))
-    by ways.Left (below, some, tight) = omega (arith, small leaving.node (omega arith))
-    by (ways.Back later) (below, kept, from, tight) = omega (arith, small leaving.node (omega arith), little later below)
-    by ways.On (below, kept, tight) = omega (arith, small leaving.node (omega arith))
+    by : (residual : ResidualArc) → IsResidual hs room arcs residual leaving.node leaving.slack → leaving.slack ≤ 2 ^ 25
+    by residuals.Start end = let bad : true ≡ false = sym last ∙ ap (is_reached steps) (sym end) ∙ fresh in absurd (cc)
+    by residuals.Right (some, below, tight) = omega (arith, small leaving.node (omega arith))
+    by residuals.Left (below, some, tight) = omega (arith, small leaving.node (omega arith))
+    by (residuals.Back later) (below, kept, from, tight) = omega (arith, small leaving.node (omega arith), little later below)
+    by residuals.On (below, kept, tight) = omega (arith, small leaving.node (omega arith))

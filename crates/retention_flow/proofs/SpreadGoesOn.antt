@@ -6,10 +6,10 @@ use Rattle.std.proofs.lemmas.List.{length_push, length-replicate}
 use Rattle.retention_flow.specs.declared.arcs.RequestArc.{RequestArc}
 use Rattle.retention_flow.specs.declared.steps.Step.{Step}
 use Rattle.retention_flow.specs.declared.steps.Leaving.{Leaving}
-use Rattle.retention_flow.specs.declared.steps.Way.TheVariants as ways
+use Rattle.retention_flow.specs.declared.steps.ResidualArc.TheVariants as residuals
 use Rattle.retention_flow.specs.Network.{GoBack, IsCalm, IsRaised, IsSlack, IsNoMore, is_reached, Leaves, IsSearch, IsSpread, unreached}
 use Rattle.retention_flow.proofs.RaisedIsCalm.{raised_is_calm}
-use Rattle.retention_flow.proofs.WaysStayOpen.{one_more}
+use Rattle.retention_flow.proofs.ResidualsStayOpen.{one_more}
 use Rattle.retention_flow.proofs.SearchGoesOn.{first_search, unreached-most, fewer_unreached}
 
 nodes_push : (most : ℕ) (nodes : List ℕ) (node : ℕ) → AllByRecursion (λ n. n ≤ most) nodes → node ≤ most → AllByRecursion (λ n. n ≤ most) (nodes ++ node ∷ [])
@@ -24,9 +24,9 @@ node_at most (first ∷ nodes) (suc index) (here, all) below = node_at most node
 -- one more node is reached, after the heights rose by the slack of its arc
 pub one_spread : (hs new room : List ℕ) (arcs : List RequestArc) (steps : List (Option Step)) (order : List ℕ) (leaving : Leaving) → GoBack arcs → length hs ≡ length arcs + 1 → IsRaised hs new (is_reached steps) leaving.slack
     → Leaves hs room arcs steps leaving → IsSpread hs room arcs steps order
-    → IsSpread new room arcs (slice_set steps leaving.node (Some (record { rank = length order; way = leaving.way }))) (order ++ leaving.node ∷ [])
+    → IsSpread new room arcs (slice_set steps leaving.node (Some (record { rank = length order; arc = leaving.arc }))) (order ++ leaving.node ∷ [])
 one_spread hs new room arcs steps order leaving back long raised leaves spread =
-    let made : Step = record { rank = length order; way = leaving.way } in
+    let made : Step = record { rank = length order; arc = leaving.arc } in
     let next : List (Option Step) = slice_set steps leaving.node (Some made) in
     let more : length order + 1 ≡ length (order ++ leaving.node ∷ []) = sym (length_push order leaving.node) in
     record {
@@ -38,7 +38,7 @@ one_spread hs new room arcs steps order leaving back long raised leaves spread =
 -- where nothing is lost, the heights stay
 pub one_reached : (hs room : List ℕ) (arcs : List RequestArc) (steps : List (Option Step)) (order : List ℕ) (leaving : Leaving) → GoBack arcs → length hs ≡ length arcs + 1 → leaving.slack ≡ 0
     → Leaves hs room arcs steps leaving → IsSpread hs room arcs steps order
-    → IsSpread hs room arcs (slice_set steps leaving.node (Some (record { rank = length order; way = leaving.way }))) (order ++ leaving.node ∷ [])
+    → IsSpread hs room arcs (slice_set steps leaving.node (Some (record { rank = length order; arc = leaving.arc }))) (order ++ leaving.node ∷ [])
 one_reached hs room arcs steps order leaving back long none leaves spread = one_spread hs hs room arcs steps order leaving back long (λ node below. sym (by node (is_reached steps node))) leaves spread
   where
     by : (node : ℕ) (reached : Bool) → slice_index hs node + cond reached leaving.slack 0 ≡ slice_index hs node
@@ -46,10 +46,10 @@ one_reached hs room arcs steps order leaving back long none leaves spread = one_
     by node false = omega arith
 
 -- at first the last node alone is reached
-pub first_spread : (hs room : List ℕ) (arcs : List RequestArc) (steps : List (Option Step)) (nodes : ℕ) → nodes ≡ length arcs + 1 → steps ≡ slice_set (replicate nodes None) (nodes - 1) (Some (record { rank = 0; way = ways.Start }))
+pub first_spread : (hs room : List ℕ) (arcs : List RequestArc) (steps : List (Option Step)) (nodes : ℕ) → nodes ≡ length arcs + 1 → steps ≡ slice_set (replicate nodes None) (nodes - 1) (Some (record { rank = 0; arc = residuals.Start }))
     → IsSpread hs room arcs steps (length arcs ∷ [])
 first_spread hs room arcs steps nodes many is =
-    let start : Step = record { rank = 0; way = ways.Start } in
+    let start : Step = record { rank = 0; arc = residuals.Start } in
     let none : List (Option Step) = replicate nodes None in
     let long : length none ≡ nodes = length-replicate nodes None in
     let last : nodes - 1 < length none = omega (arith, long) in

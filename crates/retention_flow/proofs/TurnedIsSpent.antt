@@ -1,4 +1,4 @@
--- What is left and kept at each place as the arcs of a way are turned one by one.
+-- What is left and kept at each place as the arcs of a path are turned one by one.
 use Rattle.std.proofs.Common.{◌≡◌, ℕ, ◌+◌, ◌-◌, ◌<◌, ◌≤◌, Bool, true, false, ◌&&◌, cond, inl, inr, List, length, slice_index, refl, sym, ap, ◌∙◌, arith}
 use Rattle.std.specs.Prelude.{slice_set, nat_lt}
 use Rattle.std.proofs.lemmas.Bool.{cases_lt}
@@ -6,11 +6,11 @@ use Rattle.std.proofs.lemmas.List.{get_or-set_same, get_or-set_other}
 use Rattle.std.proofs.lemmas.Bool.Decides.{nat_tests}
 use Rattle.known_state.specs.Plans.{is_inside, kept_over}
 use Rattle.retention_flow.specs.declared.arcs.RequestArc.{RequestArc}
-use Rattle.retention_flow.specs.declared.steps.Way.{Way}
-use Rattle.retention_flow.specs.declared.steps.Way.TheVariants as ways
-use Rattle.retention_flow.specs.Network.{GoBack, link_at, links_of, arc_at, arc_kept, IsWay, before_way, turned_room, turned_arcs}
+use Rattle.retention_flow.specs.declared.steps.ResidualArc.{ResidualArc}
+use Rattle.retention_flow.specs.declared.steps.ResidualArc.TheVariants as residuals
+use Rattle.retention_flow.specs.Network.{GoBack, link_at, links_of, arc_at, arc_kept, IsResidual, tail_of, turned_room, turned_arcs}
 use Rattle.retention_flow.proofs.TurnedArcs.{over_set}
-use Rattle.retention_flow.proofs.TurnedWays.{set-length}
+use Rattle.retention_flow.proofs.TurnedResiduals.{set-length}
 
 -- whether a place is before a node, and whether an arc passes it, as numbers
 abbrev pub side : ℕ → ℕ → ℕ
@@ -44,7 +44,7 @@ sides from to place up = elim (cases_lt place from) [
   ]
 ]
 
--- on the way from the first node to the last, one slot less is left or kept at the places walked
+-- on the path from the first node to the last, one slot less is left or kept at the places walked
 abbrev pub AreWalked : ℕ → List ℕ → List RequestArc → ℕ → Type 0
 AreWalked slots room arcs node = (place : ℕ) → place < length arcs → slice_index room place + kept_over (links_of 0 arcs) (place + 1) + side place node ≡ slots
 
@@ -61,10 +61,10 @@ set_here l i j n below same = ap (λ (k : ℕ). slice_index (slice_set l i n) k)
 set_other : (l : List ℕ) (i j n : ℕ) → i < length l → (j ≡ i → ⊥) → slice_index (slice_set l i n) j ≡ slice_index l j
 set_other l i j n below differs = get_or-set_other l i j n 0 differs
 
-pub turned_is_walked : (hs room : List ℕ) (arcs : List RequestArc) (way : Way) (node slots : ℕ) → length room ≡ length arcs → GoBack arcs → IsWay hs room arcs way node 0 → AreWalked slots room arcs node
-    → AreWalked slots (turned_room way node room) (turned_arcs way node arcs) (before_way arcs way node)
-turned_is_walked hs room arcs ways.Start node slots long back way walked = walked
-turned_is_walked hs room arcs ways.Right node slots long back (some, most, tight) walked = λ place below.
+pub turned_is_walked : (hs room : List ℕ) (arcs : List RequestArc) (residual : ResidualArc) (node slots : ℕ) → length room ≡ length arcs → GoBack arcs → IsResidual hs room arcs residual node 0 → AreWalked slots room arcs node
+    → AreWalked slots (turned_room residual node room) (turned_arcs residual node arcs) (tail_of arcs residual node)
+turned_is_walked hs room arcs residuals.Start node slots long back residual walked = walked
+turned_is_walked hs room arcs residuals.Right node slots long back (some, most, tight) walked = λ place below.
     elim (cases_lt place (node - 1)) [
       | inl before ↦ omega (arith, walked place below, set_other room (node - 1) place (slice_index room (node - 1) + 1) (omega arith) (λ same. absurd (omega arith)), side_yes place node (omega arith), side_yes place (node - 1) before)
       | inr after ↦ elim (cases_lt place node) [
@@ -74,7 +74,7 @@ turned_is_walked hs room arcs ways.Right node slots long back (some, most, tight
         | inr behind ↦ omega (arith, walked place below, set_other room (node - 1) place (slice_index room (node - 1) + 1) (omega arith) (λ same. absurd (omega arith)), side_no place node behind, side_no place (node - 1) after)
       ]
     ]
-turned_is_walked hs room arcs ways.Left node slots long back (within, some, tight) walked = λ place below.
+turned_is_walked hs room arcs residuals.Left node slots long back (within, some, tight) walked = λ place below.
     elim (cases_lt place node) [
       | inl before ↦ omega (arith, walked place below, set_other room node place (slice_index room node - 1) (omega arith) (λ same. absurd (omega arith)), side_yes place node before, side_yes place (node + 1) (omega arith))
       | inr after ↦ elim (cases_lt node place) [
@@ -84,7 +84,7 @@ turned_is_walked hs room arcs ways.Left node slots long back (within, some, tigh
             omega (arith, walked place below, set_here room node place (slice_index room node - 1) (omega arith) place_is, ap (λ (n : ℕ). slice_index room n) place_is, some, side_no place node after, side_yes place (node + 1) (omega arith))
       ]
     ]
-turned_is_walked hs room arcs (ways.Back later) node slots long back (within, kept, from, tight) walked = λ place below.
+turned_is_walked hs room arcs (residuals.Back later) node slots long back (within, kept, from, tight) walked = λ place below.
     let at = arc_at arcs later in
     let up : at.from ≤ later = back later within in
     let start : side place at.from ≡ side place node = ap (λ (n : ℕ). side place n) from in
@@ -100,7 +100,7 @@ turned_is_walked hs room arcs (ways.Back later) node slots long back (within, ke
       start,
       sides at.from later place up,
     )
-turned_is_walked hs room arcs ways.On node slots long back (within, kept, tight) walked = λ place below.
+turned_is_walked hs room arcs residuals.On node slots long back (within, kept, tight) walked = λ place below.
     let at = arc_at arcs node in
     let up : at.from ≤ node = back node within in
     let same : 0 + node ≡ node = omega arith in

@@ -7,8 +7,8 @@ use Rattle.known_state.specs.Plans.{Asking, after_request, Plan, Link, links, ke
 use Rattle.retention_flow.specs.declared.arcs.RequestArc.{RequestArc}
 use Rattle.retention_flow.specs.declared.steps.Step.{Step}
 use Rattle.retention_flow.specs.declared.steps.Leaving.{Leaving}
-use Rattle.retention_flow.specs.declared.steps.Way.{Way}
-use Rattle.retention_flow.specs.declared.steps.Way.TheVariants as ways
+use Rattle.retention_flow.specs.declared.steps.ResidualArc.{ResidualArc}
+use Rattle.retention_flow.specs.declared.steps.ResidualArc.TheVariants as residuals
 
 -- The arc of a request's link, kept: from the node at which the link begins to the one before the request, past the
 -- places inside of it. Without a link it is a loop that saves nothing, and isn't kept.
@@ -125,36 +125,29 @@ pub record IsSlack (heights room : List ℕ) (arcs : List RequestArc) (reached :
 abbrev pub SaveLittle : List RequestArc → Type 0
 SaveLittle arcs = (node : ℕ) → node < length arcs → (arc_at arcs node).saving ≤ 32768
 
--- The arc by which a node is reached may be turned, and would lose so much: from the node before it; from the node after
+-- The arc by which a node is reached is a residual one, and its reduced cost is so much: from the node before it; from the node after
 -- it, where a slot is left between them; back over an arc that is kept; on over one that isn't.
-abbrev pub IsWay : List ℕ → List ℕ → List RequestArc → Way → ℕ → ℕ → Type 0
-IsWay heights room arcs ways.Start node slack = node ≡ length arcs
-IsWay heights room arcs ways.Right node slack = (1 ≤ node) × (node ≤ length arcs) × (slice_index heights (node - 1) + slack ≡ slice_index heights node)
-IsWay heights room arcs ways.Left node slack = (node < length arcs) × (0 < slice_index room node) × (slice_index heights (node + 1) + slack ≡ slice_index heights node)
-IsWay heights room arcs (ways.Back later) node slack =
+abbrev pub IsResidual : List ℕ → List ℕ → List RequestArc → ResidualArc → ℕ → ℕ → Type 0
+IsResidual heights room arcs residuals.Start node slack = node ≡ length arcs
+IsResidual heights room arcs residuals.Right node slack = (1 ≤ node) × (node ≤ length arcs) × (slice_index heights (node - 1) + slack ≡ slice_index heights node)
+IsResidual heights room arcs residuals.Left node slack = (node < length arcs) × (0 < slice_index room node) × (slice_index heights (node + 1) + slack ≡ slice_index heights node)
+IsResidual heights room arcs (residuals.Back later) node slack =
     (later < length arcs) × ((arc_at arcs later).kept ≡ true) × ((arc_at arcs later).from ≡ node) × (slice_index heights later + slack ≡ slice_index heights node + (arc_at arcs later).saving)
-IsWay heights room arcs ways.On node slack =
+IsResidual heights room arcs residuals.On node slack =
     (node < length arcs) × ((arc_at arcs node).kept ≡ false) × (slice_index heights (arc_at arcs node).from + (arc_at arcs node).saving + slack ≡ slice_index heights node)
 
--- the node from which it is reached
-abbrev pub before_way : List RequestArc → Way → ℕ → ℕ
-before_way arcs ways.Start node = node
-before_way arcs ways.Right node = node - 1
-before_way arcs ways.Left node = node + 1
-before_way arcs (ways.Back later) node = later
-before_way arcs ways.On node = (arc_at arcs node).from
+-- the tail of that arc, from which the node is reached
+abbrev pub tail_of : List RequestArc → ResidualArc → ℕ → ℕ
+tail_of arcs residuals.Start node = node
+tail_of arcs residuals.Right node = node - 1
+tail_of arcs residuals.Left node = node + 1
+tail_of arcs (residuals.Back later) node = later
+tail_of arcs residuals.On node = (arc_at arcs node).from
 
 -- the arc leaves the nodes reached
 abbrev pub Leaves : List ℕ → List ℕ → List RequestArc → List (Option Step) → Leaving → Type 0
 Leaves heights room arcs steps leaving =
-    (leaving.node ≤ length arcs) × IsWay heights room arcs leaving.way leaving.node leaving.slack × (is_reached steps leaving.node ≡ false) × (is_reached steps (before_way arcs leaving.way leaving.node) ≡ true)
-
--- nothing that leaves the nodes reached over the place after a node, nor over the arc of its request, would lose less
-abbrev pub IsSlackAt : List ℕ → List ℕ → List RequestArc → (ℕ → Bool) → ℕ → ℕ → Type 0
-IsSlackAt heights room arcs reached by node =
-    (reached node ≡ true → reached (node + 1) ≡ false → slice_index heights node + by ≤ slice_index heights (node + 1))
-    × (0 < slice_index room node → reached (node + 1) ≡ true → reached node ≡ false → slice_index heights (node + 1) + by ≤ slice_index heights node)
-    × IsSlackOf (arc_at arcs node).kept (arc_at arcs node).saving (slice_index heights (arc_at arcs node).from) (slice_index heights node) (reached (arc_at arcs node).from) (reached node) by
+    (leaving.node ≤ length arcs) × IsResidual heights room arcs leaving.arc leaving.node leaving.slack × (is_reached steps leaving.node ≡ false) × (is_reached steps (tail_of arcs leaving.arc leaving.node) ≡ true)
 
 -- `by` is no more than the least
 abbrev pub IsNoMore : ℕ → Option Leaving → Type 0
@@ -166,14 +159,14 @@ step_at steps node = slice_index_or steps node None
 
 -- a node is the last, or reached from one that was reached earlier
 abbrev pub IsReachedFrom : List RequestArc → List (Option Step) → ℕ → Step → Type 0
-IsReachedFrom arcs steps node step = (step.way ≡ ways.Start) ⊎ ((before : Step) × (step_at steps (before_way arcs step.way node) ≡ Some before) × (before.rank < step.rank))
+IsReachedFrom arcs steps node step = (step.arc ≡ residuals.Start) ⊎ ((before : Step) × (step_at steps (tail_of arcs step.arc node) ≡ Some before) × (before.rank < step.rank))
 
--- the last node is reached, and each other over an arc that may be turned and by which nothing is lost, from one that was
--- reached earlier
+-- the last node is reached, and each other over a residual arc by which nothing is lost, from one that was reached
+-- earlier
 pub record IsSearch (heights room : List ℕ) (arcs : List RequestArc) (steps : List (Option Step)) (count : ℕ) : Type 0 where
   pub long : length steps ≡ length arcs + 1
   pub last : is_reached steps (length arcs) ≡ true
-  pub ways : (node : ℕ) (step : Step) → step_at steps node ≡ Some step → (node ≤ length arcs) × (step.rank < count) × IsWay heights room arcs step.way node 0
+  pub tight : (node : ℕ) (step : Step) → step_at steps node ≡ Some step → (node ≤ length arcs) × (step.rank < count) × IsResidual heights room arcs step.arc node 0
   pub from : (node : ℕ) (step : Step) → step_at steps node ≡ Some step → IsReachedFrom arcs steps node step
 
 -- how many nodes are not reached
@@ -189,20 +182,20 @@ pub record IsSpread (heights room : List ℕ) (arcs : List RequestArc) (steps : 
   pub many : length order + unreached steps ≤ length arcs + 1
 
 -- the room after the arc by which a node is reached is turned
-abbrev pub turned_room : Way → ℕ → List ℕ → List ℕ
-turned_room ways.Start node room = room
-turned_room ways.Right node room = slice_set room (node - 1) (slice_index room (node - 1) + 1)
-turned_room ways.Left node room = slice_set room node (slice_index room node - 1)
-turned_room (ways.Back later) node room = room
-turned_room ways.On node room = room
+abbrev pub turned_room : ResidualArc → ℕ → List ℕ → List ℕ
+turned_room residuals.Start node room = room
+turned_room residuals.Right node room = slice_set room (node - 1) (slice_index room (node - 1) + 1)
+turned_room residuals.Left node room = slice_set room node (slice_index room node - 1)
+turned_room (residuals.Back later) node room = room
+turned_room residuals.On node room = room
 
 -- and the arcs
 abbrev pub arc_kept : Bool → RequestArc → RequestArc
 arc_kept kept arc = record { from = arc.from; saving = arc.saving; kept = kept }
 
-abbrev pub turned_arcs : Way → ℕ → List RequestArc → List RequestArc
-turned_arcs ways.Start node arcs = arcs
-turned_arcs ways.Right node arcs = arcs
-turned_arcs ways.Left node arcs = arcs
-turned_arcs (ways.Back later) node arcs = slice_set arcs later (arc_kept false (arc_at arcs later))
-turned_arcs ways.On node arcs = slice_set arcs node (arc_kept true (arc_at arcs node))
+abbrev pub turned_arcs : ResidualArc → ℕ → List RequestArc → List RequestArc
+turned_arcs residuals.Start node arcs = arcs
+turned_arcs residuals.Right node arcs = arcs
+turned_arcs residuals.Left node arcs = arcs
+turned_arcs (residuals.Back later) node arcs = slice_set arcs later (arc_kept false (arc_at arcs later))
+turned_arcs residuals.On node arcs = slice_set arcs node (arc_kept true (arc_at arcs node))

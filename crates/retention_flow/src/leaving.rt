@@ -1,11 +1,11 @@
-//! Arcs that leave the nodes reached.
+//! Residual arcs that leave the nodes reached.
 
 ghost use Rattle.std.specs.Prelude.{◌≡◌, ℕ, ◌+◌, ◌^◌, ◌≤◌, ◌<◌, ◌⊎◌, List, true, false, length, slice_index, IfSome};
 ghost use Rattle.retention_flow.specs.declared.arcs.RequestArc.{RequestArc};
 ghost use Rattle.retention_flow.specs.Network.{is_reached, arc_at, GoBack, SaveLittle, IsCalmArc, IsCalm, IsSlackOf, IsSlack, IsNoMore, Leaves};
 
 use crate::arcs::RequestArc;
-use crate::steps::{Leaving, Step, Way};
+use crate::steps::{Leaving, ResidualArc, Step};
 
 /// Whether the node is reached.
 fn is_reached(steps: &[Option<Step>], node: usize) -> bool
@@ -15,7 +15,8 @@ fn is_reached(steps: &[Option<Step>], node: usize) -> bool
     steps[node].is_some()
 }
 
-/// What leaves the nodes reached over the place after a node.
+/// The residual arc over the place after a node, if it leaves the nodes reached: on to the next node, or back from that
+/// where a slot is left at the place.
 pub fn over_place(
     heights: &[u64],
     room: &[usize],
@@ -38,7 +39,7 @@ pub fn over_place(
     if before {
         return Some(Leaving {
             node: node + 1,
-            way: Way::Right,
+            arc: ResidualArc::Right,
             slack: heights[node + 1] - heights[node],
         });
     }
@@ -47,12 +48,13 @@ pub fn over_place(
     }
     Some(Leaving {
         node,
-        way: Way::Left,
+        arc: ResidualArc::Left,
         slack: heights[node] - heights[node + 1],
     })
 }
 
-/// What leaves the nodes reached over the arc of the request after a node.
+/// The residual arc of the request after a node, if it leaves the nodes reached: back to where its link begins, if it is
+/// kept, and else on from there.
 pub fn over_arc(
     heights: &[u64],
     arcs: &[RequestArc],
@@ -75,18 +77,18 @@ pub fn over_arc(
     if arc.kept {
         return Some(Leaving {
             node: arc.from,
-            way: Way::Back(node),
+            arc: ResidualArc::Back(node),
             slack: heights[arc.from] + arc.saving - heights[node],
         });
     }
     Some(Leaving {
         node,
-        way: Way::On,
+        arc: ResidualArc::On,
         slack: heights[node] - (heights[arc.from] + arc.saving),
     })
 }
 
-/// The one with the lesser slack.
+/// The arc of lesser slack.
 fn lesser(one: Option<Leaving>, other: Option<Leaving>) -> Option<Leaving>
     ensures both { (by : ℕ) → IsNoMore by result → IsNoMore by one × IsNoMore by other }
     ensures either { (result ≡ one) ⊎ (result ≡ other) }
@@ -98,7 +100,7 @@ fn lesser(one: Option<Leaving>, other: Option<Leaving>) -> Option<Leaving>
     }
 }
 
-/// What leaves the nodes reached with the least slack.
+/// An arc of least slack among those that leave the nodes reached.
 pub fn least_leaving(
     heights: &[u64],
     room: &[usize],

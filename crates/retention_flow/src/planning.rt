@@ -6,9 +6,10 @@ ghost use Rattle.known_state.specs.Plans.{at_start, Accepts};
 ghost use Rattle.retention_flow.specs.Network.{AreArcs, GoBack, SaveLittle, IsCalm, IsRoom, marks, prices_of};
 
 use crate::arcs::{RequestArc, find_arcs};
+use crate::path_search::search;
 use crate::room::find_room;
+use crate::spreading::later_ends;
 use crate::turning::turn;
-use crate::way_search::search;
 use known_state::{Plan, Request};
 use std::alloc::{AllocError, Global};
 use table_types::{Memory, Name};
@@ -58,7 +59,7 @@ fn prices_of(alloc: Global, heights: &[u64]) -> Result<Vec<u64>, Memory>
     Ok(prices)
 }
 
-/// Takes so many slots away, one by one, each along a way from the last node to the first by which the least is lost.
+/// Takes so many slots away, one by one, each along an augmenting path from the last node to the first, one of least cost.
 fn take_away(
     alloc: Global,
     count: usize,
@@ -77,8 +78,9 @@ fn take_away(
     ensures room { IfOk result (λ done. (slots : ℕ) → IsRoom slots room.old arcs.old → IsRoom (slots - count) room.new arcs.new) }
     ensures arcs { IfOk result (λ done. (held : List (List ℕ)) → (rs : List Asked) → AreArcs (at_start held) rs arcs.old → AreArcs (at_start held) rs arcs.new) }
 {
+    let later = later_ends(alloc, arcs)?;
     for _ in 0..count {
-        let steps = search(alloc, heights, room, arcs)?;
+        let steps = search(alloc, heights, room, arcs, later.as_slice())?;
         turn(room, arcs, &steps);
     }
     Ok(())

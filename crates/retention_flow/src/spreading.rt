@@ -10,7 +10,8 @@ use crate::steps::{Leaving, Step};
 use std::alloc::Global;
 use table_types::Memory;
 
-/// For each node but the last a later one, behind which is the request whose arc begins there, if there is one.
+/// For each node but the last, where the arc of a request that begins there ends: at the node before that request. Where
+/// none begins it is any node, since whoever asks looks at the arc of the request after it.
 pub fn later_ends(alloc: Global, arcs: &[RequestArc]) -> Result<Vec<usize>, Memory>
     requires back { GoBack arcs.now }
     ensures long { IfOk result (λ later. length later.items ≡ length arcs.now) }
@@ -30,14 +31,14 @@ pub fn reach(
     order: &mut Vec<usize>,
 ) -> Result<(), Memory>
     requires { leaving.node < length steps.old }
-    ensures steps { IfOk result (λ done. steps.new ≡ slice_set steps.old leaving.node (Some (record { rank = length order.old.items; way = leaving.way }))) }
+    ensures steps { IfOk result (λ done. steps.new ≡ slice_set steps.old leaving.node (Some (record { rank = length order.old.items; arc = leaving.arc }))) }
     ensures order { IfOk result (λ done. order.new.items ≡ order.old.items ++ leaving.node ∷ []) }
 {
     let rank = order.len();
     order.push(leaving.node)?;
     steps[leaving.node] = Some(Step {
         rank,
-        way: leaving.way,
+        arc: leaving.arc,
     });
     Ok(())
 }

@@ -1,9 +1,9 @@
-//! Steps from node to node.
+//! How a search reaches its nodes.
 
-/// By which arc a node is reached.
+/// The residual arc by which a node is reached.
 #[derive(Clone, Copy, Debug)]
-pub enum Way {
-    /// It is the last, from which all others are reached.
+pub enum ResidualArc {
+    /// None: it is the last node, at which a search begins.
     Start,
     /// From the node before it: a slot more is left at the place between them.
     Right,
@@ -15,22 +15,22 @@ pub enum Way {
     On,
 }
 
-/// How a node is reached.
+/// How a search reached a node.
 #[derive(Clone, Copy, Debug)]
 pub struct Step {
     /// How many nodes were reached before it.
     pub rank: usize,
-    /// By which arc.
-    pub way: Way,
+    /// The residual arc that leads to it.
+    pub arc: ResidualArc,
 }
 
-/// An arc from a node that is reached to one that isn't.
+/// A residual arc from a node that is reached to one that isn't.
 #[derive(Clone, Copy, Debug)]
 pub struct Leaving {
     /// The node that isn't reached.
     pub node: usize,
-    /// By which arc it would be.
-    pub way: Way,
-    /// How much the heights of the nodes reached can rise until nothing is lost by it.
+    /// The arc, as of that node.
+    pub arc: ResidualArc,
+    /// Its reduced cost: how far the heights of the nodes reached may rise until nothing is lost by it.
     pub slack: u64,
 }

@@ -1,46 +1,51 @@
-//! Turning the arcs of a way.
+//! Augmenting along a path.
 
 ghost use Rattle.std.specs.Prelude.{◌≡◌, ℕ, ◌+◌, ◌-◌, ◌^◌, ◌≤◌, ◌<◌, List, true, length, slice_index};
 ghost use Rattle.known_state.specs.Requests.{Asked};
 ghost use Rattle.known_state.specs.Plans.{at_start};
-ghost use Rattle.retention_flow.specs.Network.{is_reached, AreArcs, GoBack, SaveLittle, IsCalm, IsRoom, IsSearch, IsWay, before_way, turned_room, turned_arcs};
+ghost use Rattle.retention_flow.specs.Network.{is_reached, AreArcs, GoBack, SaveLittle, IsCalm, IsRoom, IsSearch, IsResidual, tail_of, turned_room, turned_arcs};
 
 use crate::arcs::RequestArc;
-use crate::steps::{Step, Way};
+use crate::steps::{ResidualArc, Step};
 
-/// Turns the arc by which a node is reached, and answers from which node that is.
-pub fn turn_one(room: &mut [usize], arcs: &mut [RequestArc], way: Way, node: usize) -> usize
+/// Augments along the residual arc by which a node is reached, and answers from which node it leads.
+fn turn_one(
+    room: &mut [usize],
+    arcs: &mut [RequestArc],
+    residual: ResidualArc,
+    node: usize,
+) -> usize
     requires count { length room.old ≡ length arcs.old }
     requires small { length arcs.old ≤ 512 }
     requires most { (place : ℕ) → place < length room.old → slice_index room.old place ≤ 512 }
-    requires way { (heights : List ℕ) × IsWay heights room.old arcs.old way node 0 }
-    ensures room { room.new ≡ turned_room way node room.old }
-    ensures arcs { arcs.new ≡ turned_arcs way node arcs.old }
-    ensures before { result ≡ before_way arcs.old way node }
+    requires residual { (heights : List ℕ) × IsResidual heights room.old arcs.old residual node 0 }
+    ensures room { room.new ≡ turned_room residual node room.old }
+    ensures arcs { arcs.new ≡ turned_arcs residual node arcs.old }
+    ensures before { result ≡ tail_of arcs.old residual node }
 {
-    match way {
-        Way::Start => node,
-        Way::Right => {
+    match residual {
+        ResidualArc::Start => node,
+        ResidualArc::Right => {
             room[node - 1] += 1;
             node - 1
         }
-        Way::Left => {
+        ResidualArc::Left => {
             room[node] -= 1;
             node + 1
         }
-        Way::Back(later) => {
+        ResidualArc::Back(later) => {
             arcs[later].kept = false;
             later
         }
-        Way::On => {
+        ResidualArc::On => {
             arcs[node].kept = true;
             arcs[node].from
         }
     }
 }
 
-/// Turns the arcs of the way by which the first node is reached from the last. Then a slot less is left or taken at each
-/// place, and nothing is gained by a change still.
+/// Augments along the path by which the first node is reached from the last, arc by arc. Then there is one slot fewer at
+/// each place, left or taken, and the heights are calm as before.
 pub fn turn(room: &mut [usize], arcs: &mut [RequestArc], steps: &[Option<Step>])
     requires small { length arcs.old ≤ 512 }
     requires back { GoBack arcs.old }
@@ -57,6 +62,6 @@ pub fn turn(room: &mut [usize], arcs: &mut [RequestArc], steps: &[Option<Step>])
     let mut node = 0;
     while node < arcs.len() {
         let step = steps[node].unwrap();
-        node = turn_one(room, arcs, step.way, node);
+        node = turn_one(room, arcs, step.arc, node);
     }
 }

@@ -2,8 +2,8 @@ use Rattle.std.proofs.Common.{ℕ, ◌≡◌, ◌+◌, ◌⊎◌, Option, subst,
 use Rattle.std.specs.Prelude.{IfSome}
 use Rattle.std.proofs.lemmas.Bool.{cases_lt}
 use Rattle.retention_flow.specs.declared.steps.Leaving.{Leaving}
-use Rattle.retention_flow.specs.Network.{is_reached, arc_at, IsCalmArc, IsSlackAt, Leaves}
-use Rattle.retention_flow.proofs.RaisedIsCalm.{calm_at}
+use Rattle.retention_flow.specs.Network.{is_reached, arc_at, IsCalmArc, Leaves}
+use Rattle.retention_flow.proofs.RaisedIsCalm.{IsSlackAt, calm_at}
 use Rattle.retention_flow.proofs.leaving.least_leaving.Goals as goal
 
 either_some : (P : Leaving → Type 0) (one other least : Option Leaving) → (least ≡ one) ⊎ (least ≡ other) → IfSome one P → IfSome other P → IfSome least P

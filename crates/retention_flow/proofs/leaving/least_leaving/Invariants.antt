@@ -1,6 +1,7 @@
 use Rattle.std.proofs.Common.{ℕ, ◌<◌}
 use Rattle.std.specs.Prelude.{IfSome}
-use Rattle.retention_flow.specs.Network.{is_reached, IsNoMore, IsSlackAt, Leaves}
+use Rattle.retention_flow.specs.Network.{is_reached, IsNoMore, Leaves}
+use Rattle.retention_flow.proofs.RaisedIsCalm.{IsSlackAt}
 use Rattle.retention_flow.proofs.leaving.least_leaving.Given as goal
 
 abbrev pub invariant-loop-node : goal.invariant-loop-node

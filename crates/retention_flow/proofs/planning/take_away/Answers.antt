@@ -1,4 +1,4 @@
-use Rattle.std.proofs.Common.{◌≡◌, ℕ, ◌+◌, ◌-◌, List, Option, sym, subst, arith}
+use Rattle.std.proofs.Common.{◌≡◌, ℕ, ◌+◌, ◌-◌, ◌<◌, List, length, slice_index, Option, sym, subst, arith}
 use Rattle.retention_flow.specs.declared.steps.Step.{Step}
 use Rattle.retention_flow.specs.Network.{IsRoom, IsSearch}
 use Rattle.retention_flow.proofs.planning.take_away.Goals as goal
@@ -10,6 +10,7 @@ loop-init c = record {
   small = λ node below. omega (arith, c.requires.zero node);
   back = c.requires.back;
   little = c.requires.little;
+  later = (c.in_ok-later.ensures.long, c.in_ok-later.ensures.within);
   room = λ slots spent. let same : slots ≡ slots - 0 = omega arith in subst (λ (n : ℕ). IsRoom n c.args.room.now c.args.arcs.now) same spent;
   arcs = λ held rs are. are;
 }
@@ -30,6 +31,11 @@ pub search-requires-clause-room : goal.search-requires-clause-room
 search-requires-clause-room c =
     let r = c.requires.room in
     (r.0 - c.loop.counter, omega (arith, r.1, c.loop-test.true), c.loop.invariant.room r.0 r.3)
+
+pub search-requires-clause-later : goal.search-requires-clause-later
+search-requires-clause-later c =
+    let many = length c.loop.arcs in
+    subst (λ (l : List ℕ). (length l ≡ many) × ((node : ℕ) → node < many → slice_index l node < many)) (sym c.as_slice.ensures.value) c.loop.invariant.later
 
 pub turn-requires-clause-back : goal.turn-requires-clause-back
 turn-requires-clause-back c = c.loop.invariant.back
@@ -57,8 +63,11 @@ loop-preserved c =
     let calm = c.in_ok-steps.ensures.calm in
     let count = c.in_ok-steps.ensures.steps.0 in
     let found = subst (λ (l : List (Option Step)). IsSearch hs c.loop.room c.loop.arcs l count) (sym c.deref.ensures.value) c.in_ok-steps.ensures.steps.1 in
+    let turned = c.turn.ensures.turned hs count (r.0 - c.loop.counter) calm found (c.loop.invariant.room r.0 r.3) in
+    let many : length c.turn.new.arcs ≡ length c.loop.arcs = omega (arith, calm.count, turned.0.count) in
     record {
-      calm = (c.turn.ensures.turned hs count (r.0 - c.loop.counter) calm found (c.loop.invariant.room r.0 r.3)).0;
+      calm = turned.0;
+      later = (omega (arith, c.loop.invariant.later.0), λ node below. omega (arith, c.loop.invariant.later.1 node (omega arith)));
       first = c.in_ok-steps.ensures.first;
       small = c.in_ok-steps.ensures.small;
       back = c.turn.ensures.back;

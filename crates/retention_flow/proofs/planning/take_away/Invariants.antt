@@ -11,6 +11,7 @@ invariant-loop l = record {
   small : (node : ℕ) → node < length l.heights → slice_index l.heights node ≤ 2 ^ 24;
   back : GoBack l.arcs;
   little : SaveLittle l.arcs;
+  later : (length l.later.items ≡ length l.arcs) × ((node : ℕ) → node < length l.arcs → slice_index l.later.items node < length l.arcs);
   room : (slots : ℕ) → IsRoom slots l.fn.room l.fn.arcs → IsRoom (slots - l.counter) l.room l.arcs;
   arcs : (held : List (List ℕ)) (rs : List Asked) → AreArcs (at_start held) rs l.fn.arcs → AreArcs (at_start held) rs l.arcs;
 }

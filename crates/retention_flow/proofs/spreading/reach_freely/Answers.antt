@@ -14,4 +14,4 @@ returns-clause-spread c = λ heights room arcs back long leaves spread.
     let arc : Leaves heights room arcs steps leaving = subst (λ (o : Option Leaving). IfSome o (Leaves heights room arcs steps)) c.in-Some.is leaves in
     let none : leaving.slack ≡ 0 = omega (arith, c.if-leaving-gt0.false) in
     subst (λ (l : List (Option Step)). IsSpread heights room arcs l c.reach.new.order.items) (sym c.in_ok-reach.ensures.steps)
-    (subst (λ (l : List ℕ). IsSpread heights room arcs (slice_set steps leaving.node (Some (record { rank = length order; way = leaving.way }))) l) (sym c.in_ok-reach.ensures.order) (one_reached heights room arcs steps order leaving back long none arc spread))
+    (subst (λ (l : List ℕ). IsSpread heights room arcs (slice_set steps leaving.node (Some (record { rank = length order; arc = leaving.arc }))) l) (sym c.in_ok-reach.ensures.order) (one_reached heights room arcs steps order leaving back long none arc spread))

@@ -1,5 +1,5 @@
 use Rattle.std.proofs.Common.{rules, ◌<◌, length, slice_index}
-use Rattle.retention_flow.proofs.TurnedWays.{arcs_calm}
+use Rattle.retention_flow.proofs.TurnedResiduals.{arcs_calm}
 use Rattle.retention_flow.proofs.spreading.spread_from.Goals as goal
 
 pub reach_over_arc-requires-clause-calm : goal.reach_over_arc-requires-clause-calm

@@ -1,6 +1,6 @@
 use Rattle.std.proofs.Common.{ap, arith}
 use Rattle.std.specs.Prelude.{is_some}
-use Rattle.retention_flow.proofs.WayIsTurned.{first_walk, way_here, rank_falls, next_walk, next_arcs, last_walk}
+use Rattle.retention_flow.proofs.PathIsTurned.{first_walk, residual_here, rank_falls, next_walk, next_arcs, last_walk}
 use Rattle.retention_flow.proofs.turning.turn.Goals as goal
 
 pub loop-node-init : goal.loop-node-init
@@ -21,11 +21,11 @@ turn_one-node-requires-clause-most c = λ place below.
     let walk = c.loop-node.invariant.walk s.0 s.1 s.2 s.4 s.5 s.6 in
     omega (arith, walk.walked place (omega (arith, walk.long)), s.3)
 
-pub turn_one-node-requires-clause-way : goal.turn_one-node-requires-clause-way
-turn_one-node-requires-clause-way c =
+pub turn_one-node-requires-clause-residual : goal.turn_one-node-requires-clause-residual
+turn_one-node-requires-clause-residual c =
     let s = c.requires.search in
     let walk = c.loop-node.invariant.walk s.0 s.1 s.2 s.4 s.5 s.6 in
-    (s.0, way_here s.0 c.loop-node.room c.loop-node.arcs c.args.steps.now s.2 c.loop-node.node c.unwrap-step.result walk c.unwrap-step.ensures)
+    (s.0, residual_here s.0 c.loop-node.room c.loop-node.arcs c.args.steps.now s.2 c.loop-node.node c.unwrap-step.result walk c.unwrap-step.ensures)
 
 pub loop-node-smaller : goal.loop-node-smaller
 loop-node-smaller c =

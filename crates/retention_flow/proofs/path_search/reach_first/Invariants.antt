@@ -1,6 +1,6 @@
 use Rattle.std.proofs.Common.{◌≡◌, ◌+◌, ◌-◌, length, slice_index}
 use Rattle.retention_flow.specs.Network.{IsCalm, IsSpread}
-use Rattle.retention_flow.proofs.way_search.reach_first.Given as goal
+use Rattle.retention_flow.proofs.path_search.reach_first.Given as goal
 
 abbrev pub invariant-loop-heights : goal.invariant-loop-heights
 invariant-loop-heights l = record {

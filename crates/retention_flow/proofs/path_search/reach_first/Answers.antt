@@ -1,6 +1,6 @@
 use Rattle.std.proofs.Common.{arith}
 use Rattle.retention_flow.proofs.SearchGoesOn.{heights_small}
-use Rattle.retention_flow.proofs.way_search.reach_first.Goals as goal
+use Rattle.retention_flow.proofs.path_search.reach_first.Goals as goal
 
 pub spread-requires-clause-small : goal.spread-requires-clause-small
 spread-requires-clause-small c = λ node below.

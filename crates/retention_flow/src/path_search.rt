@@ -1,26 +1,26 @@
-//! A search for a way from the last node to the first.
+//! A search for an augmenting path from the last node to the first.
 
 ghost use Rattle.std.specs.Prelude.{◌≡◌, ℕ, ◌-◌, ◌^◌, ◌≤◌, ◌<◌, true, false, None, Some, length, replicate, slice_index, slice_set, IfOk};
-ghost use Rattle.retention_flow.specs.declared.steps.Way.TheVariants.{Start};
+ghost use Rattle.retention_flow.specs.declared.steps.ResidualArc.TheVariants.{Start};
 ghost use Rattle.retention_flow.specs.Network.{is_reached, GoBack, SaveLittle, IsCalm, IsRoom, IsSearch, IsSpread};
 
 use crate::arcs::RequestArc;
 use crate::leaving::least_leaving;
 use crate::raising::raise;
-use crate::spreading::{later_ends, reach, spread};
-use crate::steps::{Step, Way};
+use crate::spreading::{reach, spread};
+use crate::steps::{ResidualArc, Step};
 use std::alloc::Global;
 use table_types::Memory;
 
 /// The last node alone is reached.
 fn first_step(alloc: Global, nodes: usize) -> Result<Vec<Option<Step>>, Memory>
     requires { 1 ≤ nodes }
-    ensures { IfOk result (λ steps. steps.items ≡ slice_set (replicate nodes None) (nodes - 1) (Some (record { rank = 0; way = Start }))) }
+    ensures { IfOk result (λ steps. steps.items ≡ slice_set (replicate nodes None) (nodes - 1) (Some (record { rank = 0; arc = Start }))) }
 {
     let mut steps = vec![in alloc; None; nodes]?;
     steps[nodes - 1] = Some(Step {
         rank: 0,
-        way: Way::Start,
+        arc: ResidualArc::Start,
     });
     Ok(steps)
 }
@@ -91,6 +91,7 @@ pub fn search(
     heights: &mut [u64],
     room: &[usize],
     arcs: &[RequestArc],
+    later: &[usize],
 ) -> Result<Vec<Option<Step>>, Memory>
     requires most { length arcs.now ≤ 512 }
     requires back { GoBack arcs.now }
@@ -98,16 +99,16 @@ pub fn search(
     requires calm { IsCalm heights.old room.now arcs.now }
     requires first { slice_index heights.old 0 ≡ 0 }
     requires room { (slots : ℕ) × (1 ≤ slots) × IsRoom slots room.now arcs.now }
+    requires later { (length later.now ≡ length arcs.now) × ((node : ℕ) → node < length arcs.now → slice_index later.now node < length arcs.now) }
     ensures calm { IfOk result (λ steps. IsCalm heights.new room.now arcs.now) }
     ensures first { IfOk result (λ steps. slice_index heights.new 0 ≡ 0) }
     ensures small { IfOk result (λ steps. (node : ℕ) → node < length heights.new → slice_index heights.new node ≤ 2 ^ 24) }
     ensures reached { IfOk result (λ steps. is_reached steps.items 0 ≡ true) }
     ensures steps { IfOk result (λ steps. (count : ℕ) × IsSearch heights.new room.now arcs.now steps.items count) }
 {
-    let later = later_ends(alloc, arcs)?;
     let mut steps = first_step(alloc, heights.len())?;
     let mut order = Vec::new(alloc);
     order.push(arcs.len())?;
-    reach_first(heights, room, arcs, &later, &mut steps, &mut order)?;
+    reach_first(heights, room, arcs, later, &mut steps, &mut order)?;
     Ok(steps)
 }

@@ -4,9 +4,9 @@ use Rattle.std.specs.Prelude.{slice_set}
 use Rattle.std.proofs.lemmas.Bool.{cases_eq}
 use Rattle.std.proofs.lemmas.List.{get_or-set_same, get_or-set_other}
 use Rattle.retention_flow.specs.declared.arcs.RequestArc.{RequestArc}
-use Rattle.retention_flow.specs.declared.steps.Way.{Way}
-use Rattle.retention_flow.specs.declared.steps.Way.TheVariants as ways
-use Rattle.retention_flow.specs.Network.{IsCalmRise, IsCalmArc, IsCalm, arc_at, arc_kept, IsWay, turned_room, turned_arcs}
+use Rattle.retention_flow.specs.declared.steps.ResidualArc.{ResidualArc}
+use Rattle.retention_flow.specs.declared.steps.ResidualArc.TheVariants as residuals
+use Rattle.retention_flow.specs.Network.{IsCalmRise, IsCalmArc, IsCalm, arc_at, arc_kept, IsResidual, turned_room, turned_arcs}
 use Rattle.retention_flow.proofs.RaisedIsCalm.{calm_at, calm_all}
 use Rattle.retention_flow.proofs.TurnedArcs.{arc_other, arc_set}
 
@@ -15,19 +15,19 @@ set-length [] i a = refl
 set-length (x ∷ xs) zero a = refl
 set-length (x ∷ xs) (suc i) a = omega (arith, set-length xs i a)
 
-pub turned_room-length : (way : Way) (node : ℕ) (room : List ℕ) → length (turned_room way node room) ≡ length room
-turned_room-length ways.Start node room = refl
-turned_room-length ways.Right node room = set-length room (node - 1) (slice_index room (node - 1) + 1)
-turned_room-length ways.Left node room = set-length room node (slice_index room node - 1)
-turned_room-length (ways.Back later) node room = refl
-turned_room-length ways.On node room = refl
+pub turned_room-length : (residual : ResidualArc) (node : ℕ) (room : List ℕ) → length (turned_room residual node room) ≡ length room
+turned_room-length residuals.Start node room = refl
+turned_room-length residuals.Right node room = set-length room (node - 1) (slice_index room (node - 1) + 1)
+turned_room-length residuals.Left node room = set-length room node (slice_index room node - 1)
+turned_room-length (residuals.Back later) node room = refl
+turned_room-length residuals.On node room = refl
 
-pub turned_arcs-length : (way : Way) (node : ℕ) (arcs : List RequestArc) → length (turned_arcs way node arcs) ≡ length arcs
-turned_arcs-length ways.Start node arcs = refl
-turned_arcs-length ways.Right node arcs = refl
-turned_arcs-length ways.Left node arcs = refl
-turned_arcs-length (ways.Back later) node arcs = set-length arcs later (arc_kept false (arc_at arcs later))
-turned_arcs-length ways.On node arcs = set-length arcs node (arc_kept true (arc_at arcs node))
+pub turned_arcs-length : (residual : ResidualArc) (node : ℕ) (arcs : List RequestArc) → length (turned_arcs residual node arcs) ≡ length arcs
+turned_arcs-length residuals.Start node arcs = refl
+turned_arcs-length residuals.Right node arcs = refl
+turned_arcs-length residuals.Left node arcs = refl
+turned_arcs-length (residuals.Back later) node arcs = set-length arcs later (arc_kept false (arc_at arcs later))
+turned_arcs-length residuals.On node arcs = set-length arcs node (arc_kept true (arc_at arcs node))
 
 pub set_at : (l : List ℕ) (i j n : ℕ) → i < length l → slice_index (slice_set l i n) j ≡ slice_index l j ⊎ (j ≡ i) × (slice_index (slice_set l i n) j ≡ n)
 set_at l i j n below = elim (cases_eq j i) [
@@ -72,9 +72,9 @@ with_set hs room arcs i kept below tight calm =
 with_room : (hs room new : List ℕ) (arcs : List RequestArc) → IsCalm hs room arcs → ((node : ℕ) → node < length arcs → 0 < slice_index new node → slice_index hs (node + 1) ≤ slice_index hs node) → IsCalm hs new arcs
 with_room hs room new arcs calm full = record { count = calm.count; rises = calm.rises; full = full; calm = calm.calm }
 
-pub turned_is_calm : (hs room : List ℕ) (arcs : List RequestArc) (way : Way) (node : ℕ) → length room ≡ length arcs → IsCalm hs room arcs → IsWay hs room arcs way node 0 → IsCalm hs (turned_room way node room) (turned_arcs way node arcs)
-turned_is_calm hs room arcs ways.Start node long calm way = calm
-turned_is_calm hs room arcs ways.Right node long calm (some, most, tight) =
+pub turned_is_calm : (hs room : List ℕ) (arcs : List RequestArc) (residual : ResidualArc) (node : ℕ) → length room ≡ length arcs → IsCalm hs room arcs → IsResidual hs room arcs residual node 0 → IsCalm hs (turned_room residual node room) (turned_arcs residual node arcs)
+turned_is_calm hs room arcs residuals.Start node long calm residual = calm
+turned_is_calm hs room arcs residuals.Right node long calm (some, most, tight) =
     with_room hs room (slice_set room (node - 1) (slice_index room (node - 1) + 1)) arcs calm (λ place below left. elim (set_at room (node - 1) place (slice_index room (node - 1) + 1) (omega arith)) [
       | inl same ↦ calm.full place below (omega (arith, same))
       | inr (same, is) ↦
@@ -84,12 +84,12 @@ turned_is_calm hs room arcs ways.Right node long calm (some, most, tight) =
           let high : slice_index hs node ≡ slice_index hs (place + 1) = ap (λ (n : ℕ). slice_index hs n) next in
           omega (arith, low, high, tight)
     ])
-turned_is_calm hs room arcs ways.Left node long calm (below, some, tight) =
+turned_is_calm hs room arcs residuals.Left node long calm (below, some, tight) =
     with_room hs room (slice_set room node (slice_index room node - 1)) arcs calm (λ place within left. elim (set_at room node place (slice_index room node - 1) (omega arith)) [
       | inl same ↦ calm.full place within (omega (arith, same))
       | inr (same, is) ↦ calm.full place within (let here : slice_index room place ≡ slice_index room node = ap (λ (n : ℕ). slice_index room n) same in omega (arith, here))
     ])
-turned_is_calm hs room arcs (ways.Back later) node long calm (below, kept, from, tight) =
+turned_is_calm hs room arcs (residuals.Back later) node long calm (below, kept, from, tight) =
     let start : slice_index hs (arc_at arcs later).from ≡ slice_index hs node = ap (λ (n : ℕ). slice_index hs n) from in
     with_set hs room arcs later false below (omega (arith, start)) calm
-turned_is_calm hs room arcs ways.On node long calm (below, kept, tight) = with_set hs room arcs node true below (omega arith) calm
+turned_is_calm hs room arcs residuals.On node long calm (below, kept, tight) = with_set hs room arcs node true below (omega arith) calm

@@ -4,7 +4,7 @@ use Rattle.retention_flow.specs.declared.steps.Step.{Step}
 use Rattle.retention_flow.specs.Network.{IsSpread}
 use Rattle.retention_flow.proofs.SearchGoesOn.{some_leaves, heights_small, slack_small}
 use Rattle.retention_flow.proofs.SpreadGoesOn.{one_spread, raised_least, least_leaves}
-use Rattle.retention_flow.proofs.way_search.go_on.Goals as goal
+use Rattle.retention_flow.proofs.path_search.go_on.Goals as goal
 
 pub least_leaving-requires-clause-small : goal.least_leaving-requires-clause-small
 least_leaving-requires-clause-small c = λ node below.
@@ -47,7 +47,7 @@ spread-requires-clause-spread c =
     let order = c.args.order.now.items in
     let leaves = least_leaves c.args.heights.now room arcs steps c.least_leaving.result leaving c.unwrap-leaving.ensures c.least_leaving.ensures.leaves in
     subst (λ (l : List (Option Step)). IsSpread new room arcs l c.reach.new.order.items) (sym c.in_ok-reach.ensures.steps)
-    (subst (λ (l : List ℕ). IsSpread new room arcs (slice_set steps leaving.node (Some (record { rank = length order; way = leaving.way }))) l) (sym c.in_ok-reach.ensures.order)
+    (subst (λ (l : List ℕ). IsSpread new room arcs (slice_set steps leaving.node (Some (record { rank = length order; arc = leaving.arc }))) l) (sym c.in_ok-reach.ensures.order)
     (one_spread c.args.heights.now new room arcs steps order leaving c.requires.back c.requires.calm.count c.raise.ensures.raised leaves c.requires.spread))
 
 pub returns-clause-calm : goal.returns-clause-calm

@@ -3,7 +3,7 @@ use Rattle.retention_flow.specs.declared.steps.Step.{Step}
 use Rattle.retention_flow.specs.Network.{IsSearch, IsSpread}
 use Rattle.retention_flow.proofs.SearchGoesOn.{heights_small}
 use Rattle.retention_flow.proofs.SpreadGoesOn.{first_spread, steps_written}
-use Rattle.retention_flow.proofs.way_search.search.Goals as goal
+use Rattle.retention_flow.proofs.path_search.search.Goals as goal
 
 pub reach_first-requires-clause-spread : goal.reach_first-requires-clause-spread
 reach_first-requires-clause-spread c =
