@@ -8,8 +8,9 @@ use Rattle.std.proofs.lemmas.List.{drop_more}
 use Rattle.std.proofs.lemmas.Map.Text.{btree_map_updates_str}
 use Rattle.table_types.specs.Rosters.{is_same_name}
 use Rattle.known_state.specs.Requests.{Asked}
+use Rattle.teach_writer.specs.declared.next_requests.NextRequest.{NextRequest}
 use Rattle.known_state.specs.Plans.{keeps_next}
-use Rattle.teach_writer.specs.Retention.{is_kept, is_first_kept, kept_next}
+use Rattle.teach_writer.specs.NextRequests.{is_kept, is_first_kept, kept_next}
 
 -- an item is put before those that follow it
 pub drop-set : {X : Type 0} (xs : List X) (i : ℕ) (x : X) → i < length xs → drop i (slice_set xs i x) ≡ x ∷ drop (i + 1) xs
@@ -27,17 +28,17 @@ kept_next-more rs keep next i r kept flag lt long flags is mark here later =
     ∙ sym (ap (λ (l : List Asked). kept_next l (drop i keep)) first ∙ ap (kept_next (r ∷ drop (i + 1) rs)) second)
 
 -- the map with one request more
-pub first_kept-more : (rs : List Asked) (keep : List Bool) (i : ℕ) (r : Asked) (kept : Bool) (before after : BTreeMap (Bor (List ℕ)) Bool) → i < length rs → length keep ≡ length rs → r ≡ get_or rs i r → kept ≡ get_or keep i false → tree.UpdatesBy (λ x y. slice_cmp nat_cmp x.now y.now) (λ k. slice_cmp nat_cmp r.name k.now) before after (Some kept)
+pub first_kept-more : (rs : List Asked) (keep : List Bool) (i : ℕ) (r : Asked) (next : NextRequest) (before after : BTreeMap (Bor (List ℕ)) NextRequest) → i < length rs → length keep ≡ length rs → r ≡ get_or rs i r → next.kept ≡ get_or keep i false → tree.UpdatesBy (λ x y. slice_cmp nat_cmp x.now y.now) (λ k. slice_cmp nat_cmp r.name k.now) before after (Some next)
     → ((name : List ℕ) → is_first_kept before name ≡ keeps_next name (drop (i + 1) rs) (drop (i + 1) keep)) → (name : List ℕ) → is_first_kept after name ≡ keeps_next name (drop i rs) (drop i keep)
-first_kept-more rs keep i r kept before after lt long is mark put later = λ name.
+first_kept-more rs keep i r next before after lt long is mark put later = λ name.
     let first : drop i rs ≡ r ∷ drop (i + 1) rs = drop_more rs i r lt ∙ ap (λ (x : Asked). x ∷ drop (i + 1) rs) (sym is) in
-    let second : drop i keep ≡ kept ∷ drop (i + 1) keep = drop_more keep i false (omega arith) ∙ ap (λ (x : Bool). x ∷ drop (i + 1) keep) (sym mark) in
-    ap is_kept (btree_map_updates_str r.name before after (Some kept) put name)
+    let second : drop i keep ≡ next.kept ∷ drop (i + 1) keep = drop_more keep i false (omega arith) ∙ ap (λ (x : Bool). x ∷ drop (i + 1) keep) (sym mark) in
+    ap is_kept (btree_map_updates_str r.name before after (Some next) put name)
     ∙ chosen (is_same_name r.name name) (tree.get_by (λ k. slice_cmp nat_cmp name k.now) before)
-    ∙ ap (λ (b : Bool). cond (is_same_name r.name name) kept b) (later name)
+    ∙ ap (λ (b : Bool). cond (is_same_name r.name name) next.kept b) (later name)
     ∙ sym (ap (λ (l : List Asked). keeps_next name l (drop i keep)) first ∙ ap (keeps_next name (r ∷ drop (i + 1) rs)) second)
   where
-    chosen : (b : Bool) (o : Option Bool) → is_kept (cond b (Some kept) o) ≡ cond b kept (is_kept o)
+    chosen : (b : Bool) (o : Option NextRequest) → is_kept (cond b (Some next) o) ≡ cond b next.kept (is_kept o)
     chosen true o = refl
     chosen false o = refl
 

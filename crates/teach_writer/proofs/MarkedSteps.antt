@@ -24,7 +24,7 @@ use Rattle.known_state.proofs.NamesToKeep.{names_to_keep}
 use Rattle.known_state.proofs.SlotsNeeded.{turned}
 use Rattle.teach_writer.specs.Naming.{is_that_name, lowest_from, starts_at_first, starts_after, first_mark, marks_after, retains_next, IsRetainedOver, IsNamed}
 use Rattle.teach_writer.specs.Retained.{retained_at, Retains, IsFree, IsNameField}
-use Rattle.teach_writer.specs.Retention.{IsRetainedFirst, HasRoomFor, kept_next, settled, place_after}
+use Rattle.teach_writer.specs.NextRequests.{IsRetainedFirst, HasRoomFor, kept_next, retained_after, place_after}
 use Rattle.teach_writer.specs.Sending.{slot_of, is_stored, IsSent, AreSent}
 use Rattle.teach_writer.proofs.KeptNext.{kept_next-at}
 use Rattle.teach_writer.proofs.UpdateStepsAreLegal.{stream-append}
@@ -179,7 +179,7 @@ IsMarkFor starts (Some name) marks = (mark : Bool) × (later : List Bool) × (ma
 -- an update that is sent as the slots retain their names is sent as its mark says
 one_marked : (retained : List Bool) (starts : List ℕ → Option ℕ) (slots after : List (Option (List ℕ))) (u : Update) (us : List Update) (stored flag : Bool) (field : NameField) (name asked : Option (List ℕ)) (marks : List Bool) → u.name ≡ asked → length retained ≡ 128 → length slots ≡ 128 → AreMarked retained starts slots (u ∷ us) marks → AreSlots starts → IsMarkFor starts asked marks → IsNameField retained slots stored asked field → Named slots field name after
     → ((n : List ℕ) → asked ≡ Some n → flag ≡ retains_next n us (marks_after asked marks))
-    → IsMarkedStep (settled retained (slot_of field) flag) starts after u us marks stored asked field (marks_after asked marks)
+    → IsMarkedStep (retained_after retained (slot_of field) flag) starts after u us marks stored asked field (marks_after asked marks)
 one_marked retained starts slots after u us stored flag names.NotStored name None marks is long many are slotted mark named moved flagged = nameless_marked retained starts slots after u us stored names.NotStored marks is are named moved.1
 one_marked retained starts slots after u us stored flag names.NoName name None marks is long many are slotted mark named moved flagged = nameless_marked retained starts slots after u us stored names.NoName marks is are named moved.1
 one_marked retained starts slots after u us stored flag (names.Held slot) name None marks is long many are slotted mark named moved flagged = absurd (not_held stored named)
@@ -199,7 +199,7 @@ one_marked retained starts slots after u us stored flag (names.Held slot) name (
     let flag_is : flag ≡ retains_next n us later = flagged n refl ∙ ap (λ (l : List Bool). retains_next n us (marks_after (Some n) l)) marks_are in
     subst (λ (l : List Bool). IsMarkedStep (slice_set retained (slot - 1) flag) starts after u us l stored (Some n) (names.Held slot) (marks_after (Some n) l)) (sym marks_are)
     (subst (λ (b : Bool). IsMarkedStep (slice_set retained (slot - 1) b) starts after u us (mark ∷ later) stored (Some n) (names.Held slot) later) (sym flag_is)
-    (held_marked retained starts slots after u us stored n slot mark later is long marked named.0 stay))
+    (held_marked retained starts slots after u us stored n slot mark later is long marked named stay))
 one_marked retained starts slots after u us stored flag (names.Written slot written) name (Some n) marks is long many are slotted (mark, later, marks_are, linked) named moved flagged =
     let marked : AreMarked retained starts slots (u ∷ us) (mark ∷ later) = subst (λ (l : List Bool). AreMarked retained starts slots (u ∷ us) l) marks_are are in
     let none : mark ≡ false = unmarked retained starts slots u us n mark later is marked slotted linked named.1 in
@@ -313,7 +313,7 @@ mark_first roster k starts asking u us (Some n) (mark ∷ marks) is long linked 
     by true l = λ set. begun n ∙ ap is_some l.0.1
     by false l = λ set. cc
 
--- the marks of what an update asks for, if anything
+-- the mark of an update's request, if it has a name
 abbrev taken : Option (List ℕ) → List Bool → List Bool
 taken None marks = []
 taken (Some name) marks = first_mark marks ∷ []
@@ -365,7 +365,7 @@ slot_of_named retained slots stored None (names.Written slot written) named = ab
     not_written false h = cc
 slot_of_named retained slots stored (Some name) names.NotStored named = absurd named
 slot_of_named retained slots stored (Some name) names.NoName named = absurd named
-slot_of_named retained slots stored (Some name) (names.Held slot) named = (refl, λ id e. (let same : slot ≡ id = cc in subst (λ (n : ℕ). is_slot n ≡ true) same named.0.1.0))
+slot_of_named retained slots stored (Some name) (names.Held slot) named = (refl, λ id e. (let same : slot ≡ id = cc in subst (λ (n : ℕ). is_slot n ≡ true) same named.1.0))
 slot_of_named retained slots stored (Some name) (names.Written slot written) named = (refl, λ id e. (let same : slot ≡ id = cc in subst (λ (n : ℕ). is_slot n ≡ true) same named.2.0))
 
 -- the flag at the place of an update's request
@@ -392,7 +392,7 @@ flag_at roster k u left rs done keep kept marks starts place n is rs_is keep_is 
 
 -- one update more
 pub way_step : (roster : List Definition) (s mid after : State) (us left : List Update) (u : Update) (rs : List Asked) (keep next : List Bool) (bytes more : List ℕ) (retained : List Bool) (place : ℕ) (field : NameField) (first : List Message) → IsUnderWay roster s us rs keep bytes mid retained place (u ∷ left) → IsSent roster mid u field first after → IsNameField retained mid.slots (is_stored roster u) u.name field → more ≡ bytes ++ stream_of first → next ≡ kept_next rs keep
-    → IsUnderWay roster s us rs keep more after (settled retained (slot_of field) (get_or next place false)) (place_after place (slot_of field)) left
+    → IsUnderWay roster s us rs keep more after (retained_after retained (slot_of field) (get_or next place false)) (place_after place (slot_of field)) left
 way_step roster s mid after us left u rs keep next bytes more retained place field first (ms, starts, k, done, kept, marks, bytes_are, rs_is, keep_is, so_far, kept_so_far, long, linked, begun, slots, are, long_flags, many, leads) sent named grown next_is =
     let held = names_in s.slots in
     let asking = after_requests (at_start held) done in
@@ -422,14 +422,14 @@ way_step roster s mid after us left u rs keep next bytes more retained place fie
       subst (λ (a : Asking). AreBegun (starts_after starts u.name (slot_of field)) a) (sym then) ahead.3,
       ahead.4,
       step.1,
-      settled_length (slot_of field) flag,
+      length_after (slot_of field) flag,
       slots_long mid.slots after.slots field moved.0 many moved.1,
       λ others e sent_more. subst (λ (l : List Message). AreSent roster s (starts_at_first s.slots) us keep l e) (sym (append_assoc ms first others)) (leads (first ++ others) e (field, first, after, others, sent, step.0, sent_more, refl)),
     )
   where
-    settled_length : (slot : Option ℕ) (flag : Bool) → length (settled retained slot flag) ≡ 128
-    settled_length None flag = long_flags
-    settled_length (Some slot) flag = length-set retained (slot - 1) flag ∙ long_flags
+    length_after : (slot : Option ℕ) (flag : Bool) → length (retained_after retained slot flag) ≡ 128
+    length_after None flag = long_flags
+    length_after (Some slot) flag = length-set retained (slot - 1) flag ∙ long_flags
 
 -- the place of a request is one of those of the flags
 pub way_place : (roster : List Definition) (s mid : State) (us left : List Update) (u : Update) (rs : List Asked) (keep next : List Bool) (bytes : List ℕ) (retained : List Bool) (place : ℕ) (field : NameField) (slot : ℕ) → IsUnderWay roster s us rs keep bytes mid retained place (u ∷ left) → IsNameField retained mid.slots (is_stored roster u) u.name field → slot_of field ≡ Some slot → length next ≡ length rs → place < length next

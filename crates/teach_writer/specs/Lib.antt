@@ -1,5 +1,5 @@
 pub mod Naming
 pub mod Planning
 pub mod Retained
-pub mod Retention
+pub mod NextRequests
 pub mod Sending

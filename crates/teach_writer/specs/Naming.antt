@@ -49,7 +49,7 @@ IsRetainedOver starts us marks slot = (name : List ℕ) × (starts name ≡ Some
 abbrev pub IsOpen : (List ℕ → Option ℕ) → List Update → List Bool → ℕ → Type 0
 IsOpen starts us marks slot = (is_slot slot ≡ true) × (IsRetainedOver starts us marks slot → ⊥)
 
--- How the name of the first of these updates is sent. A retained request reads the slot in which its link began; any other name
+-- How the name of the first of these updates is sent. A request that is kept reads the slot in which its link begins; any other name
 -- is written, to the lowest slot in which no name is retained over this update. An update without a name has an empty field where
 -- its table stores names, and else no field.
 abbrev pub IsNamed : (List ℕ → Option ℕ) → List Update → List Bool → Bool → Option (List ℕ) → NameField → Type 0

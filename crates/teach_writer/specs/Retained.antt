@@ -10,7 +10,7 @@ use Rattle.known_state.specs.Cost.{written_field}
 abbrev pub none_retained : List Bool
 none_retained = replicate 128 false
 
--- whether the name that a slot, 1 to 128, holds is retained for a later update that asks for it
+-- whether the name that a slot, 1 to 128, holds is retained for a later update, whose request is kept
 abbrev pub retained_at : List Bool → ℕ → Bool
 retained_at retained slot = slice_index_or retained (slot - 1) false
 
@@ -22,11 +22,10 @@ Retains retained slots slot name = (retained_at retained slot ≡ true) × Holds
 abbrev pub IsFree : List Bool → ℕ → Type 0
 IsFree retained slot = (is_slot slot ≡ true) × (retained_at retained slot ≡ false)
 
--- How an update's name is sent. One that is retained is read, in the lowest slot that retains it; any other is written, to the
--- lowest slot that is free. An update without a name has an empty field where its table stores names, and else no field.
+-- How an update's name is sent. One that is retained is read, in a slot that retains it; any other is written, to the lowest
+-- slot that is free. An update without a name has an empty field where its table stores names, and else no field.
 abbrev pub IsNameField : List Bool → List (Option (List ℕ)) → Bool → Option (List ℕ) → NameField → Type 0
-IsNameField retained slots stored (Some name) (names.Held slot) =
-    Retains retained slots slot name × ((other : ℕ) → Retains retained slots other name → slot ≤ other)
+IsNameField retained slots stored (Some name) (names.Held slot) = Retains retained slots slot name
 IsNameField retained slots stored (Some name) (names.Written slot written) =
     (written ≡ name)
     × ((other : ℕ) → Retains retained slots other name → ⊥)

@@ -3,13 +3,12 @@
 
 mod laws;
 mod lesson;
+mod next_requests;
 mod planned;
 mod retained;
-mod retention;
 mod sending;
 mod teaching;
 
 pub use laws::marks_are_reads;
 pub use lesson::{Lesson, TeachError};
-pub use planned::teach_by;
 pub use teaching::teach;

@@ -15,28 +15,58 @@ ghost use Rattle.known_state.specs.Shortest.{Shortest};
 ghost use Rattle.price_checker.specs.Verdicts.{Says, bound_shown};
 ghost use Rattle.price_checker.specs.declared.verdict.Verdict.TheVariants as verdicts;
 ghost use Rattle.teach_writer.specs.Planning.{IsPlanFor};
-ghost use Rattle.teach_writer.specs.Retention.{settled, place_after};
+ghost use Rattle.teach_writer.specs.NextRequests.{retained_after, place_after};
 ghost use Rattle.teach_writer.specs.Sending.{GoesThrough};
 
 use crate::lesson::Lesson;
+use crate::next_requests::{NextRequest, next_kept, retained_first};
 use crate::retained::Retained;
-use crate::retention::{next_kept, retained_first};
 use crate::sending::write_update;
 use known_state::{Known, Plan, Request};
 use std::alloc::Global;
-use table_types::{Batch, Items, Memory};
+use table_types::{Batch, Items, Memory, is_slot};
 
 /// After an update whose name went through that slot, if it has one: the slot retains the name where the next request for
-/// it is kept, as the flag of the request at this place says, and the next request is at the next place.
-fn settle(retained: &mut Retained, place: &mut usize, slot: Option<u8>, next: &[bool])
+/// it is kept, as the flag of the request at this place says, and else is free. The next request is at the next place.
+fn retain_or_free(retained: &mut Retained, place: &mut usize, slot: Option<u8>, next: &[bool])
     requires slot { IfSome slot (λ id. is_slot id ≡ true) }
     requires place { IfSome slot (λ id. place.old < length next.now) }
-    ensures retained { retained.new ≡ settled retained.old slot (slice_index_or next.now place.old false) }
+    ensures retained { retained.new ≡ retained_after retained.old slot (slice_index_or next.now place.old false) }
     ensures place { place.new ≡ place_after place.old slot }
 {
     if let Some(slot) = slot {
         retained.set(slot, next[*place]);
         *place += 1;
+    }
+}
+
+/// The slot in which the name of the request at this place is likely to be retained, if any is noted.
+fn expected(likely: &[Option<u8>], place: usize) -> Option<u8>
+    ensures { IfSome result (λ slot. is_slot slot ≡ true) }
+{
+    if place >= likely.len() {
+        return None;
+    }
+    match likely[place] {
+        Some(slot) if is_slot(u64::from(slot)) => Some(slot),
+        _ => None,
+    }
+}
+
+/// Notes for the next request for a name that the name of the request at this place went through that slot.
+fn expect(
+    likely: &mut [Option<u8>],
+    later: &[Option<NextRequest>],
+    place: usize,
+    slot: Option<u8>,
+) {
+    if place >= later.len() {
+        return;
+    }
+    if let Some(next) = later[place] {
+        if next.index < likely.len() {
+            likely[next.index] = slot;
+        }
     }
 }
 
@@ -57,14 +87,17 @@ fn send_updates(
     ensures order { IfOk result (λ sent. GoesThrough known.now batch.now keep.now sent.0.items sent.1.state) }
     ensures roster { IfOk result (λ sent. sent.1.roster ≡ known.now.roster) }
 {
-    let (next, first) = next_kept(alloc, requests, keep)?;
+    let (next, later, first) = next_kept(alloc, requests, keep)?;
     let mut after = known.copy(alloc)?;
     let mut retained = retained_first(after.slots(), &first);
+    let mut likely = vec![in alloc; None; requests.len()]?;
     let mut bytes = Vec::new(alloc);
     let mut place = 0;
     for update in batch.updates() {
-        let slot = write_update(alloc, &mut after, &retained, update, &mut bytes)?;
-        settle(&mut retained, &mut place, slot, next.as_slice());
+        let expected = expected(&likely, place);
+        let slot = write_update(alloc, &mut after, &retained, update, expected, &mut bytes)?;
+        expect(&mut likely, &later, place, slot);
+        retain_or_free(&mut retained, &mut place, slot, next.as_slice());
     }
     Ok((bytes, after))
 }

@@ -9,7 +9,7 @@ use dict_slots::Slots;
 use std::marker::Model;
 use table_types::Name;
 
-/// Which slots of the dictionary hold a name that is retained for a later update that asks for it.
+/// Which slots of the dictionary hold a name that is retained for a later update, whose request is kept.
 #[derive(Debug, Drop)]
 pub struct Retained {
     flags: [bool; 128],
@@ -59,12 +59,25 @@ impl Retained {
         }
     }
 
-    /// The lowest slot in which this name is retained, by what the slots hold.
-    pub fn find(&self, slots: &Slots, name: &Name) -> Option<u8>
+    /// Whether this name is retained in that slot, by what the slots hold.
+    fn retains(&self, slots: &Slots, slot: u8, name: &Name) -> bool
+        requires { is_slot slot ≡ true }
+        ensures { IsTrue result ↔ Retains self.now slots.now slot name.now }
+    {
+        self.flags[usize::from(slot) - 1] && holds(slots.name(slot), name)
+    }
+
+    /// A slot in which this name is retained, by what the slots hold. The likely one is tried first, if there is one.
+    pub fn find(&self, slots: &Slots, name: &Name, likely: Option<u8>) -> Option<u8>
+        requires { IfSome likely (λ slot. is_slot slot ≡ true) }
         ensures found { IfSome result (λ slot. Retains self.now slots.now slot name.now) }
-        ensures lowest { IfSome result (λ slot. (other : ℕ) → Retains self.now slots.now other name.now → slot ≤ other) }
         ensures absent { IsNone result → (slot : ℕ) → Retains self.now slots.now slot name.now → ⊥ }
     {
+        if let Some(slot) = likely {
+            if self.retains(slots, slot, name) {
+                return Some(slot);
+            }
+        }
         for (index, retained) in self.flags.iter().enumerate() {
             let slot = index as u8 + 1;
             if *retained && holds(slots.name(slot), name) {

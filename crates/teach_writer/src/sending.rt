@@ -16,7 +16,7 @@ ghost use Rattle.known_state.specs.State.{Step, Teaches, IsOwn, name_of, reads_e
 ghost use Rattle.known_state.specs.Cost.{number_sent, sent_as};
 ghost use Rattle.known_state.specs.Requests.{IsUpdateOf};
 ghost use Rattle.teach_writer.specs.Retained.{IsNameField};
-ghost use Rattle.teach_writer.specs.Retention.{HasRoomFor};
+ghost use Rattle.teach_writer.specs.NextRequests.{HasRoomFor};
 ghost use Rattle.teach_writer.specs.Sending.{selection, slot_of, is_stored, IsSent};
 
 use crate::retained::Retained;
@@ -45,15 +45,18 @@ fn selection(
     }
 }
 
-/// How the name of an update of that table is sent: read where it is retained, and else written where a slot is free.
+/// How the name of an update of that table is sent: read where it is retained, for which the likely slot is tried first, and
+/// else written where a slot is free.
 fn name_field(
     alloc: Global,
     retained: &Retained,
     slots: &Slots,
     table: &TableDef,
     update: &Update,
+    likely: Option<u8>,
 ) -> Result<NameField, Memory>
     requires fits { fits table.now update.now ≡ true }
+    requires likely { IfSome likely (λ slot. is_slot slot ≡ true) }
     requires room { HasRoomFor retained.now slots.now update.now.name }
     ensures field { IfOk result (λ field. IsNameField retained.now slots.now (stores_name table.now) update.now.name field) }
     ensures fits { IfOk result (λ field. name_fits table.now field ≡ true) }
@@ -68,7 +71,7 @@ fn name_field(
             NameField::NotStored
         });
     };
-    match retained.find(slots, name) {
+    match retained.find(slots, name, likely) {
         Some(slot) => Ok(NameField::Held(slot)),
         None => Ok(NameField::Written(retained.free(), name.copy(alloc)?)),
     }
@@ -132,8 +135,10 @@ fn named(
     known: &Known,
     retained: &Retained,
     update: &Update,
+    likely: Option<u8>,
 ) -> Result<NameField, Memory>
     requires update { IsUpdateOf known.now.roster update.now }
+    requires likely { IfSome likely (λ slot. is_slot slot ≡ true) }
     requires room { HasRoomFor retained.now known.now.state.slots update.now.name }
     ensures field { IfOk result (λ field. (d : Definition) → table_at known.now.roster update.now.table ≡ Some d →
         IsNameField retained.now known.now.state.slots (stores_name d) update.now.name field) }
@@ -143,7 +148,7 @@ fn named(
     ensures slot { IfOk result (λ field. IfSome (slot_of field) (λ id. is_slot id ≡ true)) }
 {
     match known.roster().table(update.table) {
-        Some(table) => name_field(alloc, retained, known.slots(), table, update),
+        Some(table) => name_field(alloc, retained, known.slots(), table, update, likely),
         None => unreachable!(),
     }
 }
@@ -165,9 +170,11 @@ pub fn write_update(
     known: &mut Known,
     retained: &Retained,
     update: &Update,
+    likely: Option<u8>,
     bytes: &mut Vec<u8>,
 ) -> Result<Option<u8>, Memory>
     requires update { IsUpdateOf known.old.roster update.now }
+    requires likely { IfSome likely (λ slot. is_slot slot ≡ true) }
     requires room { HasRoomFor retained.now known.old.state.slots update.now.name }
     ensures order { IfOk result (λ slot. (field : NameField) × (ms : List Message) × (slot ≡ slot_of field)
         × (bytes.new.items ≡ bytes.old.items ++ stream_of ms)
@@ -177,7 +184,7 @@ pub fn write_update(
     ensures roster { known.new.roster ≡ known.old.roster }
 {
     select(alloc, known, update.table, bytes)?;
-    let field = named(alloc, known, retained, update)?;
+    let field = named(alloc, known, retained, update, likely)?;
     let slot = slot_of(&field);
     let message = update_sent(
         alloc,

@@ -38,8 +38,8 @@ fn names_held(alloc: Global, slots: &Slots) -> Result<Vec<Name>, Memory>
 /// The lesson that teaches the batch to a learner in the known state. It goes through the batch in order. Where an
 /// update's table isn't selected, its definition comes first if it isn't defined yet, and else a switch. An update
 /// comes without its number exactly where that is one more than its table's last, modulo 2^32, and with its life. Its
-/// name is read where the plan of the batch's requests keeps its request, and else written to the lowest slot that holds no
-/// name that is still to be read.
+/// name is read where the plan of the batch's requests keeps its request, and else written to the lowest slot whose present
+/// name no later update reads there.
 ///
 /// The batch was made for the roster of the known state. No legal stream that carries the same updates in that order has
 /// fewer bytes, and the lesson's prices, which are the plan's, show it to whoever checks them.

@@ -9,7 +9,7 @@ use Rattle.peers_msg.specs.Spelling.{stream_of}
 use Rattle.known_state.specs.Cost.{knowledge_of}
 use Rattle.known_state.specs.Known.{KnownState}
 use Rattle.teach_writer.specs.Retained.{retained_at, IsNameField}
-use Rattle.teach_writer.specs.Retention.{is_first_kept, kept_next, IsRetainedFirst, settled, place_after}
+use Rattle.teach_writer.specs.NextRequests.{is_first_kept, kept_next, IsRetainedFirst, retained_after, place_after}
 use Rattle.teach_writer.specs.Sending.{slot_of, is_stored, IsSent}
 use Rattle.teach_writer.proofs.KeptNext.{kept_next-length}
 use Rattle.teach_writer.proofs.MarkedSteps.{IsUnderWay, way_start, way_step, way_place, way_room, way_end}
@@ -55,8 +55,8 @@ write_update-requires-clause-room c =
     way_room k.roster k.state c.loop-update.after.state us (drop (i + 1) us) u c.args.requests.now keep c.loop-update.bytes.items c.loop-update.retained c.loop-update.place
     (subst (λ (l : List Update). IsUnderWay k.roster k.state us c.args.requests.now keep c.loop-update.bytes.items c.loop-update.after.state c.loop-update.retained c.loop-update.place l) left c.loop-update.invariant.way) c.requires.room
 
-pub settle-requires-clause-place : goal.settle-requires-clause-place
-settle-requires-clause-place c =
+pub retain_or_free-requires-clause-place : goal.retain_or_free-requires-clause-place
+retain_or_free-requires-clause-place c =
     let k = c.args.known.now in
     let us = c.args.batch.now in
     let rs = c.args.requests.now in
@@ -95,12 +95,12 @@ loop-update-preserved c =
     let named : IsNameField c.loop-update.retained mid.slots (is_stored k.roster u) u.name in_order.0 = subst (λ (r : List Definition). IsNameField c.loop-update.retained mid.slots (is_stored r u) u.name in_order.0) c.loop-update.invariant.roster in_order.5 in
     let flags : next ≡ kept_next rs keep = c.as_slice.ensures.value ∙ c.in_ok-next.ensures.next in
     let step = way_step k.roster k.state mid e us (drop (i + 1) us) u rs keep next c.loop-update.bytes.items bytes c.loop-update.retained place in_order.0 in_order.1 way sent named in_order.3 flags in
-    let retained_is : c.settle.new.retained ≡ settled c.loop-update.retained (slot_of in_order.0) (get_or next place false) = c.settle.ensures.retained ∙ ap (λ (o : Option ℕ). settled c.loop-update.retained o (get_or next place false)) in_order.2 in
-    let place_is : c.settle.new.place ≡ place_after place (slot_of in_order.0) = c.settle.ensures.place ∙ ap (place_after place) in_order.2 in
+    let retained_is : c.retain_or_free.new.retained ≡ retained_after c.loop-update.retained (slot_of in_order.0) (get_or next place false) = c.retain_or_free.ensures.retained ∙ ap (λ (o : Option ℕ). retained_after c.loop-update.retained o (get_or next place false)) in_order.2 in
+    let place_is : c.retain_or_free.new.place ≡ place_after place (slot_of in_order.0) = c.retain_or_free.ensures.place ∙ ap (place_after place) in_order.2 in
     record {
       roster = same ∙ c.loop-update.invariant.roster;
-      way = subst (λ (retained : List Bool). IsUnderWay k.roster k.state us rs keep bytes e retained c.settle.new.place (drop (i + 1) us)) (sym retained_is)
-          (subst (λ (n : ℕ). IsUnderWay k.roster k.state us rs keep bytes e (settled c.loop-update.retained (slot_of in_order.0) (get_or next place false)) n (drop (i + 1) us)) (sym place_is) step);
+      way = subst (λ (retained : List Bool). IsUnderWay k.roster k.state us rs keep bytes e retained c.retain_or_free.new.place (drop (i + 1) us)) (sym retained_is)
+          (subst (λ (n : ℕ). IsUnderWay k.roster k.state us rs keep bytes e (retained_after c.loop-update.retained (slot_of in_order.0) (get_or next place false)) n (drop (i + 1) us)) (sym place_is) step);
     }
 
 pub returns-clause-order : goal.returns-clause-order

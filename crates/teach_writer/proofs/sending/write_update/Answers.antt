@@ -15,7 +15,7 @@ use Rattle.known_state.specs.LastNumbers.{last_of}
 use Rattle.peers_msg.proofs.DataLimits.{row_small}
 use Rattle.known_state.specs.Cost.{number_sent, sent_as, is_named_table}
 use Rattle.teach_writer.specs.Retained.{IsNameField}
-use Rattle.teach_writer.specs.Retention.{HasRoomFor}
+use Rattle.teach_writer.specs.NextRequests.{HasRoomFor}
 use Rattle.teach_writer.specs.Sending.{IsSent, is_stored, selection, update_sent}
 use Rattle.teach_writer.proofs.MarksAreReads.{selection_slots}
 use Rattle.teach_writer.proofs.UpdateStepsAreLegal.{sent_taken, sent_carries, stream-one, stream-append}

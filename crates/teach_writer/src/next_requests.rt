@@ -1,10 +1,10 @@
-//! Which names are retained, as requests are kept.
+//! The next request for each name, and which slots retain their names at the start.
 
 ghost use Rattle.std.specs.Prelude.{◌≡◌, ◌↔◌, ℕ, true, IsTrue, List, IfOk, length};
 ghost use Rattle.known_state.specs.Plans.{keeps_next};
 ghost use Rattle.table_types.specs.SlotIds.{is_slot};
 ghost use Rattle.teach_writer.specs.Retained.{retained_at};
-ghost use Rattle.teach_writer.specs.Retention.{is_first_kept, kept_next, IsRetainedFirst};
+ghost use Rattle.teach_writer.specs.NextRequests.{is_kept, is_first_kept, kept_next, IsRetainedFirst};
 
 use crate::retained::Retained;
 use dict_slots::Slots;
@@ -13,51 +13,84 @@ use std::alloc::Global;
 use std::collections::BTreeMap;
 use table_types::{Memory, Name};
 
-/// Whether the first request for that name is kept, if there is one.
-fn is_first_kept(first: &BTreeMap<&[u8], bool>, name: &Name) -> bool
-    ensures { result ≡ is_first_kept first.now name.now }
+/// The next request for a name.
+#[derive(Clone, Copy, Debug)]
+pub struct NextRequest {
+    /// Its index among the requests.
+    pub index: usize,
+    /// Whether it is kept.
+    pub kept: bool,
+}
+
+/// Whether there is a next request and it is kept.
+fn is_kept(next: Option<NextRequest>) -> bool
+    ensures { result ≡ is_kept next }
 {
-    match first.get(name.as_slice()) {
-        Some(kept) => *kept,
+    match next {
+        Some(next) => next.kept,
         None => false,
     }
 }
 
-/// For each request whether the next one for its name is kept; and for each name whether its first request is.
+/// Whether the first request for that name is kept, if there is one.
+fn is_first_kept(first: &BTreeMap<&[u8], NextRequest>, name: &Name) -> bool
+    ensures { result ≡ is_first_kept first.now name.now }
+{
+    match first.get(name.as_slice()) {
+        Some(next) => next.kept,
+        None => false,
+    }
+}
+
+/// For each request whether the next one for its name is kept, and that one, if there is one; and for each name its first
+/// request.
 pub fn next_kept<'a>(
     alloc: Global,
     requests: &'a [Request],
     keep: &[bool],
-) -> Result<(Vec<bool>, BTreeMap<&'a [u8], bool>), Memory>
+) -> Result<
+    (
+        Vec<bool>,
+        Vec<Option<NextRequest>>,
+        BTreeMap<&'a [u8], NextRequest>,
+    ),
+    Memory,
+>
     requires { length keep.now ≡ length requests.now }
     ensures next { IfOk result (λ r. r.0.items ≡ kept_next requests.now keep.now) }
-    ensures first { IfOk result (λ r. (name : List ℕ) → is_first_kept r.1 name ≡ keeps_next name requests.now keep.now) }
+    ensures first { IfOk result (λ r. (name : List ℕ) → is_first_kept r.2 name ≡ keeps_next name requests.now keep.now) }
 {
     let mut first = BTreeMap::new(alloc);
     let mut next = vec![in alloc; false; requests.len()]?;
+    let mut later = vec![in alloc; None; requests.len()]?;
     let mut index = requests.len();
     while index > 0 {
         index -= 1;
-        next[index] = is_first_kept(&first, requests[index].name());
-        first.insert(requests[index].name().as_slice(), keep[index])?;
+        let request = NextRequest {
+            index,
+            kept: keep[index],
+        };
+        let after = first.insert(requests[index].name().as_slice(), request)?;
+        next[index] = is_kept(after);
+        later[index] = after;
     }
-    Ok((next, first))
+    Ok((next, later, first))
 }
 
 /// Whether a slot retains its name at the start: it is the lowest that holds that name, and the first request for it is
 /// kept.
-fn is_retained_first(slots: &Slots, first: &BTreeMap<&[u8], bool>, slot: u8) -> bool
+fn is_retained_first(slots: &Slots, first: &BTreeMap<&[u8], NextRequest>, slot: u8) -> bool
     requires { is_slot slot ≡ true }
     ensures { IsTrue result ↔ IsRetainedFirst slots.now (λ name. is_first_kept first.now name) slot }
 {
     match slots.name(slot) {
-        Some(name) => slots.find(name) == Some(slot) && is_first_kept(first, name),
+        Some(name) => is_first_kept(first, name) && slots.find(name) == Some(slot),
         None => false,
     }
 }
 
 /// The slots that retain their names at the start.
-pub fn retained_first(slots: &Slots, first: &BTreeMap<&[u8], bool>) -> Retained
+pub fn retained_first(slots: &Slots, first: &BTreeMap<&[u8], NextRequest>) -> Retained
     ensures retained { (slot : ℕ) → is_slot slot ≡ true →
         (retained_at result slot ≡ true) ↔ IsRetainedFirst slots.now (λ name. is_first_kept first.now name) slot }
     ensures count { length result ≡ 128 }

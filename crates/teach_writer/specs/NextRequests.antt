@@ -1,4 +1,4 @@
--- Which names are retained, as requests are kept.
+-- The next request for each name, and which names are retained as requests are kept (profile).
 use Rattle.std.specs.Prelude.{◌≡◌, ◌≤◌, ℕ, ◌+◌, ◌-◌, slice_set, Bool, false, true, List, [], ◌∷◌, Option, Some, None}
 use Rattle.std.specs.Borrow.{Bor}
 use Rattle.std.specs.BTreeMap.{BTreeMap}
@@ -7,16 +7,17 @@ use Rattle.std.specs.Cmp.Lexicographic.{slice_cmp}
 use Rattle.std.specs.Ordering.{nat_cmp}
 use Rattle.dict_slots.specs.Slots.{Holds}
 use Rattle.known_state.specs.Requests.{Asked}
+use Rattle.teach_writer.specs.declared.next_requests.NextRequest.{NextRequest}
 use Rattle.known_state.specs.Plans.{keeps_next}
 use Rattle.teach_writer.specs.Retained.{Retains, IsFree}
 
--- whether a request was found and is kept
-abbrev pub is_kept : Option Bool → Bool
+-- whether there is a next request and it is kept
+abbrev pub is_kept : Option NextRequest → Bool
 is_kept None = false
-is_kept (Some kept) = kept
+is_kept (Some next) = next.kept
 
 -- whether the first request for a name is kept, by a map from names
-abbrev pub is_first_kept : BTreeMap (Bor (List ℕ)) Bool → List ℕ → Bool
+abbrev pub is_first_kept : BTreeMap (Bor (List ℕ)) NextRequest → List ℕ → Bool
 is_first_kept first name = is_kept (tree.get_by (λ k. slice_cmp nat_cmp name k.now) first)
 
 -- for each request whether the next one for its name is kept
@@ -38,9 +39,9 @@ HasRoomFor retained slots None = Unit {0}
 HasRoomFor retained slots (Some name) = ((slot : ℕ) → Retains retained slots slot name → ⊥) → (slot : ℕ) × IsFree retained slot
 
 -- what is retained after an update whose name went through a slot, if it has one
-abbrev pub settled : List Bool → Option ℕ → Bool → List Bool
-settled retained None flag = retained
-settled retained (Some slot) flag = slice_set retained (slot - 1) flag
+abbrev pub retained_after : List Bool → Option ℕ → Bool → List Bool
+retained_after retained None flag = retained
+retained_after retained (Some slot) flag = slice_set retained (slot - 1) flag
 
 -- and how many requests there were then
 abbrev pub place_after : ℕ → Option ℕ → ℕ
