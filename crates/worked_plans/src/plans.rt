@@ -1,8 +1,9 @@
-//! Plans: which are accepted, and at which prices.
+//! Plans: which are accepted and at which prices, and which requests the planner keeps.
 
 use example_parts::named;
 use known_state::{Plan, Request};
 use price_checker::check_plan;
+use retention_flow::PlanError;
 use std::alloc::Global;
 use table_types::{Batch, Name};
 
@@ -189,5 +190,113 @@ fn plans(rt: HostRuntime) {
             is_planned(rt.alloc(), case, *kept) == Some(true),
             "{kept:?}"
         );
+    }
+}
+
+/// 512 requests for so many names in turn. A write costs 10 bytes more than a read, or, where that rises, as many more as
+/// the name's number, from 1.
+fn in_turn(alloc: Global, names: u32, rises: bool) -> Option<Vec<Request>> {
+    if names == 0 {
+        return None;
+    }
+    let mut requests = Vec::new(alloc);
+    for index in 0..512_u32 {
+        let number = index % names;
+        let name = [b'A' + (number / 16 % 32) as u8, b'a' + (number % 16) as u8];
+        let saving = if rises { number.saturating_add(1) } else { 10 };
+        let request = Request::new(named(alloc, &name)?, 20, saving.saturating_add(20))?;
+        requests.push(request).ok()?;
+    }
+    Some(requests)
+}
+
+/// The plan that is made of those requests with 128 slots that hold nothing, if it is accepted.
+fn plan_in_turn(alloc: Global, names: u32, rises: bool) -> Option<Plan> {
+    let requests = in_turn(alloc, names, rises)?;
+    if requests.len() > Batch::MOST {
+        return None;
+    }
+    let held: [Name; 0] = [];
+    let made = retention_flow::plan(alloc, 128, &held, requests.as_slice()).ok()?;
+    if check_plan(128, &held, requests.as_slice(), &made) {
+        Some(made)
+    } else {
+        None
+    }
+}
+
+/// How many requests the plan keeps.
+fn count_of(plan: &Plan) -> usize {
+    let mut count: usize = 0;
+    for keep in plan.keep() {
+        if *keep {
+            count = count.saturating_add(1);
+        }
+    }
+    count
+}
+
+/// Of 128 names in turn, the links of the 127 others go over each place, and all fit: each request is kept for which its
+/// name was requested before.
+#[test]
+fn links_of_512_fit(rt: HostRuntime) {
+    let Some(plan) = plan_in_turn(rt.alloc(), 128, false) else {
+        assert!(rt; false, "no plan");
+        return;
+    };
+    for (index, keep) in plan.keep().iter().enumerate() {
+        assert!(rt; *keep == (index >= 128), "{index}");
+    }
+    assert!(rt; count_of(&plan) == 384);
+}
+
+/// Of 200 names in turn, there are 312 links, one from each place up to 312, and each goes over the 199 places behind that.
+/// So of 199 links in a row 127 may be kept: 127 of the first 199, and the 113 after them, which are alike to the first 113.
+#[test]
+fn links_of_200_names(rt: HostRuntime) {
+    let Some(plan) = plan_in_turn(rt.alloc(), 200, false) else {
+        assert!(rt; false, "no plan");
+        return;
+    };
+    assert!(rt; count_of(&plan) == 240);
+}
+
+/// Of 256 names twice, all links but the first and the last go over both places in the middle, the first goes over one of
+/// them and the last over the other, and the Nth saves N bytes. So the 127 from the 130th on are kept, and the first beside
+/// the last.
+#[test]
+fn dearest_of_256_names(rt: HostRuntime) {
+    let Some(plan) = plan_in_turn(rt.alloc(), 256, true) else {
+        assert!(rt; false, "no plan");
+        return;
+    };
+    for (index, keep) in plan.keep().iter().enumerate() {
+        let place = index + 1;
+        assert!(rt; *keep == (place == 257 || place >= 386), "{place}");
+    }
+}
+
+/// The plan, or the one after it where memory was wanted for it.
+fn plan_at_last(alloc: Global, slots: usize, held: &[Name], requests: &[Request]) -> Option<Plan> {
+    if slots < 1 || slots > 128 || held.len() > slots || requests.len() > Batch::MOST {
+        return None;
+    }
+    match retention_flow::plan(alloc, slots, held, requests) {
+        Ok(plan) => Some(plan),
+        Err(PlanError::Memory) => retention_flow::plan(alloc, slots, held, requests).ok(),
+    }
+}
+
+/// It can be run with any allocation failing: the planner refuses, and answers when it is asked again.
+#[test]
+fn planner_answers_again(rt: HostRuntime) {
+    let case = &TWO_SLOTS;
+    let held: [Name; 0] = [];
+    let Some(requests) = requests(rt.alloc(), case.asked) else {
+        return;
+    };
+    match plan_at_last(rt.alloc(), case.slots, &held, requests.as_slice()) {
+        Some(plan) => assert!(rt; keeps(&plan, &[5])),
+        None => assert!(rt; false, "no plan"),
     }
 }
