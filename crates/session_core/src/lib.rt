@@ -9,6 +9,7 @@ mod error;
 mod event;
 mod halt;
 mod hearing;
+mod open;
 mod phase;
 mod session;
 mod share;

@@ -10,20 +10,18 @@ ghost use Rattle.session_core.specs.declared.error.SessionError.TheVariants as e
 ghost use Rattle.session_core.specs.declared.halt.Halt.TheVariants as halts;
 ghost use Rattle.session_core.specs.declared.phase.Greeter.TheVariants as greeters;
 ghost use Rattle.session_core.specs.declared.phase.Phase.TheVariants as phases;
-ghost use Rattle.session_core.specs.Shares.{all_quiet};
-ghost use Rattle.session_core.specs.Actions.{status_text};
-ghost use Rattle.session_core.specs.Courses.{course_fed, table_to_ask};
-ghost use Rattle.session_core.specs.Sessions.{Goes, GoesNew, GoesHello, GoesOpen, Stays, Connects, Accepts, Greets, Hearkens, Concludes, Turns, IsCopied, HasNothing, Quiets, Settles, Refuses, IsWhy, is_asked_new, is_asked_hello, is_asked_open, connecting, accepting, in_phase, ended, state_of, kind_of_fault};
+ghost use Rattle.session_core.specs.Actions.{status_text, sends_control};
+ghost use Rattle.peers_msg.specs.declared.control.Control.TheVariants as controls;
+ghost use Rattle.session_core.specs.Courses.{course_fed};
+ghost use Rattle.session_core.specs.Sessions.{Goes, GoesNew, GoesHello, Stays, Connects, Accepts, Greets, Hearkens, Concludes, Refuses, IsWhy, is_asked_new, is_asked_hello, connecting, accepting, in_phase, ended, state_of, kind_of_fault};
 
 use crate::action::{Action, confirms, only, push};
 use crate::course::Course;
-use crate::due::Due;
 use crate::error::SessionError;
 use crate::event::Event;
 use crate::halt::Halt;
-use crate::hearing::{control_text, push_control};
+use crate::hearing::control_text;
 use crate::phase::{Greeter, Phase};
-use crate::share::{all_quiet, any_out};
 use crate::state::State;
 use known_state::Known;
 use learner::Fault;
@@ -32,17 +30,17 @@ use peers_msg::{Breach, Control, ErrorKind};
 use std::alloc::Global;
 use std::marker::Model;
 use std::mem;
-use table_types::{Batch, Items, Memory, Moment, Name, Roster, Settled};
+use table_types::{Items, Memory, Moment, Name, Roster};
 
 /// A session between this node and another peer (HAProxy, doc/peers-v2.0.txt). It does no work itself: at each event it
 /// gives the actions that are to be done, in this order.
 #[derive(Drop)]
 pub struct Session {
-    alloc: Global,
-    phase: Phase,
-    known: Known,
-    fault: Option<Fault>,
-    confirmed: bool,
+    pub(crate) alloc: Global,
+    pub(crate) phase: Phase,
+    pub(crate) known: Known,
+    pub(crate) fault: Option<Fault>,
+    pub(crate) confirmed: bool,
 }
 
 impl Model for Session {
@@ -70,6 +68,32 @@ fn status_text(alloc: Global, code: u16) -> Result<Items<u8>, Memory>
 {
     let text = format!(in alloc; "{code}\n")?;
     Ok(Items::new(Vec::from_slice(alloc, text.as_bytes())?))
+}
+
+/// What a hello that is accepted is answered with.
+fn welcome(alloc: Global) -> Result<Vec<Action>, Memory>
+    ensures { IfOk result (λ acts. acts.items ≡ actions.Send (status_text 200) ∷ []) }
+{
+    only(alloc, Action::Send(status_text(alloc, 200)?))
+}
+
+/// What a hello that is refused with that code is answered with.
+fn turn_away(alloc: Global, code: u16) -> Result<Vec<Action>, Memory>
+    ensures { IfOk result (λ acts. acts.items ≡ actions.Send (status_text code) ∷ (actions.Close ∷ [])) }
+{
+    let mut actions = only(alloc, Action::Send(status_text(alloc, code)?))?;
+    push(&mut actions, Action::Close)?;
+    Ok(actions)
+}
+
+/// The request for a resync.
+fn request(alloc: Global) -> Result<Vec<Action>, Memory>
+    ensures { IfOk result (λ acts. acts.items ≡ sends_control controls.ResyncRequest ∷ []) }
+{
+    only(
+        alloc,
+        Action::Send(control_text(alloc, Control::ResyncRequest)?),
+    )
 }
 
 /// The error message that a fault is answered with.
@@ -178,12 +202,27 @@ impl Session {
         }
     }
 
-    /// Stands there, and asks for nothing.
-    fn stay(&mut self, phase: Phase) -> Vec<Action>
-        ensures { Stays self.old phase result.items self.new }
+    /// Stands there.
+    pub(crate) fn stand(&mut self, phase: Phase)
+        ensures { self.new ≡ in_phase self.old phase }
     {
         self.phase = phase;
+    }
+
+    /// Stands there, and asks for nothing.
+    pub(crate) fn stay(&mut self, phase: Phase) -> Vec<Action>
+        ensures { Stays self.old phase result.items self.new }
+    {
+        self.stand(phase);
         Vec::new(self.alloc)
+    }
+
+    /// Closes.
+    pub(crate) fn close(&self) -> Result<Vec<Action>, SessionError>
+        ensures actions { IfOk result (λ acts. acts.items ≡ actions.Close ∷ []) }
+        ensures memory { IfErr result (λ e. e ≡ errors.Memory) }
+    {
+        Ok(only(self.alloc, Action::Close)?)
     }
 
     /// An event of a session that is new.
@@ -201,9 +240,7 @@ impl Session {
         match event {
             Event::Opened => Ok(self.greet(hello, course)?),
             Event::Turn => Ok(self.stay(Phase::New(hello, course))),
-            Event::End | Event::ReadFault | Event::WriteFault => {
-                Ok(only(self.alloc, Action::Close)?)
-            }
+            Event::End | Event::ReadFault | Event::WriteFault => self.close(),
             Event::Bytes(_)
             | Event::Copied(_, _)
             | Event::Nothing(_)
@@ -222,7 +259,7 @@ impl Session {
         let text = Items::new(hello.write(self.alloc)?);
         let actions = only(self.alloc, Action::Send(text))?;
         let bytes = Items::new(Vec::new(self.alloc));
-        self.phase = Phase::Hello(Greeter::Connects, bytes, course);
+        self.stand(Phase::Hello(Greeter::Connects, bytes, course));
         Ok(actions)
     }
 
@@ -248,9 +285,7 @@ impl Session {
                 Ok(self.read_greeting(greeter, Items::new(bytes), course)?)
             }
             Event::Turn => Ok(self.stay(Phase::Hello(greeter, bytes, course))),
-            Event::End | Event::ReadFault | Event::WriteFault => {
-                Ok(only(self.alloc, Action::Close)?)
-            }
+            Event::End | Event::ReadFault | Event::WriteFault => self.close(),
             Event::Opened
             | Event::Copied(_, _)
             | Event::Nothing(_)
@@ -287,8 +322,7 @@ impl Session {
             Status::More => Ok(self.stay(Phase::Hello(Greeter::Connects, bytes, course))),
             Status::Code(code, used) => {
                 if code == 200 {
-                    let request = control_text(self.alloc, Control::ResyncRequest)?;
-                    let actions = only(self.alloc, Action::Send(request))?;
+                    let actions = request(self.alloc)?;
                     self.hear(course, after(bytes.as_slice(), used), actions)
                 } else {
                     only(self.alloc, Action::Close)
@@ -315,19 +349,15 @@ impl Session {
                 Ok(self.stay(Phase::Hello(Greeter::Accepts { own, peers }, bytes, course)))
             }
             Answer::Accepted(_, used) => {
-                let actions = only(self.alloc, Action::Send(status_text(self.alloc, 200)?))?;
+                let actions = welcome(self.alloc)?;
                 self.hear(course, after(bytes.as_slice(), used), actions)
             }
-            Answer::Refused(code, _) => {
-                let mut actions = only(self.alloc, Action::Send(status_text(self.alloc, code)?))?;
-                push(&mut actions, Action::Close)?;
-                Ok(actions)
-            }
+            Answer::Refused(code, _) => turn_away(self.alloc, code),
         }
     }
 
     /// Hears the messages in these bytes, after these first actions.
-    fn hear(
+    pub(crate) fn hear(
         &mut self,
         course: Course,
         bytes: &[u8],
@@ -359,7 +389,7 @@ impl Session {
             Ok(()) => {
                 let mut course = course;
                 course.send_acks(self.alloc, &mut actions)?;
-                self.phase = Phase::Open(course);
+                self.stand(Phase::Open(course));
             }
             Err(Halt::Failed) => push(&mut actions, Action::Close)?,
             Err(Halt::Fault(fault)) => {
@@ -369,135 +399,6 @@ impl Session {
             Err(Halt::Memory) => return Err(Memory),
         }
         self.confirmed = self.confirmed || confirms(actions.as_slice());
-        Ok(actions)
-    }
-
-    /// An event of an open session.
-    fn go_open(&mut self, course: Course, event: Event) -> Result<Vec<Action>, SessionError>
-        requires { self.old.phase ≡ phases.Ended }
-        ensures goes { IfOk result (λ acts. GoesOpen self.old course event acts.items self.new) }
-        ensures refused { IfErr result (λ e. IsWhy (is_asked_open course.due event) e) }
-        ensures stays { OnErr result (self.new ≡ self.old) }
-    {
-        let mut course = course;
-        match event {
-            Event::Turn if course.none_due() => Ok(self.turn(course)?),
-            Event::Bytes(bytes) if course.none_due() => {
-                Ok(self.hear(course, bytes.as_slice(), Vec::new(self.alloc))?)
-            }
-            Event::Copied(table, batch) => {
-                course.answer(Due::Copy(table))?;
-                Ok(self.teach(course, table, batch)?)
-            }
-            Event::Nothing(table) => {
-                course.answer(Due::Copy(table))?;
-                Ok(self.nothing(course, table)?)
-            }
-            Event::Written(known) => {
-                course.answer(Due::Teach)?;
-                self.known = known;
-                Ok(self.stay(Phase::Open(course)))
-            }
-            Event::Settled(table, settled) => {
-                course.answer(Due::Ack(table))?;
-                Ok(self.settle(course, table, settled)?)
-            }
-            Event::Refused(table) => {
-                course.answer(Due::Ack(table))?;
-                Ok(only(self.alloc, Action::Part(ErrorKind::Protocol))?)
-            }
-            Event::End | Event::ReadFault | Event::WriteFault => {
-                Ok(only(self.alloc, Action::Close)?)
-            }
-            Event::Opened | Event::Turn | Event::Bytes(_) => Err(SessionError::Unasked),
-        }
-    }
-
-    /// Copies from the next table, if there is one.
-    fn turn(&mut self, course: Course) -> Result<Vec<Action>, Memory>
-        requires { self.old.phase ≡ phases.Ended }
-        ensures goes { IfOk result (λ acts. Turns (table_to_ask course) self.old course acts.items self.new) }
-        ensures stays { OnErr result (self.new ≡ self.old) }
-    {
-        let mut course = course;
-        let Some(table) = course.table_to_ask() else {
-            return Ok(self.stay(Phase::Open(course)));
-        };
-        let kind = course.kind();
-        let actions = only(self.alloc, Action::Copy { table, kind })?;
-        course.ask(table)?;
-        self.phase = Phase::Open(course);
-        Ok(actions)
-    }
-
-    /// A batch of the table of that id was copied, and is to be taught.
-    fn teach(&mut self, course: Course, table: u64, batch: Batch) -> Result<Vec<Action>, Memory>
-        requires { self.old.phase ≡ phases.Ended }
-        ensures goes { IfOk result (λ acts. IsCopied self.old course table batch acts.items self.new) }
-        ensures stays { OnErr result (self.new ≡ self.old) }
-    {
-        let mut course = course;
-        let actions = only(self.alloc, Action::Teach(batch))?;
-        course.set_out(table, true);
-        course.owe_lesson()?;
-        self.phase = Phase::Open(course);
-        Ok(actions)
-    }
-
-    /// The table of that id has nothing to teach.
-    fn nothing(&mut self, course: Course, table: u64) -> Result<Vec<Action>, Memory>
-        requires { self.old.phase ≡ phases.Ended }
-        ensures goes { IfOk result (λ acts. HasNothing course.teaching self.old course table acts.items self.new) }
-        ensures stays { OnErr result (self.new ≡ self.old) }
-    {
-        let mut course = course;
-        if !course.teaching {
-            return Ok(self.stay(Phase::Open(course)));
-        }
-        course.set_quiet(table);
-        self.quiet(course)
-    }
-
-    /// Ends the resync where all tables are quiet.
-    fn quiet(&mut self, course: Course) -> Result<Vec<Action>, Memory>
-        requires { self.old.phase ≡ phases.Ended }
-        ensures goes { IfOk result (λ acts. Quiets (all_quiet course.shares) self.old course acts.items self.new) }
-        ensures stays { OnErr result (self.new ≡ self.old) }
-    {
-        let mut course = course;
-        if !all_quiet(course.shares.as_slice()) {
-            return Ok(self.stay(Phase::Open(course)));
-        }
-        let mut actions = Vec::new(self.alloc);
-        push_control(self.alloc, &mut actions, course.finished())?;
-        course.teaching = false;
-        self.phase = Phase::Open(course);
-        Ok(actions)
-    }
-
-    /// An acknowledgement settled that much of the table of that id.
-    fn settle(
-        &mut self,
-        course: Course,
-        table: u64,
-        settled: Settled,
-    ) -> Result<Vec<Action>, Memory>
-        requires { self.old.phase ≡ phases.Ended }
-        ensures goes { IfOk result (λ acts. Settles settled self.old course table acts.items self.new) }
-        ensures stays { OnErr result (self.new ≡ self.old) }
-    {
-        let mut course = course;
-        match settled {
-            Settled::All => {}
-            Settled::Some | Settled::Older => return Ok(self.stay(Phase::Open(course))),
-        }
-        course.set_out(table, false);
-        if !course.waits || any_out(course.shares.as_slice()) {
-            return Ok(self.stay(Phase::Open(course)));
-        }
-        let mut actions = Vec::new(self.alloc);
-        course.begin_teaching(&mut actions)?;
-        self.phase = Phase::Open(course);
         Ok(actions)
     }
 }
