@@ -23,7 +23,7 @@ use Rattle.table_types.specs.Batches.{IsUpdateFor, IsBatchFor}
 use Rattle.table_rows.specs.Rows.{is_live}
 use Rattle.table_types.specs.declared.copies.CopyKind.{CopyKind}
 use Rattle.table_cell.specs.Telling.{value_of, life_left, update_of}
-use Rattle.table_cell.specs.Machine.{TableState, is_due, is_told, acknowledged_by, mark_of, unacked}
+use Rattle.table_cell.specs.Machine.{TableState, is_unacked, is_told, acknowledged_by, progress_of, unacked}
 use Rattle.table_cell.specs.Soundness.{CellFits, CellsFit, EndFits, EntryFits, IsSound}
 use Rattle.table_cell.proofs.StepLaws.{all_take, later_sound}
 
@@ -146,11 +146,11 @@ update_fits d now e is (key, row, name, end) live =
     )
 
 due_fit : (d : Definition) (kind : CopyKind) (low now : ℕ) (es : List (Key × StoredRow)) → is_definition d ≡ true → AllByRecursion (EntryFits d now) es
-    → AllByRecursion (IsUpdateFor (d ∷ [])) (map (update_of d now) (filter (is_due kind low now) es))
+    → AllByRecursion (IsUpdateFor (d ∷ [])) (map (update_of d now) (filter (is_unacked kind low now) es))
 due_fit d kind low now [] is all = tt
 due_fit d kind low now (e ∷ es) is (first, rest) =
     let others = due_fit d kind low now es is rest in
-    cond_both (is_due kind low now e) (e ∷ filter (is_due kind low now) es) (filter (is_due kind low now) es) (λ (l : List (Key × StoredRow)). AllByRecursion (IsUpdateFor (d ∷ [])) (map (update_of d now) l))
+    cond_both (is_unacked kind low now e) (e ∷ filter (is_unacked kind low now) es) (filter (is_unacked kind low now) es) (λ (l : List (Key × StoredRow)). AllByRecursion (IsUpdateFor (d ∷ [])) (map (update_of d now) l))
     (λ due.
     let parts = and_parts (nat_lt low e.1.number && is_told kind e.1) (is_live now e.1) due in
     (update_fits d now e is first parts.1, others))
@@ -164,7 +164,7 @@ take_short (suc n) (x ∷ xs) = let rest = take_short n xs in omega arith
 pub copied_batch : (s : TableState) (session : ℕ) (kind : CopyKind) (limit now : ℕ) → IsSound s → s.latest ≤ now → limit ≤ 512 → IsBatchFor (s.definition ∷ []) (unacked s session kind now limit)
 copied_batch s session kind limit now sound later few =
     let d = s.definition in
-    let low = acknowledged_by (mark_of session s) in
-    let all = map (update_of d now) (filter (is_due kind low now) s.rows) in
+    let low = acknowledged_by (progress_of session s) in
+    let all = map (update_of d now) (filter (is_unacked kind low now) s.rows) in
     let short : length (unacked s session kind now limit) ≤ limit = take_short limit all in
     (omega arith, all_take (IsUpdateFor (d ∷ [])) limit all (due_fit d kind low now s.rows sound.definition (later_sound s now sound later)))

@@ -1,4 +1,5 @@
 pub mod RowsLaws
+pub mod SessionLaws
 pub mod CellLaws
 pub mod RunLaws
 pub mod StockLaws

@@ -18,7 +18,7 @@ use Rattle.table_types.specs.declared.copies.CopyKind.{CopyKind}
 use Rattle.table_cell.specs.declared.events.CellEvent.{CellEvent}
 use Rattle.table_cell.specs.declared.events.CellEvent.TheVariants as events
 use Rattle.table_cell.specs.declared.events.CellReply.{CellReply}
-use Rattle.table_cell.specs.declared.sessions.Mark.{Mark}
+use Rattle.table_cell.specs.declared.progress.Progress.{Progress}
 use Rattle.table_cell.specs.declared.errors.CopyError.{CopyError}
 use Rattle.table_cell.specs.declared.errors.CopyError.TheVariants as uncopied
 use Rattle.table_cell.specs.declared.errors.AckError.{AckError}
@@ -27,10 +27,11 @@ use Rattle.std.specs.Ordering.{is_eq}
 use Rattle.std.proofs.lemmas.List.{length-append}
 use Rattle.table_types.specs.Keys.{key_cmp}
 use Rattle.table_cell.specs.Telling.{update_of}
-use Rattle.table_cell.specs.Machine.{TableState, Step, without, has_row, has_room, Leaves, stored, tracked, learned, if_live, live_row, mark_of, with_mark, unmarked, is_due, is_told, acknowledged_by, unacked, last_number, taught, acknowledging, is_of_table, copy_refusal, ack_refusal, is_out}
+use Rattle.table_cell.specs.Machine.{TableState, Step, without, has_row, has_room, Leaves, stored, tracked, learned, if_live, live_row, progress_of, with_progress, no_progress, is_unacked, is_told, acknowledged_by, unacked, last_number, copied, acknowledging, is_of_table, copy_refusal, ack_refusal, is_out}
 use Rattle.table_cell.specs.Histories.{Replays, new_table}
-use Rattle.table_cell.specs.Soundness.{CellsFit, EntryFits, NumbersRise, KeysDiffer, IsMarkBelow, IsSound}
+use Rattle.table_cell.specs.Soundness.{CellsFit, EntryFits, NumbersRise, KeysDiffer, SessionsDiffer, IsProgressBelow, IsTimely, AreTimely, IsSound}
 use Rattle.table_cell.proofs.RowsLaws.{some_none, not_false, all_filter, all_end, all_so, filter_shorter, rise_filter, rise_end, rise_bound, without_none, differ_filter, differ_end, without_shorter}
+use Rattle.table_cell.proofs.SessionLaws.{sessions_differ_with, sessions_differ_filter, sessions_differ_end}
 use Rattle.table_cell.proofs.CellLaws.{cells_later, end_later, changed_cells_fit, begun_cells_fit, learned_cells_fit, end_of_fits}
 
 -- ---- refusals
@@ -39,6 +40,10 @@ use Rattle.table_cell.proofs.CellLaws.{cells_later, end_later, changed_cells_fit
 pub passes : {E : Type 0} (b : Bool) (x : E) (rest : Option E) → cond b (Some x) rest ≡ None → (b ≡ false) × (rest ≡ None)
 passes true x rest none = absurd (some_none x none)
 passes false x rest none = (refl, none)
+
+is_absent : {A : Type 0} (o : Option A) → is_some o ≡ false → o ≡ None
+is_absent None no_one = refl
+is_absent (Some x) no_one = absurd (true≢false no_one)
 
 -- ---- rows that stay
 
@@ -90,12 +95,12 @@ left_sound s key rest sound leaves = elim (cases_Bool (has_room s key)) [
       })
 ]
 
-mark_later : (next : ℕ) (entry : ℕ × Mark) → IsMarkBelow next entry → IsMarkBelow (next + 1) entry
-mark_later next entry (order, below) = (order, omega arith)
+progress_later : (next : ℕ) (entry : ℕ × Progress) → IsProgressBelow next entry → IsProgressBelow (next + 1) entry
+progress_later next entry (order, below) = (order, omega arith)
 
 stored_sound : (s : TableState) (key : Key) (row : StoredRow) (now : ℕ) (rest : List (Key × StoredRow)) → IsSound s → Leaves s key rest
-    → EntryFits s.definition now (key, row) → row.number ≡ s.next → s.latest ≤ now → s.next < 2 ^ 32 → IsSound (stored s key row now rest)
-stored_sound s key row now rest sound leaves fits number later unspent =
+    → EntryFits s.definition now (key, row) → row.number ≡ s.next → s.latest ≤ now → now < 2 ^ 63 → s.next < 2 ^ 32 → IsSound (stored s key row now rest)
+stored_sound s key row now rest sound leaves fits number later timely unspent =
     let left = left_sound s key rest sound leaves in
     let stays = λ (e : Key × StoredRow). not (is_eq (key_cmp key e.0)) in
     let entries = all_so (EntryFits s.definition s.latest) (EntryFits s.definition now) (entry_later s.definition s.latest now later) (without key rest) (all_filter (EntryFits s.definition s.latest) stays rest left.entries) in
@@ -103,12 +108,16 @@ stored_sound s key row now rest sound leaves fits number later unspent =
     let sizes : length (without key rest ++ (key, row) ∷ []) ≡ length (without key rest) + 1 = length-append (without key rest) ((key, row) ∷ []) in
     record {
       definition = sound.definition;
+      some = sound.some;
       numbers = rise_end 1 s.next (without key rest) key row number (rise_filter stays 1 s.next rest left.numbers);
       keys = differ_end key row (without key rest) (differ_filter stays rest left.keys) (without_none key rest);
       entries = all_end (EntryFits s.definition now) (key, row) (without key rest) entries fits;
       within = omega arith;
       last = omega arith;
-      marks = all_so (IsMarkBelow s.next) (IsMarkBelow (s.next + 1)) (mark_later s.next) s.sessions sound.marks;
+      least = let bound = sound.least in omega arith;
+      most = timely;
+      progress = all_so (IsProgressBelow s.next) (IsProgressBelow (s.next + 1)) (progress_later s.next) s.sessions sound.progress;
+      sessions = sound.sessions;
       few = sound.few;
     }
 
@@ -169,36 +178,36 @@ learned_fits s u now own =
 
 -- ---- sessions
 
--- what is changed at a session's mark is sound where the mark of it is
-pub marked_below : (next session : ℕ) (f : Mark → Mark) (sessions : List (ℕ × Mark)) (mark : Mark) → AllByRecursion (IsMarkBelow next) sessions
-    → lookup (λ id. id == session) sessions ≡ Some mark → ((mark.acknowledged ≤ mark.taught) → (mark.taught < next) → IsMarkBelow next (session, f mark)) → AllByRecursion (IsMarkBelow next) (with_mark session f sessions)
-marked_below next session f [] mark all at so = absurd (some_none mark (sym at))
-marked_below next session f (e ∷ es) mark (first, rest) at so = elim (cases_Bool (nat_eq e.0 session)) [
+-- what is changed at a session's progress is sound where the progress of it is
+pub progress_below : (next session : ℕ) (f : Progress → Progress) (sessions : List (ℕ × Progress)) (progress : Progress) → AllByRecursion (IsProgressBelow next) sessions
+    → lookup (λ id. id == session) sessions ≡ Some progress → ((progress.acknowledged ≤ progress.taught) → (progress.taught < next) → IsProgressBelow next (session, f progress)) → AllByRecursion (IsProgressBelow next) (with_progress session f sessions)
+progress_below next session f [] progress all at so = absurd (some_none progress (sym at))
+progress_below next session f (e ∷ es) progress (first, rest) at so = elim (cases_Bool (nat_eq e.0 session)) [
   | inl tied ↦
-      let same : Some e.1 ≡ Some mark = sym (cond-true (nat_eq e.0 session) (Some e.1) (lookup (λ id. id == session) es) tied) ∙ at in
-      let is : e.1 ≡ mark = cc in
-      let here : IsMarkBelow next (session, f e.1) = subst (λ (m : Mark). ((m.acknowledged ≤ m.taught) → (m.taught < next) → IsMarkBelow next (session, f m))) (sym is) so first.0 first.1 in
-      subst (AllByRecursion (IsMarkBelow next)) (sym (cond-true (nat_eq e.0 session) ((e.0, f e.1) ∷ es) (e ∷ with_mark session f es) tied)) (here, rest)
+      let same : Some e.1 ≡ Some progress = sym (cond-true (nat_eq e.0 session) (Some e.1) (lookup (λ id. id == session) es) tied) ∙ at in
+      let is : e.1 ≡ progress = cc in
+      let here : IsProgressBelow next (session, f e.1) = subst (λ (m : Progress). ((m.acknowledged ≤ m.taught) → (m.taught < next) → IsProgressBelow next (session, f m))) (sym is) so first.0 first.1 in
+      subst (AllByRecursion (IsProgressBelow next)) (sym (cond-true (nat_eq e.0 session) ((e.0, f e.1) ∷ es) (e ∷ with_progress session f es) tied)) (here, rest)
   | inr other ↦
-      subst (AllByRecursion (IsMarkBelow next)) (sym (cond-false (nat_eq e.0 session) ((e.0, f e.1) ∷ es) (e ∷ with_mark session f es) other))
-      (first, marked_below next session f es mark rest (sym (cond-false (nat_eq e.0 session) (Some e.1) (lookup (λ id. id == session) es) other) ∙ at) so)
+      subst (AllByRecursion (IsProgressBelow next)) (sym (cond-false (nat_eq e.0 session) ((e.0, f e.1) ∷ es) (e ∷ with_progress session f es) other))
+      (first, progress_below next session f es progress rest (sym (cond-false (nat_eq e.0 session) (Some e.1) (lookup (λ id. id == session) es) other) ∙ at) so)
 ]
 
-pub length-with_mark : (session : ℕ) (f : Mark → Mark) (sessions : List (ℕ × Mark)) → length (with_mark session f sessions) ≡ length sessions
-length-with_mark session f [] = refl
-length-with_mark session f (e ∷ es) = cond_both (nat_eq e.0 session) ((e.0, f e.1) ∷ es) (e ∷ with_mark session f es) (λ (l : List (ℕ × Mark)). length l ≡ suc (length es)) (λ _. refl) (λ _. ap suc (length-with_mark session f es))
+pub length-with_progress : (session : ℕ) (f : Progress → Progress) (sessions : List (ℕ × Progress)) → length (with_progress session f sessions) ≡ length sessions
+length-with_progress session f [] = refl
+length-with_progress session f (e ∷ es) = cond_both (nat_eq e.0 session) ((e.0, f e.1) ∷ es) (e ∷ with_progress session f es) (λ (l : List (ℕ × Progress)). length l ≡ suc (length es)) (λ _. refl) (λ _. ap suc (length-with_progress session f es))
 
 -- ---- copies
 
 abbrev pub IsBetween : ℕ → ℕ → Update → Type 0
 IsBetween low next u = (low < u.number) × (u.number < next)
 
-between_due : (d : Definition) (kind : CopyKind) (low now a next : ℕ) (es : List (Key × StoredRow)) → NumbersRise a next es → AllByRecursion (IsBetween low next) (map (update_of d now) (filter (is_due kind low now) es))
-between_due d kind low now a next [] rise = tt
-between_due d kind low now a next (e ∷ es) (first, rise) =
-    let rest = between_due d kind low now (e.1.number + 1) next es rise in
+between_unacked : (d : Definition) (kind : CopyKind) (low now a next : ℕ) (es : List (Key × StoredRow)) → NumbersRise a next es → AllByRecursion (IsBetween low next) (map (update_of d now) (filter (is_unacked kind low now) es))
+between_unacked d kind low now a next [] rise = tt
+between_unacked d kind low now a next (e ∷ es) (first, rise) =
+    let rest = between_unacked d kind low now (e.1.number + 1) next es rise in
     let bound = rise_bound (e.1.number + 1) next es rise in
-    cond_both (is_due kind low now e) (e ∷ filter (is_due kind low now) es) (filter (is_due kind low now) es) (λ (l : List (Key × StoredRow)). AllByRecursion (IsBetween low next) (map (update_of d now) l))
+    cond_both (is_unacked kind low now e) (e ∷ filter (is_unacked kind low now) es) (filter (is_unacked kind low now) es) (λ (l : List (Key × StoredRow)). AllByRecursion (IsBetween low next) (map (update_of d now) l))
     (λ due.
     let parts = and_parts (nat_lt low e.1.number && is_told kind e.1) (is_live now e.1) due in
     let above = ltb-true low e.1.number ((and_parts (nat_lt low e.1.number) (is_told kind e.1) parts.0).0) in
@@ -223,79 +232,83 @@ last_of_some low next least (u ∷ us) (first, rest) some = last_between low nex
 pub later_sound : (s : TableState) (now : ℕ) → IsSound s → s.latest ≤ now → AllByRecursion (EntryFits s.definition now) s.rows
 later_sound s now sound later = all_so (EntryFits s.definition s.latest) (EntryFits s.definition now) (entry_later s.definition s.latest now later) s.rows sound.entries
 
-taught_below : (s : TableState) (session : ℕ) (kind : CopyKind) (limit now : ℕ) (mark : Mark) → mark_of session s ≡ Some mark → IsSound s → nat_eq (length (unacked s session kind now limit)) 0 ≡ false
-    → AllByRecursion (IsMarkBelow s.next) (taught s session (unacked s session kind now limit) now).sessions
-taught_below s session kind limit now mark at sound some =
+taught_below : (s : TableState) (session : ℕ) (kind : CopyKind) (limit now : ℕ) (progress : Progress) → progress_of session s ≡ Some progress → IsSound s → nat_eq (length (unacked s session kind now limit)) 0 ≡ false
+    → AllByRecursion (IsProgressBelow s.next) (copied s session (unacked s session kind now limit) now).sessions
+taught_below s session kind limit now progress at sound some =
     let us = unacked s session kind now limit in
-    let low = acknowledged_by (mark_of session s) in
-    let due = between_due s.definition kind low now 1 s.next s.rows sound.numbers in
-    let all = all_take (IsBetween low s.next) limit (map (update_of s.definition now) (filter (is_due kind low now) s.rows)) due in
-    let is : low ≡ mark.acknowledged = ap acknowledged_by at in
-    let last = last_of_some low s.next mark.taught us all some in
-    marked_below s.next session (λ (m : Mark). record m { taught = last_number m.taught us }) s.sessions mark sound.marks at (λ order below. (omega arith, last.1))
+    let low = acknowledged_by (progress_of session s) in
+    let due = between_unacked s.definition kind low now 1 s.next s.rows sound.numbers in
+    let all = all_take (IsBetween low s.next) limit (map (update_of s.definition now) (filter (is_unacked kind low now) s.rows)) due in
+    let is : low ≡ progress.acknowledged = ap acknowledged_by at in
+    let last = last_of_some low s.next progress.taught us all some in
+    progress_below s.next session (λ (m : Progress). record m { taught = last_number m.taught us }) s.sessions progress sound.progress at (λ order below. (omega arith, last.1))
 
-copied_sound : (s : TableState) (session : ℕ) (kind : CopyKind) (limit now : ℕ) (mark : Mark) → mark_of session s ≡ Some mark → IsSound s → s.latest ≤ now → nat_eq (length (unacked s session kind now limit)) 0 ≡ false
-    → IsSound (taught s session (unacked s session kind now limit) now)
-copied_sound s session kind limit now mark at sound later some =
+copied_sound : (s : TableState) (session : ℕ) (kind : CopyKind) (limit now : ℕ) (progress : Progress) → progress_of session s ≡ Some progress → IsSound s → s.latest ≤ now → now < 2 ^ 63 → nat_eq (length (unacked s session kind now limit)) 0 ≡ false
+    → IsSound (copied s session (unacked s session kind now limit) now)
+copied_sound s session kind limit now progress at sound later timely some =
     let us = unacked s session kind now limit in
-    let sizes = length-with_mark session (λ (m : Mark). record m { taught = last_number m.taught us }) s.sessions in
+    let sizes = length-with_progress session (λ (m : Progress). record m { taught = last_number m.taught us }) s.sessions in
     let bound = sound.few in
     record {
       definition = sound.definition;
+      some = sound.some;
       numbers = sound.numbers;
       keys = sound.keys;
       entries = later_sound s now sound later;
       within = sound.within;
       last = sound.last;
-      marks = taught_below s session kind limit now mark at sound some;
+      least = let bound = sound.least in omega arith;
+      most = timely;
+      progress = taught_below s session kind limit now progress at sound some;
+      sessions = sessions_differ_with session (λ (m : Progress). record m { taught = last_number m.taught us }) s.sessions sound.sessions;
       few = omega arith;
     }
 
 -- a copy that isn't refused
-pub record IsGranted (s : TableState) (session : ℕ) (kind : CopyKind) (limit now : ℕ) (mark : Mark) : Type 0 where
-  pub found : mark_of session s ≡ Some mark
+pub record IsGranted (s : TableState) (session : ℕ) (kind : CopyKind) (limit now : ℕ) (progress : Progress) : Type 0 where
+  pub found : progress_of session s ≡ Some progress
   pub later : s.latest ≤ now
   pub some : nat_eq (length (unacked s session kind now limit)) 0 ≡ false
 
-pub copy_granted : (full : Bool) (s : TableState) (session : ℕ) (kind : CopyKind) (limit now : ℕ) → copy_refusal full s session kind limit now ≡ None → (mark : Mark) × IsGranted s session kind limit now mark
-copy_granted full s session kind limit now granted = by (mark_of session s) refl
+pub copy_granted : (full : Bool) (s : TableState) (session : ℕ) (kind : CopyKind) (limit now : ℕ) → copy_refusal full s session kind limit now ≡ None → (progress : Progress) × IsGranted s session kind limit now progress
+copy_granted full s session kind limit now granted = by (progress_of session s) refl
   where
-    of_session : Option Mark → Option CopyError
+    of_session : Option Progress → Option CopyError
     of_session None = Some uncopied.NoSession
-    of_session (Some mark) =
+    of_session (Some progress) =
         if nat_lt now s.latest then Some uncopied.MomentBack
-        else (if is_out mark then Some uncopied.BatchOut
+        else (if is_out progress then Some uncopied.BatchOut
         else (if length (unacked s session kind now limit) == 0 then Some uncopied.Nothing
         else (if full then Some uncopied.HistoryFull
         else None)))
 
-    by : (o : Option Mark) → mark_of session s ≡ o → (mark : Mark) × IsGranted s session kind limit now mark
+    by : (o : Option Progress) → progress_of session s ≡ o → (progress : Progress) × IsGranted s session kind limit now progress
     by None at = absurd (some_none uncopied.NoSession (sym (ap of_session at) ∙ granted))
-    by (Some mark) at =
+    by (Some progress) at =
         let c = passes (nat_lt now s.latest) uncopied.MomentBack _ (sym (ap of_session at) ∙ granted) in
-        let b = passes (is_out mark) uncopied.BatchOut _ c.1 in
+        let b = passes (is_out progress) uncopied.BatchOut _ c.1 in
         let n = passes (nat_eq (length (unacked s session kind now limit)) 0) uncopied.Nothing _ b.1 in
-        (mark, record { found = at; later = ltb-false now s.latest c.0; some = n.0 })
+        (progress, record { found = at; later = ltb-false now s.latest c.0; some = n.0 })
 
-ack_granted : (s : TableState) (session number : ℕ) → ack_refusal false s session number ≡ None → (mark : Mark) × (mark_of session s ≡ Some mark) × (number ≤ mark.taught)
-ack_granted s session number granted = by (mark_of session s) refl
+ack_granted : (s : TableState) (session number : ℕ) → ack_refusal false s session number ≡ None → (progress : Progress) × (progress_of session s ≡ Some progress) × (number ≤ progress.taught)
+ack_granted s session number granted = by (progress_of session s) refl
   where
-    of_session : Option Mark → Option AckError
+    of_session : Option Progress → Option AckError
     of_session None = Some unacknowledged.NoSession
-    of_session (Some mark) = if nat_lt mark.taught number then Some unacknowledged.AckAhead else None
+    of_session (Some progress) = if nat_lt progress.taught number then Some unacknowledged.AckAhead else None
 
-    by : (o : Option Mark) → mark_of session s ≡ o → (mark : Mark) × (mark_of session s ≡ Some mark) × (number ≤ mark.taught)
+    by : (o : Option Progress) → progress_of session s ≡ o → (progress : Progress) × (progress_of session s ≡ Some progress) × (number ≤ progress.taught)
     by None at = absurd (some_none unacknowledged.NoSession (sym (ap of_session at) ∙ granted))
-    by (Some mark) at =
-        let c = passes (nat_lt mark.taught number) unacknowledged.AckAhead _ (sym (ap of_session at) ∙ granted) in
-        (mark, at, ltb-false mark.taught number c.0)
+    by (Some progress) at =
+        let c = passes (nat_lt progress.taught number) unacknowledged.AckAhead _ (sym (ap of_session at) ∙ granted) in
+        (progress, at, ltb-false progress.taught number c.0)
 
-acknowledged_below : (next session number : ℕ) (mark : Mark) → number ≤ mark.taught → mark.acknowledged ≤ mark.taught → mark.taught < next → IsMarkBelow next (session, acknowledging number mark)
-acknowledged_below next session number mark told order below =
-    cond_both (nat_le number mark.acknowledged) mark (record mark { acknowledged = number }) (λ (m : Mark). IsMarkBelow next (session, m)) (λ _. (order, below)) (λ _. (told, below))
+acknowledged_below : (next session number : ℕ) (progress : Progress) → number ≤ progress.taught → progress.acknowledged ≤ progress.taught → progress.taught < next → IsProgressBelow next (session, acknowledging number progress)
+acknowledged_below next session number progress told order below =
+    cond_both (nat_le number progress.acknowledged) progress (record progress { acknowledged = number }) (λ (m : Progress). IsProgressBelow next (session, m)) (λ _. (order, below)) (λ _. (told, below))
 
-pub step_sound : (s e : TableState) (event : CellEvent) (reply : CellReply) → IsSound s → Step s event reply e → IsSound e
-step_sound s e (events.Track seat key change now) reply sound (granted, rest, leaves, answer, is) =
+pub step_sound : (s e : TableState) (event : CellEvent) (reply : CellReply) → IsTimely event → IsSound s → Step s event reply e → IsSound e
+step_sound s e (events.Track seat key change now) reply timely sound (granted, rest, leaves, answer, is) =
     let d = s.definition in
     let a = passes (not (key_fits d.kind d.key_length key)) _ _ granted in
     let b = passes (not (change_fits d change)) _ _ a.1 in
@@ -304,64 +317,76 @@ step_sound s e (events.Track seat key change now) reply sound (granted, rest, le
     let later = ltb-false now s.latest c.0 in
     let unspent = leb-false (2 ^ 32) s.next f.0 in
     let fits = tracked_fits s key change now sound later (not_false (key_fits d.kind d.key_length key) a.0) (not_false (change_fits d change) b.0) in
-    subst IsSound (sym is) (stored_sound s key (tracked s key change now) now rest sound leaves fits refl later unspent)
-step_sound s e (events.Learn session u now) reply sound (granted, rest, leaves, answer, is) =
+    subst IsSound (sym is) (stored_sound s key (tracked s key change now) now rest sound leaves fits refl later timely unspent)
+step_sound s e (events.Learn session u now) reply timely sound (granted, rest, leaves, answer, is) =
     let d = s.definition in
-    let o = passes (is_none (mark_of session s)) _ _ granted in
+    let o = passes (is_none (progress_of session s)) _ _ granted in
     let a = passes (not (is_of_table d u)) _ _ o.1 in
     let c = passes (nat_lt now s.latest) _ _ a.1 in
     let f = passes (nat_le (2 ^ 32) s.next) _ _ c.1 in
     let later = ltb-false now s.latest c.0 in
     let unspent = leb-false (2 ^ 32) s.next f.0 in
     let fits = learned_fits s u now (not_false (is_of_table d u) a.0) in
-    subst IsSound (sym is) (stored_sound s u.key (learned s u now) now rest sound leaves fits refl later unspent)
-step_sound s e (events.Copy session kind limit now) reply sound (granted, answer, is) =
+    subst IsSound (sym is) (stored_sound s u.key (learned s u now) now rest sound leaves fits refl later timely unspent)
+step_sound s e (events.Copy session kind limit now) reply timely sound (granted, answer, is) =
     let found = copy_granted false s session kind limit now granted in
-    subst IsSound (sym is) (copied_sound s session kind limit now found.0 found.1.found sound found.1.later found.1.some)
-step_sound s e (events.Ack session number) reply sound (granted, answer, is) =
+    subst IsSound (sym is) (copied_sound s session kind limit now found.0 found.1.found sound found.1.later timely found.1.some)
+step_sound s e (events.Ack session number) reply timely sound (granted, answer, is) =
     let found = ack_granted s session number granted in
-    let sizes = length-with_mark session (acknowledging number) s.sessions in
+    let sizes = length-with_progress session (acknowledging number) s.sessions in
     let bound = sound.few in
     subst IsSound (sym is) (record {
       definition = sound.definition;
+      some = sound.some;
       numbers = sound.numbers;
       keys = sound.keys;
       entries = sound.entries;
       within = sound.within;
       last = sound.last;
-      marks = marked_below s.next session (acknowledging number) s.sessions found.0 sound.marks found.1 (acknowledged_below s.next session number found.0 found.2);
+      least = sound.least;
+      most = sound.most;
+      progress = progress_below s.next session (acknowledging number) s.sessions found.0 sound.progress found.1 (acknowledged_below s.next session number found.0 found.2);
+      sessions = sessions_differ_with session (acknowledging number) s.sessions sound.sessions;
       few = omega arith;
     })
-step_sound s e (events.Open session) reply sound (granted, answer, is) =
-    let o = passes (is_some (mark_of session s)) _ _ granted in
+step_sound s e (events.Open session) reply timely sound (granted, answer, is) =
+    let o = passes (is_some (progress_of session s)) _ _ granted in
     let a = passes (nat_le 16 (length s.sessions)) _ _ o.1 in
     let few = leb-false 16 (length s.sessions) a.0 in
     let some = rise_bound 1 s.next s.rows sound.numbers in
-    let sizes : length (s.sessions ++ (session, unmarked) ∷ []) ≡ length s.sessions + 1 = length-append s.sessions ((session, unmarked) ∷ []) in
+    let sizes : length (s.sessions ++ (session, no_progress) ∷ []) ≡ length s.sessions + 1 = length-append s.sessions ((session, no_progress) ∷ []) in
     subst IsSound (sym is) (record {
       definition = sound.definition;
+      some = sound.some;
       numbers = sound.numbers;
       keys = sound.keys;
       entries = sound.entries;
       within = sound.within;
       last = sound.last;
-      marks = all_end (IsMarkBelow s.next) (session, unmarked) s.sessions sound.marks (omega arith, omega arith);
+      least = sound.least;
+      most = sound.most;
+      progress = all_end (IsProgressBelow s.next) (session, no_progress) s.sessions sound.progress (omega arith, omega arith);
+      sessions = sessions_differ_end session no_progress s.sessions sound.sessions (is_absent (lookup (λ id. id == session) s.sessions) o.0);
       few = omega arith;
     })
-step_sound s e (events.Close session) reply sound (granted, answer, is) =
-    let less = filter_shorter (λ (entry : ℕ × Mark). not (entry.0 == session)) s.sessions in
+step_sound s e (events.Close session) reply timely sound (granted, answer, is) =
+    let less = filter_shorter (λ (entry : ℕ × Progress). not (entry.0 == session)) s.sessions in
     let bound = sound.few in
     subst IsSound (sym is) (record {
       definition = sound.definition;
+      some = sound.some;
       numbers = sound.numbers;
       keys = sound.keys;
       entries = sound.entries;
       within = sound.within;
       last = sound.last;
-      marks = all_filter (IsMarkBelow s.next) (λ (entry : ℕ × Mark). not (entry.0 == session)) s.sessions sound.marks;
+      least = sound.least;
+      most = sound.most;
+      progress = all_filter (IsProgressBelow s.next) (λ (entry : ℕ × Progress). not (entry.0 == session)) s.sessions sound.progress;
+      sessions = sessions_differ_filter (λ (entry : ℕ × Progress). not (entry.0 == session)) s.sessions sound.sessions;
       few = omega arith;
     })
-step_sound s e (events.Purge now) reply sound (granted, answer, is) =
+step_sound s e (events.Purge now) reply timely sound (granted, answer, is) =
     let c = passes (nat_lt now s.latest) _ _ granted in
     let later = ltb-false now s.latest c.0 in
     let live = λ (row : Key × StoredRow). is_live now row.1 in
@@ -369,18 +394,23 @@ step_sound s e (events.Purge now) reply sound (granted, answer, is) =
     let bound = sound.within in
     subst IsSound (sym is) (record {
       definition = sound.definition;
+      some = sound.some;
       numbers = rise_filter live 1 s.next s.rows sound.numbers;
       keys = differ_filter live s.rows sound.keys;
       entries = all_filter (EntryFits s.definition now) live s.rows (later_sound s now sound later);
       within = omega arith;
       last = sound.last;
-      marks = sound.marks;
+      least = let bound = sound.least in omega arith;
+      most = timely;
+      progress = sound.progress;
+      sessions = sound.sessions;
       few = sound.few;
     })
 
-pub run_sound : (s e : TableState) (hs : List (CellEvent × CellReply)) → IsSound s → Replays s hs e → IsSound e
-run_sound s e [] sound same = subst IsSound (sym same) sound
-run_sound s e (h ∷ hs) sound (mid, step, rest) = run_sound mid e hs (step_sound s mid h.0 h.1 sound step) rest
+pub run_sound : (s e : TableState) (hs : List (CellEvent × CellReply)) → AreTimely hs → IsSound s → Replays s hs e → IsSound e
+run_sound s e [] timely sound same = subst IsSound (sym same) sound
+run_sound s e (h ∷ hs) (now, later) sound (mid, step, rest) = run_sound mid e hs later (step_sound s mid h.0 h.1 now sound step) rest
 
-pub new_sound : (d : Definition) (size first : ℕ) (nopurge : Bool) → is_definition d ≡ true → 1 ≤ first → first ≤ 2 ^ 32 → IsSound (new_table d size nopurge first)
-new_sound d size first nopurge is least most = record { definition = is; numbers = least; keys = tt; entries = tt; within = omega arith; last = most; marks = tt; few = omega arith }
+pub new_sound : (d : Definition) (size first : ℕ) (nopurge : Bool) → is_definition d ≡ true → 1 ≤ size → 1 ≤ first → first ≤ 2 ^ 32 → IsSound (new_table d size nopurge first)
+new_sound d size first nopurge is some least most =
+    record { definition = is; some = some; numbers = least; keys = tt; entries = tt; within = omega arith; last = most; least = omega arith; most = omega arith; progress = tt; sessions = tt; few = omega arith }

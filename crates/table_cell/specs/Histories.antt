@@ -1,8 +1,13 @@
 -- A table with its history: each event and its reply, from a state at which the history begins (profile).
-use Rattle.std.specs.Prelude.{◌≡◌, ℕ, ◌+◌, ◌-◌, ◌^◌, Bool, false, ◌==◌, min, List, [], ◌∷◌, ◌++◌, length, take, slice_get, Option, Some, None, Result, Ok, Err, if◌then◌else◌}
+use Rattle.std.specs.Prelude.{◌≡◌, ℕ, ◌+◌, ◌-◌, ◌^◌, Bool, false, nat_lt, ◌==◌, min, List, [], ◌∷◌, ◌++◌, length, take, slice_get, Option, Some, None, Result, Ok, Err, if◌then◌else◌}
 use Rattle.table_types.specs.declared.key.Key.{Key}
 use Rattle.table_types.specs.declared.update.Update.{Update}
+use Rattle.std.specs.List.Sorted.{IsStrictlySortedBy}
+use Rattle.std.specs.Map.{keys_of}
 use Rattle.table_types.specs.Tables.{Definition}
+use Rattle.table_types.specs.Keys.{key_cmp}
+use Rattle.table_types.specs.Rows.{StoredRow}
+use Rattle.table_rows.specs.Rows.{row_at}
 use Rattle.table_cell.specs.Machine.{TableState, Step, unacked, track_refusal, learn_refusal, copy_refusal, ack_refusal, open_refusal, close_refusal, purge_refusal}
 use Rattle.table_types.specs.declared.change.Change.{Change}
 use Rattle.table_types.specs.declared.copies.CopyKind.{CopyKind}
@@ -46,12 +51,14 @@ pub record CellState : Type 0 where
 abbrev pub IsReplayed : CellState → Type 0
 IsReplayed c = Replays c.base c.history c.state
 
--- each kept batch is what its session had not acknowledged where the batch stands in the history
+-- each kept batch is what its session had not acknowledged after the events before it; the index counts from 0 within
+-- the history, so that the place of the batch's event, which counts all events from 1, is the dropped ones, the index
+-- and 1
 abbrev pub Kept : CellState → Type 0
 Kept c =
-    (place session limit now : ℕ) (kind : CopyKind) (us : List Update) →
-    slice_get c.history place ≡ Some (events.Copy session kind limit now, replies.Copy us) →
-    (mid : TableState) × Replays c.base (take place c.history) mid × (us ≡ unacked mid session kind now limit)
+    (index session limit now : ℕ) (kind : CopyKind) (us : List Update) →
+    slice_get c.history index ≡ Some (events.Copy session kind limit now, replies.Copy us) →
+    (mid : TableState) × Replays c.base (take index c.history) mid × (us ≡ unacked mid session kind now limit)
 
 -- ---- room
 
@@ -62,8 +69,12 @@ events_of c = c.dropped + length c.history
 abbrev pub room_of : CellState → ℕ
 room_of c = min (1000000 - length c.history) (2 ^ 63 - events_of c)
 
-abbrev pub full : CellState → Bool
-full c = room_of c == 0
+abbrev pub is_history_full : CellState → Bool
+is_history_full c = room_of c == 0
+
+-- the event at a place, with its reply: places count all events from 1, those that were dropped among them
+abbrev pub event_in : CellState → ℕ → Option (CellEvent × CellReply)
+event_in c place = if nat_lt c.dropped place then slice_get c.history (place - (c.dropped + 1)) else None
 
 -- ---- what the calls do
 
@@ -74,51 +85,64 @@ Made c event reply e =
     × (e ≡ record c { history = c.history ++ (event, reply) ∷ []; state = e.state })
 
 abbrev pub Tracks : CellState → ℕ → Key → Change → ℕ → Result Reply TrackError → CellState → Type 0
-Tracks c seat key change now (Ok r) e = (full c ≡ false) × Made c (events.Track seat key change now) (replies.Track r) e
-Tracks c seat key change now (Err untracked.Memory) e = (track_refusal (full c) c.state key change now ≡ None) × (e ≡ c)
-Tracks c seat key change now (Err error) e = (track_refusal (full c) c.state key change now ≡ Some error) × (e ≡ c)
+Tracks c seat key change now (Ok r) e = (is_history_full c ≡ false) × Made c (events.Track seat key change now) (replies.Track r) e
+Tracks c seat key change now (Err untracked.Memory) e = (track_refusal (is_history_full c) c.state key change now ≡ None) × (e ≡ c)
+Tracks c seat key change now (Err error) e = (track_refusal (is_history_full c) c.state key change now ≡ Some error) × (e ≡ c)
 
 abbrev pub Learns : CellState → ℕ → Update → ℕ → Result Reply LearnError → CellState → Type 0
-Learns c session u now (Ok r) e = (full c ≡ false) × Made c (events.Learn session u now) (replies.Learn r) e
-Learns c session u now (Err unlearned.Memory) e = (learn_refusal (full c) c.state session u now ≡ None) × (e ≡ c)
-Learns c session u now (Err error) e = (learn_refusal (full c) c.state session u now ≡ Some error) × (e ≡ c)
+Learns c session u now (Ok r) e = (is_history_full c ≡ false) × Made c (events.Learn session u now) (replies.Learn r) e
+Learns c session u now (Err unlearned.Memory) e = (learn_refusal (is_history_full c) c.state session u now ≡ None) × (e ≡ c)
+Learns c session u now (Err error) e = (learn_refusal (is_history_full c) c.state session u now ≡ Some error) × (e ≡ c)
 
 abbrev pub Copies : CellState → ℕ → CopyKind → ℕ → ℕ → Result (List Update) CopyError → CellState → Type 0
-Copies c session kind limit now (Ok us) e = (full c ≡ false) × Made c (events.Copy session kind limit now) (replies.Copy us) e
-Copies c session kind limit now (Err uncopied.Memory) e = (copy_refusal (full c) c.state session kind limit now ≡ None) × (e ≡ c)
-Copies c session kind limit now (Err error) e = (copy_refusal (full c) c.state session kind limit now ≡ Some error) × (e ≡ c)
+Copies c session kind limit now (Ok us) e = (is_history_full c ≡ false) × Made c (events.Copy session kind limit now) (replies.Copy us) e
+Copies c session kind limit now (Err uncopied.Memory) e = (copy_refusal (is_history_full c) c.state session kind limit now ≡ None) × (e ≡ c)
+Copies c session kind limit now (Err error) e = (copy_refusal (is_history_full c) c.state session kind limit now ≡ Some error) × (e ≡ c)
 
 abbrev pub Acknowledges : CellState → ℕ → ℕ → Result Settled AckError → CellState → Type 0
-Acknowledges c session number (Ok answer) e = (full c ≡ false) × Made c (events.Ack session number) (replies.Ack answer) e
-Acknowledges c session number (Err unacknowledged.Memory) e = (ack_refusal (full c) c.state session number ≡ None) × (e ≡ c)
-Acknowledges c session number (Err error) e = (ack_refusal (full c) c.state session number ≡ Some error) × (e ≡ c)
+Acknowledges c session number (Ok answer) e = (is_history_full c ≡ false) × Made c (events.Ack session number) (replies.Ack answer) e
+Acknowledges c session number (Err unacknowledged.Memory) e = (ack_refusal (is_history_full c) c.state session number ≡ None) × (e ≡ c)
+Acknowledges c session number (Err error) e = (ack_refusal (is_history_full c) c.state session number ≡ Some error) × (e ≡ c)
 
 abbrev pub Opens : CellState → ℕ → Result (Unit {0}) OpenError → CellState → Type 0
-Opens c session (Ok done) e = (full c ≡ false) × Made c (events.Open session) replies.Open e
-Opens c session (Err unopened.Memory) e = (open_refusal (full c) c.state session ≡ None) × (e ≡ c)
-Opens c session (Err error) e = (open_refusal (full c) c.state session ≡ Some error) × (e ≡ c)
+Opens c session (Ok done) e = (is_history_full c ≡ false) × Made c (events.Open session) replies.Open e
+Opens c session (Err unopened.Memory) e = (open_refusal (is_history_full c) c.state session ≡ None) × (e ≡ c)
+Opens c session (Err error) e = (open_refusal (is_history_full c) c.state session ≡ Some error) × (e ≡ c)
 
 abbrev pub Closes : CellState → ℕ → Result (Unit {0}) CloseError → CellState → Type 0
-Closes c session (Ok done) e = (full c ≡ false) × Made c (events.Close session) replies.Close e
-Closes c session (Err unclosed.Memory) e = (close_refusal (full c) c.state session ≡ None) × (e ≡ c)
-Closes c session (Err error) e = (close_refusal (full c) c.state session ≡ Some error) × (e ≡ c)
+Closes c session (Ok done) e = (is_history_full c ≡ false) × Made c (events.Close session) replies.Close e
+Closes c session (Err unclosed.Memory) e = (close_refusal (is_history_full c) c.state session ≡ None) × (e ≡ c)
+Closes c session (Err error) e = (close_refusal (is_history_full c) c.state session ≡ Some error) × (e ≡ c)
 
 abbrev pub Purges : CellState → ℕ → Result ℕ PurgeError → CellState → Type 0
-Purges c now (Ok count) e = (full c ≡ false) × Made c (events.Purge now) (replies.Purge count) e
-Purges c now (Err unpurged.Memory) e = (purge_refusal (full c) c.state now ≡ None) × (e ≡ c)
-Purges c now (Err error) e = (purge_refusal (full c) c.state now ≡ Some error) × (e ≡ c)
+Purges c now (Ok count) e = (is_history_full c ≡ false) × Made c (events.Purge now) (replies.Purge count) e
+Purges c now (Err unpurged.Memory) e = (purge_refusal (is_history_full c) c.state now ≡ None) × (e ≡ c)
+Purges c now (Err error) e = (purge_refusal (is_history_full c) c.state now ≡ Some error) × (e ≡ c)
 
--- ---- the latest batch of a session
+-- ---- what the readers answer
+
+-- the batch that a Copy of a session gave
+abbrev pub batch_of : ℕ → CellEvent × CellReply → Option (List Update)
+batch_of session (events.Copy id kind limit now, replies.Copy us) = if id == session then Some us else None
+batch_of session h = None
+
+-- the latter of two, if there is one
+abbrev pub or_former : Option (List Update) → Option (List Update) → Option (List Update)
+or_former former (Some us) = Some us
+or_former former None = former
 
 -- the batch that the latest Copy of a session in the history gave
 abbrev pub latest_batch : ℕ → List (CellEvent × CellReply) → Option (List Update)
 latest_batch session [] = None
-latest_batch session (h ∷ hs) = or_that (latest_batch session hs) h.0 h.1
-  where
-    or_that : Option (List Update) → CellEvent → CellReply → Option (List Update)
-    or_that (Some us) event reply = Some us
-    or_that None (events.Copy id kind limit now) (replies.Copy us) = if id == session then Some us else None
-    or_that None event reply = None
+latest_batch session (h ∷ hs) = or_former (batch_of session h) (latest_batch session hs)
+
+-- the batch is the one that the session was given last
+abbrev pub IsLatestBatch : CellState → ℕ → List Update → Type 0
+IsLatestBatch c session us = latest_batch session c.history ≡ Some us
+
+-- the rows in rising key
+abbrev pub AreInRisingKey : List (Key × StoredRow) → List (Key × StoredRow) → Type 0
+AreInRisingKey rows list = IsStrictlySortedBy key_cmp (keys_of list) × ((key : Key) → row_at key list ≡ row_at key rows)
 
 -- ---- a new table
 

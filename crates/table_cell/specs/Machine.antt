@@ -23,7 +23,7 @@ use Rattle.table_cell.specs.declared.events.CellEvent.{CellEvent}
 use Rattle.table_cell.specs.declared.events.CellEvent.TheVariants as events
 use Rattle.table_cell.specs.declared.events.CellReply.{CellReply}
 use Rattle.table_cell.specs.declared.events.CellReply.TheVariants as replies
-use Rattle.table_cell.specs.declared.sessions.Mark.{Mark}
+use Rattle.table_cell.specs.declared.progress.Progress.{Progress}
 use Rattle.table_cell.specs.declared.errors.TrackError.{TrackError}
 use Rattle.table_cell.specs.declared.errors.TrackError.TheVariants as untracked
 use Rattle.table_cell.specs.declared.errors.LearnError.{LearnError}
@@ -49,7 +49,7 @@ pub record TableState : Type 0 where
   pub rows : List (Key × StoredRow)
   pub next : ℕ
   pub latest : ℕ
-  pub sessions : List (ℕ × Mark)
+  pub sessions : List (ℕ × Progress)
 
 -- ---- rows
 
@@ -95,23 +95,23 @@ stored s key row now rest = record s { rows = without key rest ++ (key, row) ∷
 -- ---- sessions
 
 -- how far a session is where it begins
-abbrev pub unmarked : Mark
-unmarked = record { acknowledged = 0; taught = 0 }
+abbrev pub no_progress : Progress
+no_progress = record { acknowledged = 0; taught = 0 }
 
-abbrev pub mark_of : ℕ → TableState → Option Mark
-mark_of session s = lookup (λ id. id == session) s.sessions
+abbrev pub progress_of : ℕ → TableState → Option Progress
+progress_of session s = lookup (λ id. id == session) s.sessions
 
-abbrev pub is_out : Mark → Bool
-is_out mark = nat_lt mark.acknowledged mark.taught
+abbrev pub is_out : Progress → Bool
+is_out progress = nat_lt progress.acknowledged progress.taught
 
-abbrev pub acknowledged_by : Option Mark → ℕ
+abbrev pub acknowledged_by : Option Progress → ℕ
 acknowledged_by None = 0
-acknowledged_by (Some mark) = mark.acknowledged
+acknowledged_by (Some progress) = progress.acknowledged
 
--- the sessions with that one's mark changed
-abbrev pub with_mark : ℕ → (Mark → Mark) → List (ℕ × Mark) → List (ℕ × Mark)
-with_mark session f [] = []
-with_mark session f (e ∷ es) = if e.0 == session then (e.0, f e.1) ∷ es else e ∷ with_mark session f es
+-- the sessions with that one's progress changed
+abbrev pub with_progress : ℕ → (Progress → Progress) → List (ℕ × Progress) → List (ℕ × Progress)
+with_progress session f [] = []
+with_progress session f (e ∷ es) = if e.0 == session then (e.0, f e.1) ∷ es else e ∷ with_progress session f es
 
 -- ---- copies
 
@@ -121,31 +121,31 @@ is_told kinds.Push row = not row.learned
 is_told kinds.Resync row = true
 
 -- what a session has not acknowledged of that kind
-abbrev pub is_due : CopyKind → ℕ → ℕ → Key × StoredRow → Bool
-is_due kind number now e = nat_lt number e.1.number && is_told kind e.1 && is_live now e.1
+abbrev pub is_unacked : CopyKind → ℕ → ℕ → Key × StoredRow → Bool
+is_unacked kind number now e = nat_lt number e.1.number && is_told kind e.1 && is_live now e.1
 
 -- the rows that a session has not acknowledged, in rising number, as updates, and no more than the limit
 abbrev pub unacked : TableState → ℕ → CopyKind → ℕ → ℕ → List Update
 unacked s session kind now limit =
-    take limit (map (update_of s.definition now) (filter (is_due kind (acknowledged_by (mark_of session s)) now) s.rows))
+    take limit (map (update_of s.definition now) (filter (is_unacked kind (acknowledged_by (progress_of session s)) now) s.rows))
 
 abbrev pub last_number : ℕ → List Update → ℕ
 last_number least us = fold (λ number u. u.number) least us
 
 -- the number taught becomes that of the last update
-abbrev pub taught : TableState → ℕ → List Update → ℕ → TableState
-taught s session us now = record s { sessions = with_mark session (λ mark. record mark { taught = last_number mark.taught us }) s.sessions; latest = now }
+abbrev pub copied : TableState → ℕ → List Update → ℕ → TableState
+copied s session us now = record s { sessions = with_progress session (λ progress. record progress { taught = last_number progress.taught us }) s.sessions; latest = now }
 
 -- ---- acknowledgements
 
-abbrev pub settled_by : Option Mark → ℕ → Settled
+abbrev pub settled_by : Option Progress → ℕ → Settled
 settled_by None number = settled.Older
-settled_by (Some mark) number =
-    if nat_le number mark.acknowledged then settled.Older
-    else (if number == mark.taught then settled.All else settled.Some)
+settled_by (Some progress) number =
+    if nat_le number progress.acknowledged then settled.Older
+    else (if number == progress.taught then settled.All else settled.Some)
 
-abbrev pub acknowledging : ℕ → Mark → Mark
-acknowledging number mark = if nat_le number mark.acknowledged then mark else record mark { acknowledged = number }
+abbrev pub acknowledging : ℕ → Progress → Progress
+acknowledging number progress = if nat_le number progress.acknowledged then progress else record progress { acknowledged = number }
 
 -- ---- refusals, each in its order; full says that the history has no room for one more event
 
@@ -165,7 +165,7 @@ is_of_table d u = u.table == d.id && row_fits d u.key u.values && may_be_named d
 
 abbrev pub learn_refusal : Bool → TableState → ℕ → Update → ℕ → Option LearnError
 learn_refusal full s session u now =
-    if is_none (mark_of session s) then Some unlearned.NoSession
+    if is_none (progress_of session s) then Some unlearned.NoSession
     else (if not (is_of_table s.definition u) then Some unlearned.Misfit
     else (if nat_lt now s.latest then Some unlearned.MomentBack
     else (if full then Some unlearned.HistoryFull
@@ -174,37 +174,37 @@ learn_refusal full s session u now =
     else None)))))
 
 abbrev pub copy_refusal : Bool → TableState → ℕ → CopyKind → ℕ → ℕ → Option CopyError
-copy_refusal full s session kind limit now = of_session (mark_of session s)
+copy_refusal full s session kind limit now = of_session (progress_of session s)
   where
-    of_session : Option Mark → Option CopyError
+    of_session : Option Progress → Option CopyError
     of_session None = Some uncopied.NoSession
-    of_session (Some mark) =
+    of_session (Some progress) =
         if nat_lt now s.latest then Some uncopied.MomentBack
-        else (if is_out mark then Some uncopied.BatchOut
+        else (if is_out progress then Some uncopied.BatchOut
         else (if length (unacked s session kind now limit) == 0 then Some uncopied.Nothing
         else (if full then Some uncopied.HistoryFull
         else None)))
 
 abbrev pub ack_refusal : Bool → TableState → ℕ → ℕ → Option AckError
-ack_refusal full s session number = of_session (mark_of session s)
+ack_refusal full s session number = of_session (progress_of session s)
   where
-    of_session : Option Mark → Option AckError
+    of_session : Option Progress → Option AckError
     of_session None = Some unacknowledged.NoSession
-    of_session (Some mark) =
-        if nat_lt mark.taught number then Some unacknowledged.AckAhead
+    of_session (Some progress) =
+        if nat_lt progress.taught number then Some unacknowledged.AckAhead
         else (if full then Some unacknowledged.HistoryFull
         else None)
 
 abbrev pub open_refusal : Bool → TableState → ℕ → Option OpenError
 open_refusal full s session =
-    if is_some (mark_of session s) then Some unopened.AlreadyOpen
+    if is_some (progress_of session s) then Some unopened.AlreadyOpen
     else (if nat_le 16 (length s.sessions) then Some unopened.TooMany
     else (if full then Some unopened.HistoryFull
     else None))
 
 abbrev pub close_refusal : Bool → TableState → ℕ → Option CloseError
 close_refusal full s session =
-    if is_none (mark_of session s) then Some unclosed.NoSession
+    if is_none (progress_of session s) then Some unclosed.NoSession
     else (if full then Some unclosed.HistoryFull
     else None)
 
@@ -231,15 +231,15 @@ Step s (events.Learn session u now) reply e =
 Step s (events.Copy session kind limit now) reply e =
     (copy_refusal false s session kind limit now ≡ None)
     × (reply ≡ replies.Copy (unacked s session kind now limit))
-    × (e ≡ taught s session (unacked s session kind now limit) now)
+    × (e ≡ copied s session (unacked s session kind now limit) now)
 Step s (events.Ack session number) reply e =
     (ack_refusal false s session number ≡ None)
-    × (reply ≡ replies.Ack (settled_by (mark_of session s) number))
-    × (e ≡ record s { sessions = with_mark session (acknowledging number) s.sessions })
+    × (reply ≡ replies.Ack (settled_by (progress_of session s) number))
+    × (e ≡ record s { sessions = with_progress session (acknowledging number) s.sessions })
 Step s (events.Open session) reply e =
     (open_refusal false s session ≡ None)
     × (reply ≡ replies.Open)
-    × (e ≡ record s { sessions = s.sessions ++ (session, unmarked) ∷ [] })
+    × (e ≡ record s { sessions = s.sessions ++ (session, no_progress) ∷ [] })
 Step s (events.Close session) reply e =
     (close_refusal false s session ≡ None)
     × (reply ≡ replies.Close)

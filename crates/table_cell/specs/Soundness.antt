@@ -1,6 +1,7 @@
 -- What holds of a table at all times (profile).
-use Rattle.std.specs.Prelude.{◌≡◌, ◌≢◌, ◌≤◌, ◌<◌, ℕ, ◌+◌, ◌^◌, true, List, [], ◌∷◌, length, Option, Some, None}
+use Rattle.std.specs.Prelude.{◌≡◌, ◌≢◌, ◌≤◌, ◌<◌, ℕ, ◌+◌, ◌^◌, ◌==◌, true, List, [], ◌∷◌, length, Option, Some, None}
 use Rattle.std.specs.List.{AllByRecursion}
+use Rattle.std.specs.Map.{lookup}
 use Rattle.table_types.specs.declared.key.Key.{Key}
 use Rattle.table_types.specs.declared.data_type.DataType.{DataType}
 use Rattle.table_types.specs.declared.data_type.Shape.{Shape}
@@ -14,8 +15,12 @@ use Rattle.table_types.specs.Updates.{may_be_named}
 use Rattle.table_types.specs.Rows.{StoredRow}
 use Rattle.table_types.specs.Changes.{cell_types}
 use Rattle.table_rows.specs.Rows.{row_at}
-use Rattle.table_cell.specs.declared.sessions.Mark.{Mark}
+use Rattle.table_cell.specs.declared.progress.Progress.{Progress}
+use Rattle.table_cell.specs.declared.events.CellEvent.{CellEvent}
+use Rattle.table_cell.specs.declared.events.CellEvent.TheVariants as events
+use Rattle.table_cell.specs.declared.events.CellReply.{CellReply}
 use Rattle.table_cell.specs.Machine.{TableState}
+use Rattle.table_cell.specs.Histories.{CellState, IsReplayed, events_of}
 
 -- a cell of each shape; no rate's period begins after the latest moment
 abbrev pub CellFits : ℕ → Shape → Cell → Type 0
@@ -53,16 +58,44 @@ abbrev pub KeysDiffer : List (Key × StoredRow) → Type 0
 KeysDiffer [] = Unit {0}
 KeysDiffer (e ∷ es) = (row_at e.0 es ≡ None) × KeysDiffer es
 
+-- no session stands twice
+abbrev pub SessionsDiffer : List (ℕ × Progress) → Type 0
+SessionsDiffer [] = Unit {0}
+SessionsDiffer (e ∷ es) = (lookup (λ id. id == e.0) es ≡ None) × SessionsDiffer es
+
 -- a session has acknowledged no more than it was taught, and was taught no number that isn't given yet
-abbrev pub IsMarkBelow : ℕ → ℕ × Mark → Type 0
-IsMarkBelow next entry = (entry.1.acknowledged ≤ entry.1.taught) × (entry.1.taught < next)
+abbrev pub IsProgressBelow : ℕ → ℕ × Progress → Type 0
+IsProgressBelow next entry = (entry.1.acknowledged ≤ entry.1.taught) × (entry.1.taught < next)
 
 pub record IsSound (s : TableState) : Type 0 where
   pub definition : is_definition s.definition ≡ true
+  pub some : 1 ≤ s.size
   pub numbers : NumbersRise 1 s.next s.rows
   pub keys : KeysDiffer s.rows
   pub entries : AllByRecursion (EntryFits s.definition s.latest) s.rows
   pub within : length s.rows ≤ s.size
   pub last : s.next ≤ 2 ^ 32
-  pub marks : AllByRecursion (IsMarkBelow s.next) s.sessions
+  pub least : 2 ^ 32 ≤ s.latest
+  pub most : s.latest < 2 ^ 63
+  pub progress : AllByRecursion (IsProgressBelow s.next) s.sessions
+  pub sessions : SessionsDiffer s.sessions
   pub few : length s.sessions ≤ 16
+
+-- the event has no moment, or one below 2^63, as each moment of the program is
+abbrev pub IsTimely : CellEvent → Type 0
+IsTimely (events.Track seat key change now) = now < 2 ^ 63
+IsTimely (events.Learn session u now) = now < 2 ^ 63
+IsTimely (events.Copy session kind limit now) = now < 2 ^ 63
+IsTimely (events.Purge now) = now < 2 ^ 63
+IsTimely event = Unit {0}
+
+abbrev pub AreTimely : List (CellEvent × CellReply) → Type 0
+AreTimely hs = AllByRecursion (λ h. IsTimely h.0) hs
+
+-- What holds of a table with its history at all times: the state is the replay of the history, it is sound, and the
+-- history keeps to its bounds.
+pub record IsSoundCell (c : CellState) : Type 0 where
+  pub replayed : IsReplayed c
+  pub sound : IsSound c.state
+  pub within : length c.history ≤ 1000000
+  pub few : events_of c ≤ 2 ^ 63

@@ -1,14 +1,14 @@
 //! What holds of the definitions, whatever the program does.
 
-ghost use Rattle.std.specs.Prelude.{◌≡◌, ◌≤◌, ◌∷◌, ◌++◌, ◌^◌, [], Bool, ℕ, List, true};
+ghost use Rattle.std.specs.Prelude.{◌≡◌, ◌≤◌, ◌∷◌, ◌++◌, ◌^◌, [], Bool, ℕ, List, false, true};
 ghost use Rattle.table_types.specs.Tables.{Definition, is_definition};
 ghost use Rattle.table_cell.specs.declared.events.CellEvent.{CellEvent};
 ghost use Rattle.table_cell.specs.declared.events.CellReply.{CellReply};
 ghost use Rattle.table_cell.specs.Machine.{TableState, Step, unacked};
 ghost use Rattle.table_types.specs.Batches.{IsBatchFor};
 ghost use Rattle.table_types.specs.declared.copies.CopyKind.{CopyKind};
-ghost use Rattle.table_cell.specs.Soundness.{IsSound};
-ghost use Rattle.table_cell.specs.Histories.{CellState, Replays, IsReplayed, Kept, Made, new_table};
+ghost use Rattle.table_cell.specs.Soundness.{AreTimely, IsSound, IsSoundCell, IsTimely};
+ghost use Rattle.table_cell.specs.Histories.{CellState, Replays, IsReplayed, Kept, Made, is_history_full, new_cell, new_table};
 
 /// A run goes on by one step, and the state at the end of a history is its replay again after one event more.
 pub fn a_run_goes_on()
@@ -24,9 +24,18 @@ pub fn batches_are_kept()
 
 /// Each step leaves a sound table sound, and so does a whole run. A new table is sound.
 pub fn a_table_stays_sound()
-    ensures step { (s e : TableState) (event : CellEvent) (reply : CellReply) → IsSound s → Step s event reply e → IsSound e }
-    ensures run { (s e : TableState) (hs : List (CellEvent × CellReply)) → IsSound s → Replays s hs e → IsSound e }
-    ensures new { (d : Definition) (size first : ℕ) (nopurge : Bool) → is_definition d ≡ true → 1 ≤ first → first ≤ 2 ^ 32 → IsSound (new_table d size nopurge first) }
+    ensures step { (s e : TableState) (event : CellEvent) (reply : CellReply) → IsTimely event → IsSound s → Step s event reply e → IsSound e }
+    ensures run { (s e : TableState) (hs : List (CellEvent × CellReply)) → AreTimely hs → IsSound s → Replays s hs e → IsSound e }
+    ensures new { (d : Definition) (size first : ℕ) (nopurge : Bool) → is_definition d ≡ true → 1 ≤ size → 1 ≤ first → first ≤ 2 ^ 32 →
+        IsSound (new_table d size nopurge first) }
+{}
+
+/// One event more, where the history has room for it, leaves a table with its history sound. A new one is sound.
+pub fn a_cell_stays_sound()
+    ensures step { (c e : CellState) (event : CellEvent) (reply : CellReply) → IsTimely event → is_history_full c ≡ false →
+        IsSoundCell c → Made c event reply e → IsSoundCell e }
+    ensures new { (d : Definition) (size first : ℕ) (nopurge : Bool) → is_definition d ≡ true → 1 ≤ size → 1 ≤ first → first ≤ 2 ^ 32 →
+        IsSoundCell (new_cell d size nopurge first) }
 {}
 
 /// What a session hasn't acknowledged of a sound table is a batch for that table, and so for each roster in which the

@@ -1,0 +1,8 @@
+use Rattle.table_cell.proofs.RunLaws.{made_sound, new_cell_sound}
+use Rattle.table_cell.proofs.laws.a_cell_stays_sound.Goals as goal
+
+pub returns-clause-step : goal.returns-clause-step
+returns-clause-step c = made_sound
+
+pub returns-clause-new : goal.returns-clause-new
+returns-clause-new c = new_cell_sound
