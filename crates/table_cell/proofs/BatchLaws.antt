@@ -127,7 +127,7 @@ life_told d now row fits live = by row.ends refl
 
 -- ---- updates
 
-periods : (d : Definition) → is_definition d ≡ true → list_all has_its_period d.types ≡ true
+pub periods : (d : Definition) → is_definition d ≡ true → list_all has_its_period d.types ≡ true
 periods d is =
     let all = and_parts (is_id d.id && is_name d.name && fits_length d.kind d.key_length && nat_lt d.expire (2 ^ 32) && list_all has_its_period d.types) (rise_from 0 d.types) is in
     (and_parts (is_id d.id && is_name d.name && fits_length d.kind d.key_length && nat_lt d.expire (2 ^ 32)) (list_all has_its_period d.types) all.0).1

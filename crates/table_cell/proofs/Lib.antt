@@ -1,8 +1,14 @@
 pub mod RowsLaws
+pub mod OneStep
 pub mod SessionLaws
 pub mod CellLaws
-pub mod RunLaws
 pub mod StockLaws
 pub mod StockSteps
 pub mod StepLaws
+pub mod RunLaws
+pub mod RefusalLaws
+pub mod HistoryLaws
+pub mod UnackedLaws
+pub mod LiveLaws
 pub mod BatchLaws
+pub mod CopyLaws

@@ -121,10 +121,19 @@ Purges c now (Err error) e = (purge_refusal (is_history_full c) c.state now ≡ 
 
 -- ---- what the readers answer
 
+-- whether an event is a Copy of a session
+abbrev pub is_copy_of : ℕ → CellEvent → Bool
+is_copy_of session (events.Copy id kind limit now) = id == session
+is_copy_of session event = false
+
+-- the batch that a reply gives
+abbrev pub batch_in : CellReply → Option (List Update)
+batch_in (replies.Copy us) = Some us
+batch_in reply = None
+
 -- the batch that a Copy of a session gave
 abbrev pub batch_of : ℕ → CellEvent × CellReply → Option (List Update)
-batch_of session (events.Copy id kind limit now, replies.Copy us) = if id == session then Some us else None
-batch_of session h = None
+batch_of session h = if is_copy_of session h.0 then batch_in h.1 else None
 
 -- the latter of two, if there is one
 abbrev pub or_former : Option (List Update) → Option (List Update) → Option (List Update)

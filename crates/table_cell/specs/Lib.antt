@@ -1,5 +1,6 @@
 pub mod Telling
 pub mod Machine
+pub mod Histories
 pub mod Soundness
 pub mod Stock
-pub mod Histories
+pub mod Cells

@@ -132,6 +132,9 @@ unacked s session kind now limit =
 abbrev pub last_number : ℕ → List Update → ℕ
 last_number least us = fold (λ number u. u.number) least us
 
+abbrev pub teaching : ℕ → Progress → Progress
+teaching number progress = record progress { taught = number }
+
 -- the number taught becomes that of the last update
 abbrev pub copied : TableState → ℕ → List Update → ℕ → TableState
 copied s session us now = record s { sessions = with_progress session (λ progress. record progress { taught = last_number progress.taught us }) s.sessions; latest = now }

@@ -17,6 +17,12 @@ pub fn a_run_goes_on()
     ensures made { (c e : CellState) (event : CellEvent) (reply : CellReply) → IsReplayed c → Made c event reply e → IsReplayed e }
 {}
 
+/// From a state an event has one answer and leads to one state; so a history leads to one state.
+pub fn a_step_is_unique()
+    ensures step { (s e f : TableState) (event : CellEvent) (a b : CellReply) → Step s event a e → Step s event b f → (a ≡ b) × (e ≡ f) }
+    ensures run { (s e f : TableState) (hs : List (CellEvent × CellReply)) → Replays s hs e → Replays s hs f → e ≡ f }
+{}
+
 /// Where the state is the replay of the history, each kept batch is what was not acknowledged at its place.
 pub fn batches_are_kept()
     ensures { (c : CellState) → IsReplayed c → Kept c }

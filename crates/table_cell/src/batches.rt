@@ -1,0 +1,143 @@
+//! Batches that are handed out, and kept.
+
+ghost use Rattle.std.specs.Prelude.{◌≡◌, ◌↔◌, ◌≤◌, ◌∷◌, ◌++◌, [], IfOk, IsOk, None, OnErr, false, option_and_then, option_copied, slice_get};
+ghost use Rattle.table_cell.specs.Cells.{AreLatestCopies};
+ghost use Rattle.table_cell.specs.declared.events.CellEvent.TheVariants as events;
+ghost use Rattle.table_cell.specs.declared.events.CellReply.TheVariants as replies;
+ghost use Rattle.table_cell.specs.Histories.{Copies, IsLatestBatch, batch_in, latest_batch};
+ghost use Rattle.table_cell.specs.Machine.{Step, copy_refusal, unacked};
+ghost use Rattle.table_cell.specs.Soundness.{IsSound};
+ghost use Rattle.table_types.specs.Batches.{IsBatchFor};
+
+use crate::cell::TableCell;
+use crate::copying::last_number;
+use crate::errors::{CopyError, StrangeBatch};
+use crate::events::{CellEvent, CellReply};
+use crate::table::Table;
+use std::collections::BTreeMap;
+use table_types::{Batch, CopyKind, Memory, Moment, TableDef, Update};
+
+/// The batch of these updates, which are one for that table.
+fn batch_of(definition: &TableDef, updates: Vec<Update>) -> Batch
+    requires { IsBatchFor (definition.now ∷ []) updates.items }
+    ensures { result ≡ updates.items }
+{
+    Batch::of_table(definition, updates).unwrap()
+}
+
+impl Table {
+    /// The batch that a copy gives.
+    fn batch(
+        &self,
+        session: u32,
+        kind: CopyKind,
+        limit: usize,
+        now: Moment,
+    ) -> Result<Batch, Memory>
+        requires sound { IsSound self.now }
+        requires later { self.now.latest ≤ now }
+        requires limit { limit ≤ 512 }
+        ensures { IfOk result (λ batch. batch ≡ unacked self.now session kind now limit) }
+    {
+        let updates = self.unacked(self.acknowledged(session), kind, limit, now)?;
+        Ok(batch_of(&self.definition, updates))
+    }
+}
+
+/// Copies: the batch is taught, and the event is in the history. After `Memory` nothing has changed.
+fn copy(
+    table: &mut Table,
+    history: &mut Vec<(CellEvent, CellReply)>,
+    latest_copies: &mut BTreeMap<u32, usize>,
+    session: u32,
+    kind: CopyKind,
+    limit: usize,
+    now: Moment,
+) -> Result<Batch, Memory>
+    requires sound { IsSound table.old }
+    requires latest { AreLatestCopies latest_copies.old.entries history.old.items }
+    requires limit { limit ≤ 512 }
+    requires granted { copy_refusal false table.old session kind limit now ≡ None }
+    ensures step { IfOk result (λ batch. Step table.old (events.Copy session kind limit now) (replies.Copy batch) table.new) }
+    ensures event { IfOk result (λ batch. history.new.items ≡ history.old.items ++ (events.Copy session kind limit now, replies.Copy batch) ∷ []) }
+    ensures latest { AreLatestCopies latest_copies.new.entries history.new.items }
+    ensures stays { OnErr result (table.new ≡ table.old) }
+    ensures no_event { OnErr result (history.new.items ≡ history.old.items) }
+{
+    let batch = table.batch(session, kind, limit, now)?;
+    let kept = batch.copy(table.alloc)?;
+    history.reserve(1)?;
+    latest_copies.insert(session, history.len())?;
+    table.teach(session, last_number(batch.updates(), 0), now);
+    let event = CellEvent::Copy {
+        session,
+        kind,
+        limit,
+        moment: now,
+    };
+    history.push_reserved((event, CellReply::Copy(kept)));
+    Ok(batch)
+}
+
+/// The batch of the reply at that index.
+fn batch_at(history: &[(CellEvent, CellReply)], index: usize) -> Option<&Batch>
+    ensures { option_copied result ≡ option_and_then (λ h. batch_in h.1) (slice_get history.now index) }
+{
+    let (_, reply) = history.get(index)?;
+    match reply {
+        CellReply::Copy(batch) => Some(batch),
+        _ => None,
+    }
+}
+
+impl TableCell {
+    /// Copies for a session the rows of that kind that it hasn't acknowledged, in rising number, at most `limit` of them,
+    /// as updates at that moment. The batch is then out until its last number is acknowledged, and is kept in the history.
+    pub fn copy(
+        &mut self,
+        session: u32,
+        kind: CopyKind,
+        limit: usize,
+        now: Moment,
+    ) -> Result<Batch, CopyError>
+        requires { (1 ≤ limit) × (limit ≤ 512) }
+        ensures { Copies self.old session kind limit now result self.new }
+    {
+        let full = self.is_history_full();
+        if let Some(error) = self.table.copy_refusal(full, session, kind, limit, now) {
+            return Err(error);
+        }
+        let Ok(batch) = copy(
+            &mut self.table,
+            &mut self.history,
+            &mut self.latest_copies,
+            session,
+            kind,
+            limit,
+            now,
+        ) else {
+            return Err(CopyError::Memory);
+        };
+        Ok(batch)
+    }
+
+    /// The batch that the session was given last.
+    fn latest_batch(&self, session: u32) -> Option<&Batch>
+        ensures { option_copied result ≡ latest_batch session self.now.history }
+    {
+        match self.latest_copies.get(&session) {
+            Some(index) => batch_at(self.history.as_slice(), *index),
+            None => None,
+        }
+    }
+
+    /// Whether the batch is the one that the session was given last, open or closed since. Takes no memory.
+    pub fn settle(&self, session: u32, batch: &Batch) -> Result<(), StrangeBatch>
+        ensures { IsOk result ↔ IsLatestBatch self.now session batch.now }
+    {
+        match self.latest_batch(session) {
+            Some(latest) if latest.is_same(batch) => Ok(()),
+            _ => Err(StrangeBatch),
+        }
+    }
+}
