@@ -24,7 +24,7 @@ use Rattle.known_state.proofs.NamesToKeep.{names_to_keep}
 use Rattle.known_state.proofs.SlotsNeeded.{turned}
 use Rattle.teach_writer.specs.Naming.{is_that_name, lowest_from, starts_at_first, starts_after, first_mark, marks_after, retains_next, IsRetainedOver, IsNamed}
 use Rattle.teach_writer.specs.Retained.{retained_at, Retains, IsFree, IsNameField}
-use Rattle.teach_writer.specs.NextRequests.{IsRetainedFirst, HasRoomFor, kept_next, retained_after, place_after}
+use Rattle.teach_writer.specs.NextRequests.{IsRetainedFirst, HasRoomFor, IsNotRetained, kept_next, retained_after, place_after}
 use Rattle.teach_writer.specs.Sending.{slot_of, is_stored, IsSent, AreSent}
 use Rattle.teach_writer.proofs.KeptNext.{kept_next-at}
 use Rattle.teach_writer.proofs.UpdateStepsAreLegal.{stream-append}
@@ -495,6 +495,38 @@ way_room roster s mid us left u rs keep bytes retained place (ms, starts, k, don
 
         back : (j : ℕ) → suc j - 1 ≡ j
         back j = omega arith
+
+-- a name that a slot retains has its request kept
+retained_marked : (retained : List Bool) (starts : List ℕ → Option ℕ) (slots : List (Option (List ℕ))) (u : Update) (us : List Update) (name : List ℕ) (slot : ℕ) (mark : Bool) (marks : List Bool) → u.name ≡ Some name → AreMarked retained starts slots (u ∷ us) (mark ∷ marks) → Retains retained slots slot name → mark ≡ true
+retained_marked retained starts slots u us name slot mark marks is are retains = sym (retains_same u us mark marks name name is (name_itself name)) ∙ subst (λ (n : List ℕ). retains_next n (u ∷ us) (mark ∷ marks) ≡ true) one over.2
+  where
+    over : IsRetainedOver starts (u ∷ us) (mark ∷ marks) slot
+    over = are.0 slot retains.1.0 retains.0
+
+    one : over.0 ≡ name
+    one = let both : Some over.0 ≡ Some name = sym (are.1 over.0 slot retains.1.0 over.1 over.2).1.1 ∙ retains.1.1 in cc
+
+-- the mark behind so many
+mark_behind : (kept marks : List Bool) (mark : Bool) (place : ℕ) → length kept ≡ place → get_or (kept ++ mark ∷ marks) place false ≡ mark
+mark_behind [] marks mark zero many = refl
+mark_behind [] marks mark (suc place) many = absurd (omega arith)
+mark_behind (k ∷ kept) marks mark zero many = absurd (omega arith)
+mark_behind (k ∷ kept) marks mark (suc place) many = mark_behind kept marks mark place (omega arith)
+
+-- where the request of an update isn't kept, no slot retains its name
+pub way_unkept : (roster : List Definition) (s mid : State) (us left : List Update) (u : Update) (rs : List Asked) (keep : List Bool) (bytes : List ℕ) (retained : List Bool) (place : ℕ) → IsUnderWay roster s us rs keep bytes mid retained place (u ∷ left) → get_or keep place false ≡ false → IsNotRetained retained mid.slots u.name
+way_unkept roster s mid us left u rs keep bytes retained place (ms, starts, k, done, kept, marks, bytes_are, rs_is, keep_is, so_far, kept_so_far, long, linked, begun, slots, are, long_flags, many, leads) off = by u.name refl
+  where
+    by : (name : Option (List ℕ)) → u.name ≡ name → IsNotRetained retained mid.slots name
+    by None is = tt
+    by (Some n) is = λ slot retains.
+        let m = subst (λ (o : Option (List ℕ)). IsMarkFor starts o marks) is (mark_first roster k starts (after_requests (at_start (names_in s.slots)) done) u left u.name marks refl long linked begun) in
+        let marked : AreMarked retained starts mid.slots (u ∷ left) (m.0 ∷ m.1) = subst (λ (l : List Bool). AreMarked retained starts mid.slots (u ∷ left) l) m.2 are in
+        let whole : keep ≡ kept ++ (m.0 ∷ m.1) = keep_is ∙ ap (λ (l : List Bool). kept ++ l) m.2 in
+        let here : get_or keep place false ≡ m.0 = ap (λ (l : List Bool). get_or l place false) whole ∙ mark_behind kept m.1 m.0 place kept_so_far in
+        let on : m.0 ≡ true = retained_marked retained starts mid.slots u left n slot m.0 m.1 is marked retains in
+        let bad : true ≡ false = sym on ∙ sym here ∙ off in
+        cc
 
 -- ---- at the start, and at the end
 

@@ -33,6 +33,11 @@ IsRetainedFirst slots is_kept slot =
     × ((other : ℕ) → Holds slots other name → slot ≤ other)
     × (is_kept name ≡ true)
 
+-- no slot retains the name, if there is one
+abbrev pub IsNotRetained : List Bool → List (Option (List ℕ)) → Option (List ℕ) → Type 0
+IsNotRetained retained slots None = Unit {0}
+IsNotRetained retained slots (Some name) = (slot : ℕ) → Retains retained slots slot name → ⊥
+
 -- where no slot that is retained holds the name, some slot is free
 abbrev pub HasRoomFor : List Bool → List (Option (List ℕ)) → Option (List ℕ) → Type 0
 HasRoomFor retained slots None = Unit {0}

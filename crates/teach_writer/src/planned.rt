@@ -40,6 +40,17 @@ fn retain_or_free(retained: &mut Retained, place: &mut usize, slot: Option<u8>, 
     }
 }
 
+/// Whether the request at this place is kept, if there is one.
+fn is_kept_at(keep: &[bool], place: usize) -> bool
+    ensures { result ≡ slice_index_or keep.now place false }
+{
+    if place < keep.len() {
+        keep[place]
+    } else {
+        false
+    }
+}
+
 /// The slot in which the name of the request at this place is likely to be retained, if any is noted.
 fn expected(likely: &[Option<u8>], place: usize) -> Option<u8>
     ensures { IfSome result (λ slot. is_slot slot ≡ true) }
@@ -95,7 +106,10 @@ fn send_updates(
     let mut place = 0;
     for update in batch.updates() {
         let expected = expected(&likely, place);
-        let slot = write_update(alloc, &mut after, &retained, update, expected, &mut bytes)?;
+        let kept = is_kept_at(keep, place);
+        let slot = write_update(
+            alloc, &mut after, &retained, update, kept, expected, &mut bytes,
+        )?;
         expect(&mut likely, &later, place, slot);
         retain_or_free(&mut retained, &mut place, slot, next.as_slice());
     }

@@ -1,6 +1,6 @@
 //! Which slots hold a name that is retained.
 
-ghost use Rattle.std.specs.Prelude.{◌≡◌, ◌≤◌, ◌-◌, ℕ, true, IsTrue, ◌↔◌, Some, IfSome, IsNone, option_copied, length, slice_set};
+ghost use Rattle.std.specs.Prelude.{◌≡◌, ◌≤◌, ◌-◌, ℕ, true, false, IsTrue, ◌↔◌, Some, IfSome, IsNone, option_copied, length, slice_set};
 ghost use Rattle.dict_slots.specs.Slots.{slot_at};
 ghost use Rattle.table_types.specs.SlotIds.{is_slot};
 ghost use Rattle.teach_writer.specs.Retained.{none_retained, Retains, IsFree};
@@ -67,12 +67,17 @@ impl Retained {
         self.flags[usize::from(slot) - 1] && holds(slots.name(slot), name)
     }
 
-    /// A slot in which this name is retained, by what the slots hold. The likely one is tried first, if there is one.
-    pub fn find(&self, slots: &Slots, name: &Name, likely: Option<u8>) -> Option<u8>
-        requires { IfSome likely (λ slot. is_slot slot ≡ true) }
+    /// A slot in which this name is retained, by what the slots hold: none where its request isn't kept. The likely one is
+    /// tried first, if there is one.
+    pub fn find(&self, slots: &Slots, name: &Name, kept: bool, likely: Option<u8>) -> Option<u8>
+        requires kept { kept ≡ false → (slot : ℕ) → Retains self.now slots.now slot name.now → ⊥ }
+        requires likely { IfSome likely (λ slot. is_slot slot ≡ true) }
         ensures found { IfSome result (λ slot. Retains self.now slots.now slot name.now) }
         ensures absent { IsNone result → (slot : ℕ) → Retains self.now slots.now slot name.now → ⊥ }
     {
+        if !kept {
+            return None;
+        }
         if let Some(slot) = likely {
             if self.retains(slots, slot, name) {
                 return Some(slot);

@@ -16,7 +16,7 @@ ghost use Rattle.known_state.specs.State.{Step, Teaches, IsOwn, name_of, reads_e
 ghost use Rattle.known_state.specs.Cost.{number_sent, sent_as};
 ghost use Rattle.known_state.specs.Requests.{IsUpdateOf};
 ghost use Rattle.teach_writer.specs.Retained.{IsNameField};
-ghost use Rattle.teach_writer.specs.NextRequests.{HasRoomFor};
+ghost use Rattle.teach_writer.specs.NextRequests.{HasRoomFor, IsNotRetained};
 ghost use Rattle.teach_writer.specs.Sending.{selection, slot_of, is_stored, IsSent};
 
 use crate::retained::Retained;
@@ -53,9 +53,11 @@ fn name_field(
     slots: &Slots,
     table: &TableDef,
     update: &Update,
+    kept: bool,
     likely: Option<u8>,
 ) -> Result<NameField, Memory>
     requires fits { fits table.now update.now ≡ true }
+    requires kept { kept ≡ false → IsNotRetained retained.now slots.now update.now.name }
     requires likely { IfSome likely (λ slot. is_slot slot ≡ true) }
     requires room { HasRoomFor retained.now slots.now update.now.name }
     ensures field { IfOk result (λ field. IsNameField retained.now slots.now (stores_name table.now) update.now.name field) }
@@ -71,7 +73,7 @@ fn name_field(
             NameField::NotStored
         });
     };
-    match retained.find(slots, name, likely) {
+    match retained.find(slots, name, kept, likely) {
         Some(slot) => Ok(NameField::Held(slot)),
         None => Ok(NameField::Written(retained.free(), name.copy(alloc)?)),
     }
@@ -135,9 +137,11 @@ fn named(
     known: &Known,
     retained: &Retained,
     update: &Update,
+    kept: bool,
     likely: Option<u8>,
 ) -> Result<NameField, Memory>
     requires update { IsUpdateOf known.now.roster update.now }
+    requires kept { kept ≡ false → IsNotRetained retained.now known.now.state.slots update.now.name }
     requires likely { IfSome likely (λ slot. is_slot slot ≡ true) }
     requires room { HasRoomFor retained.now known.now.state.slots update.now.name }
     ensures field { IfOk result (λ field. (d : Definition) → table_at known.now.roster update.now.table ≡ Some d →
@@ -148,7 +152,7 @@ fn named(
     ensures slot { IfOk result (λ field. IfSome (slot_of field) (λ id. is_slot id ≡ true)) }
 {
     match known.roster().table(update.table) {
-        Some(table) => name_field(alloc, retained, known.slots(), table, update, likely),
+        Some(table) => name_field(alloc, retained, known.slots(), table, update, kept, likely),
         None => unreachable!(),
     }
 }
@@ -170,10 +174,12 @@ pub fn write_update(
     known: &mut Known,
     retained: &Retained,
     update: &Update,
+    kept: bool,
     likely: Option<u8>,
     bytes: &mut Vec<u8>,
 ) -> Result<Option<u8>, Memory>
     requires update { IsUpdateOf known.old.roster update.now }
+    requires kept { kept ≡ false → IsNotRetained retained.now known.old.state.slots update.now.name }
     requires likely { IfSome likely (λ slot. is_slot slot ≡ true) }
     requires room { HasRoomFor retained.now known.old.state.slots update.now.name }
     ensures order { IfOk result (λ slot. (field : NameField) × (ms : List Message) × (slot ≡ slot_of field)
@@ -184,7 +190,7 @@ pub fn write_update(
     ensures roster { known.new.roster ≡ known.old.roster }
 {
     select(alloc, known, update.table, bytes)?;
-    let field = named(alloc, known, retained, update, likely)?;
+    let field = named(alloc, known, retained, update, kept, likely)?;
     let slot = slot_of(&field);
     let message = update_sent(
         alloc,

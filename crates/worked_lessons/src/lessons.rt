@@ -6,7 +6,7 @@ use example_parts::{
 use known_state::{Known, Request};
 use std::alloc::Global;
 use table_types::{Batch, DataType, KeyKind, Update, Value};
-use teach_writer::{Lesson, teach};
+use teach_writer::{Lesson, TeachError, teach};
 
 const LIFE: Option<u32> = Some(30_000);
 
@@ -193,6 +193,26 @@ fn lessons(rt: HostRuntime) {
             taught.last
         );
     }
+}
+
+/// Whether the lesson is right, or the one after it where memory was wanted for it; `None` where it is wanted before.
+fn is_taught_again(alloc: Global, taught: &Taught) -> Option<bool> {
+    let known = known(alloc, &taught.from)?;
+    let batch = Batch::new(known.roster(), updates(alloc, taught.updates)?).ok()?;
+    let lesson = match teach(alloc, &known, &batch) {
+        Ok(lesson) => Ok(lesson),
+        Err(TeachError::Memory) => teach(alloc, &known, &batch),
+    };
+    match lesson {
+        Ok(lesson) => Some(is_right(&lesson, taught)),
+        Err(TeachError::Memory) => Some(false),
+    }
+}
+
+/// It can be run with any allocation failing: the teacher refuses, and teaches when it is asked again.
+#[test]
+fn teacher_answers_again(rt: HostRuntime) {
+    assert!(rt; is_taught_again(rt.alloc(), &TAUGHT[3]) != Some(false));
 }
 
 /// `lt`: as `st` with keys of up to 255 bytes, and nothing known of it.

@@ -12,7 +12,7 @@ use Rattle.teach_writer.specs.Retained.{retained_at, IsNameField}
 use Rattle.teach_writer.specs.NextRequests.{is_first_kept, kept_next, IsRetainedFirst, retained_after, place_after}
 use Rattle.teach_writer.specs.Sending.{slot_of, is_stored, IsSent}
 use Rattle.teach_writer.proofs.KeptNext.{kept_next-length}
-use Rattle.teach_writer.proofs.MarkedSteps.{IsUnderWay, way_start, way_step, way_place, way_room, way_end}
+use Rattle.teach_writer.proofs.MarkedSteps.{IsUnderWay, way_start, way_step, way_place, way_room, way_unkept, way_end}
 use Rattle.teach_writer.proofs.planned.send_updates.Goals as goal
 
 if_some : (o : Option ℕ) (p : ℕ → Type 0) → ((x : ℕ) → o ≡ Some x → p x) → IfSome o p
@@ -54,6 +54,17 @@ write_update-requires-clause-room c =
     let left : drop i us ≡ u ∷ drop (i + 1) us = here c.updates-update-items.result.now us i u c.updates-update-items.ensures.updates c.loop-update-test.true c.update-item.is in
     way_room k.roster k.state c.loop-update.after.state us (drop (i + 1) us) u c.args.requests.now keep c.loop-update.bytes.items c.loop-update.retained c.loop-update.place
     (subst (λ (l : List Update). IsUnderWay k.roster k.state us c.args.requests.now keep c.loop-update.bytes.items c.loop-update.after.state c.loop-update.retained c.loop-update.place l) left c.loop-update.invariant.way) c.requires.room
+
+pub write_update-requires-clause-kept : goal.write_update-requires-clause-kept
+write_update-requires-clause-kept c = λ other.
+    let k = c.args.known.now in
+    let us = c.args.batch.now in
+    let keep : List Bool = c.args.keep.now in
+    let i = c.loop-update.update-index in
+    let u = c.update-item.result in
+    let left : drop i us ≡ u ∷ drop (i + 1) us = here c.updates-update-items.result.now us i u c.updates-update-items.ensures.updates c.loop-update-test.true c.update-item.is in
+    way_unkept k.roster k.state c.loop-update.after.state us (drop (i + 1) us) u c.args.requests.now keep c.loop-update.bytes.items c.loop-update.retained c.loop-update.place
+    (subst (λ (l : List Update). IsUnderWay k.roster k.state us c.args.requests.now keep c.loop-update.bytes.items c.loop-update.after.state c.loop-update.retained c.loop-update.place l) left c.loop-update.invariant.way) (sym c.is_kept_at-kept.ensures ∙ other)
 
 pub retain_or_free-requires-clause-place : goal.retain_or_free-requires-clause-place
 retain_or_free-requires-clause-place c =

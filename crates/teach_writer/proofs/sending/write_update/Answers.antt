@@ -15,7 +15,7 @@ use Rattle.known_state.specs.LastNumbers.{last_of}
 use Rattle.peers_msg.proofs.DataLimits.{row_small}
 use Rattle.known_state.specs.Cost.{number_sent, sent_as, is_named_table}
 use Rattle.teach_writer.specs.Retained.{IsNameField}
-use Rattle.teach_writer.specs.NextRequests.{HasRoomFor}
+use Rattle.teach_writer.specs.NextRequests.{HasRoomFor, IsNotRetained}
 use Rattle.teach_writer.specs.Sending.{IsSent, is_stored, selection, update_sent}
 use Rattle.teach_writer.proofs.MarksAreReads.{selection_slots}
 use Rattle.teach_writer.proofs.UpdateStepsAreLegal.{sent_taken, sent_carries, stream-one, stream-append}
@@ -39,6 +39,17 @@ named-requires-clause-room c =
     let each_chosen : (d : Definition) → table_at roster u.table ≡ Some d → (c.select.new.bytes.items ≡ c.args.bytes.now.items ++ stream_of (selection s.received d)) × Teaches s (selection s.received d) [] k.state = search rules in
     let slots : k.state.slots ≡ s.slots = selection_slots s k.state d (each_chosen d c.requires.update.1).1 in
     subst (λ (ss : List (Option (List ℕ))). HasRoomFor c.args.retained.now ss u.name) (sym slots) c.requires.room
+
+pub named-requires-clause-kept : goal.named-requires-clause-kept
+named-requires-clause-kept c = λ other.
+    let k = c.select.new.known in
+    let u = c.args.update.now in
+    let roster = c.args.known.now.roster in
+    let s = c.args.known.now.state in
+    let d = c.requires.update.0 in
+    let each_chosen : (d : Definition) → table_at roster u.table ≡ Some d → (c.select.new.bytes.items ≡ c.args.bytes.now.items ++ stream_of (selection s.received d)) × Teaches s (selection s.received d) [] k.state = search rules in
+    let slots : k.state.slots ≡ s.slots = selection_slots s k.state d (each_chosen d c.requires.update.1).1 in
+    subst (λ (ss : List (Option (List ℕ))). IsNotRetained c.args.retained.now ss u.name) (sym slots) (c.requires.kept other)
 
 pub write_message-requires : goal.write_message-requires
 write_message-requires c =
