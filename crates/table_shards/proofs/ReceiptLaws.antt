@@ -1,0 +1,110 @@
+-- How often a place stands among receipts.
+use Rattle.std.proofs.Common.{◌≡◌, ℕ, zero, suc, ◌+◌, ◌<◌, ◌≤◌, ◌==◌, true, false, cond, List, [], ◌∷◌, ◌++◌, length, get_or, take, drop, Result, Ok, Err, is_ok, refl, sym, ap, ◌∙◌, subst, arith, inl, inr, nat_cmp, Less, Equal, Greater, eq-eqb, ne_eqb, append-nil, append_assoc}
+use Rattle.std.specs.List.{AllByRecursion}
+use Rattle.std.specs.List.Sorted.{IsSearchInRange, IsBinarySearchResult, IsNonDecreasingBy}
+use Rattle.std.specs.Ordering.{ordering_index}
+use Rattle.std.proofs.lemmas.Cmp.{ranked}
+use Rattle.std.proofs.lemmas.Bool.{cases_lt}
+use Rattle.std.proofs.lemmas.Bool.Decides.{nat_tests}
+use Rattle.std.proofs.lemmas.List.{drop_more, take_more}
+use Rattle.std.proofs.lemmas.List.Sums.{sum_by-cons, sum_by-append}
+use Rattle.table_shards.specs.declared.receipt.Receipt.{Receipt}
+use Rattle.table_shards.specs.Receipts.{SeatState, PlacesRise, all_receipts, receipts_of, times}
+use Rattle.table_shards.proofs.AllLaws.{all_left, all_right, all_both}
+
+-- ---- rising places
+
+pub rise_low : (before seen : ℕ) (rs : List Receipt) (i : ℕ) (d : Receipt) → PlacesRise before rs seen → i < length rs → before < (get_or rs i d).place
+rise_low before seen [] i d rise lt = absurd (omega arith)
+rise_low before seen (r ∷ rs) zero d (first, rest) lt = first
+rise_low before seen (r ∷ rs) (suc i) d (first, rest) lt =
+    let low : r.place < (get_or rs i d).place = rise_low r.place seen rs i d rest (omega arith) in
+    omega arith
+
+pub rise_order : (before seen : ℕ) (rs : List Receipt) (i j : ℕ) (d : Receipt) → PlacesRise before rs seen → i ≤ j → j < length rs → (get_or rs i d).place ≤ (get_or rs j d).place
+rise_order before seen [] i j d rise le lt = absurd (omega arith)
+rise_order before seen (r ∷ rs) zero zero d rise le lt = omega arith
+rise_order before seen (r ∷ rs) zero (suc j) d (first, rest) le lt =
+    let low : r.place < (get_or rs j d).place = rise_low r.place seen rs j d rest (omega arith) in
+    omega arith
+rise_order before seen (r ∷ rs) (suc i) zero d rise le lt = absurd (omega arith)
+rise_order before seen (r ∷ rs) (suc i) (suc j) d (first, rest) le lt = rise_order r.place seen rs i j d rest (omega arith) (omega arith)
+
+-- ---- counts
+
+pub times_here : (place : ℕ) (r : Receipt) (rs : List Receipt) → (r.place == place) ≡ true → times place (r ∷ rs) ≡ 1 + times place rs
+times_here place r rs same =
+    let one : cond (r.place == place) 1 0 ≡ 1 = rw same refl in
+    sum_by-cons (λ (q : Receipt). cond (q.place == place) 1 0) r rs ∙ ap (λ (n : ℕ). n + times place rs) one
+
+pub times_other : (place : ℕ) (r : Receipt) (rs : List Receipt) → (r.place == place) ≡ false → times place (r ∷ rs) ≡ 0 + times place rs
+times_other place r rs other =
+    let none : cond (r.place == place) 1 0 ≡ 0 = rw other refl in
+    sum_by-cons (λ (q : Receipt). cond (q.place == place) 1 0) r rs ∙ ap (λ (n : ℕ). n + times place rs) none
+
+times_above : (place before seen : ℕ) (rs : List Receipt) → PlacesRise before rs seen → place ≤ before → times place rs ≡ 0
+times_above place before seen [] rise le = refl
+times_above place before seen (r ∷ rs) (first, rest) le =
+    let other = times_other place r rs (ne_eqb r.place place (λ is. absurd (omega arith))) in
+    let none : times place rs ≡ 0 = times_above place r.place seen rs rest (omega arith) in
+    omega (arith, other, none)
+
+pub found_once : (place before seen : ℕ) (rs : List Receipt) (i : ℕ) (d : Receipt) → PlacesRise before rs seen → i < length rs → (get_or rs i d).place ≡ place → times place rs ≡ 1
+found_once place before seen [] i d rise lt is = absurd (omega arith)
+found_once place before seen (r ∷ rs) zero d (first, rest) lt is =
+    let here = times_here place r rs (eq-eqb r.place place is) in
+    let none : times place rs ≡ 0 = times_above place r.place seen rs rest (omega arith) in
+    omega (arith, here, none)
+found_once place before seen (r ∷ rs) (suc i) d (first, rest) lt is =
+    let low : r.place < (get_or rs i d).place = rise_low r.place seen rs i d rest (omega arith) in
+    let other = times_other place r rs (ne_eqb r.place place (λ same. absurd (omega arith))) in
+    let one : times place rs ≡ 1 = found_once place r.place seen rs i d rest (omega arith) is in
+    omega (arith, other, one)
+
+pub found_never : (place : ℕ) (rs : List Receipt) → ((i : ℕ) (d : Receipt) → i < length rs → (get_or rs i d).place ≡ place → ⊥) → times place rs ≡ 0
+found_never place [] none = refl
+found_never place (r ∷ rs) none =
+    let other = times_other place r rs (ne_eqb r.place place (none zero r (omega arith))) in
+    let rest : times place rs ≡ 0 = found_never place rs (λ i d lt. none (suc i) d (omega arith)) in
+    omega (arith, other, rest)
+
+-- what a binary search for the place finds
+pub searched : (place seen : ℕ) (rs : List Receipt) → PlacesRise 0 rs seen → (r : Result ℕ ℕ) → IsSearchInRange r (length rs) → IsBinarySearchResult (λ q. nat_cmp q.place place) rs r → cond (is_ok r) 1 0 ≡ times place rs
+searched place seen [] rise (Ok i) within equal = absurd (omega arith)
+searched place seen (q ∷ rs) rise (Ok i) within equal = sym (found_once place 0 seen (q ∷ rs) i q rise within (ranked _ place Equal (sym (equal q))))
+searched place seen rs rise (Err i) within parted =
+    let order : IsNonDecreasingBy (λ q. ordering_index (nat_cmp q.place place)) rs =
+    λ a b d le lt. let up = rise_order 0 seen rs a b d rise le lt in grind (arith, nat_tests) in
+    let parts = parted order in
+    sym (found_never place rs (λ j d lt is. elim (cases_lt j i) [
+      | inl below ↦ let less : (get_or rs j d).place < place = ranked _ place Less (sym (parts.0 j d (omega arith) below)) in absurd (omega arith)
+      | inr above ↦ let more : place < (get_or rs j d).place = ranked _ place Greater (sym (parts.1 j d above lt)) in absurd (omega arith)
+    ]))
+
+-- ---- seats
+
+-- the count goes on with the next seat
+pub times_next : (place t : ℕ) (ss : List SeatState) (i : ℕ) (s : SeatState) → i < length ss → s ≡ get_or ss i s
+    → times place (all_receipts t (drop i ss)) ≡ times place (receipts_of t s) + times place (all_receipts t (drop (i + 1) ss))
+times_next place t ss i s lt is =
+    ap (λ (rest : List SeatState). times place (all_receipts t rest)) (drop_more ss i s lt)
+    ∙ sum_by-append (λ (q : Receipt). cond (q.place == place) 1 0) (receipts_of t (get_or ss i s)) (all_receipts t (drop (i + 1) ss))
+    ∙ ap (λ (x : SeatState). times place (receipts_of t x) + times place (all_receipts t (drop (i + 1) ss))) (sym is)
+
+all_append : (t : ℕ) (ss : List SeatState) (s : SeatState) → all_receipts t (ss ++ s ∷ []) ≡ all_receipts t ss ++ receipts_of t s
+all_append t [] s = append-nil (receipts_of t s)
+all_append t (x ∷ ss) s = ap (λ rest. receipts_of t x ++ rest) (all_append t ss s) ∙ sym (append_assoc (receipts_of t x) (all_receipts t ss) (receipts_of t s))
+
+-- what holds of all receipts of some seats, and of those of the next
+pub receipts_more : (P : Receipt → Type 0) (t : ℕ) (ss : List SeatState) (i : ℕ) (s : SeatState) → i < length ss → s ≡ get_or ss i s
+    → AllByRecursion P (receipts_of t s) → AllByRecursion P (all_receipts t (take i ss)) → AllByRecursion P (all_receipts t (take (i + 1) ss))
+receipts_more P t ss i s lt is one all =
+    let whole : all_receipts t (take (i + 1) ss) ≡ all_receipts t (take i ss) ++ receipts_of t s =
+    ap (λ (xs : List SeatState). all_receipts t xs) (take_more ss i s lt) ∙ all_append t (take i ss) (get_or ss i s) ∙ ap (λ (x : SeatState). all_receipts t (take i ss) ++ receipts_of t x) (sym is) in
+    subst (AllByRecursion P) (sym whole) (all_both P (all_receipts t (take i ss)) (receipts_of t s) all one)
+
+-- and of one of them
+pub receipts_of_one : (P : Receipt → Type 0) (t : ℕ) (ss : List SeatState) (i : ℕ) (d : SeatState) → i < length ss → AllByRecursion P (all_receipts t ss) → AllByRecursion P (receipts_of t (get_or ss i d))
+receipts_of_one P t [] i d lt all = absurd (omega arith)
+receipts_of_one P t (s ∷ ss) zero d lt all = all_left P (receipts_of t s) (all_receipts t ss) all
+receipts_of_one P t (s ∷ ss) (suc i) d lt all = receipts_of_one P t ss i d (omega arith) (all_right P (receipts_of t s) (all_receipts t ss) all)
