@@ -1,1 +1,7 @@
 mod HearingLemmas
+mod EndLemmas
+mod ShareLemmas
+mod RunLemmas
+mod StepLemmas
+mod RunLaws
+mod AskedLaws

@@ -2,3 +2,4 @@ pub mod Shares
 pub mod Actions
 pub mod Courses
 pub mod Sessions
+pub mod Runs

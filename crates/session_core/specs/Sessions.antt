@@ -1,5 +1,5 @@
 -- The machine of a session: what it does at each event (HAProxy, doc/peers-v2.0.txt, "Handshake" and "Control
--- Messages"; the rules of this profile are in docs/FORMATS.md).
+-- Messages"; who is asked when, and what is answered to what, are choices of the profile).
 use Rattle.std.specs.Prelude.{◌≡◌, ◌≢◌, ℕ, Bool, true, false, ◌==◌, ◌&&◌, ◌||◌, not, List, [], ◌∷◌, ◌++◌, drop, Option, Some, None, Result, Ok, Err, if◌then◌else◌}
 use Rattle.table_types.specs.Tables.{Definition}
 use Rattle.table_types.specs.declared.update.Update.{Update}

@@ -1,0 +1,275 @@
+-- Each step of a session keeps what every run keeps.
+use Rattle.std.proofs.Common.{◌≡◌, ◌≢◌, ℕ, Bool, true, false, ◌&&◌, ◌==◌, not, List, [], ◌∷◌, ◌++◌, Some, None, Option, Ok, Err, Result, refl, sym, ap, ◌∙◌, subst, ◌⊎◌, inl, inr, append_assoc, cond}
+use Rattle.std.specs.Prelude.{is_some, drop}
+use Rattle.std.proofs.lemmas.Bool.{cases_eq, eq-eqb, ne_eqb, false≢true}
+use Rattle.table_types.specs.declared.update.Update.{Update}
+use Rattle.table_types.specs.declared.copies.CopyKind.{CopyKind}
+use Rattle.table_types.specs.declared.copies.CopyKind.TheVariants as kinds
+use Rattle.table_types.specs.declared.copies.Settled.{Settled}
+use Rattle.table_types.specs.declared.copies.Settled.TheVariants as settles
+use Rattle.peers_hello.specs.declared.hello.Hello.{Hello}
+use Rattle.peers_hello.specs.declared.hello.Answer.{Answer}
+use Rattle.peers_hello.specs.declared.hello.Answer.TheVariants as answers
+use Rattle.peers_hello.specs.declared.status.Status.{Status}
+use Rattle.peers_hello.specs.declared.status.Status.TheVariants as statuses
+use Rattle.peers_hello.specs.Hellos.{answer_of}
+use Rattle.peers_hello.specs.Statuses.{status_of}
+use Rattle.session_core.specs.declared.action.Action.{Action}
+use Rattle.session_core.specs.declared.action.Action.TheVariants as actions
+use Rattle.session_core.specs.declared.event.Event.{Event}
+use Rattle.session_core.specs.declared.event.Event.TheVariants as events
+use Rattle.session_core.specs.declared.due.Due.{Due}
+use Rattle.session_core.specs.declared.due.Due.TheVariants as dues
+use Rattle.session_core.specs.declared.halt.Halt.{Halt}
+use Rattle.session_core.specs.declared.halt.Halt.TheVariants as halts
+use Rattle.session_core.specs.declared.phase.Greeter.{Greeter}
+use Rattle.session_core.specs.declared.phase.Greeter.TheVariants as greeters
+use Rattle.session_core.specs.declared.phase.Phase.{Phase}
+use Rattle.session_core.specs.declared.phase.Phase.TheVariants as phases
+use Rattle.session_core.specs.Shares.{any_out, all_quiet, out_set, quiet_set, unquieted, next_table}
+use Rattle.session_core.specs.Actions.{sends_control, status_text}
+use Rattle.peers_msg.specs.declared.control.Control.TheVariants as controls
+use Rattle.session_core.specs.Courses.{Course, course_fed, HearsAll, acks_given, acks_sent, Answered, table_to_ask, kind_of, teaching_anew}
+use Rattle.session_core.specs.Sessions.{SessionState, Concludes, Hearkens, IsWelcomed, Connects, Accepts, Greets, GoesNew, GoesHello, GoesOpen, GoesIn, Turns, IsCopied, HasNothing, Quiets, Frees, Settles, Stays}
+use Rattle.session_core.specs.Runs.{copies, HasNothingLeft}
+use Rattle.session_core.proofs.ShareLemmas.{shares_in, set_at, never, out_set_in, quiet_set_in, unquieted_in, IsFree, next_free, no_clash}
+use Rattle.session_core.proofs.EndLemmas.{is_plain, plain_append, plain_all, plain_acks, plain_status}
+use Rattle.session_core.proofs.RunLemmas.{IsSound, IsCalm, IsFresh, IsKeptIn, AreFlags, IsDueSound, no_copies, due_sound, due_rest, calm_sound, fresh_calm, flags_more, calm_more, calm_all, anew_flags, left_more}
+
+abbrev pub with_step : List (Event × List Action) → Event → List Action → List (Event × List Action)
+with_step steps event acts = steps ++ ((event, acts) ∷ [])
+
+-- the session stands there
+stands : (ids : List ℕ) (steps : List (Event × List Action)) (e : SessionState) (phase : Phase) → e.phase ≡ phase → IsKeptIn ids steps phase → IsKeptIn ids steps e.phase
+stands ids steps e phase is kept = subst (IsKeptIn ids steps) (sym is) kept
+
+phase_is : (s e : SessionState) → e ≡ s → e.phase ≡ s.phase
+phase_is s e is = ap (λ (x : SessionState). x.phase) is
+
+-- ---- bytes
+
+hearken_kept : (ids : List ℕ) (steps : List (Event × List Action)) (s : SessionState) (c : Course) (first acts : List Action) (e : SessionState) (event : Event) (result : Result (Unit {0}) Halt) (given : List Action) (mid : Course) → IsCalm ids steps c → ((id : ℕ) → is_plain id first) → HearsAll c result given mid → Concludes s mid result (first ++ given) acts e → IsKeptIn ids (with_step steps event acts) e.phase
+hearken_kept ids steps s c first acts e event (Ok u) given mid calm plain (ts, are, waits) (is, ends) =
+    let no_copy : (id : ℕ) → copies id acts ≡ false = λ id.
+    rw is ((plain_append id (first ++ given) (acks_given mid) (plain_append id first given (plain id) (plain_all id c mid ts given are)) (plain_acks id mid.intake)).1) in
+    let calm_then : IsCalm ids (with_step steps event acts) mid = calm_more ids steps mid event acts no_copy (calm_all ids steps c mid ts given are calm) in
+    stands ids (with_step steps event acts) e (phases.Open (acks_sent mid)) (ap (λ (x : SessionState). x.phase) ends) (calm_sound ids (with_step steps event acts) (acks_sent mid) calm_then)
+hearken_kept ids steps s c first acts e event (Err halts.Failed) given mid calm plain hears (is, ends) =
+    stands ids (with_step steps event acts) e phases.Ended (ap (λ (x : SessionState). x.phase) ends) tt
+hearken_kept ids steps s c first acts e event (Err (halts.Fault fault)) given mid calm plain hears (is, ends) =
+    stands ids (with_step steps event acts) e phases.Ended (ap (λ (x : SessionState). x.phase) ends) tt
+hearken_kept ids steps s c first acts e event (Err halts.Memory) given mid calm plain hears concludes = absurd concludes
+
+hearkens_kept : (ids : List ℕ) (steps : List (Event × List Action)) (s : SessionState) (c : Course) (first acts : List Action) (e : SessionState) (event : Event) → IsCalm ids steps c → ((id : ℕ) → is_plain id first) → Hearkens s c first acts e → IsKeptIn ids (with_step steps event acts) e.phase
+hearkens_kept ids steps s c first acts e event calm plain (result, given, mid, hears, concludes) =
+    hearken_kept ids steps s c first acts e event result given mid calm plain hears concludes
+
+-- ---- New and Hello
+
+new_kept : (ids : List ℕ) (steps : List (Event × List Action)) (s : SessionState) (hello : Hello) (c : Course) (event : Event) (acts : List Action) (e : SessionState) → IsFresh ids c → GoesNew s hello c event acts e → IsKeptIn ids (with_step steps event acts) e.phase
+new_kept ids steps s hello c events.Opened acts e fresh (is, ends) = stands ids _ e (phases.Hello greeters.Connects [] c) (ap (λ (x : SessionState). x.phase) ends) fresh
+new_kept ids steps s hello c events.Turn acts e fresh (is, ends) = stands ids _ e (phases.New hello c) (ap (λ (x : SessionState). x.phase) ends) fresh
+new_kept ids steps s hello c events.End acts e fresh (is, ends) = stands ids (with_step steps events.End acts) e phases.Ended (ap (λ (x : SessionState). x.phase) ends) tt
+new_kept ids steps s hello c events.ReadFault acts e fresh (is, ends) = stands ids (with_step steps events.ReadFault acts) e phases.Ended (ap (λ (x : SessionState). x.phase) ends) tt
+new_kept ids steps s hello c events.WriteFault acts e fresh (is, ends) = stands ids (with_step steps events.WriteFault acts) e phases.Ended (ap (λ (x : SessionState). x.phase) ends) tt
+new_kept ids steps s hello c (events.Bytes bytes) acts e fresh goes = absurd goes
+new_kept ids steps s hello c (events.Copied table batch) acts e fresh goes = absurd goes
+new_kept ids steps s hello c (events.Nothing table) acts e fresh goes = absurd goes
+new_kept ids steps s hello c (events.Written known) acts e fresh goes = absurd goes
+new_kept ids steps s hello c (events.Settled table settled) acts e fresh goes = absurd goes
+new_kept ids steps s hello c (events.Refused table) acts e fresh goes = absurd goes
+
+welcomed_kept : (ids : List ℕ) (steps : List (Event × List Action)) (b : Bool) (s : SessionState) (c : Course) (rest : List ℕ) (acts : List Action) (e : SessionState) (event : Event) → IsFresh ids c → IsWelcomed b s c rest acts e → IsKeptIn ids (with_step steps event acts) e.phase
+welcomed_kept ids steps true s c rest acts e event fresh hearkens = hearkens_kept ids steps s (course_fed c rest) (sends_control controls.ResyncRequest ∷ []) acts e event (fresh_calm ids steps c fresh) (λ id. (refl, refl)) hearkens
+welcomed_kept ids steps false s c rest acts e event fresh (is, ends) = stands ids (with_step steps event acts) e phases.Ended (ap (λ (x : SessionState). x.phase) ends) tt
+
+connects_kept : (ids : List ℕ) (steps : List (Event × List Action)) (status : Status) (s : SessionState) (bytes : List ℕ) (c : Course) (acts : List Action) (e : SessionState) (event : Event) → IsFresh ids c → Connects status s bytes c acts e → IsKeptIn ids (with_step steps event acts) e.phase
+connects_kept ids steps statuses.More s bytes c acts e event fresh (is, ends) = stands ids _ e (phases.Hello greeters.Connects bytes c) (ap (λ (x : SessionState). x.phase) ends) fresh
+connects_kept ids steps (statuses.Code code used) s bytes c acts e event fresh goes = welcomed_kept ids steps _ s c _ acts e event fresh goes
+connects_kept ids steps (statuses.Other used) s bytes c acts e event fresh (is, ends) = stands ids (with_step steps event acts) e phases.Ended (ap (λ (x : SessionState). x.phase) ends) tt
+
+accepts_kept : (ids : List ℕ) (steps : List (Event × List Action)) (answer : Answer) (s : SessionState) (greeter : Greeter) (bytes : List ℕ) (c : Course) (acts : List Action) (e : SessionState) (event : Event) → IsFresh ids c → Accepts answer s greeter bytes c acts e → IsKeptIn ids (with_step steps event acts) e.phase
+accepts_kept ids steps answers.More s greeter bytes c acts e event fresh (is, ends) = stands ids _ e (phases.Hello greeter bytes c) (ap (λ (x : SessionState). x.phase) ends) fresh
+accepts_kept ids steps (answers.Accepted name used) s greeter bytes c acts e event fresh goes = hearkens_kept ids steps s (course_fed c (drop used bytes)) (actions.Send (status_text 200) ∷ []) acts e event (fresh_calm ids steps c fresh) (λ id. plain_status id 200) goes
+accepts_kept ids steps (answers.Refused code used) s greeter bytes c acts e event fresh (is, ends) = stands ids (with_step steps event acts) e phases.Ended (ap (λ (x : SessionState). x.phase) ends) tt
+
+greets_kept : (ids : List ℕ) (steps : List (Event × List Action)) (s : SessionState) (greeter : Greeter) (bytes : List ℕ) (c : Course) (acts : List Action) (e : SessionState) (event : Event) → IsFresh ids c → Greets s greeter bytes c acts e → IsKeptIn ids (with_step steps event acts) e.phase
+greets_kept ids steps s greeters.Connects bytes c acts e event fresh goes = connects_kept ids steps (status_of bytes) s bytes c acts e event fresh goes
+greets_kept ids steps s (greeters.Accepts own peers) bytes c acts e event fresh goes = accepts_kept ids steps (answer_of own peers bytes) s (greeters.Accepts own peers) bytes c acts e event fresh goes
+
+hello_kept : (ids : List ℕ) (steps : List (Event × List Action)) (s : SessionState) (greeter : Greeter) (bytes : List ℕ) (c : Course) (event : Event) (acts : List Action) (e : SessionState) → IsFresh ids c → GoesHello s greeter bytes c event acts e → IsKeptIn ids (with_step steps event acts) e.phase
+hello_kept ids steps s greeter bytes c (events.Bytes piece) acts e fresh goes = greets_kept ids steps s greeter (bytes ++ piece) c acts e (events.Bytes piece) fresh goes
+hello_kept ids steps s greeter bytes c events.Turn acts e fresh (is, ends) = stands ids _ e (phases.Hello greeter bytes c) (ap (λ (x : SessionState). x.phase) ends) fresh
+hello_kept ids steps s greeter bytes c events.End acts e fresh (is, ends) = stands ids (with_step steps events.End acts) e phases.Ended (ap (λ (x : SessionState). x.phase) ends) tt
+hello_kept ids steps s greeter bytes c events.ReadFault acts e fresh (is, ends) = stands ids (with_step steps events.ReadFault acts) e phases.Ended (ap (λ (x : SessionState). x.phase) ends) tt
+hello_kept ids steps s greeter bytes c events.WriteFault acts e fresh (is, ends) = stands ids (with_step steps events.WriteFault acts) e phases.Ended (ap (λ (x : SessionState). x.phase) ends) tt
+hello_kept ids steps s greeter bytes c events.Opened acts e fresh goes = absurd goes
+hello_kept ids steps s greeter bytes c (events.Copied table batch) acts e fresh goes = absurd goes
+hello_kept ids steps s greeter bytes c (events.Nothing table) acts e fresh goes = absurd goes
+hello_kept ids steps s greeter bytes c (events.Written known) acts e fresh goes = absurd goes
+hello_kept ids steps s greeter bytes c (events.Settled table settled) acts e fresh goes = absurd goes
+hello_kept ids steps s greeter bytes c (events.Refused table) acts e fresh goes = absurd goes
+
+-- ---- a turn
+
+asks_next : (b : Bool) (next : Option ℕ) (table : ℕ) → cond b None next ≡ Some table → next ≡ Some table
+asks_next true next table is = absurd (false≢true (ap (λ (x : Option ℕ). is_some x) is))
+asks_next false next table is = is
+
+other_copy : (id table : ℕ) (kind : CopyKind) (quiet : ℕ → Bool) → quiet table ≡ false → quiet id ≡ true → copies id (actions.Copy table kind ∷ []) ≡ false
+other_copy id table kind quiet not_quiet quiets =
+    elim (cases_eq table id) [
+      | inl same ↦ no_clash (quiet table) not_quiet (ap quiet same ∙ quiets)
+      | inr other ↦ rw (ne_eqb table id other) refl
+    ]
+
+turns_kept : (ids : List ℕ) (steps : List (Event × List Action)) (asked : Option ℕ) (s : SessionState) (c : Course) (acts : List Action) (e : SessionState) → table_to_ask c ≡ asked → IsCalm ids steps c → Turns asked s c acts e → IsKeptIn ids (with_step steps events.Turn acts) e.phase
+turns_kept ids steps None s c acts e asks calm (is, ends) =
+    stands ids (with_step steps events.Turn acts) e (phases.Open c) (ap (λ (x : SessionState). x.phase) ends) (calm_sound ids (with_step steps events.Turn acts) c (calm_more ids steps c events.Turn acts (λ id. rw is refl) calm))
+turns_kept ids steps (Some table) s c acts e asks (out, quiet, flags, none) (is, ends) =
+    let next : next_table c.teaching c.asked (shares_in ids out quiet) ≡ Some table =
+    subst (λ (ss : List _). next_table c.teaching c.asked ss ≡ Some table) flags.0 (asks_next c.waits (next_table c.teaching c.asked c.shares) table asks) in
+    let free : IsFree c.teaching out quiet table = next_free c.teaching c.asked out quiet ids table next in
+    let more = flags_more ids steps c.teaching c.shares out quiet events.Turn acts (λ teaching id quiets. rw is (other_copy id table (kind_of c.teaching) quiet (free.1 teaching) quiets)) flags in
+    stands ids (with_step steps events.Turn acts) e (phases.Open (record c { asked = Some table; due = dues.Copy table ∷ [] })) (ap (λ (x : SessionState). x.phase) ends)
+    (out, quiet, more, (refl, free, steps, rw is refl))
+
+-- ---- answers
+
+-- what is due after the first is no copy
+rest_none : (ids : List ℕ) (steps : List (Event × List Action)) (c : Course) (d : Due) (rest : List Due) (out quiet : ℕ → Bool) → c.due ≡ d ∷ rest → IsDueSound steps c.teaching out quiet c.due → no_copies rest ≡ true
+rest_none ids steps c d rest out quiet due sound = due_rest steps c.teaching out quiet d rest (subst (IsDueSound steps c.teaching out quiet) due sound)
+
+-- what is due first is answered, and nothing else changes
+stays_kept : (ids : List ℕ) (steps : List (Event × List Action)) (s : SessionState) (c : Course) (acts : List Action) (e : SessionState) (event : Event) → IsCalm ids steps c → acts ≡ [] → e.phase ≡ phases.Open c → IsKeptIn ids (with_step steps event acts) e.phase
+stays_kept ids steps s c acts e event calm is ends =
+    stands ids (with_step steps event acts) e (phases.Open c) ends (calm_sound ids (with_step steps event acts) c (calm_more ids steps c event acts (λ id. rw is refl) calm))
+
+-- a table that is free isn't one that is quiet
+set_other : (flag : Bool) (table id : ℕ) (out quiet : ℕ → Bool) → quiet table ≡ false → quiet id ≡ true → set_at table flag out id ≡ out id
+set_other flag table id out quiet not_quiet quiets =
+    elim (cases_eq id table) [
+      | inl same ↦ no_clash (quiet table) not_quiet (ap quiet (sym same) ∙ quiets)
+      | inr other ↦ rw (ne_eqb id table other) refl
+    ]
+
+copied_kept : (ids : List ℕ) (steps : List (Event × List Action)) (s : SessionState) (c : Course) (table : ℕ) (batch : List Update) (rest : List Due) (acts : List Action) (e : SessionState) (event : Event) → IsSound ids steps c → c.due ≡ dues.Copy table ∷ rest → IsCopied s (record c { due = rest }) table batch acts e → IsKeptIn ids (with_step steps event acts) e.phase
+copied_kept ids steps s c table batch rest acts e event (out, quiet, flags, sound) due (is, ends) =
+    let here : IsDueSound steps c.teaching out quiet (dues.Copy table ∷ rest) = subst (IsDueSound steps c.teaching out quiet) due sound in
+    let more = flags_more ids steps c.teaching c.shares out quiet event acts (λ teaching id quiets. rw is refl) flags in
+    stands ids (with_step steps event acts) e (phases.Open (record c { shares = out_set table true c.shares; due = dues.Teach ∷ rest })) (ap (λ (x : SessionState). x.phase) ends) (
+      set_at table true out,
+      quiet,
+      (
+        ap (out_set table true) flags.0 ∙ out_set_in table true ids out quiet,
+        λ teaching id quiets. (set_other true table id out quiet (here.1.1 teaching) quiets ∙ (more.1 teaching id quiets).0, (more.1 teaching id quiets).1),
+      ),
+      here.0,
+    )
+
+-- the copy that is answered is the last thing asked for
+answered_left : (steps before : List (Event × List Action)) (table : ℕ) (teaching : Bool) (acts : List Action) → teaching ≡ true → steps ≡ before ++ ((events.Turn, actions.Copy table (kind_of teaching) ∷ []) ∷ []) → HasNothingLeft (with_step steps (events.Nothing table) acts) table
+answered_left steps before table teaching acts is_teaching last =
+    let resync : steps ≡ before ++ ((events.Turn, actions.Copy table kinds.Resync ∷ []) ∷ []) = last ∙ rw is_teaching refl in
+    (before, acts, [], rw resync (simp append_assoc), tt)
+
+-- what is known of the tables that are quiet once one more is
+quiet_left : (steps before : List (Event × List Action)) (table id : ℕ) (out quiet : ℕ → Bool) (teaching : Bool) (acts : List Action) → teaching ≡ true → IsFree teaching out quiet table → steps ≡ before ++ ((events.Turn, actions.Copy table (kind_of teaching) ∷ []) ∷ []) → copies id acts ≡ false → ((other : ℕ) → quiet other ≡ true → (out other ≡ false) × HasNothingLeft steps other) → set_at table true quiet id ≡ true → (out id ≡ false) × HasNothingLeft (with_step steps (events.Nothing table) acts) id
+quiet_left steps before table id out quiet teaching acts is_teaching free last no_copy left quiets =
+    elim (cases_eq id table) [
+      | inl same ↦ (ap out same ∙ free.0, subst (HasNothingLeft (with_step steps (events.Nothing table) acts)) (sym same) (answered_left steps before table teaching acts is_teaching last))
+      | inr other ↦
+          let was : quiet id ≡ true = sym (rw (ne_eqb id table other) refl) ∙ quiets in
+          ((left id was).0, left_more steps id (events.Nothing table) acts (left id was).1 no_copy)
+    ]
+
+-- the tables of a course in which one more is quiet
+pub quieted : (ids : List ℕ) (steps : List (Event × List Action)) (c : Course) (table : ℕ) (rest : List Due) (acts : List Action) → IsSound ids steps c → c.due ≡ dues.Copy table ∷ rest → c.teaching ≡ true → ((id : ℕ) → copies id acts ≡ false) → (out : ℕ → Bool) × (quiet : ℕ → Bool) × AreFlags ids (with_step steps (events.Nothing table) acts) c.teaching (quiet_set table c.shares) out quiet × (no_copies rest ≡ true)
+quieted ids steps c table rest acts (out, quiet, flags, sound) due teaching no_copy =
+    let here : IsDueSound steps c.teaching out quiet (dues.Copy table ∷ rest) = subst (IsDueSound steps c.teaching out quiet) due sound in (
+      out,
+      set_at table true quiet,
+      (
+        ap (quiet_set table) flags.0 ∙ quiet_set_in table ids out quiet,
+        λ is id quiets. quiet_left steps here.2 table id out quiet c.teaching acts is here.1 here.3 (no_copy id) (flags.1 is) quiets,
+      ),
+      here.0,
+    )
+
+quiets_kept : (ids : List ℕ) (steps : List (Event × List Action)) (b : Bool) (s : SessionState) (c : Course) (table : ℕ) (rest : List Due) (acts : List Action) (e : SessionState) → IsSound ids steps c → c.due ≡ dues.Copy table ∷ rest → c.teaching ≡ true → Quiets b s (record c { shares = quiet_set table c.shares; due = rest }) acts e → IsKeptIn ids (with_step steps (events.Nothing table) acts) e.phase
+quiets_kept ids steps true s c table rest acts e sound due teaching (is, ends) =
+    let q = quieted ids steps c table rest acts sound due teaching (λ id. rw is refl) in
+    stands ids (with_step steps (events.Nothing table) acts) e (phases.Open (record c { shares = quiet_set table c.shares; due = rest; teaching = false })) (ap (λ (x : SessionState). x.phase) ends)
+    (q.0, q.1, (q.2.0, λ bad. absurd (false≢true bad)), due_sound _ false q.0 q.1 rest q.3)
+quiets_kept ids steps false s c table rest acts e sound due teaching (is, ends) =
+    let q = quieted ids steps c table rest acts sound due teaching (λ id. rw is refl) in
+    stands ids (with_step steps (events.Nothing table) acts) e (phases.Open (record c { shares = quiet_set table c.shares; due = rest })) (ap (λ (x : SessionState). x.phase) ends)
+    (q.0, q.1, q.2, due_sound _ c.teaching q.0 q.1 rest q.3)
+
+-- the course after an answer keeps the flags
+answered_calm : (ids : List ℕ) (steps : List (Event × List Action)) (c : Course) (d : Due) (rest : List Due) → IsSound ids steps c → c.due ≡ d ∷ rest → IsCalm ids steps (record c { due = rest })
+answered_calm ids steps c d rest (out, quiet, flags, sound) due = (out, quiet, flags, rest_none ids steps c d rest out quiet due sound)
+
+nothing_kept : (ids : List ℕ) (steps : List (Event × List Action)) (b : Bool) (s : SessionState) (c : Course) (table : ℕ) (rest : List Due) (acts : List Action) (e : SessionState) → IsSound ids steps c → c.due ≡ dues.Copy table ∷ rest → c.teaching ≡ b → HasNothing b s (record c { due = rest }) table acts e → IsKeptIn ids (with_step steps (events.Nothing table) acts) e.phase
+nothing_kept ids steps true s c table rest acts e sound due teaching has = quiets_kept ids steps _ s c table rest acts e sound due teaching has
+nothing_kept ids steps false s c table rest acts e sound due teaching (is, ends) =
+    stays_kept ids steps s (record c { due = rest }) acts e (events.Nothing table) (answered_calm ids steps c (dues.Copy table) rest sound due) is (ap (λ (x : SessionState). x.phase) ends)
+
+-- a flag that is set to what all quiet tables have
+set_false : (table id : ℕ) (out : ℕ → Bool) → out id ≡ false → set_at table false out id ≡ false
+set_false table id out is =
+    elim (cases_eq id table) [
+      | inl same ↦ rw (eq-eqb id table same) refl
+      | inr other ↦ rw (ne_eqb id table other) is
+    ]
+
+calm_in : (ids : List ℕ) (steps : List (Event × List Action)) (c : Course) (table : ℕ) → IsCalm ids steps c → IsCalm ids steps (record c { shares = out_set table false c.shares })
+calm_in ids steps c table (out, quiet, flags, none) = (
+  set_at table false out,
+  quiet,
+  (
+    ap (out_set table false) flags.0 ∙ out_set_in table false ids out quiet,
+    λ teaching id quiets. (set_false table id out (flags.1 teaching id quiets).0, (flags.1 teaching id quiets).1),
+  ),
+  none,
+)
+
+frees_kept : (ids : List ℕ) (steps : List (Event × List Action)) (b : Bool) (s : SessionState) (c : Course) (acts : List Action) (e : SessionState) (event : Event) → IsCalm ids steps c → Frees b s c acts e → IsKeptIn ids (with_step steps event acts) e.phase
+frees_kept ids steps true s c acts e event (out, quiet, flags, none) (is, ends) =
+    stands ids (with_step steps event acts) e (phases.Open (teaching_anew c)) (ap (λ (x : SessionState). x.phase) ends)
+    (out, never, anew_flags ids (with_step steps event acts) c.shares out quiet flags.0, due_sound _ true out never c.due none)
+frees_kept ids steps false s c acts e event calm (is, ends) = stays_kept ids steps s c acts e event calm is (ap (λ (x : SessionState). x.phase) ends)
+
+settles_kept : (ids : List ℕ) (steps : List (Event × List Action)) (settled : Settled) (s : SessionState) (c : Course) (table : ℕ) (acts : List Action) (e : SessionState) (event : Event) → IsCalm ids steps c → Settles settled s c table acts e → IsKeptIn ids (with_step steps event acts) e.phase
+settles_kept ids steps settles.All s c table acts e event calm frees = frees_kept ids steps _ s (record c { shares = out_set table false c.shares }) acts e event (calm_in ids steps c table calm) frees
+settles_kept ids steps settles.Some s c table acts e event calm (is, ends) = stays_kept ids steps s c acts e event calm is (ap (λ (x : SessionState). x.phase) ends)
+settles_kept ids steps settles.Older s c table acts e event calm (is, ends) = stays_kept ids steps s c acts e event calm is (ap (λ (x : SessionState). x.phase) ends)
+
+-- ---- Open
+
+open_kept : (ids : List ℕ) (steps : List (Event × List Action)) (s : SessionState) (c : Course) (event : Event) (acts : List Action) (e : SessionState) → IsSound ids steps c → GoesOpen s c event acts e → IsKeptIn ids (with_step steps event acts) e.phase
+open_kept ids steps s c events.Turn acts e (out, quiet, flags, sound) (none, turns) =
+    turns_kept ids steps (table_to_ask c) s c acts e refl (out, quiet, flags, rw none refl) turns
+open_kept ids steps s c (events.Bytes bytes) acts e (out, quiet, flags, sound) (none, hearkens) =
+    hearkens_kept ids steps s (course_fed c bytes) [] acts e (events.Bytes bytes) (out, quiet, flags, rw none refl) (λ id. (refl, refl)) hearkens
+open_kept ids steps s c (events.Copied table batch) acts e sound (mid, answered, copied) =
+    copied_kept ids steps s c table batch mid.due acts e (events.Copied table batch) sound answered.0 (subst (λ (m : Course). IsCopied s m table batch acts e) answered.1 copied)
+open_kept ids steps s c (events.Nothing table) acts e sound (mid, answered, nothing) =
+    nothing_kept ids steps c.teaching s c table mid.due acts e sound answered.0 refl (subst (λ (m : Course). HasNothing m.teaching s m table acts e) answered.1 nothing)
+open_kept ids steps s c (events.Written known) acts e sound (mid, answered, is, ends) =
+    stays_kept ids steps s (record c { due = mid.due }) acts e (events.Written known) (answered_calm ids steps c dues.Teach mid.due sound answered.0) is (ap (λ (x : SessionState). x.phase) ends ∙ ap phases.Open answered.1)
+open_kept ids steps s c (events.Settled table settled) acts e sound (mid, answered, settles) =
+    settles_kept ids steps settled s (record c { due = mid.due }) table acts e (events.Settled table settled) (answered_calm ids steps c (dues.Ack table) mid.due sound answered.0) (subst (λ (m : Course). Settles settled s m table acts e) answered.1 settles)
+open_kept ids steps s c (events.Refused table) acts e sound (mid, answered, is, ends) = stands ids (with_step steps (events.Refused table) acts) e phases.Ended (ap (λ (x : SessionState). x.phase) ends) tt
+open_kept ids steps s c events.End acts e sound (is, ends) = stands ids (with_step steps events.End acts) e phases.Ended (ap (λ (x : SessionState). x.phase) ends) tt
+open_kept ids steps s c events.ReadFault acts e sound (is, ends) = stands ids (with_step steps events.ReadFault acts) e phases.Ended (ap (λ (x : SessionState). x.phase) ends) tt
+open_kept ids steps s c events.WriteFault acts e sound (is, ends) = stands ids (with_step steps events.WriteFault acts) e phases.Ended (ap (λ (x : SessionState). x.phase) ends) tt
+open_kept ids steps s c events.Opened acts e sound goes = absurd goes
+
+-- ---- any phase
+
+pub goes_kept : (ids : List ℕ) (steps : List (Event × List Action)) (phase : Phase) (s : SessionState) (event : Event) (acts : List Action) (e : SessionState) → IsKeptIn ids steps phase → GoesIn phase s event acts e → IsKeptIn ids (with_step steps event acts) e.phase
+goes_kept ids steps (phases.New hello c) s event acts e kept goes = new_kept ids steps s hello c event acts e kept goes
+goes_kept ids steps (phases.Hello greeter bytes c) s event acts e kept goes = hello_kept ids steps s greeter bytes c event acts e kept goes
+goes_kept ids steps (phases.Open c) s event acts e kept goes = open_kept ids steps s c event acts e kept goes
+goes_kept ids steps phases.Ended s event acts e kept goes = absurd goes

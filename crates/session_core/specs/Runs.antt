@@ -1,0 +1,58 @@
+-- Runs of a session, and what stands where it ends a resync.
+use Rattle.std.specs.Prelude.{◌≡◌, ◌⊎◌, ℕ, Bool, false, ◌==◌, ◌||◌, List, [], ◌∷◌, ◌++◌}
+use Rattle.std.specs.List.{list_any, AllByRecursion}
+use Rattle.table_types.specs.Tables.{Definition}
+use Rattle.table_types.specs.declared.copies.CopyKind.TheVariants as kinds
+use Rattle.peers_msg.specs.declared.control.Control.TheVariants as controls
+use Rattle.peers_hello.specs.declared.hello.Hello.{Hello}
+use Rattle.peers_hello.specs.Lines.{is_same}
+use Rattle.session_core.specs.declared.action.Action.{Action}
+use Rattle.session_core.specs.declared.action.Action.TheVariants as actions
+use Rattle.session_core.specs.declared.event.Event.{Event}
+use Rattle.session_core.specs.declared.event.Event.TheVariants as events
+use Rattle.session_core.specs.declared.phase.Phase.TheVariants as phases
+use Rattle.session_core.specs.Actions.{control_text}
+use Rattle.session_core.specs.Shares.{any_out}
+use Rattle.session_core.specs.Courses.{Course}
+use Rattle.session_core.specs.Sessions.{SessionState, Goes, connecting, accepting}
+
+-- the events that came one after another, each with the actions that it asked for
+abbrev pub Runs : SessionState → List (Event × List Action) → SessionState → Type 0
+Runs s [] e = e ≡ s
+Runs s (step ∷ steps) e = (mid : SessionState) × Goes s step.0 step.1 mid × Runs mid steps e
+
+-- a session of that roster at its beginning
+abbrev pub IsBegun : List Definition → SessionState → Type 0
+IsBegun roster s =
+    ((hello : Hello) × (up_to_date : Bool) × (s ≡ connecting hello roster up_to_date))
+    ⊎ ((own : List ℕ) × (peers : List (List ℕ)) × (up_to_date : Bool) × (s ≡ accepting own peers roster up_to_date))
+
+-- an action that sends resync finished or resync partial
+abbrev pub is_end : Action → Bool
+is_end (actions.Send bytes) = is_same bytes (control_text controls.ResyncFinished) || is_same bytes (control_text controls.ResyncPartial)
+is_end action = false
+
+abbrev pub ends_resync : List Action → Bool
+ends_resync acts = list_any is_end acts
+
+-- an action that copies from the table of that id
+abbrev pub is_copy_of : ℕ → Action → Bool
+is_copy_of table (actions.Copy other kind) = other == table
+is_copy_of table action = false
+
+abbrev pub copies : ℕ → List Action → Bool
+copies table acts = list_any (is_copy_of table) acts
+
+-- The last copy from the table of that id was one of a resync, and was answered at once that there is nothing to teach:
+-- nothing was copied from it since.
+abbrev pub HasNothingLeft : List (Event × List Action) → ℕ → Type 0
+HasNothingLeft steps table =
+    (before : List (Event × List Action))
+    × (given : List Action)
+    × (since : List (Event × List Action))
+    × (steps ≡ before ++ ((events.Turn, actions.Copy table kinds.Resync ∷ []) ∷ ((events.Nothing table, given) ∷ since)))
+    × AllByRecursion (λ step. copies table step.1 ≡ false) since
+
+-- no batch is out
+abbrev pub HasNothingOut : SessionState → Type 0
+HasNothingOut s = (c : Course) × (s.phase ≡ phases.Open c) × (any_out c.shares ≡ false)

@@ -1,0 +1,25 @@
+//! What holds of the definitions, whatever the program does.
+
+ghost use Rattle.std.specs.Prelude.{◌≡◌, ◌∷◌, ◌++◌, [], true, false, List};
+ghost use Rattle.std.specs.List.{AllByRecursion};
+ghost use Rattle.table_types.specs.Tables.{Definition};
+ghost use Rattle.session_core.specs.declared.action.Action.{Action};
+ghost use Rattle.session_core.specs.declared.event.Event.{Event};
+ghost use Rattle.session_core.specs.Sessions.{SessionState, Goes, is_asked};
+ghost use Rattle.session_core.specs.Runs.{Runs, IsBegun, ends_resync, HasNothingLeft, HasNothingOut};
+
+/// A resync ends only where all is taught: in every run from the beginning, where an event has the session send resync
+/// finished or resync partial, no batch is out, and the last copy from each table was one of that resync, which was
+/// answered that there is nothing to teach.
+pub fn resyncs_end_taught()
+    ensures out { (roster : List Definition) (begun s e : SessionState) (steps : List (Event × List Action)) (event : Event) (acts : List Action) →
+        IsBegun roster begun → Runs begun steps s → Goes s event acts e → ends_resync acts ≡ true → HasNothingOut s }
+    ensures left { (roster : List Definition) (begun s e : SessionState) (steps : List (Event × List Action)) (event : Event) (acts : List Action) →
+        IsBegun roster begun → Runs begun steps s → Goes s event acts e → ends_resync acts ≡ true →
+        AllByRecursion (λ d. HasNothingLeft (steps ++ ((event, acts) ∷ [])) d.id) roster }
+{}
+
+/// An event that comes where it isn't asked for makes no step: no case of the machine fits it.
+pub fn unasked_is_no_step()
+    ensures { (s e : SessionState) (event : Event) (acts : List Action) → Goes s event acts e → is_asked s.phase event ≡ true }
+{}

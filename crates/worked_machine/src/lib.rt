@@ -1,0 +1,7 @@
+//! Sessions that were worked out by hand, event by event. There is nothing here but tests, of public calls alone.
+#![tactic(auto)]
+
+#[cfg(test)]
+mod runs;
+#[cfg(test)]
+mod steps;

@@ -1,0 +1,131 @@
+//! Events of a session and what they ask for, written in short.
+
+use example_parts::{KeyParts, T1, UpdateParts, alone, updates};
+use known_state::Known;
+use peers_msg::ErrorKind;
+use session_core::{Action, Event, Session, SessionError, State};
+use std::alloc::Global;
+use table_types::{Batch, CopyKind, Items, Moment, Settled, Value};
+
+/// An event.
+pub enum Given {
+    Opened,
+    Bytes(&'static [u8]),
+    End,
+    ReadFault,
+    Turn,
+    /// A batch of that table, always the same.
+    Copied(u64),
+    Nothing(u64),
+    /// With a known state in which nothing was received.
+    Written,
+    WriteFault,
+    Settled(u64, Settled),
+    Refused(u64),
+}
+
+/// An action.
+pub enum Asked {
+    Send(&'static [u8]),
+    /// Of that table, with that number.
+    Learn(u64, u32),
+    Ack(u64, u32),
+    Reopen(u64),
+    Copy(u64, CopyKind),
+    Teach,
+    Part(ErrorKind),
+    Close,
+}
+
+/// An event, what it asks for, and where the session stands then.
+pub struct Step {
+    pub given: Given,
+    pub asked: &'static [Asked],
+    pub state: State,
+}
+
+static UPDATES: [UpdateParts; 1] = [UpdateParts {
+    table: 1,
+    number: 1,
+    life: Some(30_000),
+    key: KeyParts::Int(7),
+    values: &[Value::Count(5)],
+    name: b"",
+}];
+
+fn batch(alloc: Global) -> Option<Batch> {
+    Batch::new(&alone(alloc, &T1)?, updates(alloc, UPDATES.as_slice())?).ok()
+}
+
+fn event(alloc: Global, given: &Given) -> Option<Event> {
+    Some(match given {
+        Given::Opened => Event::Opened,
+        Given::Bytes(bytes) => Event::Bytes(Items::new(Vec::from_slice(alloc, *bytes).ok()?)),
+        Given::End => Event::End,
+        Given::ReadFault => Event::ReadFault,
+        Given::Turn => Event::Turn,
+        Given::Copied(table) => Event::Copied(*table, batch(alloc)?),
+        Given::Nothing(table) => Event::Nothing(*table),
+        Given::Written => Event::Written(Known::fresh(alloc, alone(alloc, &T1)?)),
+        Given::WriteFault => Event::WriteFault,
+        Given::Settled(table, settled) => Event::Settled(*table, *settled),
+        Given::Refused(table) => Event::Refused(*table),
+    })
+}
+
+fn is_asked(action: &Action, asked: &Asked) -> bool {
+    match (action, asked) {
+        (Action::Send(bytes), Asked::Send(expected)) => bytes.as_slice() == *expected,
+        (Action::Learn(update), Asked::Learn(table, number)) => {
+            update.table == *table && update.number == *number
+        }
+        (Action::Ack { table, number }, Asked::Ack(id, last)) => *table == *id && *number == *last,
+        (Action::Reopen(table), Asked::Reopen(id)) => *table == *id,
+        (Action::Copy { table, kind }, Asked::Copy(id, expected)) => {
+            *table == *id && *kind == *expected
+        }
+        (Action::Teach(batch), Asked::Teach) => batch.updates().len() == UPDATES.len(),
+        (Action::Part(kind), Asked::Part(expected)) => *kind == *expected,
+        (Action::Close, Asked::Close) => true,
+        _ => false,
+    }
+}
+
+fn are_asked(actions: &[Action], asked: &[Asked]) -> bool {
+    if actions.len() != asked.len() {
+        return false;
+    }
+    for (action, expected) in actions.iter().zip(asked) {
+        if !is_asked(action, expected) {
+            return false;
+        }
+    }
+    true
+}
+
+fn is_step(alloc: Global, session: &mut Session, step: &Step) -> Option<bool> {
+    let event = event(alloc, &step.given)?;
+    let actions = session.on(event, Moment::least()).ok()?;
+    Some(are_asked(actions.as_slice(), step.asked) && session.state() == step.state)
+}
+
+/// Whether the session makes these steps.
+pub fn runs(alloc: Global, session: &mut Session, steps: &[Step]) -> bool {
+    for step in steps {
+        if is_step(alloc, session, step) != Some(true) {
+            return false;
+        }
+    }
+    true
+}
+
+/// Whether the session refuses the event for that, and is over then.
+pub fn refuses(alloc: Global, session: &mut Session, given: &Given, error: SessionError) -> bool {
+    match event(alloc, given) {
+        Some(event) => match session.on(event, Moment::least()) {
+            Ok(_) => false,
+            Err(found) => found == error && session.state() == State::Ended,
+        },
+        None => false,
+    }
+}
