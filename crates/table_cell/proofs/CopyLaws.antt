@@ -1,11 +1,9 @@
 -- What a copy answers, and what it leaves.
 use Rattle.std.proofs.Common.{◌≡◌, ℕ, zero, suc, ◌+◌, ◌-◌, ◌<◌, ◌≤◌, Bool, true, false, List, [], ◌∷◌, ◌++◌, length, Option, Some, None, refl, sym, ap, subst, ◌∙◌, arith, inl, inr, true≢false}
 use Rattle.std.specs.Prelude.{cond, filter, is_some, map, option_map, slice_get, take, nat_eq, nat_lt, Result, Ok, Err, IfErr, IsOk, if◌then◌else◌, ◌==◌}
-use Rattle.std.proofs.lemmas.List.{append-nil}
 use Rattle.table_types.specs.declared.key.Key.{Key}
 use Rattle.table_types.specs.Rows.{StoredRow}
 use Rattle.table_cell.specs.Telling.{update_of}
-use Rattle.table_cell.proofs.UnackedLaws.{one_more}
 use Rattle.std.proofs.lemmas.Bool.{cases_Bool, cond-true, cond-false}
 use Rattle.table_types.specs.declared.update.Update.{Update}
 use Rattle.table_types.specs.declared.copies.CopyKind.{CopyKind}
@@ -98,18 +96,6 @@ nothing_refused full s session kind limit now progress at later none_out nothing
         else (if length (unacked s session kind now limit) == 0 then Some uncopied.Nothing
         else (if full then Some uncopied.HistoryFull
         else None)))
-
--- ---- the batch as it grows
-
-pub all_done : {A B : Type 0} (f : A → B) (done x : List B) (n : ℕ) (rest : List A) → slice_get rest 0 ≡ None → done ++ take n (map f rest) ≡ x → done ≡ x
-all_done {A = A} {B = B} f done x n rest none is =
-    sym (append-nil done) ∙ ap (λ (l : List B). done ++ l) (sym (take_none n)) ∙ ap (λ (l : List A). done ++ take n (map f l)) (sym (empty_list rest none)) ∙ is
-
-pub one_done : {A B : Type 0} (f : A → B) (done more x : List B) (limit : ℕ) (e : A) (b : B) (all rest : List A) → more ≡ done ++ b ∷ [] → b ≡ f e → all ≡ e ∷ rest → length done < limit
-    → done ++ take (limit - length done) (map f all) ≡ x → more ++ take (limit - length more) (map f rest) ≡ x
-one_done {B = B} f done more x limit e b all rest longer told is below before =
-    let this : more ≡ done ++ f e ∷ [] = longer ∙ ap (λ (y : B). done ++ y ∷ []) told in
-    ap (λ (l : List B). l ++ take (limit - length l) (map f rest)) this ∙ one_more f done limit e all rest is below ∙ before
 
 -- ---- what is taught
 

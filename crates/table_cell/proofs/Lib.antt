@@ -10,5 +10,6 @@ pub mod RefusalLaws
 pub mod HistoryLaws
 pub mod UnackedLaws
 pub mod LiveLaws
+pub mod SomeStep
 pub mod BatchLaws
 pub mod CopyLaws

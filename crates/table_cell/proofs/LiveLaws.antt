@@ -13,7 +13,7 @@ use Rattle.table_types.specs.Rows.{StoredRow}
 use Rattle.table_rows.specs.Rows.{IsFirstToEnd, end_cmp, ends_cmp, goes_past, is_live, row_at}
 use Rattle.table_cell.proofs.RowsLaws.{some_none}
 
-no_later : (a b : ℕ) (rest : Ordering) → is_gt (ordering_then (nat_cmp a b) rest) ≡ false → a ≤ b
+pub no_later : (a b : ℕ) (rest : Ordering) → is_gt (ordering_then (nat_cmp a b) rest) ≡ false → a ≤ b
 no_later a b rest order = elim (cases_Bool (nat_lt b a)) [
   | inl less ↦
       let greater : nat_cmp a b ≡ Greater = sym (nat_cmp_is a b Greater (ltb-true b a less)) in

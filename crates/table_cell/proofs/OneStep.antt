@@ -23,7 +23,7 @@ use Rattle.table_cell.proofs.RowsLaws.{some_none}
 
 -- ---- which row is the first to end
 
-ends_flip : (a b : Option ℕ) → ends_cmp a b ≡ ordering_reverse (ends_cmp b a)
+pub ends_flip : (a b : Option ℕ) → ends_cmp a b ≡ ordering_reverse (ends_cmp b a)
 ends_flip None None = refl
 ends_flip None (Some b) = refl
 ends_flip (Some a) None = refl

@@ -211,7 +211,7 @@ as_many (e ∷ es) = ap suc (as_many es)
 
 -- ---- what a stock is seen as
 
-rows_again : (content : List (Key × StoredRow)) (es : List (Key × StoredRow)) → AllByRecursion (λ e. row_at e.0 content ≡ Some e.1) es → rows_of content (map numbered es) ≡ es
+pub rows_again : (content : List (Key × StoredRow)) (es : List (Key × StoredRow)) → AllByRecursion (λ e. row_at e.0 content ≡ Some e.1) es → rows_of content (map numbered es) ≡ es
 rows_again content [] found = refl
 rows_again content (e ∷ es) found = rw found.0 (ap (λ (rest : List (Key × StoredRow)). e ∷ rest) (rows_again content es found.1))
 

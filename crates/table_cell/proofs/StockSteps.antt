@@ -1,6 +1,6 @@
 -- What the calls of a stock leave of the rows by key and of their numbers.
 use Rattle.std.proofs.Common.{◌≡◌, ◌≢◌, ℕ, ◌+◌, ◌<◌, ◌≤◌, ◌^◌, Bool, true, false, not, List, [], ◌∷◌, ◌++◌, length, Option, Some, None, Result, Ok, Err, IfSome, IfNone, OnOk, OnErr, refl, sym, ap, ◌∙◌, subst, arith}
-use Rattle.std.specs.Prelude.{filter, map, nat_lt, slice_get}
+use Rattle.std.specs.Prelude.{filter, map, nat_lt}
 use Rattle.std.specs.List.{AllByRecursion}
 use Rattle.std.specs.List.Sorted.{IsStrictlySortedBy}
 use Rattle.std.specs.BTreeMap.{insert_entry}
@@ -13,9 +13,9 @@ use Rattle.table_rows.specs.Rows.{AreLive, is_live, row_at, rows_without}
 use Rattle.update_numbers.specs.Numbers.{Numbering, above, dropped, given}
 use Rattle.table_cell.specs.Machine.{without}
 use Rattle.table_cell.specs.Soundness.{KeysDiffer}
-use Rattle.table_cell.specs.Stock.{AreKept, AreTied, IsStock, Stocked, leave, numbered, rows_of, stocked}
+use Rattle.table_cell.specs.Stock.{AreKept, AreTied, HaveRows, IsStock, Stocked, leave, numbered, rows_of, stocked}
 use Rattle.table_cell.proofs.RowsLaws.{all_filter, none_parts}
-use Rattle.table_cell.proofs.StockLaws.{all_found, are_kept, as_many, live_rows, numbered-above, put_sound, put_tied, same_row, seen_stock, taken_sound, taken_tied}
+use Rattle.table_cell.proofs.StockLaws.{all_found, are_kept, as_many, live_rows, numbered-above, put_sound, put_tied, rows_again, same_row, seen_stock, taken_sound, taken_tied}
 
 -- ---- answers
 
@@ -117,18 +117,11 @@ put_left s mid after key leaving row o is apart stored taken =
     ∙ ap (stocked (s.next + 1)) (left_last s.rows key leaving row other)
     ∙ ap (λ (q : Option Key). stocked (s.next + 1) (without key (leave q s.rows) ++ (key, row) ∷ [])) (sym is)
 
--- ---- the first above a number
+-- ---- the rows above a number
 
-pub first_none : (es : List (Key × StoredRow)) → ◌≡◌ {A = Option (ℕ × Key)} None (slice_get (map numbered es) 0) → slice_get es 0 ≡ None
-first_none [] none = refl
-first_none (e ∷ es) none = absurd cc
-
-pub first_some : (es : List (Key × StoredRow)) (n : ℕ) (key : Key) (T : Key × StoredRow → Type 0) → AllByRecursion T es → ◌≡◌ {A = Option (ℕ × Key)} (Some (n, key)) (slice_get (map numbered es) 0) → (row : StoredRow) × (slice_get es 0 ≡ Some (key, row)) × T (key, row)
-first_some [] n key T all at = absurd cc
-first_some (e ∷ es) n key T all at =
-    let pair : (n, key) ≡ numbered e = cc in
-    let same : key ≡ e.0 = ap (λ (p : ℕ × Key). p.1) pair in
-    (e.1, rw same refl, rw same all.0)
+have_rows : (content es : List (Key × StoredRow)) → AllByRecursion (λ e. row_at e.0 content ≡ Some e.1) es → HaveRows content (map numbered es)
+have_rows content [] found = tt
+have_rows content (e ∷ es) (first, rest) = ((e.1, first), have_rows content es rest)
 
 module _ (content : List (Key × StoredRow)) (numbers : Numbering) (kept : AreKept content numbers.pairs numbers.next) where
   abbrev rows : List (Key × StoredRow)
@@ -137,15 +130,14 @@ module _ (content : List (Key × StoredRow)) (numbers : Numbering) (kept : AreKe
   pub above_rows : (number : ℕ) → above number numbers.pairs ≡ map numbered (filter (λ e. nat_lt number e.1.number) rows)
   above_rows number = ap (above number) kept.tied.numbers ∙ numbered-above number rows
 
-  pub none_above : (number : ℕ) → ◌≡◌ {A = Option (ℕ × Key)} None (slice_get (above number numbers.pairs) 0) → slice_get (filter (λ e. nat_lt number e.1.number) rows) 0 ≡ None
-  none_above number none = first_none (filter (λ e. nat_lt number e.1.number) rows) (none ∙ ap (λ (ps : List (ℕ × Key)). slice_get ps 0) (above_rows number))
+  found_above : (number : ℕ) → AllByRecursion (λ e. row_at e.0 content ≡ Some e.1) (filter (λ e. nat_lt number e.1.number) rows)
+  found_above number = all_filter (λ e. row_at e.0 content ≡ Some e.1) (λ e. nat_lt number e.1.number) rows (all_found rows kept.sound.keys (λ e. row_at e.0 content ≡ Some e.1) (λ k row there. kept.tied.same k ∙ there))
 
-  pub one_above : (number n : ℕ) (key : Key) → ◌≡◌ {A = Option (ℕ × Key)} (Some (n, key)) (slice_get (above number numbers.pairs) 0)
-      → (row : StoredRow) × (slice_get (filter (λ e. nat_lt number e.1.number) rows) 0 ≡ Some (key, row)) × (row_at key content ≡ Some row)
-  one_above number n key at =
-      first_some (filter (λ e. nat_lt number e.1.number) rows) n key (λ e. row_at e.0 content ≡ Some e.1)
-      (all_filter (λ e. row_at e.0 content ≡ Some e.1) (λ e. nat_lt number e.1.number) rows (all_found rows kept.sound.keys (λ e. row_at e.0 content ≡ Some e.1) (λ k row there. kept.tied.same k ∙ there)))
-      (at ∙ ap (λ (ps : List (ℕ × Key)). slice_get ps 0) (above_rows number))
+  pub have_above : (number : ℕ) → HaveRows content (above number numbers.pairs)
+  have_above number = rw (above_rows number) (have_rows content (filter (λ e. nat_lt number e.1.number) rows) (found_above number))
+
+  pub seen_above : (number : ℕ) → rows_of content (above number numbers.pairs) ≡ filter (λ e. nat_lt number e.1.number) rows
+  seen_above number = ap (rows_of content) (above_rows number) ∙ rows_again content (filter (λ e. nat_lt number e.1.number) rows) (found_above number)
 
   pub count : length numbers.pairs ≡ length rows
   count = ap (λ (ps : List (ℕ × Key)). length ps) kept.tied.numbers ∙ as_many rows

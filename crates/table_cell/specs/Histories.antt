@@ -84,6 +84,11 @@ Made c event reply e =
     Step c.state event reply e.state
     × (e ≡ record c { history = c.history ++ (event, reply) ∷ []; state = e.state })
 
+-- what a call answers that gives its reply twice
+abbrev pub first_of : {A E : Type 0} → Result (A × A) E → Result A E
+first_of (Ok pair) = Ok pair.0
+first_of (Err error) = Err error
+
 abbrev pub Tracks : CellState → ℕ → Key → Change → ℕ → Result Reply TrackError → CellState → Type 0
 Tracks c seat key change now (Ok r) e = (is_history_full c ≡ false) × Made c (events.Track seat key change now) (replies.Track r) e
 Tracks c seat key change now (Err untracked.Memory) e = (track_refusal (is_history_full c) c.state key change now ≡ None) × (e ≡ c)

@@ -251,3 +251,13 @@ Step s (events.Purge now) reply e =
     (purge_refusal false s now ≡ None)
     × (reply ≡ replies.Purge (length (filter (λ row. not (is_live now row.1)) s.rows)))
     × (e ≡ record s { rows = filter (λ row. is_live now row.1) s.rows; latest = now })
+
+-- the machine doesn't refuse the event
+abbrev pub IsGranted : TableState → CellEvent → Type 0
+IsGranted s (events.Track seat key change now) = track_refusal false s key change now ≡ None
+IsGranted s (events.Learn session u now) = learn_refusal false s session u now ≡ None
+IsGranted s (events.Copy session kind limit now) = copy_refusal false s session kind limit now ≡ None
+IsGranted s (events.Ack session number) = ack_refusal false s session number ≡ None
+IsGranted s (events.Open session) = open_refusal false s session ≡ None
+IsGranted s (events.Close session) = close_refusal false s session ≡ None
+IsGranted s (events.Purge now) = purge_refusal false s now ≡ None

@@ -1,5 +1,6 @@
 -- What a stock holds: the rows of a table by their keys, and the number that is given next.
 use Rattle.std.specs.Prelude.{◌≡◌, ◌≤◌, ◌^◌, ℕ, List, [], ◌∷◌, map, Option, Some, None}
+use Rattle.std.specs.List.{AllByRecursion}
 use Rattle.std.specs.List.Sorted.{IsStrictlySortedBy}
 use Rattle.std.specs.Map.{keys_of}
 use Rattle.table_types.specs.declared.key.Key.{Key}
@@ -54,3 +55,11 @@ pub record AreTied (content : List (Key × StoredRow)) (pairs : List (ℕ × Key
 pub record AreKept (content : List (Key × StoredRow)) (pairs : List (ℕ × Key)) (next : ℕ) : Type 0 where
   pub tied : AreTied content pairs (rows_of content pairs)
   pub sound : IsStock (stocked next (rows_of content pairs))
+
+-- the key of a pair has a row
+abbrev pub HasRow : List (Key × StoredRow) → ℕ × Key → Type 0
+HasRow content pair = (row : StoredRow) × (row_at pair.1 content ≡ Some row)
+
+-- each key has
+abbrev pub HaveRows : List (Key × StoredRow) → List (ℕ × Key) → Type 0
+HaveRows content pairs = AllByRecursion (HasRow content) pairs

@@ -1,10 +1,10 @@
 //! Batches that are handed out, and kept.
 
-ghost use Rattle.std.specs.Prelude.{◌≡◌, ◌↔◌, ◌≤◌, ◌∷◌, ◌++◌, [], IfOk, IsOk, None, OnErr, false, option_and_then, option_copied, slice_get};
+ghost use Rattle.std.specs.Prelude.{◌≡◌, ◌↔◌, ◌≤◌, ◌∷◌, ◌++◌, [], IfOk, IsOk, None, OnErr, OnOk, false, option_and_then, option_copied, slice_get};
 ghost use Rattle.table_cell.specs.Cells.{AreLatestCopies};
 ghost use Rattle.table_cell.specs.declared.events.CellEvent.TheVariants as events;
 ghost use Rattle.table_cell.specs.declared.events.CellReply.TheVariants as replies;
-ghost use Rattle.table_cell.specs.Histories.{Copies, IsLatestBatch, batch_in, latest_batch};
+ghost use Rattle.table_cell.specs.Histories.{Copies, IsLatestBatch, batch_in, first_of, latest_batch};
 ghost use Rattle.table_cell.specs.Machine.{Step, copy_refusal, unacked};
 ghost use Rattle.table_cell.specs.Soundness.{IsSound};
 ghost use Rattle.table_types.specs.Batches.{IsBatchFor};
@@ -44,6 +44,40 @@ impl Table {
     }
 }
 
+/// Keeps a batch that the session is taught: its event is in the history. After `Memory` nothing has changed.
+fn keep(
+    table: &mut Table,
+    history: &mut Vec<(CellEvent, CellReply)>,
+    latest_copies: &mut BTreeMap<u32, usize>,
+    session: u32,
+    kind: CopyKind,
+    limit: usize,
+    now: Moment,
+    batch: &Batch,
+) -> Result<(), Memory>
+    requires latest { AreLatestCopies latest_copies.old.entries history.old.items }
+    requires granted { copy_refusal false table.old session kind limit now ≡ None }
+    requires batch { batch.now ≡ unacked table.old session kind now limit }
+    ensures step { OnOk result (Step table.old (events.Copy session kind limit now) (replies.Copy batch.now) table.new) }
+    ensures event { OnOk result (history.new.items ≡ history.old.items ++ (events.Copy session kind limit now, replies.Copy batch.now) ∷ []) }
+    ensures latest { AreLatestCopies latest_copies.new.entries history.new.items }
+    ensures stays { OnErr result (table.new ≡ table.old) }
+    ensures no_event { OnErr result (history.new.items ≡ history.old.items) }
+{
+    let kept = batch.copy(table.alloc)?;
+    history.reserve(1)?;
+    latest_copies.insert(session, history.len())?;
+    table.teach(session, last_number(batch.updates(), 0), now);
+    let event = CellEvent::Copy {
+        session,
+        kind,
+        limit,
+        moment: now,
+    };
+    history.push_reserved((event, CellReply::Copy(kept)));
+    Ok(())
+}
+
 /// Copies: the batch is taught, and the event is in the history. After `Memory` nothing has changed.
 fn copy(
     table: &mut Table,
@@ -65,18 +99,53 @@ fn copy(
     ensures no_event { OnErr result (history.new.items ≡ history.old.items) }
 {
     let batch = table.batch(session, kind, limit, now)?;
-    let kept = batch.copy(table.alloc)?;
-    history.reserve(1)?;
-    latest_copies.insert(session, history.len())?;
-    table.teach(session, last_number(batch.updates(), 0), now);
-    let event = CellEvent::Copy {
+    keep(
+        table,
+        history,
+        latest_copies,
         session,
         kind,
         limit,
-        moment: now,
-    };
-    history.push_reserved((event, CellReply::Copy(kept)));
+        now,
+        &batch,
+    )?;
     Ok(batch)
+}
+
+/// Copies: the batch is taught, and the event is in the history, and the batch is given twice. After `Memory` nothing has changed.
+fn copy_pair(
+    table: &mut Table,
+    history: &mut Vec<(CellEvent, CellReply)>,
+    latest_copies: &mut BTreeMap<u32, usize>,
+    session: u32,
+    kind: CopyKind,
+    limit: usize,
+    now: Moment,
+) -> Result<(Batch, Batch), Memory>
+    requires sound { IsSound table.old }
+    requires latest { AreLatestCopies latest_copies.old.entries history.old.items }
+    requires limit { limit ≤ 512 }
+    requires granted { copy_refusal false table.old session kind limit now ≡ None }
+    ensures step { IfOk result (λ pair. Step table.old (events.Copy session kind limit now) (replies.Copy pair.0) table.new) }
+    ensures event { IfOk result (λ pair. history.new.items ≡ history.old.items ++ (events.Copy session kind limit now, replies.Copy pair.0) ∷ []) }
+    ensures both { IfOk result (λ pair. pair.1 ≡ pair.0) }
+    ensures latest { AreLatestCopies latest_copies.new.entries history.new.items }
+    ensures stays { OnErr result (table.new ≡ table.old) }
+    ensures no_event { OnErr result (history.new.items ≡ history.old.items) }
+{
+    let batch = table.batch(session, kind, limit, now)?;
+    let second = batch.copy(table.alloc)?;
+    keep(
+        table,
+        history,
+        latest_copies,
+        session,
+        kind,
+        limit,
+        now,
+        &batch,
+    )?;
+    Ok((batch, second))
 }
 
 /// The batch of the reply at that index.
@@ -119,6 +188,36 @@ impl TableCell {
             return Err(CopyError::Memory);
         };
         Ok(batch)
+    }
+
+    /// Copies, and gives the batch twice; both copies are made before anything changes.
+    pub fn copy_pair(
+        &mut self,
+        session: u32,
+        kind: CopyKind,
+        limit: usize,
+        now: Moment,
+    ) -> Result<(Batch, Batch), CopyError>
+        requires { (1 ≤ limit) × (limit ≤ 512) }
+        ensures call { Copies self.old session kind limit now (first_of result) self.new }
+        ensures both { IfOk result (λ pair. pair.1 ≡ pair.0) }
+    {
+        let full = self.is_history_full();
+        if let Some(error) = self.table.copy_refusal(full, session, kind, limit, now) {
+            return Err(error);
+        }
+        let Ok(pair) = copy_pair(
+            &mut self.table,
+            &mut self.history,
+            &mut self.latest_copies,
+            session,
+            kind,
+            limit,
+            now,
+        ) else {
+            return Err(CopyError::Memory);
+        };
+        Ok(pair)
     }
 
     /// The batch that the session was given last.

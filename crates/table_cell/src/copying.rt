@@ -136,15 +136,12 @@ impl Table {
         kind: CopyKind,
         now: Moment,
     ) -> Option<(&Key, &Row)>
-        requires { IsSound self.now }
         ensures { option_map (λ e. (e.0.now, e.1.now)) result ≡ slice_get (filter (is_unacked kind number now) self.now.rows) 0 }
     {
-        let mut above = number;
-        while let Some((key, row)) = self.stock.first_above(above) {
+        for (key, row) in self.stock.above(number) {
             if tells_of(kind, row, now) {
                 return Some((key, row));
             }
-            above = row.number();
         }
         None
     }
@@ -162,13 +159,13 @@ impl Table {
         ensures { IfOk result (λ updates. updates.items ≡ take limit (map (update_of self.now.definition now) (filter (is_unacked kind number now) self.now.rows))) }
     {
         let mut updates = Vec::new(self.alloc);
-        let mut above = number;
-        while updates.len() < limit {
-            let Some((key, row)) = self.first_unacked(above, kind, now) else {
-                return Ok(updates);
-            };
-            updates.push(update_of(self.alloc, &self.definition, key, row, now)?)?;
-            above = row.number();
+        for (key, row) in self.stock.above(number) {
+            if updates.len() >= limit {
+                break;
+            }
+            if tells_of(kind, row, now) {
+                updates.push(update_of(self.alloc, &self.definition, key, row, now)?)?;
+            }
         }
         Ok(updates)
     }

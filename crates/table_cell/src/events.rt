@@ -1,6 +1,9 @@
 //! What happens to a table, and what it answers.
 
-use table_types::{Batch, Change, CopyKind, Key, Moment, Row, Settled, Update};
+ghost use Rattle.std.specs.Prelude.{◌≡◌, IfOk};
+
+use std::alloc::Global;
+use table_types::{Batch, Change, CopyKind, Key, Memory, Moment, Row, Settled, Update};
 
 /// What a row has become.
 #[derive(Debug, Drop)]
@@ -9,6 +12,18 @@ pub struct Reply {
     pub number: u32,
     /// The row after the change.
     pub row: Row,
+}
+
+impl Reply {
+    /// An equal reply.
+    pub fn copy(&self, alloc: Global) -> Result<Reply, Memory>
+        ensures { IfOk result (λ copy. copy ≡ self.now) }
+    {
+        Ok(Reply {
+            number: self.number,
+            row: self.row.copy(alloc)?,
+        })
+    }
 }
 
 /// An event of a table: a call that changed it, with its arguments.

@@ -4,7 +4,7 @@ ghost use Rattle.std.specs.Prelude.{◌≡◌, ◌≤◌, ◌∷◌, ◌++◌, �
 ghost use Rattle.table_types.specs.Tables.{Definition, is_definition};
 ghost use Rattle.table_cell.specs.declared.events.CellEvent.{CellEvent};
 ghost use Rattle.table_cell.specs.declared.events.CellReply.{CellReply};
-ghost use Rattle.table_cell.specs.Machine.{TableState, Step, unacked};
+ghost use Rattle.table_cell.specs.Machine.{IsGranted, TableState, Step, unacked};
 ghost use Rattle.table_types.specs.Batches.{IsBatchFor};
 ghost use Rattle.table_types.specs.declared.copies.CopyKind.{CopyKind};
 ghost use Rattle.table_cell.specs.Soundness.{AreTimely, IsSound, IsSoundCell, IsTimely};
@@ -21,6 +21,11 @@ pub fn a_run_goes_on()
 pub fn a_step_is_unique()
     ensures step { (s e f : TableState) (event : CellEvent) (a b : CellReply) → Step s event a e → Step s event b f → (a ≡ b) × (e ≡ f) }
     ensures run { (s e f : TableState) (hs : List (CellEvent × CellReply)) → Replays s hs e → Replays s hs f → e ≡ f }
+{}
+
+/// A sound table answers each event that it doesn't refuse.
+pub fn a_step_exists()
+    ensures { (s : TableState) (event : CellEvent) → IsSound s → IsGranted s event → (reply : CellReply) × (e : TableState) × Step s event reply e }
 {}
 
 /// Where the state is the replay of the history, each kept batch is what was not acknowledged at its place.

@@ -1,6 +1,7 @@
 //! A stick table that keeps its history, and each batch that it handed out.
 #![tactic(auto)]
 
+mod above;
 mod batches;
 mod calls;
 mod cell;
@@ -22,6 +23,6 @@ pub use errors::{
 };
 pub use events::{CellEvent, CellReply, Reply};
 pub use laws::{
-    a_cell_stays_sound, a_run_goes_on, a_step_is_unique, a_table_stays_sound, batches_are_kept,
-    what_is_copied_is_a_batch,
+    a_cell_stays_sound, a_run_goes_on, a_step_exists, a_step_is_unique, a_table_stays_sound,
+    batches_are_kept, what_is_copied_is_a_batch,
 };

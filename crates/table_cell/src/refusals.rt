@@ -2,7 +2,6 @@
 //! history has no room for one more event.
 
 ghost use Rattle.std.specs.Prelude.{◌≡◌, ◌≤◌, ◌<◌, ◌^◌, IfNone, nat_le};
-ghost use Rattle.table_cell.specs.Soundness.{IsSound};
 ghost use Rattle.table_cell.specs.Machine.{ack_refusal, close_refusal, copy_refusal, is_of_table, learn_refusal, open_refusal, purge_refusal, track_refusal};
 
 use crate::errors::{
@@ -90,8 +89,7 @@ impl Table {
         limit: usize,
         now: Moment,
     ) -> Option<CopyError>
-        requires sound { IsSound self.now }
-        requires limit { 1 ≤ limit }
+        requires { 1 ≤ limit }
         ensures refusal { result ≡ copy_refusal full self.now session kind limit now }
         ensures timely { IfNone result (now < 2 ^ 63) }
     {

@@ -12,6 +12,7 @@ ghost use Rattle.update_numbers.specs.Numbers.{given};
 ghost use Rattle.table_cell.specs.Machine.{without};
 ghost use Rattle.table_cell.specs.Stock.{IsStock, leave};
 
+use crate::above::Above;
 use std::alloc::Global;
 use std::marker::Model;
 use std::mem;
@@ -44,7 +45,6 @@ fn put_numbered<R: Rows>(
     key: Key,
     row: Row,
 ) -> (Numbers, Result<(), Memory>)
-    requires { numbers.next < 2 ^ 32 }
     ensures numbers { OnOk result.1 (result.0 ≡ given key numbers) }
     ensures rows { OnOk result.1 (R.content rows.new ≡ insert_entry key_cmp (R.content rows.old) key row) }
     ensures numbers_stay { OnErr result.1 (result.0 ≡ numbers) }
@@ -183,13 +183,14 @@ impl<R: Rows> Stock<R> {
     pub(crate) fn first_above(&self, number: u32) -> Option<(&Key, &Row)>
         ensures { option_map (λ e. (e.0.now, e.1.now)) result ≡ slice_get (filter (λ e. nat_lt number e.1.number) self.now.rows) 0 }
     {
-        let Some((_, key)) = self.numbers.first_above(number) else {
-            return None;
-        };
-        let Some(row) = self.rows.get(key) else {
-            return None;
-        };
-        Some((key, row))
+        self.above(number).next()
+    }
+
+    /// The rows above that number with their keys, in rising number. Takes no memory.
+    pub(crate) fn above(&self, number: u32) -> Above<'_, R>
+        ensures { result ≡ filter (λ e. nat_lt number e.1.number) self.now.rows }
+    {
+        Above::new(self.numbers.all_above(number), &self.rows)
     }
 
     /// Equal rows with their keys, in rising key.

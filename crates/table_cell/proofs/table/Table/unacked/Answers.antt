@@ -1,35 +1,39 @@
-use Rattle.std.proofs.Common.{◌≡◌, ◌∷◌, ◌-◌, ◌<◌, length, sym, subst, arith}
+use Rattle.std.proofs.Common.{◌≡◌, ◌∷◌, ◌<◌, true, List, length, sym, ap, subst, ◌∙◌, arith}
 use Rattle.std.specs.Prelude.{filter, map, take}
+use Rattle.std.specs.List.{AllByRecursion}
+use Rattle.table_types.specs.declared.key.Key.{Key}
+use Rattle.table_types.specs.Rows.{StoredRow}
 use Rattle.table_cell.specs.Telling.{update_of}
 use Rattle.table_cell.specs.Machine.{TableState, is_unacked}
 use Rattle.table_cell.specs.Soundness.{EntryFits}
+use Rattle.table_cell.proofs.RowsLaws.{all_filter}
 use Rattle.table_cell.proofs.StepLaws.{later_sound}
-use Rattle.table_cell.proofs.UnackedLaws.{first_all, first_then}
-use Rattle.table_cell.proofs.CopyLaws.{all_done, one_done}
+use Rattle.table_cell.proofs.UnackedLaws.{due_above, is_above, is_due, next_due, none_done, one_done}
 use Rattle.table_cell.proofs.table.Table.unacked.Goals as goal
 
-pub returns-in_default : goal.returns-in_default
-returns-in_default c =
-    all_done (update_of c.args.self.now.definition c.args.now) c.loop-self.updates.items
-    (take c.args.limit (map (update_of c.args.self.now.definition c.args.now) (filter (is_unacked c.args.kind c.args.number c.args.now) c.args.self.now.rows)))
-    (c.args.limit - length c.loop-self.updates.items) (filter (is_unacked c.args.kind c.loop-self.above c.args.now) c.args.self.now.rows) (sym c.in_default.ensures) c.loop-self.invariant
+pub loop-key-init : goal.loop-key-init
+loop-key-init c =
+    let rows : c.above-key-items.result ≡ filter (is_above c.args.number) c.args.self.now.rows =
+    subst (λ (s : TableState). c.above-key-items.result ≡ filter (is_above c.args.number) s.rows) c.self.view_is c.above-key-items.ensures in
+    let is : c.into_iter-key-iterator.result ≡ filter (is_above c.args.number) c.args.self.now.rows = c.into_iter-key-iterator.ensures.into_iter_gives ∙ rows in (
+      none_done (update_of c.args.self.now.definition c.args.now) c.new-updates.result.items c.args.limit (filter (is_due c.args.kind c.args.now) c.into_iter-key-iterator.result)
+          (filter (is_unacked c.args.kind c.args.number c.args.now) c.args.self.now.rows) c.new-updates.ensures.items (ap (filter (is_due c.args.kind c.args.now)) is ∙ due_above c.args.kind c.args.number c.args.now c.args.self.now.rows),
+      subst (λ (l : List (Key × StoredRow)). AllByRecursion (EntryFits c.args.self.now.definition c.args.now) l) (sym is)
+          (all_filter (EntryFits c.args.self.now.definition c.args.now) (is_above c.args.number) c.args.self.now.rows (later_sound c.args.self.now c.args.now c.requires.sound c.requires.later)),
+    )
 
-pub update_of-requires-clause-fits : goal.update_of-requires-clause-fits
-update_of-requires-clause-fits c =
-    subst (λ (s : TableState). EntryFits s.definition c.args.now (c.in-Some.key.now, c.in-Some.row.now)) (sym c.self.view_is)
-    (first_all (EntryFits c.args.self.now.definition c.args.now) (is_unacked c.args.kind c.loop-self.above c.args.now) c.args.self.now.rows (c.in-Some.key.now, c.in-Some.row.now)
-    (later_sound c.args.self.now c.args.now c.requires.sound c.requires.later) (sym c.in-Some.ensures))
-
-pub loop-self-preserved : goal.loop-self-preserved
-loop-self-preserved c =
+pub loop-key-preserved-in_ok-push : goal.loop-key-preserved-in_ok-push
+loop-key-preserved-in_ok-push c =
+    let due : is_due c.args.kind c.args.now (c.in-Some.key.now, c.in-Some.row.now) ≡ true = sym c.tells_of.ensures ∙ c.if-tells_of.true in
     let told : c.in_ok-update_of.field-0 ≡ update_of c.args.self.now.definition c.args.now (c.in-Some.key.now, c.in-Some.row.now) =
     subst (λ (s : TableState). c.in_ok-update_of.field-0 ≡ update_of s.definition c.args.now (c.in-Some.key.now, c.in-Some.row.now)) c.self.view_is c.in_ok-update_of.ensures in
-    let then = first_then c.args.kind c.loop-self.above c.args.now 1 c.args.self.now.next c.args.self.now.rows (c.in-Some.key.now, c.in-Some.row.now) c.requires.sound.numbers (sym c.in-Some.ensures) in
-    let rest : filter (is_unacked c.args.kind c.loop-self.above c.args.now) c.args.self.now.rows ≡ (c.in-Some.key.now, c.in-Some.row.now) ∷ filter (is_unacked c.args.kind c.number-above.result c.args.now) c.args.self.now.rows =
-    subst (λ n. filter (is_unacked c.args.kind c.loop-self.above c.args.now) c.args.self.now.rows ≡ (c.in-Some.key.now, c.in-Some.row.now) ∷ filter (is_unacked c.args.kind n c.args.now) c.args.self.now.rows) (sym c.number-above.ensures) then in
-    let below : length c.loop-self.updates.items < c.args.limit = omega (arith, c.loop-self-test.true, c.len.ensures, c.loop-self.updates.ok.0) in
-    one_done (update_of c.args.self.now.definition c.args.now) c.loop-self.updates.items c.push.new.self.items
-    (take c.args.limit (map (update_of c.args.self.now.definition c.args.now) (filter (is_unacked c.args.kind c.args.number c.args.now) c.args.self.now.rows)))
-    c.args.limit (c.in-Some.key.now, c.in-Some.row.now) c.in_ok-update_of.field-0
-    (filter (is_unacked c.args.kind c.loop-self.above c.args.now) c.args.self.now.rows) (filter (is_unacked c.args.kind c.number-above.result c.args.now) c.args.self.now.rows)
-    c.in_ok-push.ensures.items told rest below c.loop-self.invariant
+    let below : length c.loop-key.updates.items < c.args.limit = omega (arith, c.if-len-limit.false, c.len.ensures, c.loop-key.updates.ok.0) in
+    let left : AllByRecursion (EntryFits c.args.self.now.definition c.args.now) ((c.in-Some.key.now, c.in-Some.row.now) ∷ c.next.new.self) =
+    subst (λ (l : List (Key × StoredRow)). AllByRecursion (EntryFits c.args.self.now.definition c.args.now) l) c.in-Some.ensures.steps c.loop-key.invariant.1 in (
+      one_done (update_of c.args.self.now.definition c.args.now) c.loop-key.updates.items c.push.new.self.items
+          (take c.args.limit (map (update_of c.args.self.now.definition c.args.now) (filter (is_unacked c.args.kind c.args.number c.args.now) c.args.self.now.rows)))
+          c.args.limit (c.in-Some.key.now, c.in-Some.row.now) c.in_ok-update_of.field-0
+          (filter (is_due c.args.kind c.args.now) c.loop-key.key-iterator) (filter (is_due c.args.kind c.args.now) c.next.new.self)
+          c.in_ok-push.ensures.items told (next_due c.args.kind c.args.now (c.in-Some.key.now, c.in-Some.row.now) c.loop-key.key-iterator c.next.new.self c.in-Some.ensures.steps due) below c.loop-key.invariant.0,
+      left.1,
+    )
