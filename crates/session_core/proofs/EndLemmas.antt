@@ -105,7 +105,7 @@ and-no true = refl
 and-no false = refl
 
 -- a text that ends with LF is no control message
-no_control : (xs : List ℕ) (control : Control) → is_same (xs ++ (10 ∷ [])) (control_text control) ≡ false
+pub no_control : (xs : List ℕ) (control : Control) → is_same (xs ++ (10 ∷ [])) (control_text control) ≡ false
 no_control [] control = refl
 no_control (x ∷ []) controls.ResyncRequest = and-no _
 no_control (x ∷ []) controls.ResyncFinished = and-no _

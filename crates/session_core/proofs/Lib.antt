@@ -5,3 +5,4 @@ mod RunLemmas
 mod StepLemmas
 mod RunLaws
 mod AskedLaws
+mod ConfirmedLaws

@@ -11,7 +11,7 @@ use Rattle.session_core.specs.declared.action.Action.TheVariants as actions
 use Rattle.session_core.specs.declared.event.Event.{Event}
 use Rattle.session_core.specs.declared.event.Event.TheVariants as events
 use Rattle.session_core.specs.declared.phase.Phase.TheVariants as phases
-use Rattle.session_core.specs.Actions.{control_text}
+use Rattle.session_core.specs.Actions.{control_text, confirms}
 use Rattle.session_core.specs.Shares.{any_out}
 use Rattle.session_core.specs.Courses.{Course}
 use Rattle.session_core.specs.Sessions.{SessionState, Goes, connecting, accepting}
@@ -56,3 +56,7 @@ HasNothingLeft steps table =
 -- no batch is out
 abbrev pub HasNothingOut : SessionState → Type 0
 HasNothingOut s = (c : Course) × (s.phase ≡ phases.Open c) × (any_out c.shares ≡ false)
+
+-- somewhere in a run it was sent that a resync is confirmed
+abbrev pub was_confirmed : List (Event × List Action) → Bool
+was_confirmed steps = list_any (λ step. confirms step.1) steps

@@ -6,7 +6,7 @@ ghost use Rattle.table_types.specs.Tables.{Definition};
 ghost use Rattle.session_core.specs.declared.action.Action.{Action};
 ghost use Rattle.session_core.specs.declared.event.Event.{Event};
 ghost use Rattle.session_core.specs.Sessions.{SessionState, Goes, is_asked};
-ghost use Rattle.session_core.specs.Runs.{Runs, IsBegun, ends_resync, HasNothingLeft, HasNothingOut};
+ghost use Rattle.session_core.specs.Runs.{Runs, IsBegun, ends_resync, HasNothingLeft, HasNothingOut, was_confirmed};
 
 /// A resync ends only where all is taught: in every run from the beginning, where an event has the session send resync
 /// finished or resync partial, no batch is out, and the last copy from each table was one of that resync, which was
@@ -22,4 +22,10 @@ pub fn resyncs_end_taught()
 /// An event that comes where it isn't asked for makes no step: no case of the machine fits it.
 pub fn unasked_is_no_step()
     ensures { (s e : SessionState) (event : Event) (acts : List Action) → Goes s event acts e → is_asked s.phase event ≡ true }
+{}
+
+/// A session says that it confirmed a resync exactly where it had that sent, somewhere in its run.
+pub fn confirmed_is_sent()
+    ensures { (roster : List Definition) (begun s : SessionState) (steps : List (Event × List Action)) →
+        IsBegun roster begun → Runs begun steps s → s.confirmed ≡ was_confirmed steps }
 {}
