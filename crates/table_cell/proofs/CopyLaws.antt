@@ -1,10 +1,10 @@
 -- What a copy answers, and what it leaves.
-use Rattle.std.proofs.Common.{◌≡◌, ℕ, zero, suc, ◌+◌, ◌-◌, ◌<◌, ◌≤◌, Bool, true, false, List, [], ◌∷◌, ◌++◌, length, Option, Some, None, refl, sym, ap, subst, ◌∙◌, arith, inl, inr, true≢false}
-use Rattle.std.specs.Prelude.{cond, filter, is_some, map, option_map, slice_get, take, nat_eq, nat_lt, Result, Ok, Err, IfErr, IsOk, if◌then◌else◌, ◌==◌}
+use Rattle.std.proofs.Common.{◌≡◌, ℕ, zero, suc, Bool, true, false, List, [], ◌∷◌, length, Option, Some, None, refl, sym, ap, subst, ◌∙◌, true≢false}
+use Rattle.std.specs.Prelude.{filter, is_some, map, option_map, slice_get, take, nat_eq, nat_lt, Result, Ok, Err, IfErr, IsOk, if◌then◌else◌, ◌==◌}
 use Rattle.table_types.specs.declared.key.Key.{Key}
 use Rattle.table_types.specs.Rows.{StoredRow}
 use Rattle.table_cell.specs.Telling.{update_of}
-use Rattle.std.proofs.lemmas.Bool.{cases_Bool, cond-true, cond-false}
+use Rattle.std.proofs.lemmas.Bool.{cond-true, cond-false}
 use Rattle.table_types.specs.declared.update.Update.{Update}
 use Rattle.table_types.specs.declared.copies.CopyKind.{CopyKind}
 use Rattle.table_cell.specs.declared.errors.CopyError.{CopyError}
@@ -12,7 +12,7 @@ use Rattle.table_cell.specs.declared.errors.CopyError.TheVariants as uncopied
 use Rattle.table_cell.specs.declared.progress.Progress.{Progress}
 use Rattle.table_cell.specs.Machine.{TableState, acknowledged_by, is_unacked, copied, copy_refusal, is_out, last_number, progress_of, teaching, unacked, with_progress}
 use Rattle.table_cell.proofs.RowsLaws.{some_none}
-use Rattle.table_cell.proofs.StepLaws.{copy_granted, passes}
+use Rattle.table_cell.proofs.StepLaws.{passes}
 
 pub no_error : {A E : Type 0} (result : Result A E) (o : Option E) → o ≡ None → IfErr result (λ e. o ≡ Some e) → IsOk result
 no_error (Ok a) o none refused = refl

@@ -1,5 +1,5 @@
 -- A table with its history goes on by an event.
-use Rattle.std.proofs.Common.{◌≡◌, ℕ, zero, suc, ◌+◌, Bool, true, false, List, [], ◌∷◌, ◌++◌, length, Option, Some, None, refl, sym, ap, subst, ◌∙◌, arith, inl, inr, true≢false}
+use Rattle.std.proofs.Common.{◌≡◌, ℕ, zero, suc, true, false, List, [], ◌∷◌, ◌++◌, length, Option, Some, None, refl, sym, ap, subst, ◌∙◌, inl, inr, true≢false}
 use Rattle.std.specs.Prelude.{slice_get, option_and_then, cond, nat_eq}
 use Rattle.std.specs.Ordering.{is_eq, nat_cmp}
 use Rattle.std.specs.Cmp.{nat_cmp_is}
@@ -16,7 +16,7 @@ use Rattle.table_cell.specs.declared.events.CellEvent.TheVariants as events
 use Rattle.table_cell.specs.declared.events.CellReply.{CellReply}
 use Rattle.table_cell.specs.declared.events.CellReply.TheVariants as replies
 use Rattle.table_cell.specs.Machine.{TableState, Step}
-use Rattle.table_cell.specs.Histories.{CellState, Made, batch_in, batch_of, is_copy_of, is_history_full, latest_batch, new_table, or_former}
+use Rattle.table_cell.specs.Histories.{Made, batch_in, batch_of, is_copy_of, is_history_full, latest_batch, new_table, or_former}
 use Rattle.table_cell.specs.Soundness.{IsTimely}
 use Rattle.table_cell.specs.Cells.{AreLatestCopies, IsCell, IsLatestCopy, cell_of}
 use Rattle.table_cell.proofs.RowsLaws.{some_none}

@@ -1,22 +1,19 @@
 -- What isn't refused, and what no refusal is.
-use Rattle.std.proofs.Common.{◌≡◌, ℕ, ◌<◌, ◌≤◌, ◌^◌, Bool, true, false, not, Option, Some, None, refl, sym, ap, subst, ◌∙◌, arith, inl, inr}
+use Rattle.std.proofs.Common.{◌≡◌, ℕ, Bool, false, not, Option, Some, None, refl, sym, ap, subst, ◌∙◌, inl, inr}
 use Rattle.std.specs.Prelude.{Err, if◌then◌else◌, cond, nat_lt, nat_le, is_some, is_none, length}
-use Rattle.std.proofs.lemmas.Bool.{cases_Bool, cond-true, cond-false, leb-false, ltb-false}
+use Rattle.std.proofs.lemmas.Bool.{cases_Bool, cond-true, cond-false}
 use Rattle.table_types.specs.declared.key.Key.{Key}
 use Rattle.table_types.specs.declared.update.Update.{Update}
 use Rattle.table_types.specs.declared.change.Change.{Change}
-use Rattle.table_types.specs.declared.copies.CopyKind.{CopyKind}
 use Rattle.table_types.specs.Keys.{key_fits}
 use Rattle.table_types.specs.Changes.{change_fits}
 use Rattle.table_cell.specs.declared.errors.AckError.{AckError}
 use Rattle.table_cell.specs.declared.errors.AckError.TheVariants as unacknowledged
 use Rattle.table_cell.specs.declared.errors.LearnError.{LearnError}
 use Rattle.table_cell.specs.declared.errors.LearnError.TheVariants as unlearned
-use Rattle.table_cell.specs.declared.errors.TrackError.{TrackError}
-use Rattle.table_cell.specs.declared.errors.TrackError.TheVariants as untracked
 use Rattle.table_cell.specs.declared.progress.Progress.{Progress}
-use Rattle.table_cell.specs.Machine.{TableState, is_of_table, track_refusal, learn_refusal, copy_refusal, ack_refusal, open_refusal, close_refusal, purge_refusal, progress_of}
-use Rattle.table_cell.specs.Histories.{CellState, Learns, Tracks, is_history_full}
+use Rattle.table_cell.specs.Machine.{TableState, is_of_table, track_refusal, learn_refusal, ack_refusal, open_refusal, close_refusal, purge_refusal, progress_of}
+use Rattle.table_cell.specs.Histories.{CellState, Learns, is_history_full}
 use Rattle.table_cell.proofs.RowsLaws.{some_none}
 use Rattle.table_cell.proofs.StepLaws.{passes}
 

@@ -1,6 +1,6 @@
 -- Sessions of a table: none stands twice.
-use Rattle.std.proofs.Common.{◌≡◌, ℕ, suc, ◌+◌, ◌<◌, Bool, true, false, List, [], ◌∷◌, ◌++◌, Option, Some, None, refl, sym, ap, subst, ◌∙◌, inl, inr, true≢false, arith, length, slice_index_or, slice_set}
-use Rattle.std.specs.Prelude.{filter, nat_eq, nat_le, cond, ◌==◌, option_map}
+use Rattle.std.proofs.Common.{◌≡◌, ℕ, suc, ◌+◌, ◌<◌, Bool, false, List, [], ◌∷◌, ◌++◌, Option, Some, None, refl, sym, ap, subst, ◌∙◌, inl, inr, true≢false, arith, length, slice_index_or, slice_set}
+use Rattle.std.specs.Prelude.{filter, nat_eq, nat_le, ◌==◌, option_map}
 use Rattle.std.specs.Map.{lookup}
 use Rattle.std.proofs.lemmas.Option.{slice_get-get_or}
 use Rattle.std.proofs.lemmas.List.{set-get_or}

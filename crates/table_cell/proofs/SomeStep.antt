@@ -1,6 +1,6 @@
 -- What a sound table doesn't refuse it answers.
-use Rattle.std.proofs.Common.{◌≡◌, ℕ, suc, ◌+◌, ◌<◌, ◌≤◌, Bool, true, false, ◌||◌, List, [], ◌∷◌, length, Option, Some, None, refl, sym, ap, subst, ◌∙◌, arith, inl, inr, true≢false}
-use Rattle.std.specs.Prelude.{MatchBool, is_some, nat_lt}
+use Rattle.std.proofs.Common.{◌≡◌, ℕ, ◌+◌, ◌<◌, ◌≤◌, Bool, true, false, ◌||◌, List, [], ◌∷◌, length, Option, Some, None, refl, sym, ap, subst, ◌∙◌, arith, inl, inr, true≢false}
+use Rattle.std.specs.Prelude.{MatchBool, nat_lt}
 use Rattle.std.specs.List.{AllByRecursion}
 use Rattle.std.specs.Cmp.{nat_cmp_is}
 use Rattle.std.specs.Ordering.{is_eq, is_gt, nat_cmp, ordering_reverse, ordering_then}
@@ -15,10 +15,9 @@ use Rattle.table_rows.specs.Rows.{IsFirstToEnd, end_cmp, ends_cmp, row_at}
 use Rattle.table_cell.specs.declared.events.CellEvent.{CellEvent}
 use Rattle.table_cell.specs.declared.events.CellEvent.TheVariants as events
 use Rattle.table_cell.specs.declared.events.CellReply.{CellReply}
-use Rattle.table_cell.specs.declared.events.CellReply.TheVariants as replies
-use Rattle.table_cell.specs.Machine.{IsGranted, Leaves, Step, TableState, has_room, has_row, learned, stored, tracked, without}
+use Rattle.table_cell.specs.Machine.{IsGranted, Leaves, Step, TableState, has_room, has_row, without}
 use Rattle.table_cell.specs.Soundness.{IsSound, KeysDiffer, NumbersRise}
-use Rattle.table_cell.proofs.RowsLaws.{all_so, rise_each, some_none}
+use Rattle.table_cell.proofs.RowsLaws.{rise_each, some_none}
 use Rattle.table_cell.proofs.OneStep.{ends_flip}
 use Rattle.table_cell.proofs.LiveLaws.{no_later}
 
