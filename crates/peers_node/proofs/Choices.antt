@@ -10,7 +10,7 @@ use Rattle.peers_node.specs.CommandLine.{Chooses, cause_of_kind, name_of, progra
 use Rattle.peers_node.specs.declared.options_error.OptionsError.{OptionsError}
 use Rattle.peers_node.specs.declared.options_error.OptionsError.TheVariants as errors
 use Rattle.peers_node.specs.declared.choice.Options.{Options}
-use Rattle.peers_node.specs.declared.choice.Options.TheVariants.{Lesson, Check, Learn}
+use Rattle.peers_node.specs.declared.choice.Options.TheVariants.{Lesson, Check, Learn, Table}
 
 -- whatever the program's name is
 taken : (name : List ℕ) (chosen : Options) → takes program (name ∷ name_of chosen ∷ []) ≡ true
@@ -18,12 +18,14 @@ unfolding clap_on_literals
 taken name Lesson = refl
 taken name Check = refl
 taken name Learn = refl
+taken name Table = refl
 
 met : (name : List ℕ) (chosen : Options) → subcommand_named (name ∷ name_of chosen ∷ []) ≡ Some (name_of chosen)
 unfolding clap_on_literals
 met name Lesson = refl
 met name Check = refl
 met name Learn = refl
+met name Table = refl
 
 pub choice_taken : (words : List (List ℕ)) (chosen : Options) → Chooses words chosen → takes program words ≡ true
 choice_taken [] chosen is = elim is [ ]

@@ -6,7 +6,7 @@ use Rattle.clap.specs.Words.{App, fault_of, kind_of, new_app, subcommand_of, wit
 use Rattle.clap.specs.declared.error.kind.ErrorKind.{ErrorKind}
 use Rattle.clap.specs.declared.error.kind.ErrorKind.TheVariants as kinds
 use Rattle.peers_node.specs.declared.choice.Options.{Options}
-use Rattle.peers_node.specs.declared.choice.Options.TheVariants.{Lesson, Check, Learn}
+use Rattle.peers_node.specs.declared.choice.Options.TheVariants.{Lesson, Check, Learn, Table}
 use Rattle.peers_node.specs.declared.command_line.Refusal.{Refusal}
 use Rattle.peers_node.specs.declared.command_line.Refusal.TheVariants.{Parser, NoCommand}
 use Rattle.peers_node.specs.declared.options_error.OptionsError.{OptionsError}
@@ -21,6 +21,7 @@ abbrev pub name_of : Options → List ℕ
 name_of Lesson = codes "lesson"
 name_of Check = codes "check"
 name_of Learn = codes "learn"
+name_of Table = codes "table"
 
 -- the words are the program's name and then this choice's
 abbrev pub Chooses : List (List ℕ) → Options → Type 0
@@ -35,9 +36,13 @@ top = record { top = record (new_app (codes "peers_node")).top { has_version = t
 abbrev pub teaching : App
 teaching = with_subcommand (with_subcommand top (new_app (codes "lesson")).top) (new_app (codes "check")).top
 
+-- with all that read a scene
+abbrev pub scenes : App
+scenes = with_subcommand teaching (new_app (codes "learn")).top
+
 -- and with all
 abbrev pub program : App
-program = with_subcommand teaching (new_app (codes "learn")).top
+program = with_subcommand scenes (new_app (codes "table")).top
 
 -- the subcommand that the words name, as the parser reads them
 abbrev pub subcommand_named : List (List ℕ) → Option (List ℕ)

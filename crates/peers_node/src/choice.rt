@@ -9,4 +9,6 @@ pub enum Options {
     Check,
     /// Read a scene and write what a learner makes of its stream.
     Learn,
+    /// Read a script and write what a table answers to its calls.
+    Table,
 }

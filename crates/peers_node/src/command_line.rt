@@ -2,7 +2,7 @@
 ghost use Rattle.std.specs.Prelude.{◌≡◌, ◌≢◌, [], Err, IfErr, IfOk, IfSome, None, Ok, Some};
 ghost use Rattle.clap.specs.Words.{app_of, kind_of, subcommand_name_of};
 ghost use Rattle.peers_node.specs.declared.options_error.OptionsError.TheVariants as errors;
-ghost use Rattle.peers_node.specs.CommandLine.{Chooses, cause_of, faults_of, name_of, program, subcommand_named, teaching, texts, top};
+ghost use Rattle.peers_node.specs.CommandLine.{Chooses, cause_of, faults_of, name_of, program, scenes, subcommand_named, teaching, texts, top};
 
 use crate::choice::Options;
 use crate::options_error::OptionsError;
@@ -52,6 +52,7 @@ fn named(name: &str) -> Option<Options>
         "lesson" => Some(Options::Lesson),
         "check" => Some(Options::Check),
         "learn" => Some(Options::Learn),
+        "table" => Some(Options::Table),
         _ => None,
     }
 }
@@ -120,7 +121,9 @@ fn top<'a>(alloc: Global) -> Command<'a>
     Command::new(alloc, "peers_node")
         .version(VERSION)
         .about("Shares HAProxy stick tables over the peers protocol")
-        .after_help("A scene is read on standard input; docs/FORMATS.md says how it is written.")
+        .after_help(
+            "A scene, or for table a script, is read on standard input; docs/FORMATS.md says how they are written.",
+        )
         .subcommand_required(true)
         .arg_required_else_help(true)
 }
@@ -138,14 +141,24 @@ fn teaching<'a>(alloc: Global) -> Result<Command<'a>, AllocError>
     top(alloc).subcommand(lesson)?.subcommand(check)
 }
 
-/// The program with its subcommands.
-fn command<'a>(alloc: Global) -> Result<Command<'a>, AllocError>
-    ensures { IfOk result (λ command. app_of command ≡ program) }
+/// The program with all subcommands that read a scene.
+fn scenes<'a>(alloc: Global) -> Result<Command<'a>, AllocError>
+    ensures { IfOk result (λ command. app_of command ≡ scenes) }
 {
     let learn = Command::new(alloc, "learn").about(
         "Reads a scene, and writes the rows and acknowledgements of a learner of its stream",
     );
     teaching(alloc)?.subcommand(learn)
+}
+
+/// The program with its subcommands.
+fn command<'a>(alloc: Global) -> Result<Command<'a>, AllocError>
+    ensures { IfOk result (λ command. app_of command ≡ program) }
+{
+    let table = Command::new(alloc, "table").about(
+        "Reads a script, and writes what a table answers to each of its calls",
+    );
+    scenes(alloc)?.subcommand(table)
 }
 
 /// The choice whose subcommand was met.

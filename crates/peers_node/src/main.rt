@@ -11,6 +11,7 @@ pub use choice::Options;
 pub use command_line::options;
 pub use options_error::OptionsError;
 pub use scene_commands::{Ending, learn, lesson};
+pub use script_commands::table;
 use std::process::ExitCode;
 
 fn main(rt: HostRuntime) -> ExitCode {

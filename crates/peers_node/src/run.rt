@@ -5,6 +5,7 @@ use crate::command_line::{Refusal, choice_of, read_words};
 use crate::options_error::OptionsError;
 use peers_devices::{Counting, Faults, write_all};
 use scene_commands::{Ending, check, learn, lesson};
+use script_commands::table;
 use std::alloc::{AllocError, Global};
 use std::env;
 use std::io::{ErrorKind, Write};
@@ -57,6 +58,7 @@ fn dispatched<'a, E: Write + Faults>(rt: &HostRuntime, words: &'a [&'a str], err
         Ok(Options::Lesson) => lesson(alloc, &mut input, &mut output, errors).status(),
         Ok(Options::Check) => check(alloc, &mut input, &mut output, errors).status(),
         Ok(Options::Learn) => learn(alloc, &mut input, &mut output, errors).status(),
+        Ok(Options::Table) => table(alloc, &mut input, &mut output, errors).status(),
         Err(refusal) => refused(alloc, words, &refusal, errors),
     }
 }
