@@ -1,5 +1,5 @@
 -- Agreement (own): the receipts that seats have of a table are the table's events, one for one.
-use Rattle.std.specs.Prelude.{◌≡◌, ℕ, ◌<◌, ◌≤◌, ◌⊎◌, List, [], ◌∷◌, Option, Some, None}
+use Rattle.std.specs.Prelude.{◌≡◌, ℕ, ◌<◌, ◌≤◌, ◌⊎◌, List, [], ◌∷◌, Option, Some, None, nat_lt, if◌then◌else◌}
 use Rattle.std.specs.List.{AllByRecursion}
 use Rattle.table_cell.specs.Histories.{CellState, events_of, event_in}
 use Rattle.table_shards.specs.declared.receipt.Receipt.{Receipt}
@@ -42,3 +42,13 @@ Compares c began seats None = Agree c began seats
 Compares c began seats (Some number) =
     (Agree c began seats → ⊥)
     × (IsLeastStray c seats number ⊎ (AllByRecursion (AreEntries c) seats × (number ≡ 0)))
+
+-- the lesser of two numbers, or the latter where there is no former
+abbrev pub lesser : Option ℕ → ℕ → ℕ
+lesser None number = number
+lesser (Some least) number = if nat_lt least number then least else number
+
+-- the least number of a seat with a receipt that isn't the table's event at its place, if there is one
+abbrev pub Strays : CellState → List SeatState → Option ℕ → Type 0
+Strays c seats None = AllByRecursion (AreEntries c) seats
+Strays c seats (Some number) = IsLeastStray c seats number

@@ -3,3 +3,7 @@ pub mod Pages
 pub mod Prepared
 pub mod Agreement
 pub mod Roll
+pub mod Holding
+pub mod Audits
+pub mod Rounds
+pub mod Locks

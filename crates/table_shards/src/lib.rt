@@ -2,15 +2,24 @@
 //! made it, and an audit shows that the receipts are the tables' histories.
 #![tactic(auto)]
 
+mod comparing;
 mod counts;
 mod errors;
+pub mod held;
 mod laws;
+mod locked;
 mod pages;
 mod receipt;
 mod roll;
 mod seat;
+mod shards;
+mod unlocked;
 
+pub use comparing::compare;
 pub use errors::{AuditError, ShardError};
 pub use laws::{as_many_receipts_as_events, one_receipt_more};
+pub use locked::Locked;
 pub use receipt::Receipt;
 pub use seat::Seat;
+pub use shards::Shards;
+pub use unlocked::{Audit, Unlocked, UnlockedTable};

@@ -131,6 +131,11 @@ impl Seat {
 }
 
 impl Prepared {
+    /// What the seat allocates with.
+    pub(crate) fn alloc(&self) -> Global {
+        self.alloc
+    }
+
     /// The seat with a receipt more. Takes no memory.
     pub(crate) fn add(self, receipt: Receipt) -> Seat
         requires { seen_of self.table self.seat < receipt.place }

@@ -1,0 +1,97 @@
+-- The seats with which a round begins.
+use Rattle.std.proofs.Common.{◌≡◌, ℕ, zero, suc, ◌+◌, ◌-◌, ◌<◌, ◌≤◌, true, false, nat_lt, nat_le, List, [], ◌∷◌, ◌++◌, length, get_or, map, remove, slice_get, Some, None, refl, sym, ap, ◌∙◌, arith, inl, inr, ltb-true, ltb-false, append-nil, append_assoc}
+use Rattle.std.proofs.lemmas.Bool.{cases_Bool}
+use Rattle.std.proofs.lemmas.Bool.Decides.{nat_tests}
+use Rattle.table_cell.specs.declared.events.CellEvent.{CellEvent}
+use Rattle.table_cell.specs.declared.events.CellReply.{CellReply}
+use Rattle.table_cell.specs.Histories.{CellState, events_of, event_in}
+use Rattle.table_shards.proofs.PageLaws.{some_none}
+use Rattle.table_shards.specs.Receipts.{SeatState, fresh_seat}
+use Rattle.table_shards.specs.declared.shards.Shard.{Shard}
+use Rattle.table_shards.specs.declared.unlocked.UnlockedTable.{UnlockedTable}
+use Rattle.table_shards.specs.Rounds.{begun, fresh_from, fresh_seats}
+use Rattle.table_shards.specs.Locks.{shard_rounds}
+use Rattle.table_shards.specs.Audits.{table_rounds}
+
+there : (hs : List (CellEvent × CellReply)) (i : ℕ) → i < length hs → slice_get hs i ≡ None → ⊥
+there [] i lt none = absurd (omega arith)
+there (h ∷ hs) zero lt none = some_none h none
+there (h ∷ hs) (suc i) lt none = there hs i (omega arith) none
+
+fresh_more : (first count : ℕ) → fresh_from first (count + 1) ≡ fresh_from first count ++ fresh_seat (first + count) ∷ []
+fresh_more first zero =
+    let same : first ≡ first + 0 = omega arith in
+    ap (λ (n : ℕ). fresh_seat n ∷ []) same
+fresh_more first (suc count) =
+    let same : first + 1 + count ≡ first + suc count = omega arith in
+    let step : suc count + 1 ≡ suc (count + 1) = omega arith in
+    let later : fresh_from (first + 1) (count + 1) ≡ fresh_from (first + 1) count ++ fresh_seat (first + suc count) ∷ [] =
+    fresh_more (first + 1) count ∙ ap (λ (n : ℕ). fresh_from (first + 1) count ++ fresh_seat n ∷ []) same in
+    ap (λ (n : ℕ). fresh_from first n) step ∙ ap (λ (ss : List SeatState). fresh_seat first ∷ ss) later
+
+pub one_seat_more : (count : ℕ) → fresh_seats count ++ fresh_seat (count + 1) ∷ [] ≡ fresh_seats (count + 1)
+one_seat_more count =
+    let same : count + 1 ≡ 1 + count = omega arith in
+    ap (λ (n : ℕ). fresh_seats count ++ fresh_seat n ∷ []) same ∙ sym (fresh_more 1 count)
+
+-- ---- which events a cell still has
+
+pub past_round : (c : CellState) (began : ℕ) → events_of c ≤ began → true ≡ nat_le c.dropped began
+past_round c began le = let within : c.dropped ≤ began = omega arith in grind (arith, nat_tests)
+
+pub round_kept : (c : CellState) (began : ℕ) (e : CellEvent × CellReply) → Some e ≡ event_in c (began + 1) → true ≡ nat_le c.dropped began
+round_kept c began e is = elim (cases_Bool (nat_lt c.dropped (began + 1))) [
+  | inl kept ↦ let less = ltb-true c.dropped (began + 1) kept in grind (arith, nat_tests)
+  | inr gone ↦ let none : Some e ≡ None = rw gone at is in absurd (some_none e none)
+]
+
+pub round_dropped : (c : CellState) (began : ℕ) → began < events_of c → None ≡ event_in c (began + 1) → false ≡ nat_le c.dropped began
+round_dropped c began less is = elim (cases_Bool (nat_lt c.dropped (began + 1))) [
+  | inl kept ↦
+      let above = ltb-true c.dropped (began + 1) kept in
+      let none : None ≡ slice_get c.history (began + 1 - (c.dropped + 1)) = rw kept at is in
+      let within : began + 1 - (c.dropped + 1) < length c.history = omega (arith, above, less) in
+      absurd (there c.history (began + 1 - (c.dropped + 1)) within (sym none))
+  | inr gone ↦ let below = ltb-false c.dropped (began + 1) gone in grind (arith, nat_tests)
+]
+
+-- ---- tables that are moved one by one
+
+pub first_removed : {A : Type 0} (xs : List A) (x : A) → 1 ≤ length xs → x ≡ get_or xs 0 x → xs ≡ x ∷ remove xs 0
+first_removed [] x some is = absurd (omega arith)
+first_removed (y ∷ xs) x some is = ap (λ z. z ∷ xs) (sym is)
+
+rounds_append : {A B : Type 0} (f : A → B) (xs ys : List A) → map f (xs ++ ys) ≡ map f xs ++ map f ys
+rounds_append f [] ys = refl
+rounds_append f (x ∷ xs) ys = ap (λ zs. f x ∷ zs) (rounds_append f xs ys)
+
+none_left : {A : Type 0} (xs : List A) → length xs ≡ 0 → xs ≡ []
+none_left [] none = refl
+none_left (x ∷ xs) none = absurd (omega arith)
+
+pub one_locked : (shards : List Shard) (s : Shard) (c : CellState) (cells rest : List CellState) (whole : List (ℕ × ℕ)) → shard_rounds shards ++ map begun cells ≡ whole → cells ≡ c ∷ rest → (s.table, s.began) ≡ begun c
+    → shard_rounds (shards ++ s ∷ []) ++ map begun rest ≡ whole
+one_locked shards s c cells rest whole so is same =
+    ap (λ (xs : List (ℕ × ℕ)). xs ++ map begun rest) (rounds_append (λ (x : Shard). (x.table, x.began)) shards (s ∷ []))
+    ∙ append_assoc (shard_rounds shards) ((s.table, s.began) ∷ []) (map begun rest)
+    ∙ ap (λ (x : ℕ × ℕ). shard_rounds shards ++ x ∷ map begun rest) same
+    ∙ ap (λ (xs : List CellState). shard_rounds shards ++ map begun xs) (sym is)
+    ∙ so
+
+pub all_locked : (shards : List Shard) (rest : List CellState) (whole : List (ℕ × ℕ)) → length rest ≡ 0 → shard_rounds shards ++ map begun rest ≡ whole → shard_rounds shards ≡ whole
+all_locked shards rest whole none so =
+    sym (append-nil (shard_rounds shards)) ∙ ap (λ (xs : List CellState). shard_rounds shards ++ map begun xs) (sym (none_left rest none)) ∙ so
+
+pub one_unlocked : (ts : List UnlockedTable) (t : UnlockedTable) (s : Shard) (shards rest : List Shard) (whole : List (ℕ × ℕ)) → table_rounds ts ++ shard_rounds shards ≡ whole → shards ≡ s ∷ rest → t.table ≡ s.table → t.began ≡ s.began
+    → table_rounds (ts ++ t ∷ []) ++ shard_rounds rest ≡ whole
+one_unlocked ts t s shards rest whole so is table began =
+    ap (λ (xs : List (ℕ × ℕ)). xs ++ shard_rounds rest) (rounds_append (λ (x : UnlockedTable). (x.table, x.began)) ts (t ∷ []))
+    ∙ append_assoc (table_rounds ts) ((t.table, t.began) ∷ []) (shard_rounds rest)
+    ∙ ap (λ (n : ℕ). table_rounds ts ++ (n, t.began) ∷ shard_rounds rest) table
+    ∙ ap (λ (n : ℕ). table_rounds ts ++ (s.table, n) ∷ shard_rounds rest) began
+    ∙ ap (λ (xs : List Shard). table_rounds ts ++ shard_rounds xs) (sym is)
+    ∙ so
+
+pub all_unlocked : (ts : List UnlockedTable) (rest : List Shard) (whole : List (ℕ × ℕ)) → length rest ≡ 0 → table_rounds ts ++ shard_rounds rest ≡ whole → table_rounds ts ≡ whole
+all_unlocked ts rest whole none so =
+    sym (append-nil (table_rounds ts)) ∙ ap (λ (xs : List Shard). table_rounds ts ++ shard_rounds xs) (sym (none_left rest none)) ∙ so

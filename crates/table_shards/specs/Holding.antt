@@ -1,0 +1,50 @@
+-- What the calls of the module `held` do (own), under the lock of one table and for one seat.
+use Rattle.std.specs.Prelude.{◌≡◌, ◌≢◌, ℕ, ◌+◌, ◌≤◌, List, Option, Some, None, Result, Ok, Err}
+use Rattle.table_types.specs.declared.update.Update.{Update}
+use Rattle.table_cell.specs.Histories.{CellState, IsLatestBatch, events_of}
+use Rattle.table_cell.specs.declared.errors.StrangeBatch.{StrangeBatch}
+use Rattle.table_cell.specs.declared.events.CellEvent.{CellEvent}
+use Rattle.table_cell.specs.declared.events.CellReply.{CellReply}
+use Rattle.table_shards.specs.declared.errors.ShardError.{ShardError}
+use Rattle.table_shards.specs.declared.errors.ShardError.TheVariants as errors
+use Rattle.table_shards.specs.Receipts.{SeatState, ahead_of, seen_of, with_receipt}
+use Rattle.table_shards.specs.Agreement.{id_of}
+
+-- the cell is the table's, and the seat has seen no more events than it has
+abbrev pub MayCall : ℕ → CellState → SeatState → Type 0
+MayCall table c s = (id_of c ≡ table) × (seen_of table s ≤ events_of c)
+
+-- the seat with a receipt of the next event: this table, the event, its place and its reply
+abbrev pub receipted : ℕ → CellState → SeatState → CellEvent → CellReply → SeatState
+receipted table c s event reply = with_receipt s table (record { place = events_of c + 1; event = event; reply = reply })
+
+-- What a call of `held` does, over what the cell's own call does (`call`: from which cell, with which answer, to which
+-- cell). Where that answers, the answer and the cell are those of the cell's call, and the seat is as `left` says.
+-- The call isn't made, and nothing has changed, where the cell is another table's, where the seat has seen more events
+-- than the cell has, or where there is no memory for the receipt. Where the cell refuses the call, the seat stays.
+abbrev pub Holds : {A E : Type 0} → (CellState → Result A E → CellState → Type 0) → (A → SeatState) → ℕ → CellState → SeatState → Result A (ShardError E) → CellState → SeatState → Type 0
+Holds call left table c s (Ok a) c' s' = MayCall table c s × call c (Ok a) c' × (s' ≡ left a)
+Holds call left table c s (Err errors.NoTable) c' s' = (id_of c ≢ table) × (c' ≡ c) × (s' ≡ s)
+Holds call left table c s (Err (errors.SeatAhead seen found)) c' s' =
+    (id_of c ≡ table) × (ahead_of s table (events_of c) ≡ Some (seen, found)) × (c' ≡ c) × (s' ≡ s)
+Holds call left table c s (Err errors.Memory) c' s' = MayCall table c s × (c' ≡ c) × (s' ≡ s)
+Holds call left table c s (Err (errors.Cell error)) c' s' = MayCall table c s × call c (Err error) c' × (s' ≡ s)
+
+-- why the call isn't made, though there is memory: None where it may be made
+abbrev pub MayNot : {E : Type 0} → ℕ → CellState → SeatState → Option (ShardError E) → Type 0
+MayNot table c s None = MayCall table c s
+MayNot table c s (Some errors.NoTable) = id_of c ≢ table
+MayNot table c s (Some (errors.SeatAhead seen found)) = (id_of c ≡ table) × (ahead_of s table (events_of c) ≡ Some (seen, found))
+MayNot table c s (Some error) = ⊥
+
+-- the same, or there is no memory
+abbrev pub Refuses : {E : Type 0} → ℕ → CellState → SeatState → ShardError E → Type 0
+Refuses table c s errors.Memory = MayCall table c s
+Refuses table c s errors.NoTable = id_of c ≢ table
+Refuses table c s (errors.SeatAhead seen found) = (id_of c ≡ table) × (ahead_of s table (events_of c) ≡ Some (seen, found))
+Refuses table c s (errors.Cell error) = ⊥
+
+-- whether the batch is the one that the session was given last; nothing changes
+abbrev pub Settles : CellState → ℕ → List Update → Result (Unit {0}) StrangeBatch → CellState → Type 0
+Settles c session us (Ok done) e = IsLatestBatch c session us × (e ≡ c)
+Settles c session us (Err strange) e = (IsLatestBatch c session us → ⊥) × (e ≡ c)

@@ -1,0 +1,101 @@
+//! Whether receipts agree with a table's history.
+
+ghost use Rattle.std.specs.Prelude.{◌≡◌, ◌↔◌, ◌∷◌, ◌++◌, [], List, IsTrue};
+ghost use Rattle.std.specs.Bool.{MatchBool};
+ghost use Rattle.std.specs.List.{AllByRecursion};
+ghost use Rattle.table_shards.specs.Agreement.{Agree, AreEntries, Compares, IsEntry, Strays, lesser};
+ghost use Rattle.table_shards.specs.Receipts.{SeatState};
+
+use crate::counts::{are_of_round, are_once};
+use crate::receipt::{Receipt, are_same_events, are_same_replies};
+use crate::seat::Seat;
+use table_cell::TableCell;
+
+/// Whether the receipt is the table's event at its place, with its reply.
+fn is_entry(cell: &TableCell, receipt: &Receipt) -> bool
+    ensures { IsTrue result ↔ IsEntry cell.now receipt.now }
+{
+    match cell.event_at(receipt.place) {
+        None => false,
+        Some((event, reply)) => {
+            are_same_events(event, &receipt.event) && are_same_replies(reply, &receipt.reply)
+        }
+    }
+}
+
+/// Whether all the receipts are the table's events.
+fn are_entries(cell: &TableCell, receipts: &[Receipt]) -> bool
+    ensures { MatchBool result (AllByRecursion (IsEntry cell.now) receipts.now) (AllByRecursion (IsEntry cell.now) receipts.now → ⊥) }
+{
+    for receipt in receipts {
+        if !is_entry(cell, receipt) {
+            return false;
+        }
+    }
+    true
+}
+
+/// Whether the seat's receipts of the table are its events.
+fn has_entries(cell: &TableCell, seat: &Seat) -> bool
+    ensures { MatchBool result (AreEntries cell.now seat.now) (AreEntries cell.now seat.now → ⊥) }
+{
+    are_entries(cell, seat.receipts(cell.definition().id()))
+}
+
+fn lesser(least: Option<u32>, number: u32) -> u32
+    ensures { result ≡ lesser least number }
+{
+    match least {
+        Some(least) if least < number => least,
+        _ => number,
+    }
+}
+
+/// The least stray so far, after one seat more.
+fn with_seat(cell: &TableCell, least: Option<u32>, seat: &Seat) -> Option<u32>
+    ensures { (before : List SeatState) → Strays cell.now before least → Strays cell.now (before ++ seat.now ∷ []) result }
+{
+    if has_entries(cell, seat) {
+        least
+    } else {
+        Some(lesser(least, seat.number()))
+    }
+}
+
+/// The least number of a seat with a receipt that isn't the table's event at its place.
+fn least_stray(cell: &TableCell, seats: &[Seat]) -> Option<u32>
+    ensures { Strays cell.now seats.now result }
+{
+    let mut least = None;
+    for seat in seats {
+        least = with_seat(cell, least, seat);
+    }
+    least
+}
+
+/// Whether the receipts, all of which are the table's events, are its events after the first `from`, one for one.
+fn are_one_for_one(cell: &TableCell, from: u64, seats: &[Seat]) -> bool
+    requires { AllByRecursion (AreEntries cell.now) seats.now }
+    ensures { MatchBool result (Agree cell.now from seats.now) (Agree cell.now from seats.now → ⊥) }
+{
+    let table = cell.definition().id();
+    let last = cell.events();
+    are_of_round(table, from, seats) && are_once(table, from, last, seats)
+}
+
+/// Compares the seats' receipts of the table with its events after the first `from`: `None` where each of these events is
+/// the receipt of exactly one seat, exactly once, and the seats have no other receipts of the table. Otherwise the least
+/// seat with a receipt that isn't the table's event at its place, and 0 where there is none. Takes no memory.
+pub fn compare(cell: &TableCell, from: u64, seats: &[Seat]) -> Option<u32>
+    ensures { Compares cell.now from seats.now result }
+{
+    let stray = least_stray(cell, seats);
+    if stray.is_some() {
+        return stray;
+    }
+    if are_one_for_one(cell, from, seats) {
+        None
+    } else {
+        Some(0)
+    }
+}

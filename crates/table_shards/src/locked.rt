@@ -1,0 +1,29 @@
+//! A table under its lock.
+
+ghost use Rattle.std.specs.Prelude.{◌≡◌};
+
+use std::marker::Model;
+use table_cell::TableCell;
+
+/// A table under its lock. It is lent for reading alone: only the calls of the module `held` change it.
+#[derive(Drop)]
+pub struct Locked {
+    pub(crate) cell: TableCell,
+}
+
+impl Model for Locked {
+    ghost use Rattle.table_cell.specs.Histories.{CellState};
+
+    ghost Value = { CellState };
+
+    ghost view = { λ a. a.cell };
+}
+
+impl Locked {
+    /// The table, lent.
+    pub fn cell(&self) -> &TableCell
+        ensures { result.now ≡ self.now }
+    {
+        &self.cell
+    }
+}

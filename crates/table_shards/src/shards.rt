@@ -1,0 +1,172 @@
+//! Tables under their locks.
+
+ghost use Rattle.std.specs.Prelude.{◌≡◌, ◌≤◌, ◌==◌, ◌∷◌, [], IfErr, IfOk, is_some, length, map};
+ghost use Rattle.std.specs.Vec.{vec_capacity};
+ghost use Rattle.std.specs.List.{list_any};
+ghost use Rattle.table_shards.specs.Rounds.{begun, fresh_seats};
+ghost use Rattle.table_shards.specs.Locks.{shard_rounds};
+ghost use Rattle.table_shards.specs.Audits.{rounds_of, table_rounds};
+
+use crate::locked::Locked;
+use crate::seat::Seat;
+use crate::unlocked::{Unlocked, UnlockedTable};
+use std::alloc::Global;
+use std::marker::Model;
+use std::sync::Mutex;
+use table_cell::TableCell;
+use table_types::Memory;
+
+/// A table under its lock: its id, and how many events it had when the round began.
+#[derive(Drop)]
+pub(crate) struct Shard {
+    pub(crate) table: u64,
+    pub(crate) began: u64,
+    pub(crate) cell: Mutex<Locked>,
+}
+
+/// Tables, each under its own lock, which many threads change from their seats.
+#[derive(Drop)]
+pub struct Shards {
+    seats: u32,
+    shards: Vec<Shard>,
+}
+
+impl Model for Shards {
+    ghost use Rattle.table_shards.specs.Rounds.{ShardsState};
+    ghost use Rattle.table_shards.specs.Locks.{shard_rounds};
+
+    ghost Value = { ShardsState };
+
+    ghost view = { λ a. record { seats = a.seats; tables = shard_rounds a.shards.items } };
+}
+
+/// The lock of a table.
+fn lock_of(shards: &[Shard], table: u64) -> Option<&Mutex<Locked>>
+    ensures { is_some result ≡ list_any (λ t. t.0 == table) (shard_rounds shards.now) }
+{
+    for shard in shards {
+        if shard.table == table {
+            return Some(&shard.cell);
+        }
+    }
+    None
+}
+
+/// Takes the first of some tables.
+#[tactic(auto, using(crate::proofs::RoundLaws::first_removed))]
+fn first_cell(cells: &mut Vec<TableCell>) -> TableCell
+    requires { 1 ≤ length cells.old.items }
+    ensures { cells.old.items ≡ result ∷ cells.new.items }
+{
+    cells.remove(0)
+}
+
+/// Takes the first of some tables with their locks.
+#[tactic(auto, using(crate::proofs::RoundLaws::first_removed))]
+fn first_shard(shards: &mut Vec<Shard>) -> Shard
+    requires { 1 ≤ length shards.old.items }
+    ensures { shards.old.items ≡ result ∷ shards.new.items }
+{
+    shards.remove(0)
+}
+
+/// Puts a table under a lock.
+fn put_under_lock(cell: TableCell) -> Shard
+    ensures { (result.table, result.began) ≡ begun cell }
+{
+    Shard {
+        table: cell.definition().id(),
+        began: cell.events(),
+        cell: Mutex::new(Locked { cell }),
+    }
+}
+
+/// Puts each table under a lock.
+#[tactic(auto, using(crate::proofs::RoundLaws::all_locked, crate::proofs::RoundLaws::one_locked))]
+fn lock_all(alloc: Global, cells: Vec<TableCell>) -> Result<Vec<Shard>, Memory>
+    ensures { IfOk result (λ shards. shard_rounds shards.items ≡ map begun cells.items) }
+{
+    let mut shards = Vec::new(alloc);
+    let count = cells.len();
+    let mut rest = cells;
+    for index in 0..count {
+        let cell = first_cell(&mut rest);
+        shards.push(put_under_lock(cell))?;
+    }
+    Ok(shards)
+}
+
+/// The seats 1 to `seats`.
+#[tactic(auto, using(crate::proofs::RoundLaws::one_seat_more))]
+fn seat_all(alloc: Global, seats: u32) -> Result<Vec<Seat>, Memory>
+    ensures { IfOk result (λ made. made.items ≡ fresh_seats seats) }
+{
+    let mut made = Vec::new(alloc);
+    for before in 0..seats {
+        made.push(Seat::fresh(alloc, before + 1))?;
+    }
+    Ok(made)
+}
+
+/// Takes a table out of its lock.
+fn take_from_lock(shard: Shard) -> UnlockedTable
+    ensures { (result.table ≡ shard.table) × (result.began ≡ shard.began) }
+{
+    UnlockedTable {
+        table: shard.table,
+        began: shard.began,
+        cell: shard.cell.into_inner().cell,
+    }
+}
+
+/// Takes the tables out of their locks, into a list with room for them.
+#[tactic(auto, using(crate::proofs::RoundLaws::all_unlocked, crate::proofs::RoundLaws::one_unlocked))]
+fn unlock_all(shards: Vec<Shard>, tables: Vec<UnlockedTable>) -> Vec<UnlockedTable>
+    requires none { tables.items ≡ [] }
+    requires room { length shards.items ≤ vec_capacity tables }
+    ensures { table_rounds result.items ≡ shard_rounds shards.items }
+{
+    let count = shards.len();
+    let mut done = tables;
+    let mut rest = shards;
+    for index in 0..count {
+        let shard = first_shard(&mut rest);
+        done.push_reserved(take_from_lock(shard));
+    }
+    done
+}
+
+impl Shards {
+    /// Puts each table under a lock, and makes the seats 1 to `seats`, in this order. The tables have distinct ids; there are
+    /// 1 to 64 of them, and as many seats.
+    pub fn new(
+        alloc: Global,
+        cells: Vec<TableCell>,
+        seats: u32,
+    ) -> Result<(Shards, Vec<Seat>), Memory>
+        ensures shards { IfOk result (λ made. made.0 ≡ record { seats = seats; tables = map begun cells.items }) }
+        ensures seats { IfOk result (λ made. made.1.items ≡ fresh_seats seats) }
+    {
+        let shards = lock_all(alloc, cells)?;
+        let made = seat_all(alloc, seats)?;
+        Ok((Shards { seats, shards }, made))
+    }
+
+    /// The lock of a table. Takes no memory, and waits for nobody.
+    pub fn cell(&self, table: u64) -> Option<&Mutex<Locked>>
+        ensures { is_some result ≡ list_any (λ t. t.0 == table) self.now.tables }
+    {
+        lock_of(self.shards.as_slice(), table)
+    }
+
+    /// Takes the tables out of their locks. After `Memory` they are handed back, as they were.
+    pub fn unlock(self, alloc: Global) -> Result<Unlocked, (Memory, Shards)>
+        ensures unlocked { IfOk result (λ unlocked. rounds_of unlocked ≡ self) }
+        ensures refused { IfErr result (λ back. back.1 ≡ self) }
+    {
+        let Ok(tables) = Vec::with_capacity(alloc, self.shards.len()) else {
+            return Err((Memory, self));
+        };
+        Ok(Unlocked::of(self.seats, unlock_all(self.shards, tables)))
+    }
+}

@@ -1,0 +1,179 @@
+//! Tables that were taken out of their locks, and the audit of a round.
+
+ghost use Rattle.std.specs.Prelude.{◌≡◌, ◌∷◌, ◌++◌, [], List, IfErr, IfOk, IsTrue, None, Some, nat_le};
+ghost use Rattle.table_shards.specs.declared.unlocked.UnlockedTable.{UnlockedTable};
+ghost use Rattle.table_shards.specs.Audits.{Audits, Faults, Finds, IsLegal, UnlockedState, is_its_own, lesser_fault};
+
+use crate::comparing::compare;
+use crate::errors::AuditError;
+use crate::roll::are_seats;
+use crate::seat::Seat;
+use std::marker::Model;
+use table_cell::TableCell;
+
+/// A table that was taken out of its lock. The cells of two locks may have been swapped under them, so the cell may be
+/// another table's.
+#[derive(Drop)]
+pub struct UnlockedTable {
+    /// The table's id.
+    pub table: u64,
+    /// How many events it had when the round began.
+    pub began: u64,
+    /// What was under its lock.
+    pub cell: TableCell,
+}
+
+/// Tables that were taken out of their locks.
+#[derive(Drop)]
+pub struct Unlocked {
+    seats: u32,
+    tables: Vec<UnlockedTable>,
+}
+
+impl Model for Unlocked {
+    ghost use Rattle.table_shards.specs.Audits.{UnlockedState};
+
+    ghost Value = { UnlockedState };
+
+    ghost view = { λ a. record { seats = a.seats; tables = a.tables.items } };
+}
+
+/// Tables of which an audit showed that the seats' receipts are their histories.
+#[derive(Drop)]
+pub struct Audit {
+    unlocked: Unlocked,
+}
+
+impl Model for Audit {
+    ghost use Rattle.table_shards.specs.Audits.{UnlockedState};
+
+    ghost Value = { UnlockedState };
+
+    ghost view = { λ a. a.unlocked };
+}
+
+/// Whether the cell has all its events after the first `began`.
+#[tactic(auto, using(crate::proofs::RoundLaws::past_round, crate::proofs::RoundLaws::round_kept, crate::proofs::RoundLaws::round_dropped))]
+fn has_round(cell: &TableCell, began: u64) -> bool
+    ensures round { result ≡ nat_le cell.now.dropped began }
+    ensures legal { IsLegal cell.now }
+{
+    if cell.events() <= began {
+        return true;
+    }
+    match cell.event_at(began + 1) {
+        Some(_) => true,
+        None => false,
+    }
+}
+
+/// Whether the cell is that table's, and has all events of the round.
+fn is_its_own(table: &UnlockedTable) -> bool
+    ensures own { result ≡ is_its_own table.now }
+    ensures legal { IsTrue result → IsLegal table.now.cell }
+{
+    table.cell.definition().id() == table.table && has_round(&table.cell, table.began)
+}
+
+/// What is wrong with a table: the seat that `AuditError::Mismatch` names.
+fn fault_of(table: &UnlockedTable, seats: &[Seat]) -> Option<u32>
+    ensures { Finds seats.now table.now result }
+{
+    if is_its_own(table) {
+        compare(&table.cell, table.began, seats)
+    } else {
+        Some(0)
+    }
+}
+
+/// The one of two faults with the lesser table id, and the former where they have one.
+fn lesser_fault(least: Option<(u64, u32)>, table: u64, seat: u32) -> Option<(u64, u32)>
+    ensures { result ≡ lesser_fault least (table, seat) }
+{
+    match least {
+        Some((id, _)) if id <= table => least,
+        _ => Some((table, seat)),
+    }
+}
+
+/// The fault with the least table id so far, after one table more.
+fn with_table(
+    least: Option<(u64, u32)>,
+    table: &UnlockedTable,
+    seats: &[Seat],
+) -> Option<(u64, u32)>
+    ensures { (before : List UnlockedTable) → Faults seats.now before least → Faults seats.now (before ++ table.now ∷ []) result }
+{
+    match fault_of(table, seats) {
+        None => least,
+        Some(seat) => lesser_fault(least, table.table, seat),
+    }
+}
+
+/// The fault with the least table id.
+fn first_fault(tables: &[UnlockedTable], seats: &[Seat]) -> Option<(u64, u32)>
+    ensures { Faults seats.now tables.now result }
+{
+    let mut least = None;
+    for table in tables {
+        least = with_table(least, table, seats);
+    }
+    least
+}
+
+/// What an audit finds wrong with so many seats and these tables.
+fn audit_error(most: u32, tables: &[UnlockedTable], seats: &[Seat]) -> Option<AuditError>
+    ensures { Audits (record { seats = most; tables = tables.now }) seats.now result }
+{
+    if !are_seats(most, seats) {
+        return Some(AuditError::MissingSeat);
+    }
+    match first_fault(tables, seats) {
+        None => None,
+        Some((table, seat)) => Some(AuditError::Mismatch { table, seat }),
+    }
+}
+
+impl Unlocked {
+    /// The tables with these ids.
+    pub(crate) fn of(seats: u32, tables: Vec<UnlockedTable>) -> Unlocked
+        ensures { result ≡ record { seats = seats; tables = tables.items } }
+    {
+        Unlocked { seats, tables }
+    }
+
+    /// The tables.
+    pub fn tables(&self) -> &[UnlockedTable]
+        ensures { result.now ≡ self.now.tables }
+    {
+        self.tables.as_slice()
+    }
+
+    /// What an audit finds wrong.
+    fn error(&self, seats: &[Seat]) -> Option<AuditError>
+        ensures { Audits self.now seats.now result }
+    {
+        audit_error(self.seats, self.tables.as_slice(), seats)
+    }
+
+    /// Audits the round: the seats are those that were made with the tables, each once, and each event of each table in the
+    /// round is the receipt of exactly one seat. A refusal hands back the tables and the seats. Takes no memory.
+    pub fn audit(self, seats: Vec<Seat>) -> Result<Audit, (AuditError, Unlocked, Vec<Seat>)>
+        ensures audited { IfOk result (λ audit. (audit ≡ self) × Audits self seats.items None) }
+        ensures refused { IfErr result (λ back. Audits self seats.items (Some back.0) × (back.1 ≡ self) × (back.2 ≡ seats)) }
+    {
+        match self.error(seats.as_slice()) {
+            None => Ok(Audit { unlocked: self }),
+            Some(error) => Err((error, self, seats)),
+        }
+    }
+}
+
+impl Audit {
+    /// The tables.
+    pub fn tables(&self) -> &[UnlockedTable]
+        ensures { result.now ≡ self.now.tables }
+    {
+        self.unlocked.tables()
+    }
+}
