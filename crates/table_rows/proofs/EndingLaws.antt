@@ -147,7 +147,7 @@ module _ (row : Key → Option StoredRow) (among : Ending → Bool) (agree : Agr
 
 module _ (row : Key → Option StoredRow) (among : Ending → Bool) (agree : Agree row among) (key : Key) where
   -- the row of a key is replaced
-  module _ (old : StoredRow) (stood : row key ≡ Some old) (new : StoredRow) (short : IfSome new.ends (λ end. end < 2 ^ 63)) (older : Option Ending) (is_older : IsOlder row key new older)
+  module _ (old : StoredRow) (stood : row key ≡ Some old) (new : StoredRow) (short : IfSome new.ends (λ end. end < 2 ^ 63)) (older : Option Ending) (is_older : IsOlder (row key) (ending_of key new) older)
       (rows_after : Key → Option StoredRow) (among_after : Ending → Bool)
       (rows_are : (k : Key) → rows_after k ≡ cond (is_eq (key_cmp key k)) (Some new) (row k))
       (endings_are : (e : Ending) → among_after e ≡ is_among_without older (λ q. cond (are_same (ending_of key new) q) true (among q)) e) where
@@ -170,7 +170,7 @@ module _ (row : Key → Option StoredRow) (among : Ending → Bool) (agree : Agr
     none_between : rows_between key ≡ None
     none_between = rw (key-same key) refl
 
-    endings_by : (o : Option Ending) → IsOlder row key new o → (e : Ending) → is_among_without o (λ q. cond (are_same (ending_of key new) q) true (among q)) e ≡ cond (are_same (ending_of key new) e) true (among_between e)
+    endings_by : (o : Option Ending) → IsOlder (row key) (ending_of key new) o → (e : Ending) → is_among_without o (λ q. cond (are_same (ending_of key new) q) true (among q)) e ≡ cond (are_same (ending_of key new) e) true (among_between e)
     endings_by None same e = by (are_same (ending_of key new) e) refl
       where
         by : (a : Bool) → are_same (ending_of key new) e ≡ a → cond (are_same (ending_of key new) e) true (among e) ≡ cond (are_same (ending_of key new) e) true (cond (are_same (ending_of key old) e) false (among e))
@@ -201,14 +201,14 @@ without_alike None f g alike e = alike e
 without_alike (Some o) f g alike e = ap (λ (b : Bool). cond (are_same o e) false b) (alike e)
 
 -- a row is put, in place of the key's or as a new one
-pub put_agree : (row : Key → Option StoredRow) (among : Ending → Bool) → Agree row among → (key : Key) (new : StoredRow) → IfSome new.ends (λ end. end < 2 ^ 63) → (older : Option Ending) → IsOlder row key new older
+pub put_agree : (row : Key → Option StoredRow) (among : Ending → Bool) → Agree row among → (key : Key) (new : StoredRow) → IfSome new.ends (λ end. end < 2 ^ 63) → (older : Option Ending) → IsOlder (row key) (ending_of key new) older
     → (rows_after : Key → Option StoredRow) (among_after : Ending → Bool)
     → ((k : Key) → rows_after k ≡ cond (is_eq (key_cmp key k)) (Some new) (row k))
     → ((e : Ending) → among_after e ≡ is_among_without older (λ q. cond (are_same (ending_of key new) q) true (among q)) e)
     → Agree rows_after among_after
 put_agree row among agree key new short older is_older rows_after among_after rows_are endings_are = by (row key) refl older is_older endings_are
   where
-    by : (o : Option StoredRow) → row key ≡ o → (before : Option Ending) → IsOlder row key new before
+    by : (o : Option StoredRow) → row key ≡ o → (before : Option Ending) → IsOlder (row key) (ending_of key new) before
         → ((e : Ending) → among_after e ≡ is_among_without before (λ q. cond (are_same (ending_of key new) q) true (among q)) e) → Agree rows_after among_after
     by None none None is are = new_agree row among agree key none new short rows_after among_after rows_are are
     by None none (Some ending) (stored, at, same, other) are = absurd (some_none stored (sym at ∙ none))

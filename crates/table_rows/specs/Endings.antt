@@ -45,10 +45,10 @@ pub record AreIndexed (rows : List (Key × StoredRow)) (endings : List Ending) :
   pub agree : Agree (row_of rows) (is_among endings)
   pub rising : IsStrictlySortedBy key_cmp (keys_of rows)
 
--- where a key's row stands that another one replaces, if that one doesn't stand there too
-abbrev pub IsOlder : (Key → Option StoredRow) → Key → StoredRow → Option Ending → Type 0
-IsOlder row key new None = (old : StoredRow) → row key ≡ Some old → ending_of key old ≡ ending_of key new
-IsOlder row key new (Some older) = (old : StoredRow) × (row key ≡ Some old) × (older ≡ ending_of key old) × (older ≢ ending_of key new)
+-- where a key's older row stands, if it had one and the new one doesn't stand there too
+abbrev pub IsOlder : Option StoredRow → Ending → Option Ending → Type 0
+IsOlder row new None = (old : StoredRow) → row ≡ Some old → ending_of new.key old ≡ new
+IsOlder row new (Some older) = (old : StoredRow) × (row ≡ Some old) × (older ≡ ending_of new.key old) × (older ≢ new)
 
 abbrev pub is_among_without : Option Ending → (Ending → Bool) → Ending → Bool
 is_among_without None among ending = among ending

@@ -6,7 +6,7 @@ ghost use Rattle.std.specs.Ordering.{is_eq};
 ghost use Rattle.table_types.specs.Keys.{key_cmp};
 ghost use Rattle.table_types.specs.Rows.{StoredRow};
 ghost use Rattle.table_rows.specs.declared.ending.Ending.{Ending};
-ghost use Rattle.table_rows.specs.Endings.{AreIndexed, IsOlder, is_among, is_among_without, row_of};
+ghost use Rattle.table_rows.specs.Endings.{AreIndexed, IsOlder, is_among, is_among_without};
 ghost use Rattle.table_rows.specs.Rows.{row_at};
 
 use crate::ending::{Ending, end_of};
@@ -38,23 +38,17 @@ impl Model for MapRows {
     ghost invariant = { λ a. AreIndexed a.rows.entries a.endings.keys };
 }
 
-/// Where the row stands that another one of its key replaces; `None` where there is no such row, or where the other
-/// stands there too.
-fn older_ending(
-    alloc: Global,
-    rows: &BTreeMap<Key, Row>,
-    key: &Key,
-    row: &Row,
-) -> Result<Option<Ending>, Memory>
-    ensures { IfOk result (IsOlder (row_of rows.now.entries) key.now row.now) }
+/// Where a key's older row stands, if it had one; `None` too where the one that replaces it stands there.
+fn older_ending(older: &Option<Row>, new: Ending) -> Option<Ending>
+    ensures { IsOlder older.now new result }
 {
-    let Some(old) = rows.get(key) else {
-        return Ok(None);
+    let Some(older) = older else {
+        return None;
     };
-    if end_of(old) == end_of(row) && old.number() == row.number() {
-        return Ok(None);
+    if end_of(older) == new.end && older.number() == new.number {
+        return None;
     }
-    Ok(Some(Ending::of(key.copy(alloc)?, old)))
+    Some(Ending::of(new.key, older))
 }
 
 fn drop_older(endings: &mut BTreeSet<Ending>, older: Option<Ending>)
@@ -79,11 +73,12 @@ fn put(
     ensures stays { OnErr result (rows.new.entries ≡ rows.old.entries) }
     ensures indexed { AreIndexed rows.new.entries endings.new.keys }
 {
-    let older = older_ending(alloc, rows, &key, &row)?;
+    let new = Ending::of(key.copy(alloc)?, &row);
     let ending = Ending::of(key.copy(alloc)?, &row);
     endings.insert(ending)?;
     match rows.insert(key, row) {
         Ok(before) => {
+            let older = older_ending(&before, new);
             drop_older(endings, older);
             Ok(before)
         }
