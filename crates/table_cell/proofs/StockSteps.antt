@@ -1,6 +1,6 @@
 -- What the calls of a stock leave of the rows by key and of their numbers.
-use Rattle.std.proofs.Common.{◌≡◌, ◌≢◌, ℕ, ◌+◌, ◌<◌, ◌≤◌, ◌^◌, Bool, true, false, not, List, [], ◌∷◌, ◌++◌, length, Option, Some, None, Result, Ok, Err, IfSome, IfNone, OnOk, OnErr, refl, sym, ap, ◌∙◌, subst, arith}
-use Rattle.std.specs.Prelude.{filter, map, nat_lt}
+use Rattle.std.proofs.Common.{◌≡◌, ℕ, ◌+◌, ◌<◌, ◌≤◌, ◌^◌, Bool, true, false, not, List, [], ◌∷◌, ◌++◌, length, Option, Some, None, Result, Ok, Err, IfSome, IfNone, OnOk, OnErr, refl, sym, ap, ◌∙◌, subst, arith}
+use Rattle.std.specs.Prelude.{cond, filter, is_some, map, nat_lt}
 use Rattle.std.specs.List.{AllByRecursion}
 use Rattle.std.specs.List.Sorted.{IsStrictlySortedBy}
 use Rattle.std.specs.BTreeMap.{insert_entry}
@@ -9,12 +9,12 @@ use Rattle.table_types.specs.declared.key.Key.{Key}
 use Rattle.table_types.specs.Keys.{key_cmp}
 use Rattle.table_types.specs.Rows.{StoredRow}
 use Rattle.table_types.proofs.KeyLaws.{one_key}
-use Rattle.table_rows.specs.Rows.{AreLive, is_live, row_at, rows_without}
+use Rattle.table_rows.specs.Rows.{AreLive, IsFirstToEnd, is_live, row_at, rows_without}
 use Rattle.update_numbers.specs.Numbers.{Numbering, above, dropped, given}
 use Rattle.table_cell.specs.Machine.{without}
 use Rattle.table_cell.specs.Soundness.{KeysDiffer}
-use Rattle.table_cell.specs.Stock.{AreKept, AreTied, HaveRows, IsStock, Stocked, leave, numbered, rows_of, stocked}
-use Rattle.table_cell.proofs.RowsLaws.{all_filter, none_parts}
+use Rattle.table_cell.specs.Stock.{AreKept, AreTied, HaveRows, IsStock, Stocked, leave, left_for, numbered, rows_of, stocked}
+use Rattle.table_cell.proofs.RowsLaws.{all_filter, none_parts, some_none}
 use Rattle.table_cell.proofs.StockLaws.{all_found, are_kept, as_many, live_rows, numbered-above, put_sound, put_tied, rows_again, same_row, seen_stock, taken_sound, taken_tied}
 
 -- ---- answers
@@ -93,7 +93,7 @@ no_entries [] none = refl
 no_entries (e ∷ es) none = absurd (omega (arith, none))
 
 -- a row put at the end, and another key's taken out
-pub left_last : (rows : List (Key × StoredRow)) (key leaving : Key) (row : StoredRow) → (leaving ≡ key → ⊥) → without leaving (without key rows ++ (key, row) ∷ []) ≡ without key (without leaving rows) ++ (key, row) ∷ []
+left_last : (rows : List (Key × StoredRow)) (key leaving : Key) (row : StoredRow) → (leaving ≡ key → ⊥) → without leaving (without key rows ++ (key, row) ∷ []) ≡ without key (without leaving rows) ++ (key, row) ∷ []
 left_last [] key leaving row other = by (is_eq (key_cmp leaving key)) refl
   where
     by : (b : Bool) → is_eq (key_cmp leaving key) ≡ b → without leaving ((key, row) ∷ []) ≡ (key, row) ∷ []
@@ -108,14 +108,65 @@ left_last (e ∷ es) key leaving row other = by (is_eq (key_cmp key e.0)) refl (
     by false apart true left rest = rw (apart, left) rest
     by false apart false stays rest = rw (apart, stays, apart) (ap (λ (fs : List (Key × StoredRow)). e ∷ fs) rest)
 
-pub put_left : (s mid after : Stocked) (key leaving : Key) (row : StoredRow) (o : Option Key) → o ≡ Some leaving → IfSome o (λ k. k ≢ key) → mid ≡ stocked (s.next + 1) (without key s.rows ++ (key, row) ∷ []) → after ≡ stocked mid.next (without leaving mid.rows)
-    → after ≡ stocked (s.next + 1) (without key (leave o s.rows) ++ (key, row) ∷ [])
-put_left s mid after key leaving row o is apart stored taken =
-    let other : leaving ≡ key → ⊥ = subst (λ (q : Option Key). IfSome q (λ k. k ≢ key)) is apart in
-    taken
-    ∙ ap (λ (m : Stocked). stocked m.next (without leaving m.rows)) stored
-    ∙ ap (stocked (s.next + 1)) (left_last s.rows key leaving row other)
-    ∙ ap (λ (q : Option Key). stocked (s.next + 1) (without key (leave q s.rows) ++ (key, row) ∷ [])) (sym is)
+fewer : (key : Key) (es : List (Key × StoredRow)) → length (without key es) ≤ length es
+fewer key [] = omega arith
+fewer key (e ∷ es) = by (is_eq (key_cmp key e.0)) refl (fewer key es)
+  where
+    by : (b : Bool) → is_eq (key_cmp key e.0) ≡ b → length (without key es) ≤ length es → length (without key (e ∷ es)) ≤ length (e ∷ es)
+    by true here rest = rw here (omega (arith, rest))
+    by false other rest = rw other (omega (arith, rest))
+
+fewer_held : (key : Key) (row : StoredRow) (es : List (Key × StoredRow)) → row_at key es ≡ Some row → length (without key es) + 1 ≤ length es
+fewer_held key row [] at = absurd cc
+fewer_held key row (e ∷ es) at = by (is_eq (key_cmp key e.0)) refl (fewer key es) (λ there. fewer_held key row es there)
+  where
+    by : (b : Bool) → is_eq (key_cmp key e.0) ≡ b → length (without key es) ≤ length es → (row_at key es ≡ Some row → length (without key es) + 1 ≤ length es) → length (without key (e ∷ es)) + 1 ≤ length (e ∷ es)
+    by true here most rest = rw here (omega (arith, most))
+    by false other most rest =
+        let less = rest (sym (rw other refl) ∙ at) in
+        rw other (omega (arith, less))
+
+one_more : (e : Key × StoredRow) (es : List (Key × StoredRow)) → length (es ++ e ∷ []) ≡ length es + 1
+one_more e [] = omega arith
+one_more e (f ∷ fs) = let rest = one_more e fs in omega (arith, rest)
+
+module _ (s mid : Stocked) (key : Key) (row : StoredRow) (stored : mid ≡ stocked (s.next + 1) (without key s.rows ++ (key, row) ∷ [])) where
+  length_stored : length mid.rows ≡ length (without key s.rows) + 1
+  length_stored = ap (λ (m : Stocked). length m.rows) stored ∙ one_more (key, row) (without key s.rows)
+
+  -- the key had a row
+  pub put_held : (o : Option Key) → length mid.rows ≤ length s.rows → mid ≡ stocked (s.next + 1) (without key (left_for key o s.rows) ++ (key, row) ∷ [])
+  put_held o no_more = by (row_at key s.rows) refl
+    where
+      by : (before : Option StoredRow) → row_at key s.rows ≡ before → mid ≡ stocked (s.next + 1) (without key (left_for key o s.rows) ++ (key, row) ∷ [])
+      by (Some older) held = rw held stored
+      by None new =
+          let all : length (without key s.rows) ≡ length s.rows = ap (λ (fs : List (Key × StoredRow)). length fs) (without_absent key s.rows new) in
+          let longer = length_stored in
+          absurd (omega (arith, all, longer, no_more))
+
+  -- the key had none
+  was_new : length s.rows < length mid.rows → row_at key s.rows ≡ None
+  was_new more = by (row_at key s.rows) refl
+    where
+      by : (before : Option StoredRow) → row_at key s.rows ≡ before → row_at key s.rows ≡ None
+      by None new = new
+      by (Some older) held =
+          let less = fewer_held key older s.rows held in
+          let longer = length_stored in
+          absurd (omega (arith, less, longer, more))
+
+  pub put_new : (after : Stocked) (leaving : Key) (o : Option Key) → o ≡ Some leaving → IfSome o (IsFirstToEnd s.rows) → length s.rows < length mid.rows → after ≡ stocked mid.next (without leaving mid.rows)
+      → after ≡ stocked (s.next + 1) (without key (left_for key o s.rows) ++ (key, row) ∷ [])
+  put_new after leaving o is first more taken =
+      let new = was_new more in
+      let (stood, at, least) : IsFirstToEnd s.rows leaving = subst (λ (q : Option Key). IfSome q (IsFirstToEnd s.rows)) is first in
+      let other : leaving ≡ key → ⊥ = λ same. some_none stood (sym at ∙ ap (λ (k : Key). row_at k s.rows) same ∙ new) in
+      taken
+      ∙ ap (λ (m : Stocked). stocked m.next (without leaving m.rows)) stored
+      ∙ ap (stocked (s.next + 1)) (left_last s.rows key leaving row other)
+      ∙ ap (λ (q : Option Key). stocked (s.next + 1) (without key (leave q s.rows) ++ (key, row) ∷ [])) (sym is)
+      ∙ ap (λ (q : Option StoredRow). stocked (s.next + 1) (without key (cond (is_some q) s.rows (leave o s.rows)) ++ (key, row) ∷ [])) (sym new)
 
 -- ---- the rows above a number
 

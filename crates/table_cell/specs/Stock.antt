@@ -1,5 +1,5 @@
 -- What a stock holds: the rows of a table by their keys, and the number that is given next.
-use Rattle.std.specs.Prelude.{◌≡◌, ◌≤◌, ◌^◌, ℕ, List, [], ◌∷◌, map, Option, Some, None}
+use Rattle.std.specs.Prelude.{◌≡◌, ◌≤◌, ◌^◌, ℕ, List, [], ◌∷◌, cond, is_some, map, Option, Some, None}
 use Rattle.std.specs.List.{AllByRecursion}
 use Rattle.std.specs.List.Sorted.{IsStrictlySortedBy}
 use Rattle.std.specs.Map.{keys_of}
@@ -25,6 +25,10 @@ pub record IsStock (s : Stocked) : Type 0 where
 abbrev pub leave : Option Key → List (Key × StoredRow) → List (Key × StoredRow)
 leave None rows = rows
 leave (Some key) rows = without key rows
+
+-- what stays where a row of that key is stored: all rows where the key has one already
+abbrev pub left_for : Key → Option Key → List (Key × StoredRow) → List (Key × StoredRow)
+left_for key leaving rows = cond (is_some (row_at key rows)) rows (leave leaving rows)
 
 -- ---- how a stock keeps its rows: by key, and the keys in rising number beside them
 

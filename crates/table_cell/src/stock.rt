@@ -1,6 +1,6 @@
 //! The rows of a table with their numbers.
 
-ghost use Rattle.std.specs.Prelude.{◌≡◌, ◌≢◌, ◌≤◌, ◌<◌, ◌+◌, ◌^◌, [], ◌∷◌, ◌++◌, nat_lt, not, filter, length, IfNone, IfOk, IfSome, OnErr, OnOk, option_copied, option_map, slice_get};
+ghost use Rattle.std.specs.Prelude.{◌≡◌, ◌≤◌, ◌<◌, ◌+◌, ◌^◌, [], ◌∷◌, ◌++◌, nat_lt, not, filter, length, IfNone, IfOk, IfSome, OnErr, OnOk, option_copied, option_map, slice_get};
 ghost use Rattle.std.specs.Bool.{OnFalse, OnTrue};
 ghost use Rattle.std.specs.BTreeMap.{insert_entry};
 ghost use Rattle.std.specs.List.Sorted.{IsStrictlySortedBy};
@@ -10,7 +10,7 @@ ghost use Rattle.table_types.specs.Keys.{key_cmp};
 ghost use Rattle.table_rows.specs.Rows.{IsFirstToEnd, is_live, row_at};
 ghost use Rattle.update_numbers.specs.Numbers.{given};
 ghost use Rattle.table_cell.specs.Machine.{without};
-ghost use Rattle.table_cell.specs.Stock.{IsStock, leave};
+ghost use Rattle.table_cell.specs.Stock.{IsStock, left_for};
 
 use crate::above::Above;
 use std::alloc::Global;
@@ -125,16 +125,20 @@ impl<R: Rows> Stock<R> {
         self.numbers.drop_key(key);
     }
 
-    /// Stores a row, which has the next number, in place of the key's, and takes out that of `leaving`. After `Memory`
-    /// nothing has changed.
+    /// Stores a row, which has the next number, in place of the key's. Where the key had none, the row of `leaving` is
+    /// taken out to make room. After `Memory` nothing has changed.
     pub(crate) fn put(&mut self, key: Key, row: Row, leaving: Option<Key>) -> Result<(), Memory>
         requires number { row.number ≡ self.old.next }
         requires left { self.old.next < 2 ^ 32 }
-        requires apart { IfSome leaving (λ leaving. leaving ≢ key) }
-        ensures put { OnOk result (self.new ≡ record { rows = without key (leave leaving self.old.rows) ++ (key, row) ∷ []; next = self.old.next + 1 }) }
+        requires first { IfSome leaving (IsFirstToEnd self.old.rows) }
+        ensures put { OnOk result (self.new ≡ record { rows = without key (left_for key leaving self.old.rows) ++ (key, row) ∷ []; next = self.old.next + 1 }) }
         ensures stays { OnErr result (self.new ≡ self.old) }
     {
+        let before = self.len();
         self.store(key, row)?;
+        if self.len() <= before {
+            return Ok(());
+        }
         if let Some(leaving) = leaving {
             self.take(&leaving);
         }

@@ -1,13 +1,13 @@
 //! A stick table at a time.
 
-ghost use Rattle.std.specs.Prelude.{◌≡◌, ◌≢◌, ◌≤◌, ◌<◌, ◌^◌, IfOk, IfSome, List, nat_lt, OnErr, OnOk, false, filter, length, not, option_copied};
+ghost use Rattle.std.specs.Prelude.{◌≡◌, ◌≤◌, ◌<◌, ◌^◌, IfOk, IfSome, List, nat_lt, OnErr, OnOk, false, filter, length, not, option_copied};
 ghost use Rattle.std.specs.List.{list_all};
 ghost use Rattle.table_types.specs.declared.key.Key.{Key};
 ghost use Rattle.table_types.specs.Rows.{StoredRow};
-ghost use Rattle.table_rows.specs.Rows.{is_live, row_at};
+ghost use Rattle.table_rows.specs.Rows.{IsFirstToEnd, is_live, row_at};
 ghost use Rattle.table_cell.specs.Histories.{new_table};
 ghost use Rattle.table_cell.specs.Machine.{Leaves, has_room, is_full, learned, live_row, stored, tracked};
-ghost use Rattle.table_cell.specs.Stock.{leave};
+ghost use Rattle.table_cell.specs.Stock.{left_for};
 
 use crate::progress::Progress;
 use crate::stock::Stock;
@@ -81,7 +81,7 @@ impl Table {
     pub(crate) fn has_room(&self, key: &Key) -> bool
         ensures { result ≡ has_room self.now key.now }
     {
-        self.stock.row(key).is_some() || self.stock.len() < self.size
+        self.stock.len() < self.size || self.stock.row(key).is_some()
     }
 
     fn are_live(&self, now: Moment) -> bool
@@ -144,13 +144,13 @@ impl Table {
         Row::learned_as(self.alloc, update, number, self.definition.expire(), now)
     }
 
-    /// The key of the row that leaves where one of that key is to be stored, if one does.
-    fn leaving(&self, key: &Key) -> Result<Option<Key>, Memory>
+    /// The key of the row that leaves where one of a new key is to be stored, if one does.
+    fn leaving(&self) -> Result<Option<Key>, Memory>
         requires { 1 ≤ self.now.size }
-        ensures leaves { IfOk result (λ leaving. Leaves self.now key.now (leave leaving self.now.rows)) }
-        ensures apart { IfOk result (λ leaving. IfSome leaving (λ leaving. leaving ≢ key.now)) }
+        ensures leaves { IfOk result (λ leaving. (key : Key) → Leaves self.now key (left_for key leaving self.now.rows)) }
+        ensures first { IfOk result (λ leaving. IfSome leaving (IsFirstToEnd self.now.rows)) }
     {
-        if self.has_room(key) {
+        if self.stock.len() < self.size {
             return Ok(None);
         }
         match self.stock.first_to_end() {
@@ -168,7 +168,7 @@ impl Table {
         ensures stored { OnOk result ((rest : List (Key × StoredRow)) × Leaves self.old key rest × (self.new ≡ stored self.old key row now rest)) }
         ensures stays { OnErr result (self.new ≡ self.old) }
     {
-        let leaving = self.leaving(&key)?;
+        let leaving = self.leaving()?;
         self.stock.put(key, row, leaving)?;
         self.latest = now;
         Ok(())
