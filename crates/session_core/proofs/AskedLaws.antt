@@ -1,5 +1,5 @@
 -- An event that makes a step is one that is asked for.
-use Rattle.std.proofs.Common.{◌≡◌, ℕ, Bool, true, false, List, [], ◌∷◌, refl}
+use Rattle.std.proofs.Common.{◌≡◌, ℕ, true, List, refl}
 use Rattle.std.proofs.lemmas.Bool.{eq-eqb}
 use Rattle.peers_hello.specs.declared.hello.Hello.{Hello}
 use Rattle.session_core.specs.declared.action.Action.{Action}
@@ -39,7 +39,7 @@ asked_hello s greeter bytes c (events.Refused table) acts e goes = absurd goes
 
 asked_open : (s : SessionState) (c : Course) (event : Event) (acts : List Action) (e : SessionState) → GoesOpen s c event acts e → is_asked_open c.due event ≡ true
 asked_open s c events.Turn acts e (none, turns) = rw none refl
-asked_open s c (events.Bytes bytes) acts e (none, hearkens) = rw none refl
+asked_open s c (events.Bytes bytes) acts e (none, receives) = rw none refl
 asked_open s c (events.Copied table batch) acts e (mid, answered, copied) = rw answered.0 (eq-eqb table table refl)
 asked_open s c (events.Nothing table) acts e (mid, answered, nothing) = rw answered.0 (eq-eqb table table refl)
 asked_open s c (events.Written known) acts e (mid, answered, is, then) = rw answered.0 refl

@@ -1,5 +1,5 @@
 -- It is confirmed where that was sent.
-use Rattle.std.proofs.Common.{◌≡◌, ℕ, Bool, true, false, ◌||◌, List, [], ◌∷◌, ◌++◌, Some, None, Option, Ok, Err, Result, refl, sym, ap, ◌∙◌, subst, ◌⊎◌, inl, inr}
+use Rattle.std.proofs.Common.{◌≡◌, ℕ, Bool, true, false, ◌||◌, List, [], ◌∷◌, ◌++◌, Some, None, Option, Ok, Err, Result, refl, ap, ◌∙◌, inl, inr}
 use Rattle.std.specs.Prelude.{drop}
 use Rattle.std.specs.Fmt.{decimal}
 use Rattle.table_types.specs.Tables.{Definition}
@@ -24,10 +24,9 @@ use Rattle.session_core.specs.declared.phase.Greeter.TheVariants as greeters
 use Rattle.session_core.specs.declared.phase.Phase.{Phase}
 use Rattle.session_core.specs.declared.phase.Phase.TheVariants as phases
 use Rattle.session_core.specs.declared.share.Share.{Share}
-use Rattle.session_core.specs.Shares.{all_quiet}
 use Rattle.session_core.specs.Actions.{confirms, reopens, sends_control, status_text}
 use Rattle.session_core.specs.Courses.{Course, course_fed, table_to_ask, finished}
-use Rattle.session_core.specs.Sessions.{SessionState, Goes, GoesIn, GoesNew, GoesHello, GoesOpen, Concludes, Hearkens, IsWelcomed, Connects, Accepts, Greets, Turns, HasNothing, Quiets, Frees, Settles}
+use Rattle.session_core.specs.Sessions.{SessionState, GoesIn, GoesNew, GoesHello, GoesOpen, Concludes, ReceivesBytes, IsWelcomed, Connects, Accepts, Greets, Turns, HasNothing, FinishesResync, StartsPendingResync, Settles}
 use Rattle.session_core.specs.Runs.{Runs, IsBegun, was_confirmed}
 use Rattle.session_core.proofs.EndLemmas.{no_control}
 
@@ -55,8 +54,8 @@ said_heard s c (Err halts.Failed) given acts e (is, ends) = ap (λ (x : SessionS
 said_heard s c (Err (halts.Fault fault)) given acts e (is, ends) = ap (λ (x : SessionState). x.confirmed) ends
 said_heard s c (Err halts.Memory) given acts e concludes = absurd concludes
 
-said_hearkens : (s : SessionState) (c : Course) (first acts : List Action) (e : SessionState) → Hearkens s c first acts e → IsSaid s acts e
-said_hearkens s c first acts e (result, given, mid, hears, concludes) = said_heard s mid result (first ++ given) acts e concludes
+said_receives : (s : SessionState) (c : Course) (first acts : List Action) (e : SessionState) → ReceivesBytes s c first acts e → IsSaid s acts e
+said_receives s c first acts e (result, given, mid, hears, concludes) = said_heard s mid result (first ++ given) acts e concludes
 
 said_new : (s : SessionState) (hello : Hello) (c : Course) (event : Event) (acts : List Action) (e : SessionState) → GoesNew s hello c event acts e → IsSaid s acts e
 said_new s hello c events.Opened acts e (is, ends) = unsaid s e _ acts _ is refl ends refl
@@ -72,7 +71,7 @@ said_new s hello c (events.Settled table settled) acts e goes = absurd goes
 said_new s hello c (events.Refused table) acts e goes = absurd goes
 
 said_welcomed : (b : Bool) (s : SessionState) (c : Course) (rest : List ℕ) (acts : List Action) (e : SessionState) → IsWelcomed b s c rest acts e → IsSaid s acts e
-said_welcomed true s c rest acts e hearkens = said_hearkens s (course_fed c rest) (sends_control controls.ResyncRequest ∷ []) acts e hearkens
+said_welcomed true s c rest acts e receives = said_receives s (course_fed c rest) (sends_control controls.ResyncRequest ∷ []) acts e receives
 said_welcomed false s c rest acts e (is, ends) = unsaid s e _ acts (actions.Close ∷ []) is refl ends refl
 
 said_connects : (status : Status) (s : SessionState) (bytes : List ℕ) (c : Course) (acts : List Action) (e : SessionState) → Connects status s bytes c acts e → IsSaid s acts e
@@ -85,7 +84,7 @@ turned_away code = rw (no_control (decimal code) controls.ResyncConfirmed) refl
 
 said_accepts : (answer : Answer) (s : SessionState) (greeter : Greeter) (bytes : List ℕ) (c : Course) (acts : List Action) (e : SessionState) → Accepts answer s greeter bytes c acts e → IsSaid s acts e
 said_accepts answers.More s greeter bytes c acts e (is, ends) = unsaid s e _ acts [] is refl ends refl
-said_accepts (answers.Accepted name used) s greeter bytes c acts e goes = said_hearkens s (course_fed c (drop used bytes)) (actions.Send (status_text 200) ∷ []) acts e goes
+said_accepts (answers.Accepted name used) s greeter bytes c acts e goes = said_receives s (course_fed c (drop used bytes)) (actions.Send (status_text 200) ∷ []) acts e goes
 said_accepts (answers.Refused code used) s greeter bytes c acts e (is, ends) = unsaid s e _ acts (actions.Send (status_text code) ∷ (actions.Close ∷ [])) is (turned_away code) ends refl
 
 said_greets : (s : SessionState) (greeter : Greeter) (bytes : List ℕ) (c : Course) (acts : List Action) (e : SessionState) → Greets s greeter bytes c acts e → IsSaid s acts e
@@ -113,12 +112,12 @@ reopens_plain : (ss : List Share) → confirms (reopens ss) ≡ false
 reopens_plain [] = refl
 reopens_plain (s ∷ ss) = reopens_plain ss
 
-said_frees : (b : Bool) (s : SessionState) (c : Course) (acts : List Action) (e : SessionState) → Frees b s c acts e → IsSaid s acts e
-said_frees true s c acts e (is, ends) = unsaid s e _ acts (reopens c.shares) is (reopens_plain c.shares) ends refl
-said_frees false s c acts e (is, ends) = unsaid s e _ acts [] is refl ends refl
+said_starts : (b : Bool) (s : SessionState) (c : Course) (acts : List Action) (e : SessionState) → StartsPendingResync b s c acts e → IsSaid s acts e
+said_starts true s c acts e (is, ends) = unsaid s e _ acts (reopens c.shares) is (reopens_plain c.shares) ends refl
+said_starts false s c acts e (is, ends) = unsaid s e _ acts [] is refl ends refl
 
 said_settles : (settled : Settled) (s : SessionState) (c : Course) (table : ℕ) (acts : List Action) (e : SessionState) → Settles settled s c table acts e → IsSaid s acts e
-said_settles settles.All s c table acts e frees = said_frees _ s _ acts e frees
+said_settles settles.All s c table acts e starts = said_starts _ s _ acts e starts
 said_settles settles.Some s c table acts e (is, ends) = unsaid s e _ acts [] is refl ends refl
 said_settles settles.Older s c table acts e (is, ends) = unsaid s e _ acts [] is refl ends refl
 
@@ -126,7 +125,7 @@ finished_plain : (b : Bool) → confirms (sends_control (finished b) ∷ []) ≡
 finished_plain true = refl
 finished_plain false = refl
 
-said_quiets : (b : Bool) (s : SessionState) (c : Course) (acts : List Action) (e : SessionState) → Quiets b s c acts e → IsSaid s acts e
+said_quiets : (b : Bool) (s : SessionState) (c : Course) (acts : List Action) (e : SessionState) → FinishesResync b s c acts e → IsSaid s acts e
 said_quiets true s c acts e (is, ends) = unsaid s e _ acts (sends_control (finished c.up_to_date) ∷ []) is (finished_plain c.up_to_date) ends refl
 said_quiets false s c acts e (is, ends) = unsaid s e _ acts [] is refl ends refl
 
@@ -136,7 +135,7 @@ said_nothing false s c table acts e (is, ends) = unsaid s e _ acts [] is refl en
 
 said_open : (s : SessionState) (c : Course) (event : Event) (acts : List Action) (e : SessionState) → GoesOpen s c event acts e → IsSaid s acts e
 said_open s c events.Turn acts e (none, turns) = said_turns (table_to_ask c) s c acts e turns
-said_open s c (events.Bytes bytes) acts e (none, hearkens) = said_hearkens s (course_fed c bytes) [] acts e hearkens
+said_open s c (events.Bytes bytes) acts e (none, receives) = said_receives s (course_fed c bytes) [] acts e receives
 said_open s c (events.Copied table batch) acts e (mid, answered, (is, ends)) = unsaid s e _ acts (actions.Teach batch ∷ []) is refl ends refl
 said_open s c (events.Nothing table) acts e (mid, answered, nothing) = said_nothing mid.teaching s mid table acts e nothing
 said_open s c (events.Written known) acts e (mid, answered, is, ends) = unsaid s e _ acts [] is refl ends refl

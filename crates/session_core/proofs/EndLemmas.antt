@@ -1,15 +1,15 @@
--- What ends a resync, and what copies: not what answers the far side's messages.
-use Rattle.std.proofs.Common.{◌≡◌, ℕ, Bool, true, false, ◌&&◌, ◌||◌, not, List, [], ◌∷◌, ◌++◌, Some, None, Option, refl, sym, ap, ◌∙◌, cond}
-use Rattle.std.specs.Prelude.{filter_map, option_map, map}
+-- What ends a resync, and what copies: not what answers the remote peer's messages.
+use Rattle.std.proofs.Common.{◌≡◌, ℕ, Bool, true, false, ◌&&◌, List, [], ◌∷◌, ◌++◌, Some, None, Option, refl, ◌∙◌, cond}
+use Rattle.std.specs.Prelude.{filter_map, option_map}
 use Rattle.std.specs.Fmt.{decimal}
-use Rattle.std.specs.List.{list_any, AllByRecursion, cons_option}
+use Rattle.std.specs.List.{AllByRecursion, cons_option}
 use Rattle.std.proofs.lemmas.List.Folds.{list_any-append}
 use Rattle.table_types.specs.Tables.{Definition}
 use Rattle.peers_msg.specs.declared.control.Control.{Control}
 use Rattle.peers_msg.specs.declared.control.Control.TheVariants as controls
 use Rattle.peers_msg.specs.declared.message.Message.{Message}
 use Rattle.peers_msg.specs.declared.message.Message.TheVariants as messages
-use Rattle.peers_msg.specs.Spelling.{spelled, stream_of}
+use Rattle.peers_msg.specs.Spelling.{spelled}
 use Rattle.peers_hello.specs.declared.hello.Hello.{Hello}
 use Rattle.peers_hello.specs.Hellos.{hello_text}
 use Rattle.peers_hello.specs.Lines.{is_same}
@@ -19,7 +19,7 @@ use Rattle.learner.specs.Intake.{Taking, ack_of, acks_of}
 use Rattle.session_core.specs.declared.share.Share.{Share}
 use Rattle.session_core.specs.declared.action.Action.{Action}
 use Rattle.session_core.specs.declared.action.Action.TheVariants as actions
-use Rattle.session_core.specs.Actions.{control_text, sends_control, sends_acks, status_text, reopens}
+use Rattle.session_core.specs.Actions.{control_text, sends_acks, status_text, reopens}
 use Rattle.session_core.specs.Courses.{Course, heard, said, requested, acknowledged, AreHeard}
 use Rattle.session_core.specs.Runs.{is_end, ends_resync, is_copy_of, copies}
 

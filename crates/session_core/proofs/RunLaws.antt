@@ -1,5 +1,5 @@
 -- A resync ends only where all is taught.
-use Rattle.std.proofs.Common.{◌≡◌, ◌≢◌, ℕ, Bool, true, false, List, [], ◌∷◌, ◌++◌, Some, None, Option, Ok, Err, Result, refl, sym, ap, ◌∙◌, subst, ◌⊎◌, inl, inr, append_assoc, cond, ◌==◌}
+use Rattle.std.proofs.Common.{◌≡◌, ℕ, Bool, true, false, List, [], ◌∷◌, ◌++◌, Some, None, Option, Ok, Err, Result, refl, sym, ap, ◌∙◌, subst, inl, inr, append_assoc, cond, ◌==◌}
 use Rattle.std.specs.Prelude.{drop}
 use Rattle.std.specs.List.{AllByRecursion}
 use Rattle.std.proofs.lemmas.List.{append-nil}
@@ -31,11 +31,11 @@ use Rattle.session_core.specs.declared.share.Share.{Share}
 use Rattle.session_core.specs.Shares.{any_out, all_quiet, quiet_set}
 use Rattle.session_core.specs.Actions.{sends_control, status_text}
 use Rattle.session_core.specs.Courses.{Course, course_fed, HearsAll, acks_given, table_to_ask}
-use Rattle.session_core.specs.Sessions.{SessionState, Goes, GoesIn, GoesNew, GoesHello, GoesOpen, Concludes, Hearkens, IsWelcomed, Connects, Accepts, Greets, Turns, HasNothing, Quiets, Frees, Settles}
+use Rattle.session_core.specs.Sessions.{SessionState, Goes, GoesIn, GoesNew, GoesHello, GoesOpen, Concludes, ReceivesBytes, IsWelcomed, Connects, Accepts, Greets, Turns, HasNothing, FinishesResync, StartsPendingResync, Settles}
 use Rattle.session_core.specs.Runs.{Runs, IsBegun, ends_resync, HasNothingLeft, HasNothingOut}
 use Rattle.session_core.proofs.ShareLemmas.{shares_in, ids_of, shares_begin, none_out, each_quiet}
 use Rattle.session_core.proofs.EndLemmas.{is_plain, plain_append, plain_all, plain_acks, plain_status, plain_reopens}
-use Rattle.session_core.proofs.RunLemmas.{IsKeptIn, IsSound, AreFlags, no_copies}
+use Rattle.session_core.proofs.RunLemmas.{IsKeptIn, IsSound}
 use Rattle.session_core.proofs.StepLemmas.{goes_kept, with_step, quieted}
 
 -- ---- runs
@@ -71,8 +71,8 @@ no_end_heard s c mid first acts given e (Err (halts.Fault fault)) plain (ts, lef
     no_end acts ((first ++ given) ++ (actions.Part _ ∷ [])) is (plain_append 0 (first ++ given) (actions.Part _ ∷ []) (plain_append 0 first given plain (plain_all 0 c left ts given are)) (refl, refl)).0 ends
 no_end_heard s c mid first acts given e (Err halts.Memory) plain hears concludes ends = absurd concludes
 
-no_end_hearkens : {X : Type 0} (s : SessionState) (c : Course) (first acts : List Action) (e : SessionState) → is_plain 0 first → Hearkens s c first acts e → ends_resync acts ≡ true → X
-no_end_hearkens s c first acts e plain (result, given, mid, hears, concludes) ends = no_end_heard s c mid first acts given e result plain hears concludes ends
+no_end_receives : {X : Type 0} (s : SessionState) (c : Course) (first acts : List Action) (e : SessionState) → is_plain 0 first → ReceivesBytes s c first acts e → ends_resync acts ≡ true → X
+no_end_receives s c first acts e plain (result, given, mid, hears, concludes) ends = no_end_heard s c mid first acts given e result plain hears concludes ends
 
 no_end_new : {X : Type 0} (s : SessionState) (hello : Hello) (c : Course) (event : Event) (acts : List Action) (e : SessionState) → GoesNew s hello c event acts e → ends_resync acts ≡ true → X
 no_end_new s hello c events.Opened acts e (is, then) ends = no_end acts _ is refl ends
@@ -88,7 +88,7 @@ no_end_new s hello c (events.Settled table settled) acts e goes ends = absurd go
 no_end_new s hello c (events.Refused table) acts e goes ends = absurd goes
 
 no_end_welcomed : {X : Type 0} (b : Bool) (s : SessionState) (c : Course) (rest : List ℕ) (acts : List Action) (e : SessionState) → IsWelcomed b s c rest acts e → ends_resync acts ≡ true → X
-no_end_welcomed true s c rest acts e hearkens ends = no_end_hearkens s (course_fed c rest) (sends_control controls.ResyncRequest ∷ []) acts e (refl, refl) hearkens ends
+no_end_welcomed true s c rest acts e receives ends = no_end_receives s (course_fed c rest) (sends_control controls.ResyncRequest ∷ []) acts e (refl, refl) receives ends
 no_end_welcomed false s c rest acts e (is, then) ends = no_end acts (actions.Close ∷ []) is refl ends
 
 no_end_connects : {X : Type 0} (status : Status) (s : SessionState) (bytes : List ℕ) (c : Course) (acts : List Action) (e : SessionState) → Connects status s bytes c acts e → ends_resync acts ≡ true → X
@@ -98,7 +98,7 @@ no_end_connects (statuses.Other used) s bytes c acts e (is, then) ends = no_end 
 
 no_end_accepts : {X : Type 0} (answer : Answer) (s : SessionState) (greeter : Greeter) (bytes : List ℕ) (c : Course) (acts : List Action) (e : SessionState) → Accepts answer s greeter bytes c acts e → ends_resync acts ≡ true → X
 no_end_accepts answers.More s greeter bytes c acts e (is, then) ends = no_end acts [] is refl ends
-no_end_accepts (answers.Accepted name used) s greeter bytes c acts e goes ends = no_end_hearkens s (course_fed c (drop used bytes)) (actions.Send (status_text 200) ∷ []) acts e (plain_status 0 200) goes ends
+no_end_accepts (answers.Accepted name used) s greeter bytes c acts e goes ends = no_end_receives s (course_fed c (drop used bytes)) (actions.Send (status_text 200) ∷ []) acts e (plain_status 0 200) goes ends
 no_end_accepts (answers.Refused code used) s greeter bytes c acts e (is, then) ends =
     no_end acts ((actions.Send (status_text code) ∷ []) ++ (actions.Close ∷ [])) is (plain_append 0 (actions.Send (status_text code) ∷ []) (actions.Close ∷ []) (plain_status 0 code) (refl, refl)).0 ends
 
@@ -123,12 +123,12 @@ no_end_turns : {X : Type 0} (asked : Option ℕ) (s : SessionState) (c : Course)
 no_end_turns None s c acts e (is, then) ends = no_end acts [] is refl ends
 no_end_turns (Some table) s c acts e (is, then) ends = no_end acts _ is refl ends
 
-no_end_frees : {X : Type 0} (b : Bool) (s : SessionState) (c : Course) (acts : List Action) (e : SessionState) → Frees b s c acts e → ends_resync acts ≡ true → X
-no_end_frees true s c acts e (is, then) ends = no_end acts _ is (plain_reopens 0 c.shares).0 ends
-no_end_frees false s c acts e (is, then) ends = no_end acts [] is refl ends
+no_end_starts : {X : Type 0} (b : Bool) (s : SessionState) (c : Course) (acts : List Action) (e : SessionState) → StartsPendingResync b s c acts e → ends_resync acts ≡ true → X
+no_end_starts true s c acts e (is, then) ends = no_end acts _ is (plain_reopens 0 c.shares).0 ends
+no_end_starts false s c acts e (is, then) ends = no_end acts [] is refl ends
 
 no_end_settles : {X : Type 0} (settled : Settled) (s : SessionState) (c : Course) (table : ℕ) (acts : List Action) (e : SessionState) → Settles settled s c table acts e → ends_resync acts ≡ true → X
-no_end_settles settles.All s c table acts e frees ends = no_end_frees _ s _ acts e frees ends
+no_end_settles settles.All s c table acts e starts ends = no_end_starts _ s _ acts e starts ends
 no_end_settles settles.Some s c table acts e (is, then) ends = no_end acts [] is refl ends
 no_end_settles settles.Older s c table acts e (is, then) ends = no_end acts [] is refl ends
 
@@ -141,9 +141,9 @@ quiet_keeps_out table (s ∷ ss) = rw (one_keeps_out (s.table == table) s, quiet
     one_keeps_out true s = refl
     one_keeps_out false s = refl
 
-quiets_taught : (roster : List Definition) (steps : List (Event × List Action)) (b : Bool) (s : SessionState) (c : Course) (table : ℕ) (rest : List Due) (acts : List Action) (e : SessionState) → s.phase ≡ phases.Open c → IsSound (ids_of roster) steps c → c.due ≡ dues.Copy table ∷ rest → c.teaching ≡ true → all_quiet (quiet_set table c.shares) ≡ b → Quiets b s (record c { shares = quiet_set table c.shares; due = rest }) acts e → ends_resync acts ≡ true → IsTaught roster steps s (events.Nothing table) acts
-quiets_taught roster steps false s c table rest acts e stands sound due teaching all (is, then) ends = no_end acts [] is refl ends
-quiets_taught roster steps true s c table rest acts e stands sound due teaching all (is, then) ends =
+finishes_taught : (roster : List Definition) (steps : List (Event × List Action)) (b : Bool) (s : SessionState) (c : Course) (table : ℕ) (rest : List Due) (acts : List Action) (e : SessionState) → s.phase ≡ phases.Open c → IsSound (ids_of roster) steps c → c.due ≡ dues.Copy table ∷ rest → c.teaching ≡ true → all_quiet (quiet_set table c.shares) ≡ b → FinishesResync b s (record c { shares = quiet_set table c.shares; due = rest }) acts e → ends_resync acts ≡ true → IsTaught roster steps s (events.Nothing table) acts
+finishes_taught roster steps false s c table rest acts e stands sound due teaching all (is, then) ends = no_end acts [] is refl ends
+finishes_taught roster steps true s c table rest acts e stands sound due teaching all (is, then) ends =
     let q = quieted (ids_of roster) steps c table rest acts sound due teaching (λ id. rw is refl) in
     let quiet : all_quiet (shares_in (ids_of roster) q.0 q.1) ≡ true = sym (ap all_quiet q.2.0) ∙ all in
     let out : any_out (shares_in (ids_of roster) q.0 q.1) ≡ false = none_out (ids_of roster) q.0 q.1 (λ id quiets. (q.2.1 teaching id quiets).0) quiet in (
@@ -152,12 +152,12 @@ quiets_taught roster steps true s c table rest acts e stands sound due teaching 
     )
 
 nothing_taught : (roster : List Definition) (steps : List (Event × List Action)) (b : Bool) (s : SessionState) (c : Course) (table : ℕ) (rest : List Due) (acts : List Action) (e : SessionState) → s.phase ≡ phases.Open c → IsSound (ids_of roster) steps c → c.due ≡ dues.Copy table ∷ rest → c.teaching ≡ b → HasNothing b s (record c { due = rest }) table acts e → ends_resync acts ≡ true → IsTaught roster steps s (events.Nothing table) acts
-nothing_taught roster steps true s c table rest acts e stands sound due teaching quiets ends = quiets_taught roster steps _ s c table rest acts e stands sound due teaching refl quiets ends
+nothing_taught roster steps true s c table rest acts e stands sound due teaching quiets ends = finishes_taught roster steps _ s c table rest acts e stands sound due teaching refl quiets ends
 nothing_taught roster steps false s c table rest acts e stands sound due teaching (is, then) ends = no_end acts [] is refl ends
 
 open_taught : (roster : List Definition) (steps : List (Event × List Action)) (s : SessionState) (c : Course) (event : Event) (acts : List Action) (e : SessionState) → s.phase ≡ phases.Open c → IsSound (ids_of roster) steps c → GoesOpen s c event acts e → ends_resync acts ≡ true → IsTaught roster steps s event acts
 open_taught roster steps s c events.Turn acts e stands sound (none, turns) ends = no_end_turns (table_to_ask c) s c acts e turns ends
-open_taught roster steps s c (events.Bytes bytes) acts e stands sound (none, hearkens) ends = no_end_hearkens s (course_fed c bytes) [] acts e (refl, refl) hearkens ends
+open_taught roster steps s c (events.Bytes bytes) acts e stands sound (none, receives) ends = no_end_receives s (course_fed c bytes) [] acts e (refl, refl) receives ends
 open_taught roster steps s c (events.Copied table batch) acts e stands sound (mid, answered, (is, then)) ends = no_end acts (actions.Teach batch ∷ []) is refl ends
 open_taught roster steps s c (events.Nothing table) acts e stands sound (mid, answered, nothing) ends =
     nothing_taught roster steps c.teaching s c table mid.due acts e stands sound answered.0 refl (subst (λ (m : Course). HasNothing m.teaching s m table acts e) answered.1 nothing) ends

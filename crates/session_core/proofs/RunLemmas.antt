@@ -1,13 +1,8 @@
 -- What every run keeps.
-use Rattle.std.proofs.Common.{◌≡◌, ◌≢◌, ℕ, Bool, true, false, ◌&&◌, ◌==◌, not, List, [], ◌∷◌, ◌++◌, Some, None, Option, Ok, Err, Result, refl, sym, ap, ◌∙◌, subst, ◌⊎◌, inl, inr, append_assoc}
+use Rattle.std.proofs.Common.{◌≡◌, ℕ, Bool, true, false, not, List, [], ◌∷◌, ◌++◌, refl, sym, ap, ◌∙◌, subst, append_assoc}
 use Rattle.std.specs.List.{list_all, AllByRecursion}
-use Rattle.std.proofs.lemmas.Bool.{cases_eq, eq-eqb, ne_eqb, false≢true}
+use Rattle.std.proofs.lemmas.Bool.{false≢true}
 use Rattle.std.proofs.lemmas.List.Folds.{list_all-append}
-use Rattle.table_types.specs.Tables.{Definition}
-use Rattle.table_types.specs.declared.update.Update.{Update}
-use Rattle.table_types.specs.declared.copies.CopyKind.TheVariants as kinds
-use Rattle.table_types.specs.declared.copies.Settled.{Settled}
-use Rattle.table_types.specs.declared.copies.Settled.TheVariants as settles
 use Rattle.peers_msg.specs.declared.control.Control.{Control}
 use Rattle.peers_msg.specs.declared.control.Control.TheVariants as controls
 use Rattle.learner.specs.declared.taken.Taken.{Taken}
@@ -23,7 +18,6 @@ use Rattle.session_core.specs.declared.phase.Phase.TheVariants as phases
 use Rattle.session_core.specs.declared.share.Share.{Share}
 use Rattle.session_core.specs.Shares.{any_out, unquieted}
 use Rattle.session_core.specs.Courses.{Course, heard, said, requested, acknowledged, Hears, AreHeard, kind_of}
-use Rattle.session_core.specs.Sessions.{SessionState}
 use Rattle.session_core.specs.Runs.{copies, HasNothingLeft}
 use Rattle.session_core.proofs.ShareLemmas.{shares_in, never, unquieted_in, IsFree}
 

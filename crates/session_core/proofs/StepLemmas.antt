@@ -1,5 +1,5 @@
 -- Each step of a session keeps what every run keeps.
-use Rattle.std.proofs.Common.{◌≡◌, ◌≢◌, ℕ, Bool, true, false, ◌&&◌, ◌==◌, not, List, [], ◌∷◌, ◌++◌, Some, None, Option, Ok, Err, Result, refl, sym, ap, ◌∙◌, subst, ◌⊎◌, inl, inr, append_assoc, cond}
+use Rattle.std.proofs.Common.{◌≡◌, ℕ, Bool, true, false, List, [], ◌∷◌, ◌++◌, Some, None, Option, Ok, Err, Result, refl, sym, ap, ◌∙◌, subst, inl, inr, append_assoc, cond}
 use Rattle.std.specs.Prelude.{is_some, drop}
 use Rattle.std.proofs.lemmas.Bool.{cases_eq, eq-eqb, ne_eqb, false≢true}
 use Rattle.table_types.specs.declared.update.Update.{Update}
@@ -26,13 +26,13 @@ use Rattle.session_core.specs.declared.phase.Greeter.{Greeter}
 use Rattle.session_core.specs.declared.phase.Greeter.TheVariants as greeters
 use Rattle.session_core.specs.declared.phase.Phase.{Phase}
 use Rattle.session_core.specs.declared.phase.Phase.TheVariants as phases
-use Rattle.session_core.specs.Shares.{any_out, all_quiet, out_set, quiet_set, unquieted, next_table}
+use Rattle.session_core.specs.Shares.{out_set, quiet_set, next_table}
 use Rattle.session_core.specs.Actions.{sends_control, status_text}
 use Rattle.peers_msg.specs.declared.control.Control.TheVariants as controls
-use Rattle.session_core.specs.Courses.{Course, course_fed, HearsAll, acks_given, acks_sent, Answered, table_to_ask, kind_of, teaching_anew}
-use Rattle.session_core.specs.Sessions.{SessionState, Concludes, Hearkens, IsWelcomed, Connects, Accepts, Greets, GoesNew, GoesHello, GoesOpen, GoesIn, Turns, IsCopied, HasNothing, Quiets, Frees, Settles, Stays}
+use Rattle.session_core.specs.Courses.{Course, course_fed, HearsAll, acks_given, acks_sent, table_to_ask, kind_of, teaching_anew}
+use Rattle.session_core.specs.Sessions.{SessionState, Concludes, ReceivesBytes, IsWelcomed, Connects, Accepts, Greets, GoesNew, GoesHello, GoesOpen, GoesIn, Turns, IsCopied, HasNothing, FinishesResync, StartsPendingResync, Settles}
 use Rattle.session_core.specs.Runs.{copies, HasNothingLeft}
-use Rattle.session_core.proofs.ShareLemmas.{shares_in, set_at, never, out_set_in, quiet_set_in, unquieted_in, IsFree, next_free, no_clash}
+use Rattle.session_core.proofs.ShareLemmas.{shares_in, set_at, never, out_set_in, quiet_set_in, IsFree, next_free, no_clash}
 use Rattle.session_core.proofs.EndLemmas.{is_plain, plain_append, plain_all, plain_acks, plain_status}
 use Rattle.session_core.proofs.RunLemmas.{IsSound, IsCalm, IsFresh, IsKeptIn, AreFlags, IsDueSound, no_copies, due_sound, due_rest, calm_sound, fresh_calm, flags_more, calm_more, calm_all, anew_flags, left_more}
 
@@ -48,21 +48,21 @@ phase_is s e is = ap (λ (x : SessionState). x.phase) is
 
 -- ---- bytes
 
-hearken_kept : (ids : List ℕ) (steps : List (Event × List Action)) (s : SessionState) (c : Course) (first acts : List Action) (e : SessionState) (event : Event) (result : Result (Unit {0}) Halt) (given : List Action) (mid : Course) → IsCalm ids steps c → ((id : ℕ) → is_plain id first) → HearsAll c result given mid → Concludes s mid result (first ++ given) acts e → IsKeptIn ids (with_step steps event acts) e.phase
-hearken_kept ids steps s c first acts e event (Ok u) given mid calm plain (ts, are, waits) (is, ends) =
+received_kept : (ids : List ℕ) (steps : List (Event × List Action)) (s : SessionState) (c : Course) (first acts : List Action) (e : SessionState) (event : Event) (result : Result (Unit {0}) Halt) (given : List Action) (mid : Course) → IsCalm ids steps c → ((id : ℕ) → is_plain id first) → HearsAll c result given mid → Concludes s mid result (first ++ given) acts e → IsKeptIn ids (with_step steps event acts) e.phase
+received_kept ids steps s c first acts e event (Ok u) given mid calm plain (ts, are, waits) (is, ends) =
     let no_copy : (id : ℕ) → copies id acts ≡ false = λ id.
     rw is ((plain_append id (first ++ given) (acks_given mid) (plain_append id first given (plain id) (plain_all id c mid ts given are)) (plain_acks id mid.intake)).1) in
     let calm_then : IsCalm ids (with_step steps event acts) mid = calm_more ids steps mid event acts no_copy (calm_all ids steps c mid ts given are calm) in
     stands ids (with_step steps event acts) e (phases.Open (acks_sent mid)) (ap (λ (x : SessionState). x.phase) ends) (calm_sound ids (with_step steps event acts) (acks_sent mid) calm_then)
-hearken_kept ids steps s c first acts e event (Err halts.Failed) given mid calm plain hears (is, ends) =
+received_kept ids steps s c first acts e event (Err halts.Failed) given mid calm plain hears (is, ends) =
     stands ids (with_step steps event acts) e phases.Ended (ap (λ (x : SessionState). x.phase) ends) tt
-hearken_kept ids steps s c first acts e event (Err (halts.Fault fault)) given mid calm plain hears (is, ends) =
+received_kept ids steps s c first acts e event (Err (halts.Fault fault)) given mid calm plain hears (is, ends) =
     stands ids (with_step steps event acts) e phases.Ended (ap (λ (x : SessionState). x.phase) ends) tt
-hearken_kept ids steps s c first acts e event (Err halts.Memory) given mid calm plain hears concludes = absurd concludes
+received_kept ids steps s c first acts e event (Err halts.Memory) given mid calm plain hears concludes = absurd concludes
 
-hearkens_kept : (ids : List ℕ) (steps : List (Event × List Action)) (s : SessionState) (c : Course) (first acts : List Action) (e : SessionState) (event : Event) → IsCalm ids steps c → ((id : ℕ) → is_plain id first) → Hearkens s c first acts e → IsKeptIn ids (with_step steps event acts) e.phase
-hearkens_kept ids steps s c first acts e event calm plain (result, given, mid, hears, concludes) =
-    hearken_kept ids steps s c first acts e event result given mid calm plain hears concludes
+receives_kept : (ids : List ℕ) (steps : List (Event × List Action)) (s : SessionState) (c : Course) (first acts : List Action) (e : SessionState) (event : Event) → IsCalm ids steps c → ((id : ℕ) → is_plain id first) → ReceivesBytes s c first acts e → IsKeptIn ids (with_step steps event acts) e.phase
+receives_kept ids steps s c first acts e event calm plain (result, given, mid, hears, concludes) =
+    received_kept ids steps s c first acts e event result given mid calm plain hears concludes
 
 -- ---- New and Hello
 
@@ -80,7 +80,7 @@ new_kept ids steps s hello c (events.Settled table settled) acts e fresh goes = 
 new_kept ids steps s hello c (events.Refused table) acts e fresh goes = absurd goes
 
 welcomed_kept : (ids : List ℕ) (steps : List (Event × List Action)) (b : Bool) (s : SessionState) (c : Course) (rest : List ℕ) (acts : List Action) (e : SessionState) (event : Event) → IsFresh ids c → IsWelcomed b s c rest acts e → IsKeptIn ids (with_step steps event acts) e.phase
-welcomed_kept ids steps true s c rest acts e event fresh hearkens = hearkens_kept ids steps s (course_fed c rest) (sends_control controls.ResyncRequest ∷ []) acts e event (fresh_calm ids steps c fresh) (λ id. (refl, refl)) hearkens
+welcomed_kept ids steps true s c rest acts e event fresh receives = receives_kept ids steps s (course_fed c rest) (sends_control controls.ResyncRequest ∷ []) acts e event (fresh_calm ids steps c fresh) (λ id. (refl, refl)) receives
 welcomed_kept ids steps false s c rest acts e event fresh (is, ends) = stands ids (with_step steps event acts) e phases.Ended (ap (λ (x : SessionState). x.phase) ends) tt
 
 connects_kept : (ids : List ℕ) (steps : List (Event × List Action)) (status : Status) (s : SessionState) (bytes : List ℕ) (c : Course) (acts : List Action) (e : SessionState) (event : Event) → IsFresh ids c → Connects status s bytes c acts e → IsKeptIn ids (with_step steps event acts) e.phase
@@ -90,7 +90,7 @@ connects_kept ids steps (statuses.Other used) s bytes c acts e event fresh (is, 
 
 accepts_kept : (ids : List ℕ) (steps : List (Event × List Action)) (answer : Answer) (s : SessionState) (greeter : Greeter) (bytes : List ℕ) (c : Course) (acts : List Action) (e : SessionState) (event : Event) → IsFresh ids c → Accepts answer s greeter bytes c acts e → IsKeptIn ids (with_step steps event acts) e.phase
 accepts_kept ids steps answers.More s greeter bytes c acts e event fresh (is, ends) = stands ids _ e (phases.Hello greeter bytes c) (ap (λ (x : SessionState). x.phase) ends) fresh
-accepts_kept ids steps (answers.Accepted name used) s greeter bytes c acts e event fresh goes = hearkens_kept ids steps s (course_fed c (drop used bytes)) (actions.Send (status_text 200) ∷ []) acts e event (fresh_calm ids steps c fresh) (λ id. plain_status id 200) goes
+accepts_kept ids steps (answers.Accepted name used) s greeter bytes c acts e event fresh goes = receives_kept ids steps s (course_fed c (drop used bytes)) (actions.Send (status_text 200) ∷ []) acts e event (fresh_calm ids steps c fresh) (λ id. plain_status id 200) goes
 accepts_kept ids steps (answers.Refused code used) s greeter bytes c acts e event fresh (is, ends) = stands ids (with_step steps event acts) e phases.Ended (ap (λ (x : SessionState). x.phase) ends) tt
 
 greets_kept : (ids : List ℕ) (steps : List (Event × List Action)) (s : SessionState) (greeter : Greeter) (bytes : List ℕ) (c : Course) (acts : List Action) (e : SessionState) (event : Event) → IsFresh ids c → Greets s greeter bytes c acts e → IsKeptIn ids (with_step steps event acts) e.phase
@@ -196,12 +196,12 @@ quieted ids steps c table rest acts (out, quiet, flags, sound) due teaching no_c
       here.0,
     )
 
-quiets_kept : (ids : List ℕ) (steps : List (Event × List Action)) (b : Bool) (s : SessionState) (c : Course) (table : ℕ) (rest : List Due) (acts : List Action) (e : SessionState) → IsSound ids steps c → c.due ≡ dues.Copy table ∷ rest → c.teaching ≡ true → Quiets b s (record c { shares = quiet_set table c.shares; due = rest }) acts e → IsKeptIn ids (with_step steps (events.Nothing table) acts) e.phase
-quiets_kept ids steps true s c table rest acts e sound due teaching (is, ends) =
+finishes_kept : (ids : List ℕ) (steps : List (Event × List Action)) (b : Bool) (s : SessionState) (c : Course) (table : ℕ) (rest : List Due) (acts : List Action) (e : SessionState) → IsSound ids steps c → c.due ≡ dues.Copy table ∷ rest → c.teaching ≡ true → FinishesResync b s (record c { shares = quiet_set table c.shares; due = rest }) acts e → IsKeptIn ids (with_step steps (events.Nothing table) acts) e.phase
+finishes_kept ids steps true s c table rest acts e sound due teaching (is, ends) =
     let q = quieted ids steps c table rest acts sound due teaching (λ id. rw is refl) in
     stands ids (with_step steps (events.Nothing table) acts) e (phases.Open (record c { shares = quiet_set table c.shares; due = rest; teaching = false })) (ap (λ (x : SessionState). x.phase) ends)
     (q.0, q.1, (q.2.0, λ bad. absurd (false≢true bad)), due_sound _ false q.0 q.1 rest q.3)
-quiets_kept ids steps false s c table rest acts e sound due teaching (is, ends) =
+finishes_kept ids steps false s c table rest acts e sound due teaching (is, ends) =
     let q = quieted ids steps c table rest acts sound due teaching (λ id. rw is refl) in
     stands ids (with_step steps (events.Nothing table) acts) e (phases.Open (record c { shares = quiet_set table c.shares; due = rest })) (ap (λ (x : SessionState). x.phase) ends)
     (q.0, q.1, q.2, due_sound _ c.teaching q.0 q.1 rest q.3)
@@ -211,7 +211,7 @@ answered_calm : (ids : List ℕ) (steps : List (Event × List Action)) (c : Cour
 answered_calm ids steps c d rest (out, quiet, flags, sound) due = (out, quiet, flags, rest_none ids steps c d rest out quiet due sound)
 
 nothing_kept : (ids : List ℕ) (steps : List (Event × List Action)) (b : Bool) (s : SessionState) (c : Course) (table : ℕ) (rest : List Due) (acts : List Action) (e : SessionState) → IsSound ids steps c → c.due ≡ dues.Copy table ∷ rest → c.teaching ≡ b → HasNothing b s (record c { due = rest }) table acts e → IsKeptIn ids (with_step steps (events.Nothing table) acts) e.phase
-nothing_kept ids steps true s c table rest acts e sound due teaching has = quiets_kept ids steps _ s c table rest acts e sound due teaching has
+nothing_kept ids steps true s c table rest acts e sound due teaching has = finishes_kept ids steps _ s c table rest acts e sound due teaching has
 nothing_kept ids steps false s c table rest acts e sound due teaching (is, ends) =
     stays_kept ids steps s (record c { due = rest }) acts e (events.Nothing table) (answered_calm ids steps c (dues.Copy table) rest sound due) is (ap (λ (x : SessionState). x.phase) ends)
 
@@ -234,14 +234,14 @@ calm_in ids steps c table (out, quiet, flags, none) = (
   none,
 )
 
-frees_kept : (ids : List ℕ) (steps : List (Event × List Action)) (b : Bool) (s : SessionState) (c : Course) (acts : List Action) (e : SessionState) (event : Event) → IsCalm ids steps c → Frees b s c acts e → IsKeptIn ids (with_step steps event acts) e.phase
-frees_kept ids steps true s c acts e event (out, quiet, flags, none) (is, ends) =
+starts_kept : (ids : List ℕ) (steps : List (Event × List Action)) (b : Bool) (s : SessionState) (c : Course) (acts : List Action) (e : SessionState) (event : Event) → IsCalm ids steps c → StartsPendingResync b s c acts e → IsKeptIn ids (with_step steps event acts) e.phase
+starts_kept ids steps true s c acts e event (out, quiet, flags, none) (is, ends) =
     stands ids (with_step steps event acts) e (phases.Open (teaching_anew c)) (ap (λ (x : SessionState). x.phase) ends)
     (out, never, anew_flags ids (with_step steps event acts) c.shares out quiet flags.0, due_sound _ true out never c.due none)
-frees_kept ids steps false s c acts e event calm (is, ends) = stays_kept ids steps s c acts e event calm is (ap (λ (x : SessionState). x.phase) ends)
+starts_kept ids steps false s c acts e event calm (is, ends) = stays_kept ids steps s c acts e event calm is (ap (λ (x : SessionState). x.phase) ends)
 
 settles_kept : (ids : List ℕ) (steps : List (Event × List Action)) (settled : Settled) (s : SessionState) (c : Course) (table : ℕ) (acts : List Action) (e : SessionState) (event : Event) → IsCalm ids steps c → Settles settled s c table acts e → IsKeptIn ids (with_step steps event acts) e.phase
-settles_kept ids steps settles.All s c table acts e event calm frees = frees_kept ids steps _ s (record c { shares = out_set table false c.shares }) acts e event (calm_in ids steps c table calm) frees
+settles_kept ids steps settles.All s c table acts e event calm starts = starts_kept ids steps _ s (record c { shares = out_set table false c.shares }) acts e event (calm_in ids steps c table calm) starts
 settles_kept ids steps settles.Some s c table acts e event calm (is, ends) = stays_kept ids steps s c acts e event calm is (ap (λ (x : SessionState). x.phase) ends)
 settles_kept ids steps settles.Older s c table acts e event calm (is, ends) = stays_kept ids steps s c acts e event calm is (ap (λ (x : SessionState). x.phase) ends)
 
@@ -250,8 +250,8 @@ settles_kept ids steps settles.Older s c table acts e event calm (is, ends) = st
 open_kept : (ids : List ℕ) (steps : List (Event × List Action)) (s : SessionState) (c : Course) (event : Event) (acts : List Action) (e : SessionState) → IsSound ids steps c → GoesOpen s c event acts e → IsKeptIn ids (with_step steps event acts) e.phase
 open_kept ids steps s c events.Turn acts e (out, quiet, flags, sound) (none, turns) =
     turns_kept ids steps (table_to_ask c) s c acts e refl (out, quiet, flags, rw none refl) turns
-open_kept ids steps s c (events.Bytes bytes) acts e (out, quiet, flags, sound) (none, hearkens) =
-    hearkens_kept ids steps s (course_fed c bytes) [] acts e (events.Bytes bytes) (out, quiet, flags, rw none refl) (λ id. (refl, refl)) hearkens
+open_kept ids steps s c (events.Bytes bytes) acts e (out, quiet, flags, sound) (none, receives) =
+    receives_kept ids steps s (course_fed c bytes) [] acts e (events.Bytes bytes) (out, quiet, flags, rw none refl) (λ id. (refl, refl)) receives
 open_kept ids steps s c (events.Copied table batch) acts e sound (mid, answered, copied) =
     copied_kept ids steps s c table batch mid.due acts e (events.Copied table batch) sound answered.0 (subst (λ (m : Course). IsCopied s m table batch acts e) answered.1 copied)
 open_kept ids steps s c (events.Nothing table) acts e sound (mid, answered, nothing) =

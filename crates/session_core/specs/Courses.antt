@@ -1,6 +1,6 @@
--- The course of a session that is open, and what each message of the far side does to it (HAProxy, doc/peers-v2.0.txt,
+-- The course of a session that is open, and what each message of the remote peer does to it (HAProxy, doc/peers-v2.0.txt,
 -- "Control Messages"; the rules of a resync are this profile's).
-use Rattle.std.specs.Prelude.{◌≡◌, ◌≢◌, ℕ, Bool, true, false, ◌==◌, List, [], ◌∷◌, ◌++◌, map, Option, Some, None, Result, Ok, Err, if◌then◌else◌}
+use Rattle.std.specs.Prelude.{◌≡◌, ◌≢◌, ℕ, Bool, true, false, ◌==◌, List, [], ◌∷◌, ◌++◌, Option, None, Result, Ok, Err, if◌then◌else◌}
 use Rattle.table_types.specs.Tables.{Definition}
 use Rattle.table_types.specs.declared.copies.CopyKind.{CopyKind}
 use Rattle.table_types.specs.declared.copies.CopyKind.TheVariants as kinds
@@ -21,11 +21,11 @@ use Rattle.session_core.specs.declared.due.Due.{Due}
 use Rattle.session_core.specs.declared.due.Due.TheVariants as dues
 use Rattle.session_core.specs.declared.halt.Halt.{Halt}
 use Rattle.session_core.specs.declared.halt.Halt.TheVariants as halts
-use Rattle.session_core.specs.Shares.{any_out, is_out, all_quiet, shares_of, unquieted, next_table}
+use Rattle.session_core.specs.Shares.{any_out, is_out, shares_of, unquieted, next_table}
 use Rattle.session_core.specs.Actions.{reopens, sends_control, sends_acks}
 
--- What was taken of the far side's messages; whether this node is itself up to date; the tables, in roster order; the
--- one asked last; whether the far side is taught all rows; whether its request for that waits; and which actions aren't
+-- What was taken of the remote peer's messages; whether this node is itself up to date; the tables, in roster order; the
+-- one asked last; whether the remote peer is taught all rows; whether its request for that waits; and which actions aren't
 -- answered yet, the first due first.
 pub record Course : Type 0 where
   pub intake : Taking
@@ -104,7 +104,7 @@ IsHalted c halts.Failed = (kind : ErrorKind) × (e : Taking) × Gives c.intake (
 IsHalted c (halts.Fault fault) = (fault ≢ faults.Memory) × (e : Taking) × Stops c.intake fault e
 IsHalted c halts.Memory = Unit {0}
 
--- want of memory is no fault of the far side
+-- want of memory is no fault of the remote peer
 abbrev pub halt_of : Fault → Halt
 halt_of faults.Memory = halts.Memory
 halt_of fault = halts.Fault fault

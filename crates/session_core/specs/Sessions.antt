@@ -1,12 +1,11 @@
 -- The machine of a session: what it does at each event (HAProxy, doc/peers-v2.0.txt, "Handshake" and "Control
 -- Messages"; who is asked when, and what is answered to what, are choices of the profile).
-use Rattle.std.specs.Prelude.{◌≡◌, ◌≢◌, ℕ, Bool, true, false, ◌==◌, ◌&&◌, ◌||◌, not, List, [], ◌∷◌, ◌++◌, drop, Option, Some, None, Result, Ok, Err, if◌then◌else◌}
+use Rattle.std.specs.Prelude.{◌≡◌, ℕ, Bool, true, false, ◌==◌, ◌&&◌, ◌||◌, not, List, [], ◌∷◌, ◌++◌, drop, Option, Some, None, Result, Ok, Err}
 use Rattle.table_types.specs.Tables.{Definition}
 use Rattle.table_types.specs.declared.update.Update.{Update}
 use Rattle.table_types.specs.declared.copies.Settled.{Settled}
 use Rattle.table_types.specs.declared.copies.Settled.TheVariants as settles
 use Rattle.peers_msg.specs.declared.fault.Breach.TheVariants as breaches
-use Rattle.peers_msg.specs.declared.control.Control.{Control}
 use Rattle.peers_msg.specs.declared.control.Control.TheVariants as controls
 use Rattle.peers_msg.specs.declared.control.ErrorKind.{ErrorKind}
 use Rattle.peers_msg.specs.declared.control.ErrorKind.TheVariants as kinds
@@ -40,7 +39,7 @@ use Rattle.session_core.specs.Shares.{any_out, all_quiet, out_set, quiet_set}
 use Rattle.session_core.specs.Actions.{sends_control, status_text, reopens, confirms}
 use Rattle.session_core.specs.Courses.{Course, course_begun, course_fed, teaching_anew, HearsAll, acks_sent, acks_given, kind_of, table_to_ask, is_due, none_due, Answered, finished, state_of_course}
 
--- Where a session stands; what it knows of the far side as a learner; the fault of the far side's messages that ended
+-- Where a session stands; what it knows of the remote peer as a learner; the fault of the remote peer's messages that ended
 -- it, if any; and whether it sent that a resync is confirmed.
 pub record SessionState : Type 0 where
   pub phase : Phase
@@ -100,8 +99,8 @@ Concludes s c (Err (halts.Fault fault)) given acts e =
 Concludes s c (Err halts.Memory) given acts e = ⊥
 
 -- The course c was fed bytes: its messages are heard one after another, after these first actions.
-abbrev pub Hearkens : SessionState → Course → List Action → List Action → SessionState → Type 0
-Hearkens s c first acts e =
+abbrev pub ReceivesBytes : SessionState → Course → List Action → List Action → SessionState → Type 0
+ReceivesBytes s c first acts e =
     (result : Result (Unit {0}) Halt)
     × (given : List Action)
     × (mid : Course)
@@ -122,7 +121,7 @@ GoesNew s hello c event acts e = ⊥
 
 -- status 200 is answered with a resync request, and what follows it are messages; any other closes
 abbrev pub IsWelcomed : Bool → SessionState → Course → List ℕ → List Action → SessionState → Type 0
-IsWelcomed true s c rest acts e = Hearkens s (course_fed c rest) (sends_control controls.ResyncRequest ∷ []) acts e
+IsWelcomed true s c rest acts e = ReceivesBytes s (course_fed c rest) (sends_control controls.ResyncRequest ∷ []) acts e
 IsWelcomed false s c rest acts e = Closes s acts e
 
 -- by the status; the bytes are kept until its line is whole
@@ -134,7 +133,7 @@ Connects (statuses.Other used) s bytes c acts e = Closes s acts e
 -- a hello that is accepted is answered with status 200, and what follows it are messages; any other with its code
 abbrev pub Accepts : Answer → SessionState → Greeter → List ℕ → Course → List Action → SessionState → Type 0
 Accepts answers.More s greeter bytes c acts e = Stays s (phases.Hello greeter bytes c) acts e
-Accepts (answers.Accepted name used) s greeter bytes c acts e = Hearkens s (course_fed c (drop used bytes)) (actions.Send (status_text 200) ∷ []) acts e
+Accepts (answers.Accepted name used) s greeter bytes c acts e = ReceivesBytes s (course_fed c (drop used bytes)) (actions.Send (status_text 200) ∷ []) acts e
 Accepts (answers.Refused code used) s greeter bytes c acts e = (acts ≡ actions.Send (status_text code) ∷ (actions.Close ∷ [])) × (e ≡ ended s)
 
 -- by who greets, and the bytes so far
@@ -166,28 +165,28 @@ IsCopied s c table batch acts e =
     × (e ≡ going s (record c { shares = out_set table true c.shares; due = dues.Teach ∷ c.due }))
 
 -- in a resync the last table that has nothing to teach ends it
-abbrev pub Quiets : Bool → SessionState → Course → List Action → SessionState → Type 0
-Quiets true s c acts e = (acts ≡ sends_control (finished c.up_to_date) ∷ []) × (e ≡ going s (record c { teaching = false }))
-Quiets false s c acts e = Stays s (phases.Open c) acts e
+abbrev pub FinishesResync : Bool → SessionState → Course → List Action → SessionState → Type 0
+FinishesResync true s c acts e = (acts ≡ sends_control (finished c.up_to_date) ∷ []) × (e ≡ going s (record c { teaching = false }))
+FinishesResync false s c acts e = Stays s (phases.Open c) acts e
 
 -- a table has nothing to teach: in a resync it is quiet then
 abbrev pub HasNothing : Bool → SessionState → Course → ℕ → List Action → SessionState → Type 0
-HasNothing true s c table acts e = Quiets (all_quiet (quiet_set table c.shares)) s (record c { shares = quiet_set table c.shares }) acts e
+HasNothing true s c table acts e = FinishesResync (all_quiet (quiet_set table c.shares)) s (record c { shares = quiet_set table c.shares }) acts e
 HasNothing false s c table acts e = Stays s (phases.Open c) acts e
 
 -- nothing is out any more: a request that waits begins its resync
-abbrev pub Frees : Bool → SessionState → Course → List Action → SessionState → Type 0
-Frees true s c acts e = (acts ≡ reopens c.shares) × (e ≡ going s (teaching_anew c))
-Frees false s c acts e = Stays s (phases.Open c) acts e
+abbrev pub StartsPendingResync : Bool → SessionState → Course → List Action → SessionState → Type 0
+StartsPendingResync true s c acts e = (acts ≡ reopens c.shares) × (e ≡ going s (teaching_anew c))
+StartsPendingResync false s c acts e = Stays s (phases.Open c) acts e
 
 -- an acknowledgement of a whole batch brings it in
 abbrev pub Settles : Settled → SessionState → Course → ℕ → List Action → SessionState → Type 0
-Settles settles.All s c table acts e = Frees (c.waits && not (any_out (out_set table false c.shares))) s (record c { shares = out_set table false c.shares }) acts e
+Settles settles.All s c table acts e = StartsPendingResync (c.waits && not (any_out (out_set table false c.shares))) s (record c { shares = out_set table false c.shares }) acts e
 Settles settled s c table acts e = Stays s (phases.Open c) acts e
 
 abbrev pub GoesOpen : SessionState → Course → Event → List Action → SessionState → Type 0
 GoesOpen s c events.Turn acts e = (c.due ≡ []) × Turns (table_to_ask c) s c acts e
-GoesOpen s c (events.Bytes bytes) acts e = (c.due ≡ []) × Hearkens s (course_fed c bytes) [] acts e
+GoesOpen s c (events.Bytes bytes) acts e = (c.due ≡ []) × ReceivesBytes s (course_fed c bytes) [] acts e
 GoesOpen s c (events.Copied table batch) acts e = (mid : Course) × Answered c (dues.Copy table) mid × IsCopied s mid table batch acts e
 GoesOpen s c (events.Nothing table) acts e = (mid : Course) × Answered c (dues.Copy table) mid × HasNothing mid.teaching s mid table acts e
 GoesOpen s c (events.Written known) acts e =

@@ -5,7 +5,7 @@ use Rattle.std.specs.Option.{option_or}
 use Rattle.table_types.specs.Tables.{Definition}
 use Rattle.session_core.specs.declared.share.Share.{Share}
 
--- what holds up the end of a resync, and the beginning of the next: a batch that is out
+-- what holds up the beginning of a resync: a batch that is out
 abbrev pub holds_up : Share → Bool
 holds_up s = s.out
 

@@ -14,12 +14,12 @@ pub enum Action {
     Send(Items<u8>),
     /// The update of a table of the roster is to be learned. A table that is full leaves it out.
     Learn(Update),
-    /// The far side took the updates of a table up to this number. It is answered by `Settled`, and where the number is
+    /// The remote peer took the updates of a table up to this number. It is answered by `Settled`, and where the number is
     /// above all that were taught by `Refused`.
     Ack {
         /// The table's id.
         table: u64,
-        /// The number of the last update that the far side took.
+        /// The number of the last update that the remote peer took.
         number: u32,
     },
     /// The session is to be closed and opened anew in the table of that id.
@@ -29,7 +29,7 @@ pub enum Action {
     Copy {
         /// The table's id.
         table: u64,
-        /// Which rows.
+        /// Which rows: this node's own, and in a resync all.
         kind: CopyKind,
     },
     /// The lesson of that batch is to be written, from the session's known state. It is answered by `Written`.

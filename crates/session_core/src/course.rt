@@ -18,7 +18,7 @@ use std::alloc::Global;
 use std::marker::Model;
 use table_types::{CopyKind, Memory, Roster};
 
-/// The course of a session: what it takes of the far side's messages, and where its teaching stands.
+/// The course of a session: what it takes of the remote peer's messages, and where its teaching stands.
 #[derive(Drop)]
 pub(crate) struct Course {
     pub(crate) intake: Intake,
@@ -28,9 +28,9 @@ pub(crate) struct Course {
     pub(crate) shares: Vec<Share>,
     /// The id of the table asked last.
     pub(crate) asked: Option<u64>,
-    /// Whether the far side is taught all rows.
+    /// Whether the remote peer is taught all rows.
     pub(crate) teaching: bool,
-    /// Whether a request of the far side for that waits.
+    /// Whether a request of the remote peer for that waits.
     pub(crate) waits: bool,
     /// Which actions aren't answered yet, the first due first.
     pub(crate) due: Vec<Due>,

@@ -10,17 +10,18 @@ pub enum Event {
     Opened,
     /// These bytes came.
     Bytes(Items<u8>),
-    /// The far side sends no more.
+    /// The remote peer sends no more.
     End,
     /// Reading failed.
     ReadFault,
-    /// There is time to teach.
+    /// Nothing else is to be done: a batch may be copied.
     Turn,
-    /// The answer to `Copy`: of the table of that id this batch was copied.
+    /// The answer to `Copy`: of the table of that id this batch was copied. It tells of that table alone and isn't empty,
+    /// which the session doesn't check.
     Copied(u64, Batch),
     /// The answer to `Copy`: the table of that id has nothing to teach.
     Nothing(u64),
-    /// The answer to `Teach`: the lesson was written, and ends in this known state.
+    /// The answer to `Teach`: the lesson was written, and ends in this known state, one of the session's roster.
     Written(Known),
     /// Writing failed.
     WriteFault,

@@ -10,9 +10,9 @@ use table_types::Memory;
 /// Why no message is heard any more.
 #[derive(Clone, Copy, Debug, PartialEq, Eq)]
 pub(crate) enum Halt {
-    /// The far side sent an error message.
+    /// The remote peer sent an error message.
     Failed,
-    /// The far side's messages have this fault.
+    /// The remote peer's messages have this fault.
     Fault(Fault),
     /// Memory was wanted, and the growth was refused.
     Memory,

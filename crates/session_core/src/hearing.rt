@@ -1,4 +1,4 @@
-//! What the far side's messages do to the course of a session.
+//! What the remote peer's messages do to the course of a session.
 
 ghost use Rattle.std.specs.Prelude.{◌≡◌, ◌≢◌, ◌<◌, ◌∷◌, ◌++◌, [], List, Ok, Err, Some, None, IfOk, IfErr, IfSome, IsSome, OnOk, OnErr, length};
 ghost use Rattle.learner.specs.declared.taken.Taken.{Taken};

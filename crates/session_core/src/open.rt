@@ -7,7 +7,7 @@ ghost use Rattle.session_core.specs.declared.due.Due.TheVariants as dues;
 ghost use Rattle.session_core.specs.declared.phase.Phase.TheVariants as phases;
 ghost use Rattle.session_core.specs.Shares.{all_quiet};
 ghost use Rattle.session_core.specs.Courses.{table_to_ask, none_due, is_due};
-ghost use Rattle.session_core.specs.Sessions.{GoesOpen, Turns, IsCopied, HasNothing, Quiets, Settles, IsWhy, is_asked_open};
+ghost use Rattle.session_core.specs.Sessions.{GoesOpen, Turns, IsCopied, HasNothing, FinishesResync, Settles, IsWhy, is_asked_open};
 
 use crate::action::{Action, only};
 use crate::course::Course;
@@ -150,7 +150,7 @@ impl Session {
     /// Ends the resync where all tables are quiet.
     fn finish(&mut self, course: Course) -> Result<Vec<Action>, Memory>
         requires { self.old.phase ≡ phases.Ended }
-        ensures goes { IfOk result (λ acts. Quiets (all_quiet course.shares) self.old course acts.items self.new) }
+        ensures goes { IfOk result (λ acts. FinishesResync (all_quiet course.shares) self.old course acts.items self.new) }
         ensures stays { OnErr result (self.new ≡ self.old) }
     {
         let mut course = course;
@@ -212,7 +212,7 @@ impl Session {
         Ok(actions)
     }
 
-    /// The far side acknowledged what the table of that id didn't teach.
+    /// The remote peer acknowledged what the table of that id didn't teach.
     fn refused(&mut self, course: Course, table: u64) -> Result<Vec<Action>, SessionError>
         requires { self.old.phase ≡ phases.Ended }
         ensures goes { IfOk result (λ acts. GoesOpen self.old course (events.Refused table) acts.items self.new) }

@@ -13,7 +13,7 @@ ghost use Rattle.session_core.specs.declared.phase.Phase.TheVariants as phases;
 ghost use Rattle.session_core.specs.Actions.{status_text, sends_control};
 ghost use Rattle.peers_msg.specs.declared.control.Control.TheVariants as controls;
 ghost use Rattle.session_core.specs.Courses.{course_fed};
-ghost use Rattle.session_core.specs.Sessions.{Goes, GoesNew, GoesHello, Stays, Connects, Accepts, Greets, Hearkens, Concludes, Refuses, IsWhy, is_asked_new, is_asked_hello, connecting, accepting, in_phase, ended, state_of, kind_of_fault};
+ghost use Rattle.session_core.specs.Sessions.{Goes, GoesNew, GoesHello, Stays, Connects, Accepts, Greets, ReceivesBytes, Concludes, Refuses, IsWhy, is_asked_new, is_asked_hello, connecting, accepting, in_phase, ended, state_of, kind_of_fault};
 
 use crate::action::{Action, confirms, only, push};
 use crate::course::Course;
@@ -34,6 +34,17 @@ use table_types::{Items, Memory, Moment, Name, Roster};
 
 /// A session between this node and another peer (HAProxy, doc/peers-v2.0.txt). It does no work itself: at each event it
 /// gives the actions that are to be done, in this order.
+///
+/// These are answered in the order in which they were given, before the next `Bytes` or `Turn`:
+///
+/// | Action | Answer |
+/// |---|---|
+/// | `Copy` | `Copied`, or `Nothing` where the table has nothing to teach |
+/// | `Teach` | `Written` |
+/// | `Ack` | `Settled`, or `Refused` where the number is above all that were taught |
+///
+/// What stands before a `Close` or a `Part` is still to be done, but isn't answered. `End`, `ReadFault` and `WriteFault`
+/// may come whenever the session isn't over.
 #[derive(Drop)]
 pub struct Session {
     pub(crate) alloc: Global,
@@ -108,8 +119,9 @@ fn kind_of(fault: Fault) -> ErrorKind
 }
 
 impl Session {
-    /// A session of the side that opens the connection, and sends that hello. `up_to_date` says whether this node has
-    /// all rows itself: so it ends the resyncs that it teaches as finished, otherwise as partial.
+    /// A session of the side that opens the connection, and sends that hello. It begins as `New`, and waits for `Opened`.
+    /// `up_to_date` says whether this node has all rows itself: so it ends the resyncs that it teaches as finished,
+    /// otherwise as partial. Refuses with `Memory`.
     pub fn connect(
         alloc: Global,
         hello: Hello,
@@ -128,8 +140,8 @@ impl Session {
         })
     }
 
-    /// A session of the side that was connected to: the peer `own`, who lets these peers in. `up_to_date` is as at
-    /// `connect`.
+    /// A session of the side that was connected to: the peer `own`, which accepts these peers. It begins as `Hello`, and
+    /// `Opened` doesn't come. `up_to_date` is as at `connect`. Refuses with `Memory`.
     pub fn accept(
         alloc: Global,
         own: Name,
@@ -163,28 +175,28 @@ impl Session {
         }
     }
 
-    /// What is known of the far side as a learner: what the lessons written so far make of it.
+    /// What is known of the remote peer as a learner: what the lessons written so far make of it.
     pub fn known(&self) -> &Known
         ensures { result.now ≡ self.now.known }
     {
         &self.known
     }
 
-    /// The fault of the far side's messages that ended the session.
+    /// The fault of the remote peer's messages that ended the session; `None` otherwise, also after `Memory`.
     pub fn fault(&self) -> Option<Fault>
         ensures { result ≡ self.now.fault }
     {
         self.fault
     }
 
-    /// Whether the session has given to be sent that a resync is confirmed.
+    /// Whether the session has given the `Send` of resync confirmed.
     pub fn confirmed(&self) -> bool
         ensures { result ≡ self.now.confirmed }
     {
         self.confirmed
     }
 
-    /// What is to be done at an event, in this order.
+    /// What is to be done at an event, in this order. The event comes at that moment, on which nothing depends.
     ///
     /// Refuses with `Ended` where the session was over, with `Unasked` where the event can't come there, and with
     /// `Memory`. After each of these it is over, and no action is given; `known`, `fault` and `confirmed` are as before.
@@ -364,7 +376,7 @@ impl Session {
         first: Vec<Action>,
     ) -> Result<Vec<Action>, Memory>
         requires { self.old.phase ≡ phases.Ended }
-        ensures goes { IfOk result (λ acts. Hearkens self.old (course_fed course bytes.now) first.items acts.items self.new) }
+        ensures goes { IfOk result (λ acts. ReceivesBytes self.old (course_fed course bytes.now) first.items acts.items self.new) }
         ensures stays { OnErr result (self.new ≡ self.old) }
     {
         let (mut course, mut actions) = (course, first);

@@ -18,7 +18,7 @@ pub(crate) struct Share {
 }
 
 impl Share {
-    /// Whether the table holds up the end of a resync, and the beginning of the next.
+    /// Whether the table holds up the beginning of a resync.
     fn holds_up(self) -> bool
         ensures { result ≡ holds_up self }
     {
@@ -48,7 +48,7 @@ pub(crate) fn shares_of(alloc: Global, tables: &[TableDef]) -> Result<Vec<Share>
     Ok(shares)
 }
 
-/// Whether some table holds up the end of a resync.
+/// Whether some table holds up the beginning of a resync.
 pub(crate) fn any_out(shares: &[Share]) -> bool
     ensures { result ≡ any_out shares.now }
 {

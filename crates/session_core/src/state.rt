@@ -9,7 +9,7 @@ pub enum State {
     Hello,
     /// Both sides send messages. This one teaches its own rows as they change.
     Ready,
-    /// The far side asked for a resync, and is being taught all rows.
+    /// The remote peer asked for a resync, and is being taught all rows.
     Teaching,
     /// The session is over.
     Ended,

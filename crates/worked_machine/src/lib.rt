@@ -2,6 +2,10 @@
 #![tactic(auto)]
 
 #[cfg(test)]
+mod connectors;
+#[cfg(test)]
 mod runs;
 #[cfg(test)]
 mod steps;
+#[cfg(test)]
+mod two_tables;

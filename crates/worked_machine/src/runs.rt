@@ -2,33 +2,39 @@
 
 use crate::steps::{Asked, Given, Step, refuses, runs};
 use example_parts::{T1, alone, named};
+use learner::Fault;
 use peers_hello::Hello;
-use peers_msg::ErrorKind;
+use peers_msg::{Breach, ErrorKind};
 use session_core::{Session, SessionError, State};
 use std::alloc::Global;
-use table_types::{CopyKind, Settled};
+use table_types::{CopyKind, Roster, Settled};
 
 /// The session of `b`, to which `a` connects.
-fn accepting(alloc: Global) -> Option<Session> {
+fn accepting(alloc: Global, up_to_date: bool) -> Option<Session> {
     let own = named(alloc, b"b")?;
     let mut peers = Vec::new(alloc);
     peers.push(named(alloc, b"a")?).ok()?;
-    Session::accept(alloc, own, peers, alone(alloc, &T1)?, true).ok()
+    Session::accept(alloc, own, peers, alone(alloc, &T1)?, up_to_date).ok()
 }
 
-/// The session of `a`, who connects to `b`.
-fn connecting(alloc: Global, up_to_date: bool) -> Option<Session> {
+/// The session of `a`, who connects to `b` and shares these tables.
+pub fn connecting_with(alloc: Global, roster: Roster, up_to_date: bool) -> Option<Session> {
     let hello = Hello {
         remote: named(alloc, b"b")?,
         local: named(alloc, b"a")?,
         pid: 1,
         relative: 1,
     };
-    Session::connect(alloc, hello, alone(alloc, &T1)?, up_to_date).ok()
+    Session::connect(alloc, hello, roster, up_to_date).ok()
 }
 
-/// The same, which makes these steps first.
-fn begun(alloc: Global, steps: &[Step]) -> Option<Session> {
+/// The same, which shares `t1`.
+pub fn connecting(alloc: Global, up_to_date: bool) -> Option<Session> {
+    connecting_with(alloc, alone(alloc, &T1)?, up_to_date)
+}
+
+/// The same, which isn't up to date and makes these steps first.
+pub fn begun(alloc: Global, steps: &[Step]) -> Option<Session> {
     let mut session = connecting(alloc, false)?;
     if runs(alloc, &mut session, steps) {
         Some(session)
@@ -67,7 +73,7 @@ static ACCEPTOR_RESYNC: [Step; 5] = [
 
 #[test]
 fn acceptor_resync(rt: HostRuntime) {
-    let mut session = accepting(rt.alloc()).expect(&rt, "session");
+    let mut session = accepting(rt.alloc(), true).expect(&rt, "session");
     assert!(rt; session.state() == State::Hello);
     assert!(rt; runs(rt.alloc(), &mut session, ACCEPTOR_RESYNC.as_slice()));
     assert!(rt; refuses(rt.alloc(), &mut session, &Given::Turn, SessionError::Ended));
@@ -80,6 +86,31 @@ fn acceptor_resync(rt: HostRuntime) {
         )
     );
     assert!(rt; !session.confirmed() && session.fault().is_none());
+}
+
+/// The same resync, where `b` isn't up to date.
+static ACCEPTOR_PARTIAL: [Step; 3] = [
+    Step {
+        given: Given::Bytes(b"HAProxyS 2.1\nb\na 1 1\n\x00\x00"),
+        asked: &[Asked::Send(b"200\n"), Asked::Reopen(1)],
+        state: State::Teaching,
+    },
+    Step {
+        given: Given::Turn,
+        asked: &[Asked::Copy(1, CopyKind::Resync)],
+        state: State::Teaching,
+    },
+    Step {
+        given: Given::Nothing(1),
+        asked: &[Asked::Send(b"\x00\x02")],
+        state: State::Ready,
+    },
+];
+
+#[test]
+fn acceptor_partial(rt: HostRuntime) {
+    let mut session = accepting(rt.alloc(), false).expect(&rt, "session");
+    assert!(rt; runs(rt.alloc(), &mut session, ACCEPTOR_PARTIAL.as_slice()));
 }
 
 /// A hello that is refused, whole and in pieces.
@@ -98,12 +129,12 @@ static REFUSED: [Step; 2] = [
 
 #[test]
 fn refused_hello(rt: HostRuntime) {
-    let mut session = accepting(rt.alloc()).expect(&rt, "session");
+    let mut session = accepting(rt.alloc(), true).expect(&rt, "session");
     assert!(rt; runs(rt.alloc(), &mut session, REFUSED.as_slice()));
 }
 
 /// From the beginning until messages go to and fro.
-static CONNECTED: [Step; 4] = [
+pub static CONNECTED: [Step; 4] = [
     Step {
         given: Given::Turn,
         asked: &[],
@@ -220,7 +251,8 @@ static LEARNING: [Step; 2] = [
 fn learning(rt: HostRuntime) {
     let mut session = begun(rt.alloc(), CONNECTED.as_slice()).expect(&rt, "session");
     assert!(rt; runs(rt.alloc(), &mut session, LEARNING.as_slice()));
-    assert!(rt; session.fault().is_some() && !session.confirmed());
+    assert!(rt; session.fault() == Some(Fault::Breach(Breach::SizeLimit)));
+    assert!(rt; !session.confirmed());
 }
 
 #[test]

@@ -1,9 +1,9 @@
-use Rattle.std.proofs.Common.{◌≡◌, ◌++◌, ◌≢◌, [], List, Err, refl, sym, subst, ◌∙◌}
+use Rattle.std.proofs.Common.{◌≢◌, [], Err, refl, sym, subst}
 use Rattle.std.proofs.lemmas.List.{append-nil}
 use Rattle.std.proofs.lemmas.Result.{err_from_is_err_and}
 use Rattle.learner.specs.Intake.{IntakeFeeds}
 use Rattle.session_core.specs.declared.halt.Halt.TheVariants as halts
-use Rattle.session_core.specs.Courses.{Course, course_fed, IsHalted, halt_of}
+use Rattle.session_core.specs.Courses.{Course, course_fed, halt_of}
 use Rattle.session_core.proofs.HearingLemmas.{feed_halts}
 use Rattle.session_core.proofs.course.Course.hear_bytes.Goals as goal
 
