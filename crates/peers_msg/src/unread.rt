@@ -34,6 +34,7 @@ impl Model for Unread {
 
 /// The message at the front of these bytes, by what was received before it, and how many bytes it has; `None` while it
 /// isn't whole. It stays where it is, and no memory is taken.
+#[inline(always)]
 pub fn front<'a>(
     received: &'a Received,
     bytes: &'a [u8],
@@ -78,6 +79,7 @@ impl Unread {
     }
 
     /// The message at the front, as `front` tells it.
+    #[inline(always)]
     pub fn front<'a>(
         &'a self,
         received: &'a Received,

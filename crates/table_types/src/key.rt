@@ -190,7 +190,8 @@ impl Ord for Key {
     }
 }
 
-/// How any two keys compare.
+/// How any two keys compare. It isn't inlined, so that integers are told by one test before it.
+#[inline(never)]
 fn compare(left: &Key, right: &Key) -> Ordering
     ensures { result ≡ key_cmp left.now right.now }
 {

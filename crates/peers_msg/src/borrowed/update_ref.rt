@@ -37,6 +37,7 @@ impl<'a> Model for UpdateRef<'a> {
 
 impl<'a> UpdateRef<'a> {
     /// The update with these fields.
+    #[inline(always)]
     pub(crate) fn new(
         number: Option<u32>,
         life: Option<u32>,

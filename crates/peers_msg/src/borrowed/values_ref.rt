@@ -31,6 +31,7 @@ impl<'a> Model for ValuesRef<'a> {
 }
 
 /// How many types have a value: all but the server's name.
+#[inline(always)]
 fn value_count(types: &[(DataType, Option<u32>)]) -> usize
     ensures { result ≡ value_count types.now }
 {
@@ -86,6 +87,7 @@ fn first_shape(types: &[(DataType, Option<u32>)]) -> Option<(Shape, &[(DataType,
 
 impl<'a> ValuesRef<'a> {
     /// The values of these types that the bytes begin with.
+    #[inline(always)]
     pub(crate) fn new(types: &'a [(DataType, Option<u32>)], bytes: &'a [u8]) -> ValuesRef<'a>
         requires { is_read (values_at types.now bytes.now) ≡ true }
         ensures { result ≡ list_read (values_at types.now bytes.now) }
@@ -94,6 +96,7 @@ impl<'a> ValuesRef<'a> {
     }
 
     /// The same values once more.
+    #[inline(always)]
     pub fn again(&self) -> ValuesRef<'a>
         ensures { result ≡ self.now }
     {

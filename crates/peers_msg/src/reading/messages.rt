@@ -39,6 +39,7 @@ fn ack_at<'a>(bytes: &[u8]) -> Result<MessageRef<'a>, Breach>
     Ok(MessageRef::Ack { table, number })
 }
 
+#[inline(always)]
 fn update_of<'a>(
     received: &'a Received,
     numbered: bool,
@@ -56,6 +57,7 @@ fn update_of<'a>(
     }
 }
 
+#[inline(always)]
 fn control_meant(message_type: u8) -> Meaning
     ensures { result ≡ control_meant message_type }
 {
@@ -69,6 +71,7 @@ fn control_meant(message_type: u8) -> Meaning
     }
 }
 
+#[inline(always)]
 fn error_meant(message_type: u8) -> Meaning
     ensures { result ≡ error_meant message_type }
 {
@@ -79,12 +82,14 @@ fn error_meant(message_type: u8) -> Meaning
     }
 }
 
+#[inline(always)]
 fn update_meant(numbered: bool, timed: bool) -> Meaning
     ensures { result ≡ meanings.Update numbered timed }
 {
     Meaning::Update { numbered, timed }
 }
 
+#[inline(always)]
 fn table_meant(message_type: u8) -> Meaning
     ensures { result ≡ table_meant message_type }
 {
@@ -100,6 +105,7 @@ fn table_meant(message_type: u8) -> Meaning
     }
 }
 
+#[inline(always)]
 #[tactic(auto, unfolding(crate::specs::Reading::meant))]
 fn meant(class: u8, message_type: u8) -> Meaning
     ensures { result ≡ meant class message_type }
@@ -120,6 +126,7 @@ struct Frame<'a> {
     body: &'a [u8],
 }
 
+#[inline(always)]
 fn message_of<'a>(
     received: &'a Received,
     meaning: Meaning,
@@ -142,6 +149,7 @@ fn message_of<'a>(
 }
 
 /// The data after a type, once they all stand.
+#[inline(always)]
 #[tactic(auto, unfolding(crate::specs::Reading::data_at))]
 fn data_at(message_type: u8, bytes: &[u8]) -> Result<Option<(&[u8], &[u8])>, Breach>
     ensures { Reads (option_map (λ x. (x.0.now, x.1.now))) result (data_at message_type bytes.now) }
@@ -164,6 +172,7 @@ fn data_at(message_type: u8, bytes: &[u8]) -> Result<Option<(&[u8], &[u8])>, Bre
 }
 
 /// Class, type and data at the front, once they all stand. While they don't, no byte of the data is looked at.
+#[inline(always)]
 #[tactic(auto, unfolding(crate::specs::Reading::frame_at))]
 fn frame_at(bytes: &[u8]) -> Result<Option<(Frame<'_>, &[u8])>, Breach>
     ensures { Reads (option_map (λ x. (record { class = x.0.class; message_type = x.0.message_type; body = x.0.body.now }, x.1.now))) result (frame_at bytes.now) }
@@ -185,6 +194,7 @@ fn frame_at(bytes: &[u8]) -> Result<Option<(Frame<'_>, &[u8])>, Breach>
 }
 
 /// The message at the front, and the bytes after it; `None` while it isn't whole.
+#[inline(always)]
 #[tactic(auto, unfolding(crate::specs::Reading::message_at, crate::specs::Reading::body_at))]
 pub(crate) fn message_at<'a>(
     received: &'a Received,

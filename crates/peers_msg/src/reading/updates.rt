@@ -23,6 +23,7 @@ fn optional_at(stands: bool, bytes: &[u8]) -> Result<(Option<u32>, &[u8]), Breac
     Ok((Some(number), rest))
 }
 
+#[inline(always)]
 #[tactic(auto, unfolding(crate::specs::Reading::key_at, crate::specs::Reading::bytes_at))]
 fn key_at(kind: KeyKind, key_length: u64, bytes: &[u8]) -> Result<(KeyRef<'_>, &[u8]), Breach>
     ensures { Reads (λ x. (owned_key x.0, x.1.now)) result (key_at kind key_length bytes.now) }
@@ -93,6 +94,7 @@ pub(crate) fn value_at(shape: Shape, bytes: &[u8]) -> Result<(Value, &[u8]), Bre
     }
 }
 
+#[inline(always)]
 pub(crate) fn is_name_shape(shape: Shape) -> bool
     ensures { result ≡ is_name_shape shape }
 {
@@ -100,6 +102,7 @@ pub(crate) fn is_name_shape(shape: Shape) -> bool
 }
 
 /// The bytes after one value for each type but the server's name.
+#[inline(always)]
 fn values_end<'a>(types: &[(DataType, Option<u32>)], bytes: &'a [u8]) -> Result<&'a [u8], Breach>
     ensures { Reads (λ rest. (list_read (values_at types.now bytes.now), rest.now)) result (values_at types.now bytes.now) }
 {
@@ -117,6 +120,7 @@ fn values_end<'a>(types: &[(DataType, Option<u32>)], bytes: &'a [u8]) -> Result<
 }
 
 /// What stands after the slot of a name field.
+#[inline(always)]
 #[tactic(auto, unfolding(crate::specs::Reading::slot_holds))]
 fn slot_holds(slot: u8, bytes: &[u8]) -> Result<NameFieldRef<'_>, Breach>
     ensures field { Reads (λ field. owned_name field) result (slot_holds slot bytes.now) }
@@ -134,6 +138,7 @@ fn slot_holds(slot: u8, bytes: &[u8]) -> Result<NameFieldRef<'_>, Breach>
 }
 
 /// What stands within the length of a name field.
+#[inline(always)]
 #[tactic(auto, unfolding(crate::specs::Reading::field_of))]
 fn field_of(bytes: &[u8]) -> Result<NameFieldRef<'_>, Breach>
     ensures field { Reads (λ field. owned_name field) result (field_of bytes.now) }
@@ -147,6 +152,7 @@ fn field_of(bytes: &[u8]) -> Result<NameFieldRef<'_>, Breach>
     slot_holds(slot as u8, rest)
 }
 
+#[inline(always)]
 #[tactic(auto, unfolding(crate::specs::Reading::name_at))]
 fn name_at(stands: bool, bytes: &[u8]) -> Result<(NameFieldRef<'_>, &[u8]), Breach>
     ensures field { Reads (λ x. (owned_name x.0, x.1.now)) result (name_at stands bytes.now) }
@@ -162,6 +168,7 @@ fn name_at(stands: bool, bytes: &[u8]) -> Result<(NameFieldRef<'_>, &[u8]), Brea
 }
 
 /// An update of that table, with a number and a life or without.
+#[inline(always)]
 #[tactic(auto, unfolding(crate::specs::Reading::update_at))]
 pub(crate) fn update_at<'a>(
     table: &'a TableDef,
