@@ -144,7 +144,7 @@ quiet_keeps_out table (s ∷ ss) = rw (one_keeps_out (s.table == table) s, quiet
 finishes_taught : (roster : List Definition) (steps : List (Event × List Action)) (b : Bool) (s : SessionState) (c : Course) (table : ℕ) (rest : List Due) (acts : List Action) (e : SessionState) → s.phase ≡ phases.Open c → IsSound (ids_of roster) steps c → c.due ≡ dues.Copy table ∷ rest → c.teaching ≡ true → all_quiet (quiet_set table c.shares) ≡ b → FinishesResync b s (record c { shares = quiet_set table c.shares; due = rest }) acts e → ends_resync acts ≡ true → IsTaught roster steps s (events.Nothing table) acts
 finishes_taught roster steps false s c table rest acts e stands sound due teaching all (is, then) ends = no_end acts [] is refl ends
 finishes_taught roster steps true s c table rest acts e stands sound due teaching all (is, then) ends =
-    let q = quieted (ids_of roster) steps c table rest acts sound due teaching (λ id. rw is refl) in
+    let q = quieted (ids_of roster) steps c table rest acts sound due teaching (λ id. rw is (refl, refl)) in
     let quiet : all_quiet (shares_in (ids_of roster) q.0 q.1) ≡ true = sym (ap all_quiet q.2.0) ∙ all in
     let out : any_out (shares_in (ids_of roster) q.0 q.1) ≡ false = none_out (ids_of roster) q.0 q.1 (λ id quiets. (q.2.1 teaching id quiets).0) quiet in (
       (c, stands, sym (quiet_keeps_out table c.shares) ∙ (ap any_out q.2.0 ∙ out)),

@@ -2,7 +2,7 @@
 use Rattle.std.proofs.Common.{◌≡◌, ℕ, Bool, true, false, not, List, [], ◌∷◌, ◌++◌, refl, sym, ap, ◌∙◌, subst, append_assoc}
 use Rattle.std.specs.List.{list_all, AllByRecursion}
 use Rattle.std.proofs.lemmas.Bool.{false≢true}
-use Rattle.std.proofs.lemmas.List.Folds.{list_all-append}
+use Rattle.std.proofs.lemmas.List.Folds.{list_all-append, list_any-append}
 use Rattle.peers_msg.specs.declared.control.Control.{Control}
 use Rattle.peers_msg.specs.declared.control.Control.TheVariants as controls
 use Rattle.learner.specs.declared.taken.Taken.{Taken}
@@ -16,9 +16,10 @@ use Rattle.session_core.specs.declared.due.Due.TheVariants as dues
 use Rattle.session_core.specs.declared.phase.Phase.{Phase}
 use Rattle.session_core.specs.declared.phase.Phase.TheVariants as phases
 use Rattle.session_core.specs.declared.share.Share.{Share}
-use Rattle.session_core.specs.Shares.{any_out, unquieted}
+use Rattle.session_core.specs.Shares.{any_out, is_out, unquieted}
+use Rattle.session_core.specs.Actions.{sends_control}
 use Rattle.session_core.specs.Courses.{Course, heard, said, requested, acknowledged, Hears, AreHeard, kind_of}
-use Rattle.session_core.specs.Runs.{copies, HasNothingLeft}
+use Rattle.session_core.specs.Runs.{is_reopen_of, reopened, IsLeft, HasNothingLeft}
 use Rattle.session_core.proofs.ShareLemmas.{shares_in, never, unquieted_in, IsFree}
 
 -- ---- one step more
@@ -28,9 +29,9 @@ all_and_one P [] x all one = (one, tt)
 all_and_one P (y ∷ ys) x all one = (all.0, all_and_one P ys x all.1 one)
 
 -- what has nothing left has nothing left after a step that doesn't copy from it
-pub left_more : (steps : List (Event × List Action)) (id : ℕ) (event : Event) (acts : List Action) → HasNothingLeft steps id → copies id acts ≡ false → HasNothingLeft (steps ++ ((event, acts) ∷ [])) id
-left_more steps id event acts (before, given, since, is, none) no_copy =
-    (before, given, since ++ ((event, acts) ∷ []), rw is (simp append_assoc), all_and_one (λ step. copies id step.1 ≡ false) since (event, acts) none no_copy)
+pub left_more : (steps : List (Event × List Action)) (id : ℕ) (event : Event) (acts : List Action) → HasNothingLeft steps id → IsLeft id acts → HasNothingLeft (steps ++ ((event, acts) ∷ [])) id
+left_more steps id event acts (before, given, since, is, still, none) left =
+    (before, given, since ++ ((event, acts) ∷ []), rw is (simp append_assoc), still, all_and_one (λ step. IsLeft id step.1) since (event, acts) none left)
 
 -- ---- what is kept
 
@@ -98,47 +99,74 @@ calm_sound ids steps c (out, quiet, flags, none) = (out, quiet, flags, due_sound
 pub fresh_calm : (ids : List ℕ) (steps : List (Event × List Action)) (c : Course) → IsFresh ids c → IsCalm ids steps c
 fresh_calm ids steps c (shares, ready, none) = (never, never, (shares, λ teaching. absurd (false≢true (sym ready ∙ teaching))), rw none refl)
 
--- a step that copies from no table that is quiet
-pub flags_more : (ids : List ℕ) (steps : List (Event × List Action)) (teaching : Bool) (ss : List Share) (out quiet : ℕ → Bool) (event : Event) (acts : List Action) → (teaching ≡ true → (id : ℕ) → quiet id ≡ true → copies id acts ≡ false) → AreFlags ids steps teaching ss out quiet → AreFlags ids (steps ++ ((event, acts) ∷ [])) teaching ss out quiet
-flags_more ids steps teaching ss out quiet event acts no_copy (shares, left) =
-    (shares, λ is id quiets. ((left is id quiets).0, left_more steps id event acts (left is id quiets).1 (no_copy is id quiets)))
+-- a step that leaves the tables that are quiet
+pub flags_more : (ids : List ℕ) (steps : List (Event × List Action)) (teaching : Bool) (ss : List Share) (out quiet : ℕ → Bool) (event : Event) (acts : List Action) → (teaching ≡ true → (id : ℕ) → quiet id ≡ true → IsLeft id acts) → AreFlags ids steps teaching ss out quiet → AreFlags ids (steps ++ ((event, acts) ∷ [])) teaching ss out quiet
+flags_more ids steps teaching ss out quiet event acts leaves (shares, left) =
+    (shares, λ is id quiets. ((left is id quiets).0, left_more steps id event acts (left is id quiets).1 (leaves is id quiets)))
 
-pub calm_more : (ids : List ℕ) (steps : List (Event × List Action)) (c : Course) (event : Event) (acts : List Action) → ((id : ℕ) → copies id acts ≡ false) → IsCalm ids steps c → IsCalm ids (steps ++ ((event, acts) ∷ [])) c
-calm_more ids steps c event acts no_copy (out, quiet, flags, none) =
-    (out, quiet, flags_more ids steps c.teaching c.shares out quiet event acts (λ _ id _. no_copy id) flags, none)
+pub calm_more : (ids : List ℕ) (steps : List (Event × List Action)) (c : Course) (event : Event) (acts : List Action) → ((id : ℕ) → IsLeft id acts) → IsCalm ids steps c → IsCalm ids (steps ++ ((event, acts) ∷ [])) c
+calm_more ids steps c event acts leaves (out, quiet, flags, none) =
+    (out, quiet, flags_more ids steps c.teaching c.shares out quiet event acts (λ _ id _. leaves id) flags, none)
 
 -- ---- messages
 
 pub anew_flags : (ids : List ℕ) (steps : List (Event × List Action)) (ss : List Share) (out quiet : ℕ → Bool) → ss ≡ shares_in ids out quiet → AreFlags ids steps true (unquieted ss) out never
 anew_flags ids steps ss out quiet shares = (ap unquieted shares ∙ unquieted_in ids out quiet, λ _ id bad. absurd (false≢true bad))
 
-calm_requested : (ids : List ℕ) (steps : List (Event × List Action)) (b : Bool) (c : Course) → IsCalm ids steps c → IsCalm ids steps (requested b c).1
-calm_requested ids steps true c calm = calm
-calm_requested ids steps false c (out, quiet, flags, none) = (out, never, anew_flags ids steps c.shares out quiet flags.0, none)
+-- the same after these actions, which reopened no table that is quiet in a resync
+abbrev pub IsCalmAfter : List ℕ → List (Event × List Action) → List Action → Course → Type 0
+IsCalmAfter ids steps given c =
+    (out : ℕ → Bool)
+    × (quiet : ℕ → Bool)
+    × AreFlags ids steps c.teaching c.shares out quiet
+    × (no_copies c.due ≡ true)
+    × (c.teaching ≡ true → (id : ℕ) → quiet id ≡ true → reopened id given ≡ false)
 
-calm_said : (ids : List ℕ) (steps : List (Event × List Action)) (c : Course) (control : Control) → IsCalm ids steps c → IsCalm ids steps (said c control).1
-calm_said ids steps c controls.ResyncRequest calm = calm_requested ids steps (any_out c.shares) c calm
-calm_said ids steps c controls.ResyncFinished calm = calm
-calm_said ids steps c controls.ResyncPartial calm = calm
-calm_said ids steps c controls.ResyncConfirmed calm = calm
-calm_said ids steps c controls.Heartbeat calm = calm
+pub reopened_append : (id : ℕ) (xs ys : List Action) → reopened id xs ≡ false → reopened id ys ≡ false → reopened id (xs ++ ys) ≡ false
+reopened_append id xs ys one other = list_any-append (is_reopen_of id) xs ys ∙ rw (one, other) refl
 
-calm_acknowledged : (ids : List ℕ) (steps : List (Event × List Action)) (b : Bool) (c : Course) (table number : ℕ) → IsCalm ids steps c → IsCalm ids steps (acknowledged b c table number).1
-calm_acknowledged ids steps true c table number (out, quiet, flags, none) = (out, quiet, flags, list_all-append _ c.due (dues.Ack table ∷ []) ∙ rw none refl)
-calm_acknowledged ids steps false c table number calm = calm
+-- actions that reopen nothing
+calm_still : (ids : List ℕ) (steps : List (Event × List Action)) (given acts : List Action) (c : Course) → ((id : ℕ) → reopened id acts ≡ false) → IsCalmAfter ids steps given c → IsCalmAfter ids steps (given ++ acts) c
+calm_still ids steps given acts c plain (out, quiet, flags, none, still) =
+    (out, quiet, flags, none, λ teaching id quiets. reopened_append id given acts (still teaching id quiets) (plain id))
 
-calm_heard : (ids : List ℕ) (steps : List (Event × List Action)) (c : Course) (t : Taken) → IsCalm ids steps c → IsCalm ids steps (heard c t).1
-calm_heard ids steps c (taken.Row u) calm = calm
-calm_heard ids steps c taken.Passed calm = calm
-calm_heard ids steps c (taken.Said control) calm = calm_said ids steps c control calm
-calm_heard ids steps c (taken.Acked table number) calm = calm_acknowledged ids steps _ c table number calm
-calm_heard ids steps c (taken.Failed kind) calm = calm
+calm_requested : (ids : List ℕ) (steps : List (Event × List Action)) (given : List Action) (b : Bool) (c : Course) → IsCalmAfter ids steps given c → IsCalmAfter ids steps (given ++ (requested b c).0) (requested b c).1
+calm_requested ids steps given true c (out, quiet, flags, none, still) =
+    (out, quiet, flags, none, λ teaching id quiets. reopened_append id given [] (still teaching id quiets) refl)
+calm_requested ids steps given false c (out, quiet, flags, none, still) =
+    (out, never, anew_flags ids steps c.shares out quiet flags.0, none, λ _ id bad. absurd (false≢true bad))
 
-calm_hears : (ids : List ℕ) (steps : List (Event × List Action)) (c e : Course) (t : Taken) → Hears c t e → IsCalm ids steps c → IsCalm ids steps e
-calm_hears ids steps c e t (no_failure, gives, is) calm = subst (IsCalm ids steps) (sym is) calm
+calm_said : (ids : List ℕ) (steps : List (Event × List Action)) (given : List Action) (c : Course) (control : Control) → IsCalmAfter ids steps given c → IsCalmAfter ids steps (given ++ (said c control).0) (said c control).1
+calm_said ids steps given c controls.ResyncRequest calm = calm_requested ids steps given (any_out c.shares) c calm
+calm_said ids steps given c controls.ResyncFinished calm = calm_still ids steps given (sends_control controls.ResyncConfirmed ∷ []) c (λ id. refl) calm
+calm_said ids steps given c controls.ResyncPartial calm = calm_still ids steps given (sends_control controls.ResyncConfirmed ∷ []) c (λ id. refl) calm
+calm_said ids steps given c controls.ResyncConfirmed calm = calm_still ids steps given [] c (λ id. refl) calm
+calm_said ids steps given c controls.Heartbeat calm = calm_still ids steps given [] c (λ id. refl) calm
+
+calm_acknowledged : (ids : List ℕ) (steps : List (Event × List Action)) (given : List Action) (b : Bool) (c : Course) (table number : ℕ) → IsCalmAfter ids steps given c → IsCalmAfter ids steps (given ++ (acknowledged b c table number).0) (acknowledged b c table number).1
+calm_acknowledged ids steps given true c table number (out, quiet, flags, none, still) =
+    (out, quiet, flags, list_all-append _ c.due (dues.Ack table ∷ []) ∙ rw none refl, λ teaching id quiets. reopened_append id given (actions.Ack table number ∷ []) (still teaching id quiets) refl)
+calm_acknowledged ids steps given false c table number calm = calm_still ids steps given [] c (λ id. refl) calm
+
+calm_heard : (ids : List ℕ) (steps : List (Event × List Action)) (given : List Action) (c : Course) (t : Taken) → IsCalmAfter ids steps given c → IsCalmAfter ids steps (given ++ (heard c t).0) (heard c t).1
+calm_heard ids steps given c (taken.Row u) calm = calm_still ids steps given (actions.Learn u ∷ []) c (λ id. refl) calm
+calm_heard ids steps given c taken.Passed calm = calm_still ids steps given [] c (λ id. refl) calm
+calm_heard ids steps given c (taken.Said control) calm = calm_said ids steps given c control calm
+calm_heard ids steps given c (taken.Acked table number) calm = calm_acknowledged ids steps given (is_out table c.shares) c table number calm
+calm_heard ids steps given c (taken.Failed kind) calm = calm_still ids steps given [] c (λ id. refl) calm
+
+calm_hears : (ids : List ℕ) (steps : List (Event × List Action)) (given : List Action) (c e : Course) (t : Taken) → Hears c t e → IsCalmAfter ids steps given c → IsCalmAfter ids steps given e
+calm_hears ids steps given c e t (no_failure, gives, is) calm = subst (IsCalmAfter ids steps given) (sym is) calm
 
 -- messages heard keep it
-pub calm_all : (ids : List ℕ) (steps : List (Event × List Action)) (c e : Course) (ts : List Taken) (acts : List Action) → AreHeard c ts acts e → IsCalm ids steps c → IsCalm ids steps e
-calm_all ids steps c e [] acts (none, here) calm = subst (IsCalm ids steps) (sym here) calm
-calm_all ids steps c e (t ∷ ts) acts (mid, rest, hears, all, later) calm =
-    calm_all ids steps (heard mid t).1 e ts rest later (calm_heard ids steps mid t (calm_hears ids steps c mid t hears calm))
+calm_all : (ids : List ℕ) (steps : List (Event × List Action)) (given : List Action) (c e : Course) (ts : List Taken) (acts : List Action) → AreHeard c ts acts e → IsCalmAfter ids steps given c → IsCalmAfter ids steps (given ++ acts) e
+calm_all ids steps given c e [] acts (none, here) calm =
+    subst (λ (xs : List Action). IsCalmAfter ids steps (given ++ xs) e) (sym none) (subst (IsCalmAfter ids steps (given ++ [])) (sym here) (calm_still ids steps given [] c (λ id. refl) calm))
+calm_all ids steps given c e (t ∷ ts) acts (mid, rest, hears, all, later) calm =
+    let grouped : (given ++ (heard mid t).0) ++ rest ≡ given ++ acts = append_assoc given (heard mid t).0 rest ∙ ap (λ (xs : List Action). given ++ xs) (sym all) in
+    subst (λ (xs : List Action). IsCalmAfter ids steps xs e) grouped
+    (calm_all ids steps (given ++ (heard mid t).0) (heard mid t).1 e ts rest later (calm_heard ids steps given mid t (calm_hears ids steps given c mid t hears calm)))
+
+-- the course before any message
+pub calm_heard_all : (ids : List ℕ) (steps : List (Event × List Action)) (c e : Course) (ts : List Taken) (acts : List Action) → AreHeard c ts acts e → IsCalm ids steps c → IsCalmAfter ids steps acts e
+calm_heard_all ids steps c e ts acts are (out, quiet, flags, none) = calm_all ids steps [] c e ts acts are (out, quiet, flags, none, λ _ id _. refl)

@@ -26,15 +26,17 @@ use Rattle.session_core.specs.declared.phase.Greeter.{Greeter}
 use Rattle.session_core.specs.declared.phase.Greeter.TheVariants as greeters
 use Rattle.session_core.specs.declared.phase.Phase.{Phase}
 use Rattle.session_core.specs.declared.phase.Phase.TheVariants as phases
+use Rattle.peers_msg.specs.declared.message.Message.{Message}
+use Rattle.learner.specs.Intake.{acks_of}
 use Rattle.session_core.specs.Shares.{out_set, quiet_set, next_table}
-use Rattle.session_core.specs.Actions.{sends_control, status_text}
+use Rattle.session_core.specs.Actions.{sends_control, sends_acks, status_text}
 use Rattle.peers_msg.specs.declared.control.Control.TheVariants as controls
 use Rattle.session_core.specs.Courses.{Course, course_fed, HearsAll, acks_given, acks_sent, table_to_ask, kind_of, teaching_anew}
 use Rattle.session_core.specs.Sessions.{SessionState, Concludes, ReceivesBytes, IsWelcomed, Connects, Accepts, Greets, GoesNew, GoesHello, GoesOpen, GoesIn, Turns, IsCopied, HasNothing, FinishesResync, StartsPendingResync, Settles}
-use Rattle.session_core.specs.Runs.{copies, HasNothingLeft}
+use Rattle.session_core.specs.Runs.{copies, reopened, IsLeft, HasNothingLeft}
 use Rattle.session_core.proofs.ShareLemmas.{shares_in, set_at, never, out_set_in, quiet_set_in, IsFree, next_free, no_clash}
 use Rattle.session_core.proofs.EndLemmas.{is_plain, plain_append, plain_all, plain_acks, plain_status}
-use Rattle.session_core.proofs.RunLemmas.{IsSound, IsCalm, IsFresh, IsKeptIn, AreFlags, IsDueSound, no_copies, due_sound, due_rest, calm_sound, fresh_calm, flags_more, calm_more, calm_all, anew_flags, left_more}
+use Rattle.session_core.proofs.RunLemmas.{IsSound, IsCalm, IsFresh, IsKeptIn, AreFlags, IsDueSound, no_copies, due_sound, due_rest, calm_sound, fresh_calm, flags_more, calm_more, IsCalmAfter, reopened_append, calm_heard_all, anew_flags, left_more}
 
 abbrev pub with_step : List (Event × List Action) → Event → List Action → List (Event × List Action)
 with_step steps event acts = steps ++ ((event, acts) ∷ [])
@@ -48,11 +50,26 @@ phase_is s e is = ap (λ (x : SessionState). x.phase) is
 
 -- ---- bytes
 
-received_kept : (ids : List ℕ) (steps : List (Event × List Action)) (s : SessionState) (c : Course) (first acts : List Action) (e : SessionState) (event : Event) (result : Result (Unit {0}) Halt) (given : List Action) (mid : Course) → IsCalm ids steps c → ((id : ℕ) → is_plain id first) → HearsAll c result given mid → Concludes s mid result (first ++ given) acts e → IsKeptIn ids (with_step steps event acts) e.phase
+-- what is sent before the messages are heard
+abbrev IsOpening : ℕ → List Action → Type 0
+IsOpening id first = is_plain id first × (reopened id first ≡ false)
+
+-- the acknowledgements reopen nothing
+acks_reopen_none : (id : ℕ) (ms : List Message) → reopened id (sends_acks ms) ≡ false
+acks_reopen_none id [] = refl
+acks_reopen_none id (m ∷ ms) = refl
+
+heard_more : (ids : List ℕ) (steps : List (Event × List Action)) (mid : Course) (event : Event) (first given acts : List Action) → ((id : ℕ) → copies id acts ≡ false) → acts ≡ (first ++ given) ++ acks_given mid → ((id : ℕ) → IsOpening id first) → IsCalmAfter ids steps given mid → IsCalm ids (with_step steps event acts) mid
+heard_more ids steps mid event first given acts no_copy is opening (out, quiet, flags, none, still) =
+    let reopens_none : mid.teaching ≡ true → (id : ℕ) → quiet id ≡ true → reopened id acts ≡ false = λ teaching id quiets.
+    ap (reopened id) is ∙ reopened_append id (first ++ given) (acks_given mid) (reopened_append id first given (opening id).1 (still teaching id quiets)) (acks_reopen_none id (acks_of mid.intake)) in
+    (out, quiet, flags_more ids steps mid.teaching mid.shares out quiet event acts (λ teaching id quiets. (no_copy id, reopens_none teaching id quiets)) flags, none)
+
+received_kept : (ids : List ℕ) (steps : List (Event × List Action)) (s : SessionState) (c : Course) (first acts : List Action) (e : SessionState) (event : Event) (result : Result (Unit {0}) Halt) (given : List Action) (mid : Course) → IsCalm ids steps c → ((id : ℕ) → IsOpening id first) → HearsAll c result given mid → Concludes s mid result (first ++ given) acts e → IsKeptIn ids (with_step steps event acts) e.phase
 received_kept ids steps s c first acts e event (Ok u) given mid calm plain (ts, are, waits) (is, ends) =
     let no_copy : (id : ℕ) → copies id acts ≡ false = λ id.
-    rw is ((plain_append id (first ++ given) (acks_given mid) (plain_append id first given (plain id) (plain_all id c mid ts given are)) (plain_acks id mid.intake)).1) in
-    let calm_then : IsCalm ids (with_step steps event acts) mid = calm_more ids steps mid event acts no_copy (calm_all ids steps c mid ts given are calm) in
+    rw is ((plain_append id (first ++ given) (acks_given mid) (plain_append id first given (plain id).0 (plain_all id c mid ts given are)) (plain_acks id mid.intake)).1) in
+    let calm_then : IsCalm ids (with_step steps event acts) mid = heard_more ids steps mid event first given acts no_copy is plain (calm_heard_all ids steps c mid ts given are calm) in
     stands ids (with_step steps event acts) e (phases.Open (acks_sent mid)) (ap (λ (x : SessionState). x.phase) ends) (calm_sound ids (with_step steps event acts) (acks_sent mid) calm_then)
 received_kept ids steps s c first acts e event (Err halts.Failed) given mid calm plain hears (is, ends) =
     stands ids (with_step steps event acts) e phases.Ended (ap (λ (x : SessionState). x.phase) ends) tt
@@ -60,7 +77,7 @@ received_kept ids steps s c first acts e event (Err (halts.Fault fault)) given m
     stands ids (with_step steps event acts) e phases.Ended (ap (λ (x : SessionState). x.phase) ends) tt
 received_kept ids steps s c first acts e event (Err halts.Memory) given mid calm plain hears concludes = absurd concludes
 
-receives_kept : (ids : List ℕ) (steps : List (Event × List Action)) (s : SessionState) (c : Course) (first acts : List Action) (e : SessionState) (event : Event) → IsCalm ids steps c → ((id : ℕ) → is_plain id first) → ReceivesBytes s c first acts e → IsKeptIn ids (with_step steps event acts) e.phase
+receives_kept : (ids : List ℕ) (steps : List (Event × List Action)) (s : SessionState) (c : Course) (first acts : List Action) (e : SessionState) (event : Event) → IsCalm ids steps c → ((id : ℕ) → IsOpening id first) → ReceivesBytes s c first acts e → IsKeptIn ids (with_step steps event acts) e.phase
 receives_kept ids steps s c first acts e event calm plain (result, given, mid, hears, concludes) =
     received_kept ids steps s c first acts e event result given mid calm plain hears concludes
 
@@ -80,7 +97,7 @@ new_kept ids steps s hello c (events.Settled table settled) acts e fresh goes = 
 new_kept ids steps s hello c (events.Refused table) acts e fresh goes = absurd goes
 
 welcomed_kept : (ids : List ℕ) (steps : List (Event × List Action)) (b : Bool) (s : SessionState) (c : Course) (rest : List ℕ) (acts : List Action) (e : SessionState) (event : Event) → IsFresh ids c → IsWelcomed b s c rest acts e → IsKeptIn ids (with_step steps event acts) e.phase
-welcomed_kept ids steps true s c rest acts e event fresh receives = receives_kept ids steps s (course_fed c rest) (sends_control controls.ResyncRequest ∷ []) acts e event (fresh_calm ids steps c fresh) (λ id. (refl, refl)) receives
+welcomed_kept ids steps true s c rest acts e event fresh receives = receives_kept ids steps s (course_fed c rest) (sends_control controls.ResyncRequest ∷ []) acts e event (fresh_calm ids steps c fresh) (λ id. ((refl, refl), refl)) receives
 welcomed_kept ids steps false s c rest acts e event fresh (is, ends) = stands ids (with_step steps event acts) e phases.Ended (ap (λ (x : SessionState). x.phase) ends) tt
 
 connects_kept : (ids : List ℕ) (steps : List (Event × List Action)) (status : Status) (s : SessionState) (bytes : List ℕ) (c : Course) (acts : List Action) (e : SessionState) (event : Event) → IsFresh ids c → Connects status s bytes c acts e → IsKeptIn ids (with_step steps event acts) e.phase
@@ -90,7 +107,7 @@ connects_kept ids steps (statuses.Other used) s bytes c acts e event fresh (is, 
 
 accepts_kept : (ids : List ℕ) (steps : List (Event × List Action)) (answer : Answer) (s : SessionState) (greeter : Greeter) (bytes : List ℕ) (c : Course) (acts : List Action) (e : SessionState) (event : Event) → IsFresh ids c → Accepts answer s greeter bytes c acts e → IsKeptIn ids (with_step steps event acts) e.phase
 accepts_kept ids steps answers.More s greeter bytes c acts e event fresh (is, ends) = stands ids _ e (phases.Hello greeter bytes c) (ap (λ (x : SessionState). x.phase) ends) fresh
-accepts_kept ids steps (answers.Accepted name used) s greeter bytes c acts e event fresh goes = receives_kept ids steps s (course_fed c (drop used bytes)) (actions.Send (status_text 200) ∷ []) acts e event (fresh_calm ids steps c fresh) (λ id. plain_status id 200) goes
+accepts_kept ids steps (answers.Accepted name used) s greeter bytes c acts e event fresh goes = receives_kept ids steps s (course_fed c (drop used bytes)) (actions.Send (status_text 200) ∷ []) acts e event (fresh_calm ids steps c fresh) (λ id. (plain_status id 200, refl)) goes
 accepts_kept ids steps (answers.Refused code used) s greeter bytes c acts e event fresh (is, ends) = stands ids (with_step steps event acts) e phases.Ended (ap (λ (x : SessionState). x.phase) ends) tt
 
 greets_kept : (ids : List ℕ) (steps : List (Event × List Action)) (s : SessionState) (greeter : Greeter) (bytes : List ℕ) (c : Course) (acts : List Action) (e : SessionState) (event : Event) → IsFresh ids c → Greets s greeter bytes c acts e → IsKeptIn ids (with_step steps event acts) e.phase
@@ -125,12 +142,12 @@ other_copy id table kind quiet not_quiet quiets =
 
 turns_kept : (ids : List ℕ) (steps : List (Event × List Action)) (asked : Option ℕ) (s : SessionState) (c : Course) (acts : List Action) (e : SessionState) → table_to_ask c ≡ asked → IsCalm ids steps c → Turns asked s c acts e → IsKeptIn ids (with_step steps events.Turn acts) e.phase
 turns_kept ids steps None s c acts e asks calm (is, ends) =
-    stands ids (with_step steps events.Turn acts) e (phases.Open c) (ap (λ (x : SessionState). x.phase) ends) (calm_sound ids (with_step steps events.Turn acts) c (calm_more ids steps c events.Turn acts (λ id. rw is refl) calm))
+    stands ids (with_step steps events.Turn acts) e (phases.Open c) (ap (λ (x : SessionState). x.phase) ends) (calm_sound ids (with_step steps events.Turn acts) c (calm_more ids steps c events.Turn acts (λ id. rw is (refl, refl)) calm))
 turns_kept ids steps (Some table) s c acts e asks (out, quiet, flags, none) (is, ends) =
     let next : next_table c.teaching c.asked (shares_in ids out quiet) ≡ Some table =
     subst (λ (ss : List _). next_table c.teaching c.asked ss ≡ Some table) flags.0 (asks_next c.waits (next_table c.teaching c.asked c.shares) table asks) in
     let free : IsFree c.teaching out quiet table = next_free c.teaching c.asked out quiet ids table next in
-    let more = flags_more ids steps c.teaching c.shares out quiet events.Turn acts (λ teaching id quiets. rw is (other_copy id table (kind_of c.teaching) quiet (free.1 teaching) quiets)) flags in
+    let more = flags_more ids steps c.teaching c.shares out quiet events.Turn acts (λ teaching id quiets. rw is (other_copy id table (kind_of c.teaching) quiet (free.1 teaching) quiets, refl)) flags in
     stands ids (with_step steps events.Turn acts) e (phases.Open (record c { asked = Some table; due = dues.Copy table ∷ [] })) (ap (λ (x : SessionState). x.phase) ends)
     (out, quiet, more, (refl, free, steps, rw is refl))
 
@@ -143,7 +160,7 @@ rest_none ids steps c d rest out quiet due sound = due_rest steps c.teaching out
 -- what is due first is answered, and nothing else changes
 stays_kept : (ids : List ℕ) (steps : List (Event × List Action)) (s : SessionState) (c : Course) (acts : List Action) (e : SessionState) (event : Event) → IsCalm ids steps c → acts ≡ [] → e.phase ≡ phases.Open c → IsKeptIn ids (with_step steps event acts) e.phase
 stays_kept ids steps s c acts e event calm is ends =
-    stands ids (with_step steps event acts) e (phases.Open c) ends (calm_sound ids (with_step steps event acts) c (calm_more ids steps c event acts (λ id. rw is refl) calm))
+    stands ids (with_step steps event acts) e (phases.Open c) ends (calm_sound ids (with_step steps event acts) c (calm_more ids steps c event acts (λ id. rw is (refl, refl)) calm))
 
 -- a table that is free isn't one that is quiet
 set_other : (flag : Bool) (table id : ℕ) (out quiet : ℕ → Bool) → quiet table ≡ false → quiet id ≡ true → set_at table flag out id ≡ out id
@@ -156,7 +173,7 @@ set_other flag table id out quiet not_quiet quiets =
 copied_kept : (ids : List ℕ) (steps : List (Event × List Action)) (s : SessionState) (c : Course) (table : ℕ) (batch : List Update) (rest : List Due) (acts : List Action) (e : SessionState) (event : Event) → IsSound ids steps c → c.due ≡ dues.Copy table ∷ rest → IsCopied s (record c { due = rest }) table batch acts e → IsKeptIn ids (with_step steps event acts) e.phase
 copied_kept ids steps s c table batch rest acts e event (out, quiet, flags, sound) due (is, ends) =
     let here : IsDueSound steps c.teaching out quiet (dues.Copy table ∷ rest) = subst (IsDueSound steps c.teaching out quiet) due sound in
-    let more = flags_more ids steps c.teaching c.shares out quiet event acts (λ teaching id quiets. rw is refl) flags in
+    let more = flags_more ids steps c.teaching c.shares out quiet event acts (λ teaching id quiets. rw is (refl, refl)) flags in
     stands ids (with_step steps event acts) e (phases.Open (record c { shares = out_set table true c.shares; due = dues.Teach ∷ rest })) (ap (λ (x : SessionState). x.phase) ends) (
       set_at table true out,
       quiet,
@@ -168,41 +185,41 @@ copied_kept ids steps s c table batch rest acts e event (out, quiet, flags, soun
     )
 
 -- the copy that is answered is the last thing asked for
-answered_left : (steps before : List (Event × List Action)) (table : ℕ) (teaching : Bool) (acts : List Action) → teaching ≡ true → steps ≡ before ++ ((events.Turn, actions.Copy table (kind_of teaching) ∷ []) ∷ []) → HasNothingLeft (with_step steps (events.Nothing table) acts) table
-answered_left steps before table teaching acts is_teaching last =
+answered_left : (steps before : List (Event × List Action)) (table : ℕ) (teaching : Bool) (acts : List Action) → teaching ≡ true → steps ≡ before ++ ((events.Turn, actions.Copy table (kind_of teaching) ∷ []) ∷ []) → reopened table acts ≡ false → HasNothingLeft (with_step steps (events.Nothing table) acts) table
+answered_left steps before table teaching acts is_teaching last still =
     let resync : steps ≡ before ++ ((events.Turn, actions.Copy table kinds.Resync ∷ []) ∷ []) = last ∙ rw is_teaching refl in
-    (before, acts, [], rw resync (simp append_assoc), tt)
+    (before, acts, [], rw resync (simp append_assoc), still, tt)
 
 -- what is known of the tables that are quiet once one more is
-quiet_left : (steps before : List (Event × List Action)) (table id : ℕ) (out quiet : ℕ → Bool) (teaching : Bool) (acts : List Action) → teaching ≡ true → IsFree teaching out quiet table → steps ≡ before ++ ((events.Turn, actions.Copy table (kind_of teaching) ∷ []) ∷ []) → copies id acts ≡ false → ((other : ℕ) → quiet other ≡ true → (out other ≡ false) × HasNothingLeft steps other) → set_at table true quiet id ≡ true → (out id ≡ false) × HasNothingLeft (with_step steps (events.Nothing table) acts) id
-quiet_left steps before table id out quiet teaching acts is_teaching free last no_copy left quiets =
+quiet_left : (steps before : List (Event × List Action)) (table id : ℕ) (out quiet : ℕ → Bool) (teaching : Bool) (acts : List Action) → teaching ≡ true → IsFree teaching out quiet table → steps ≡ before ++ ((events.Turn, actions.Copy table (kind_of teaching) ∷ []) ∷ []) → IsLeft id acts → ((other : ℕ) → quiet other ≡ true → (out other ≡ false) × HasNothingLeft steps other) → set_at table true quiet id ≡ true → (out id ≡ false) × HasNothingLeft (with_step steps (events.Nothing table) acts) id
+quiet_left steps before table id out quiet teaching acts is_teaching free last leaves left quiets =
     elim (cases_eq id table) [
-      | inl same ↦ (ap out same ∙ free.0, subst (HasNothingLeft (with_step steps (events.Nothing table) acts)) (sym same) (answered_left steps before table teaching acts is_teaching last))
+      | inl same ↦ (ap out same ∙ free.0, subst (HasNothingLeft (with_step steps (events.Nothing table) acts)) (sym same) (answered_left steps before table teaching acts is_teaching last (subst (λ (x : ℕ). reopened x acts ≡ false) same leaves.1)))
       | inr other ↦
           let was : quiet id ≡ true = sym (rw (ne_eqb id table other) refl) ∙ quiets in
-          ((left id was).0, left_more steps id (events.Nothing table) acts (left id was).1 no_copy)
+          ((left id was).0, left_more steps id (events.Nothing table) acts (left id was).1 leaves)
     ]
 
 -- the tables of a course in which one more is quiet
-pub quieted : (ids : List ℕ) (steps : List (Event × List Action)) (c : Course) (table : ℕ) (rest : List Due) (acts : List Action) → IsSound ids steps c → c.due ≡ dues.Copy table ∷ rest → c.teaching ≡ true → ((id : ℕ) → copies id acts ≡ false) → (out : ℕ → Bool) × (quiet : ℕ → Bool) × AreFlags ids (with_step steps (events.Nothing table) acts) c.teaching (quiet_set table c.shares) out quiet × (no_copies rest ≡ true)
-quieted ids steps c table rest acts (out, quiet, flags, sound) due teaching no_copy =
+pub quieted : (ids : List ℕ) (steps : List (Event × List Action)) (c : Course) (table : ℕ) (rest : List Due) (acts : List Action) → IsSound ids steps c → c.due ≡ dues.Copy table ∷ rest → c.teaching ≡ true → ((id : ℕ) → IsLeft id acts) → (out : ℕ → Bool) × (quiet : ℕ → Bool) × AreFlags ids (with_step steps (events.Nothing table) acts) c.teaching (quiet_set table c.shares) out quiet × (no_copies rest ≡ true)
+quieted ids steps c table rest acts (out, quiet, flags, sound) due teaching leaves =
     let here : IsDueSound steps c.teaching out quiet (dues.Copy table ∷ rest) = subst (IsDueSound steps c.teaching out quiet) due sound in (
       out,
       set_at table true quiet,
       (
         ap (quiet_set table) flags.0 ∙ quiet_set_in table ids out quiet,
-        λ is id quiets. quiet_left steps here.2 table id out quiet c.teaching acts is here.1 here.3 (no_copy id) (flags.1 is) quiets,
+        λ is id quiets. quiet_left steps here.2 table id out quiet c.teaching acts is here.1 here.3 (leaves id) (flags.1 is) quiets,
       ),
       here.0,
     )
 
 finishes_kept : (ids : List ℕ) (steps : List (Event × List Action)) (b : Bool) (s : SessionState) (c : Course) (table : ℕ) (rest : List Due) (acts : List Action) (e : SessionState) → IsSound ids steps c → c.due ≡ dues.Copy table ∷ rest → c.teaching ≡ true → FinishesResync b s (record c { shares = quiet_set table c.shares; due = rest }) acts e → IsKeptIn ids (with_step steps (events.Nothing table) acts) e.phase
 finishes_kept ids steps true s c table rest acts e sound due teaching (is, ends) =
-    let q = quieted ids steps c table rest acts sound due teaching (λ id. rw is refl) in
+    let q = quieted ids steps c table rest acts sound due teaching (λ id. rw is (refl, refl)) in
     stands ids (with_step steps (events.Nothing table) acts) e (phases.Open (record c { shares = quiet_set table c.shares; due = rest; teaching = false })) (ap (λ (x : SessionState). x.phase) ends)
     (q.0, q.1, (q.2.0, λ bad. absurd (false≢true bad)), due_sound _ false q.0 q.1 rest q.3)
 finishes_kept ids steps false s c table rest acts e sound due teaching (is, ends) =
-    let q = quieted ids steps c table rest acts sound due teaching (λ id. rw is refl) in
+    let q = quieted ids steps c table rest acts sound due teaching (λ id. rw is (refl, refl)) in
     stands ids (with_step steps (events.Nothing table) acts) e (phases.Open (record c { shares = quiet_set table c.shares; due = rest })) (ap (λ (x : SessionState). x.phase) ends)
     (q.0, q.1, q.2, due_sound _ c.teaching q.0 q.1 rest q.3)
 
@@ -251,7 +268,7 @@ open_kept : (ids : List ℕ) (steps : List (Event × List Action)) (s : SessionS
 open_kept ids steps s c events.Turn acts e (out, quiet, flags, sound) (none, turns) =
     turns_kept ids steps (table_to_ask c) s c acts e refl (out, quiet, flags, rw none refl) turns
 open_kept ids steps s c (events.Bytes bytes) acts e (out, quiet, flags, sound) (none, receives) =
-    receives_kept ids steps s (course_fed c bytes) [] acts e (events.Bytes bytes) (out, quiet, flags, rw none refl) (λ id. (refl, refl)) receives
+    receives_kept ids steps s (course_fed c bytes) [] acts e (events.Bytes bytes) (out, quiet, flags, rw none refl) (λ id. ((refl, refl), refl)) receives
 open_kept ids steps s c (events.Copied table batch) acts e sound (mid, answered, copied) =
     copied_kept ids steps s c table batch mid.due acts e (events.Copied table batch) sound answered.0 (subst (λ (m : Course). IsCopied s m table batch acts e) answered.1 copied)
 open_kept ids steps s c (events.Nothing table) acts e sound (mid, answered, nothing) =

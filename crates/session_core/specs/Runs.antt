@@ -43,15 +43,28 @@ is_copy_of table action = false
 abbrev pub copies : ℕ → List Action → Bool
 copies table acts = list_any (is_copy_of table) acts
 
+-- an action that closes the session and opens it anew in the table of that id
+abbrev pub is_reopen_of : ℕ → Action → Bool
+is_reopen_of table (actions.Reopen other) = other == table
+is_reopen_of table action = false
+
+abbrev pub reopened : ℕ → List Action → Bool
+reopened table acts = list_any (is_reopen_of table) acts
+
+-- the table of that id is neither copied from nor reopened
+abbrev pub IsLeft : ℕ → List Action → Type 0
+IsLeft table acts = (copies table acts ≡ false) × (reopened table acts ≡ false)
+
 -- The last copy from the table of that id was one of a resync, and was answered at once that there is nothing to teach:
--- nothing was copied from it since.
+-- nothing was copied from it since, nor was it reopened, so the copy was one of the resync that goes on.
 abbrev pub HasNothingLeft : List (Event × List Action) → ℕ → Type 0
 HasNothingLeft steps table =
     (before : List (Event × List Action))
     × (given : List Action)
     × (since : List (Event × List Action))
     × (steps ≡ before ++ ((events.Turn, actions.Copy table kinds.Resync ∷ []) ∷ ((events.Nothing table, given) ∷ since)))
-    × AllByRecursion (λ step. copies table step.1 ≡ false) since
+    × (reopened table given ≡ false)
+    × AllByRecursion (λ step. IsLeft table step.1) since
 
 -- no batch is out
 abbrev pub HasNothingOut : SessionState → Type 0

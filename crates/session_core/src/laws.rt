@@ -9,8 +9,8 @@ ghost use Rattle.session_core.specs.Sessions.{SessionState, Goes, is_asked};
 ghost use Rattle.session_core.specs.Runs.{Runs, IsBegun, ends_resync, HasNothingLeft, HasNothingOut, was_confirmed};
 
 /// A resync ends only where all is taught: in every run from the beginning, where an event has the session send resync
-/// finished or resync partial, no batch is out, and the last copy from each table was one of a resync, which was answered
-/// that there is nothing to teach; nothing was copied from the table since.
+/// finished or resync partial, no batch is out, and the last copy from each table was one of that resync, which was
+/// answered that there is nothing to teach. After that answer the table wasn't copied from, nor reopened for another.
 pub fn resyncs_end_taught()
     ensures out { (roster : List Definition) (begun s e : SessionState) (steps : List (Event × List Action)) (event : Event) (acts : List Action) →
         IsBegun roster begun → Runs begun steps s → Goes s event acts e → ends_resync acts ≡ true → HasNothingOut s }
