@@ -3,7 +3,7 @@
 use crate::control::{Control, ErrorKind};
 
 /// What a pair of class and type stands for (HAProxy, doc/peers-v2.0.txt, "Messages").
-#[derive(Clone, Copy, Debug, PartialEq, Eq)]
+#[derive(Clone, Copy)]
 pub enum Meaning {
     /// Class 0, types 0 to 4.
     Control(Control),
