@@ -1,4 +1,4 @@
--- Agreement (own): the receipts that seats have of a table are the table's events, one for one.
+-- Agreement (profile): the receipts that seats have of a table are the table's events, one for one.
 use Rattle.std.specs.Prelude.{◌≡◌, ℕ, ◌<◌, ◌≤◌, ◌⊎◌, List, [], ◌∷◌, Option, Some, None, nat_lt, if◌then◌else◌}
 use Rattle.std.specs.List.{AllByRecursion}
 use Rattle.table_cell.specs.Histories.{CellState, events_of, event_in}

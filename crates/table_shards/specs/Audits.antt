@@ -1,4 +1,4 @@
--- An audit (own): whether the receipts of all seats agree with the histories of all tables.
+-- An audit (profile): whether the receipts of all seats agree with the histories of all tables.
 use Rattle.std.specs.Prelude.{◌≡◌, ℕ, ◌<◌, ◌==◌, ◌&&◌, ◌⊎◌, Bool, true, false, nat_le, List, Option, Some, None, map, if◌then◌else◌}
 use Rattle.std.specs.List.{AllByRecursion}
 use Rattle.table_cell.specs.Histories.{CellState, Kept}

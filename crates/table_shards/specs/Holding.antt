@@ -1,4 +1,4 @@
--- What the calls of the module `held` do (own), under the lock of one table and for one seat.
+-- What the calls of the module `held` do (profile), under the lock of one table and for one seat.
 use Rattle.std.specs.Prelude.{◌≡◌, ◌≢◌, ℕ, ◌+◌, ◌≤◌, List, Option, Some, None, Result, Ok, Err}
 use Rattle.table_types.specs.declared.update.Update.{Update}
 use Rattle.table_cell.specs.Histories.{CellState, IsLatestBatch, events_of}

@@ -1,4 +1,4 @@
--- Receipts (own): what a thread keeps of each event that it made of a table, at its seat.
+-- Receipts (profile): what a thread keeps of each event that it made of a table, at its seat.
 use Rattle.std.specs.Prelude.{ℕ, ◌<◌, ◌≤◌, ◌==◌, List, [], ◌∷◌, ◌++◌, Option, Some, None, if◌then◌else◌, nat_lt}
 use Rattle.std.specs.List.{count_by, flat_map}
 use Rattle.table_shards.specs.declared.receipt.Receipt.{Receipt}

@@ -1,4 +1,4 @@
--- A round (own): tables under their locks, and the seats from which threads change them.
+-- A round (profile): tables under their locks, and the seats from which threads change them.
 use Rattle.std.specs.Prelude.{ℕ, zero, suc, ◌+◌, List, [], ◌∷◌}
 use Rattle.table_cell.specs.Histories.{CellState, events_of}
 use Rattle.table_shards.specs.Receipts.{SeatState, fresh_seat}
