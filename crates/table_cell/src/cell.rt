@@ -1,6 +1,6 @@
 //! Stick tables with their history.
 
-ghost use Rattle.std.specs.Prelude.{◌≡◌, ◌↔◌, ◌≤◌, IfOk, IsOk, Ok, option_map};
+ghost use Rattle.std.specs.Prelude.{◌≡◌, ◌↔◌, ◌≤◌, IfOk, IsOk, option_map};
 ghost use Rattle.table_cell.specs.Histories.{AreInRisingKey, Kept, events_of, event_in, is_history_full, new_cell, room_of};
 ghost use Rattle.table_cell.specs.Soundness.{IsSoundCell};
 
@@ -53,7 +53,7 @@ impl TableCell {
     ) -> Result<TableCell, Memory>
         requires size { (1 ≤ size) × (size ≤ 1000000) }
         requires first { 1 ≤ first }
-        ensures { result ≡ Ok (new_cell definition size nopurge first) }
+        ensures { IfOk result (λ cell. cell ≡ new_cell definition size nopurge first) }
     {
         Ok(TableCell {
             alloc,
