@@ -1,7 +1,6 @@
 //! Devices that give or take a byte a call, and then fail, end, or go on for ever.
 
 use peers_devices::{Counting, Faults, MOST_READS, ReadError, WriteError, read_to_end, write_all};
-use peers_engine::{Fused, WriteFault, write_lesson};
 use scene_commands::{Ending, lesson};
 use std::io;
 use std::io::{Read, Write};
@@ -205,36 +204,4 @@ fn an_output_that_fails_in_mid_stream(rt: HostRuntime) {
         );
         assert_eq!(rt; output.into_inner().calls, 21, "{then:?}");
     }
-}
-
-/// The lesson of two updates, of 42 bytes.
-const LESSON: &[u8] =
-    b"\x0A\x82\x0A\x01\x02t1\x02\x04\x04\xF0\xC4\x0D\x0A\x85\x0D\x00\x00\x00\x01\x00\x00\x75\x30\x00\x00\x00\x07\x05\x0A\x86\x0A\x00\x00\x75\x30\x00\x00\x00\x08\xF0\x00";
-
-#[test]
-fn a_lesson_over_a_writer_that_fails(rt: HostRuntime) {
-    let mut output = Counting::new(Fused::new(Vec::new(rt.alloc()), 20));
-    assert_eq!(rt;
-        write_lesson(&mut output, LESSON),
-        Err(WriteFault { sent: 20 })
-    );
-    assert_eq!(rt; output.failures(), 1);
-    let written = output.into_inner().into_inner();
-    assert_eq!(rt; written.as_slice(), &LESSON[..20]);
-    let mut output = Counting::new(Fused::new(Vec::new(rt.alloc()), 42));
-    assert_eq!(rt; write_lesson(&mut output, LESSON), Ok(()));
-    let written = output.into_inner().into_inner();
-    assert_eq!(rt; written.as_slice(), LESSON);
-}
-
-#[test]
-fn so_many_reads_and_then_failures(rt: HostRuntime) {
-    let mut input = Counting::new(Fused::new(b"abc".as_slice(), 2));
-    let mut byte = [0];
-    assert_eq!(rt; input.read(&mut byte).ok(), Some(1));
-    assert_eq!(rt; input.read(&mut byte).ok(), Some(1));
-    assert_eq!(rt; byte, [b'b']);
-    assert!(rt; input.read(&mut byte).is_err());
-    assert!(rt; input.read(&mut byte).is_err());
-    assert_eq!(rt; input.failures(), 2);
 }
