@@ -3,3 +3,4 @@ pub mod BatchLaws
 pub mod ShapeLaws
 pub mod KindLaws
 pub mod KeyLaws
+pub mod ByteOrder

@@ -6,6 +6,7 @@ ghost use Rattle.std.specs.Cmp.{partial_order_from_agreeing_total};
 ghost use Rattle.table_types.specs.Keys.{number_of, kind_at, kind_name, fits_length, key_fits, kind_rank, key_cmp};
 ghost use Rattle.table_types.specs.KeyOrder.{key_cmp_total, key_cmp_ties};
 
+use crate::byte_order::compare_bytes;
 use crate::items::Items;
 use crate::memory::Memory;
 use std::alloc::Global;
@@ -199,8 +200,8 @@ fn compare(left: &Key, right: &Key) -> Ordering
         (Key::Int(left), Key::Int(right)) => left.cmp(right),
         (Key::Ip4(left), Key::Ip4(right)) => left.cmp(right),
         (Key::Ip6(left), Key::Ip6(right)) => left.cmp(right),
-        (Key::Str(left), Key::Str(right)) => left.cmp(right),
-        (Key::Bin(left), Key::Bin(right)) => left.cmp(right),
+        (Key::Str(left), Key::Str(right)) | (Key::Bin(left), Key::Bin(right)) =>
+            compare_bytes(left.as_slice(), right.as_slice()),
         _ => rank(left).cmp(&rank(right)),
     }
 }

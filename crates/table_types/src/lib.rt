@@ -3,6 +3,7 @@
 #![tactic(auto)]
 
 mod batch;
+mod byte_order;
 mod change;
 mod copies;
 mod data_type;
