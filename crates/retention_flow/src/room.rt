@@ -1,23 +1,45 @@
 //! The slots that are left at each place.
 
-ghost use Rattle.std.specs.Prelude.{◌≡◌, ℕ, ◌+◌, ◌-◌, ◌≤◌, ◌<◌, IfOk, length, slice_index, if◌then◌else◌};
-ghost use Rattle.known_state.specs.Plans.{is_inside, kept_over};
-ghost use Rattle.retention_flow.specs.Network.{link_at, links_of, GoBack, IsRoom};
+ghost use Rattle.std.specs.Prelude.{◌≡◌, ℕ, ◌+◌, ◌-◌, ◌≤◌, ◌<◌, IfOk, length, slice_index};
+ghost use Rattle.known_state.specs.Plans.{kept_from, kept_over};
+ghost use Rattle.retention_flow.specs.Network.{links_of, GoBack, IsRoom};
 
 use crate::arcs::RequestArc;
 use std::alloc::Global;
 use table_types::Memory;
 
-/// Adds one at each place that the arc of the request after a node passes. The first is place 1.
-fn add_passed(arc: &RequestArc, node: usize, over: &mut [usize])
-    requires back { arc.now.from ≤ node }
-    requires within { node ≤ length over.old }
-    requires small { (place : ℕ) → slice_index over.old place ≤ 512 }
-    ensures long { length over.new ≡ length over.old }
-    ensures counted { (place : ℕ) → slice_index over.new place ≡ slice_index over.old place + (if is_inside (place + 1) (link_at node arc.now) then 1 else 0) }
+/// How many kept arcs begin at each node, from the first on.
+fn kept_from(alloc: Global, arcs: &[RequestArc]) -> Result<Vec<usize>, Memory>
+    requires most { length arcs.now ≤ 512 }
+    requires back { GoBack arcs.now }
+    ensures { IfOk result (λ begun. (length begun.items ≡ length arcs.now) × ((node : ℕ) → slice_index begun.items node ≡ kept_from (links_of 0 arcs.now) node)) }
 {
-    for place in arc.from..node {
-        over[place] += 1;
+    let mut begun = vec![in alloc; 0; arcs.len()]?;
+    for arc in arcs {
+        if arc.kept {
+            begun[arc.from] += 1;
+        }
+    }
+    Ok(begun)
+}
+
+/// Adds up along the places: from how many kept arcs begin at each node to how many pass the place after it. The arc of the
+/// request at that place doesn't pass it.
+fn add_up(arcs: &[RequestArc], counts: &mut [usize])
+    requires most { length arcs.now ≤ 512 }
+    requires back { GoBack arcs.now }
+    requires long { length counts.old ≡ length arcs.now }
+    requires begun { (node : ℕ) → slice_index counts.old node ≡ kept_from (links_of 0 arcs.now) node }
+    ensures long { length counts.new ≡ length arcs.now }
+    ensures passed { (node : ℕ) → slice_index counts.new node ≡ kept_over (links_of 0 arcs.now) (node + 1) }
+{
+    let mut passing = 0;
+    for (node, arc) in arcs.iter().enumerate() {
+        passing += counts[node];
+        if arc.kept {
+            passing -= 1;
+        }
+        counts[node] = passing;
     }
 }
 
@@ -27,13 +49,9 @@ fn kept_over(alloc: Global, arcs: &[RequestArc]) -> Result<Vec<usize>, Memory>
     requires back { GoBack arcs.now }
     ensures { IfOk result (λ over. (length over.items ≡ length arcs.now) × ((place : ℕ) → slice_index over.items place ≡ kept_over (links_of 0 arcs.now) (place + 1))) }
 {
-    let mut over = vec![in alloc; 0; arcs.len()]?;
-    for (node, arc) in arcs.iter().enumerate() {
-        if arc.kept {
-            add_passed(arc, node, &mut over);
-        }
-    }
-    Ok(over)
+    let mut counts = kept_from(alloc, arcs)?;
+    add_up(arcs, &mut counts);
+    Ok(counts)
 }
 
 /// The greatest of these counts and `least`.
