@@ -24,7 +24,7 @@ use Rattle.known_state.proofs.NamesToKeep.{names_to_keep}
 use Rattle.known_state.proofs.SlotsNeeded.{turned}
 use Rattle.teach_writer.specs.Naming.{is_that_name, lowest_from, starts_at_first, starts_after, first_mark, marks_after, retains_next, IsRetainedOver, IsNamed}
 use Rattle.teach_writer.specs.Retained.{retained_at, Retains, IsFree, IsNameField}
-use Rattle.teach_writer.specs.NextRequests.{IsRetainedFirst, HasRoomFor, IsNotRetained, kept_next, retained_after, place_after}
+use Rattle.teach_writer.specs.NextRequests.{IsRetainedFirst, HasRoomFor, IsNotRetained, kept_next, retained_after, index_after}
 use Rattle.teach_writer.specs.Sending.{slot_of, is_stored, IsSent, AreSent}
 use Rattle.teach_writer.proofs.KeptNext.{kept_next-at}
 use Rattle.teach_writer.proofs.UpdateStepsAreLegal.{stream-append}
@@ -284,13 +284,13 @@ Leads roster s us keep ms mid starts left marks = (rest : List Message) (e : Sta
 
 -- The updates are sent as their marks say but for these that are left, with so many requests made.
 abbrev pub IsUnderWay : List Definition → State → List Update → List Asked → List Bool → List ℕ → State → List Bool → ℕ → List Update → Type 0
-IsUnderWay roster s us rs keep bytes mid retained place left =
+IsUnderWay roster s us rs keep bytes mid retained index left =
     (ms : List Message) × (starts : List ℕ → Option ℕ) × (k : Knowledge) × (done : List Asked) × (kept : List Bool) × (marks : List Bool)
     × (bytes ≡ stream_of ms)
     × (rs ≡ done ++ requests_of roster k left)
     × (keep ≡ kept ++ marks)
-    × (length done ≡ place)
-    × (length kept ≡ place)
+    × (length done ≡ index)
+    × (length kept ≡ index)
     × (length marks ≡ length (requests_of roster k left))
     × AreLinked (after_requests (at_start (names_in s.slots)) done) (requests_of roster k left) marks
     × AreBegun starts (after_requests (at_start (names_in s.slots)) done)
@@ -326,16 +326,16 @@ IsAdvanced roster k u name slot starts asking rest marks =
     × AreLinked (after_requests asking (asked roster k u name)) rest (marks_after name marks)
     × AreBegun (starts_after starts name slot) (after_requests asking (asked roster k u name))
     × AreSlots (starts_after starts name slot)
-    × ((place : ℕ) → place + length (taken name marks) ≡ place_after place slot)
-    × ((place : ℕ) → place + length (asked roster k u name) ≡ place_after place slot)
+    × ((index : ℕ) → index + length (taken name marks) ≡ index_after index slot)
+    × ((index : ℕ) → index + length (asked roster k u name) ≡ index_after index slot)
 
 advanced : (roster : List Definition) (k : Knowledge) (u : Update) (name : Option (List ℕ)) (slot : Option ℕ) (starts : List ℕ → Option ℕ) (asking : Asking) (rest : List Asked) (marks : List Bool) → is_some slot ≡ is_some name → ((id : ℕ) → slot ≡ Some id → is_slot id ≡ true) → length marks ≡ length (asked roster k u name ++ rest) → AreLinked asking (asked roster k u name ++ rest) marks → AreBegun starts asking → AreSlots starts → IsAdvanced roster k u name slot starts asking rest marks
-advanced roster k u None None starts asking rest marks same slotted long linked begun slots = (refl, long, linked, begun, slots, λ place. omega arith, λ place. omega arith)
+advanced roster k u None None starts asking rest marks same slotted long linked begun slots = (refl, long, linked, begun, slots, λ index. omega arith, λ index. omega arith)
 advanced roster k u None (Some slot) starts asking rest marks same slotted long linked begun slots = let bad : true ≡ false = same in cc
 advanced roster k u (Some name) None starts asking rest marks same slotted long linked begun slots = let bad : false ≡ true = same in cc
 advanced roster k u (Some name) (Some slot) starts asking rest [] same slotted long linked begun slots = absurd (omega arith)
 advanced roster k u (Some name) (Some slot) starts asking rest (mark ∷ marks) same slotted long linked begun slots =
-    (refl, omega arith, by mark linked, λ other. begins (is_same_name name other) (starts other) (asking.last other) (begun other), λ other id start. of_slot other id (is_same_name name other) start, λ place. omega arith, λ place. omega arith)
+    (refl, omega arith, by mark linked, λ other. begins (is_same_name name other) (starts other) (asking.last other) (begun other), λ other id start. of_slot other id (is_same_name name other) start, λ index. omega arith, λ index. omega arith)
   where
     by : (mark : Bool) → AreLinked asking (asked roster k u (Some name) ++ rest) (mark ∷ marks) → AreLinked (after_requests asking (asked roster k u (Some name))) rest marks
     by true l = l.1
@@ -368,10 +368,10 @@ slot_of_named retained slots stored (Some name) names.NoName named = absurd name
 slot_of_named retained slots stored (Some name) (names.Held slot) named = (refl, λ id e. (let same : slot ≡ id = cc in subst (λ (n : ℕ). is_slot n ≡ true) same named.1.0))
 slot_of_named retained slots stored (Some name) (names.Written slot written) named = (refl, λ id e. (let same : slot ≡ id = cc in subst (λ (n : ℕ). is_slot n ≡ true) same named.2.0))
 
--- the flag at the place of an update's request
-flag_at : (roster : List Definition) (k : Knowledge) (u : Update) (left : List Update) (rs done : List Asked) (keep kept marks : List Bool) (starts : List ℕ → Option ℕ) (place : ℕ) (n : List ℕ) → u.name ≡ Some n → rs ≡ done ++ requests_of roster k (u ∷ left) → keep ≡ kept ++ marks → length done ≡ place → length kept ≡ place → IsMarkFor starts u.name marks
-    → get_or (kept_next rs keep) place false ≡ retains_next n left (marks_after u.name marks)
-flag_at roster k u left rs done keep kept marks starts place n is rs_is keep_is so_far kept_so_far mark =
+-- the flag at the index of an update's request
+flag_at : (roster : List Definition) (k : Knowledge) (u : Update) (left : List Update) (rs done : List Asked) (keep kept marks : List Bool) (starts : List ℕ → Option ℕ) (index : ℕ) (n : List ℕ) → u.name ≡ Some n → rs ≡ done ++ requests_of roster k (u ∷ left) → keep ≡ kept ++ marks → length done ≡ index → length kept ≡ index → IsMarkFor starts u.name marks
+    → get_or (kept_next rs keep) index false ≡ retains_next n left (marks_after u.name marks)
+flag_at roster k u left rs done keep kept marks starts index n is rs_is keep_is so_far kept_so_far mark =
     let m = subst (λ (o : Option (List ℕ)). IsMarkFor starts o marks) is mark in
     let r : Asked = record { name = n; read_cost = r_of.read_cost; write_cost = r_of.write_cost } in
     let rest : List Asked = requests_of roster (knowledge_after k u) left in
@@ -391,9 +391,9 @@ flag_at roster k u left rs done keep kept marks starts place n is rs_is keep_is 
         one (x ∷ xs) = x
 
 -- one update more
-pub way_step : (roster : List Definition) (s mid after : State) (us left : List Update) (u : Update) (rs : List Asked) (keep next : List Bool) (bytes more : List ℕ) (retained : List Bool) (place : ℕ) (field : NameField) (first : List Message) → IsUnderWay roster s us rs keep bytes mid retained place (u ∷ left) → IsSent roster mid u field first after → IsNameField retained mid.slots (is_stored roster u) u.name field → more ≡ bytes ++ stream_of first → next ≡ kept_next rs keep
-    → IsUnderWay roster s us rs keep more after (retained_after retained (slot_of field) (get_or next place false)) (place_after place (slot_of field)) left
-way_step roster s mid after us left u rs keep next bytes more retained place field first (ms, starts, k, done, kept, marks, bytes_are, rs_is, keep_is, so_far, kept_so_far, long, linked, begun, slots, are, long_flags, many, leads) sent named grown next_is =
+pub way_step : (roster : List Definition) (s mid after : State) (us left : List Update) (u : Update) (rs : List Asked) (keep next : List Bool) (bytes more : List ℕ) (retained : List Bool) (index : ℕ) (field : NameField) (first : List Message) → IsUnderWay roster s us rs keep bytes mid retained index (u ∷ left) → IsSent roster mid u field first after → IsNameField retained mid.slots (is_stored roster u) u.name field → more ≡ bytes ++ stream_of first → next ≡ kept_next rs keep
+    → IsUnderWay roster s us rs keep more after (retained_after retained (slot_of field) (get_or next index false)) (index_after index (slot_of field)) left
+way_step roster s mid after us left u rs keep next bytes more retained index field first (ms, starts, k, done, kept, marks, bytes_are, rs_is, keep_is, so_far, kept_so_far, long, linked, begun, slots, are, long_flags, many, leads) sent named grown next_is =
     let held = names_in s.slots in
     let asking = after_requests (at_start held) done in
     let rest : List Asked = requests_of roster (knowledge_after k u) left in
@@ -401,9 +401,9 @@ way_step roster s mid after us left u rs keep next bytes more retained place fie
     let slotted = slot_of_named retained mid.slots (is_stored roster u) u.name field named in
     let mark = mark_first roster k starts asking u left u.name marks refl long linked begun in
     let ahead = advanced roster k u u.name (slot_of field) starts asking rest marks slotted.0 slotted.1 long linked begun slots in
-    let flag : Bool = get_or next place false in
+    let flag : Bool = get_or next index false in
     let flag_is : (n : List ℕ) → u.name ≡ Some n → flag ≡ retains_next n left (marks_after u.name marks) =
-    λ n is. ap (λ (l : List Bool). get_or l place false) next_is ∙ flag_at roster k u left rs done keep kept marks starts place n is rs_is keep_is so_far kept_so_far mark in
+    λ n is. ap (λ (l : List Bool). get_or l index false) next_is ∙ flag_at roster k u left rs done keep kept marks starts index n is rs_is keep_is so_far kept_so_far mark in
     let step = one_marked retained starts mid.slots after.slots u left (is_stored roster u) flag field moved.0 u.name marks refl long_flags many are slots mark named moved.1 flag_is in
     let then : after_requests (at_start held) (done ++ asked roster k u u.name) ≡ after_requests asking (asked roster k u u.name) = after-append (at_start held) done (asked roster k u u.name) in (
       ms ++ first,
@@ -415,8 +415,8 @@ way_step roster s mid after us left u rs keep next bytes more retained place fie
       grown ∙ ap (λ (l : List ℕ). l ++ stream_of first) bytes_are ∙ sym (stream-append ms first),
       rs_is ∙ sym (append_assoc done (asked roster k u u.name) rest),
       keep_is ∙ ap (λ (l : List Bool). kept ++ l) ahead.0 ∙ sym (append_assoc kept (taken u.name marks) (marks_after u.name marks)),
-      length-append done (asked roster k u u.name) ∙ ap (λ (n : ℕ). n + length (asked roster k u u.name)) so_far ∙ ahead.6 place,
-      length-append kept (taken u.name marks) ∙ ap (λ (n : ℕ). n + length (taken u.name marks)) kept_so_far ∙ ahead.5 place,
+      length-append done (asked roster k u u.name) ∙ ap (λ (n : ℕ). n + length (asked roster k u u.name)) so_far ∙ ahead.6 index,
+      length-append kept (taken u.name marks) ∙ ap (λ (n : ℕ). n + length (taken u.name marks)) kept_so_far ∙ ahead.5 index,
       ahead.1,
       subst (λ (a : Asking). AreLinked a rest (marks_after u.name marks)) (sym then) ahead.2,
       subst (λ (a : Asking). AreBegun (starts_after starts u.name (slot_of field)) a) (sym then) ahead.3,
@@ -431,21 +431,21 @@ way_step roster s mid after us left u rs keep next bytes more retained place fie
     length_after None flag = long_flags
     length_after (Some slot) flag = length-set retained (slot - 1) flag ∙ long_flags
 
--- the place of a request is one of those of the flags
-pub way_place : (roster : List Definition) (s mid : State) (us left : List Update) (u : Update) (rs : List Asked) (keep next : List Bool) (bytes : List ℕ) (retained : List Bool) (place : ℕ) (field : NameField) (slot : ℕ) → IsUnderWay roster s us rs keep bytes mid retained place (u ∷ left) → IsNameField retained mid.slots (is_stored roster u) u.name field → slot_of field ≡ Some slot → length next ≡ length rs → place < length next
-way_place roster s mid us left u rs keep next bytes retained place field slot (ms, starts, k, done, kept, marks, bytes_are, rs_is, keep_is, so_far, kept_so_far, long, linked, begun, slots, are, long_flags, many, leads) named is flags =
+-- the index of a request is one of those of the flags
+pub way_index : (roster : List Definition) (s mid : State) (us left : List Update) (u : Update) (rs : List Asked) (keep next : List Bool) (bytes : List ℕ) (retained : List Bool) (index : ℕ) (field : NameField) (slot : ℕ) → IsUnderWay roster s us rs keep bytes mid retained index (u ∷ left) → IsNameField retained mid.slots (is_stored roster u) u.name field → slot_of field ≡ Some slot → length next ≡ length rs → index < length next
+way_index roster s mid us left u rs keep next bytes retained index field slot (ms, starts, k, done, kept, marks, bytes_are, rs_is, keep_is, so_far, kept_so_far, long, linked, begun, slots, are, long_flags, many, leads) named is flags =
     let held = names_in s.slots in
     let asking = after_requests (at_start held) done in
     let rest : List Asked = requests_of roster (knowledge_after k u) left in
     let slotted = slot_of_named retained mid.slots (is_stored roster u) u.name field named in
     let ahead = advanced roster k u u.name (slot_of field) starts asking rest marks slotted.0 slotted.1 long linked begun slots in
-    let one : place + length (asked roster k u u.name) ≡ place + 1 = ahead.6 place ∙ ap (place_after place) is in
+    let one : index + length (asked roster k u u.name) ≡ index + 1 = ahead.6 index ∙ ap (index_after index) is in
     let whole : length rs ≡ length (done ++ (asked roster k u u.name ++ rest)) = ap (λ (l : List Asked). length l) rs_is in
     omega (arith, length-append done (asked roster k u u.name ++ rest), length-append (asked roster k u u.name) rest)
 
 -- where a name is written, some slot is free
-pub way_room : (roster : List Definition) (s mid : State) (us left : List Update) (u : Update) (rs : List Asked) (keep : List Bool) (bytes : List ℕ) (retained : List Bool) (place : ℕ) → IsUnderWay roster s us rs keep bytes mid retained place (u ∷ left) → ((p : ℕ) → kept_over (links (names_in s.slots) rs keep) p ≤ 127) → HasRoomFor retained mid.slots u.name
-way_room roster s mid us left u rs keep bytes retained place (ms, starts, k, done, kept, marks, bytes_are, rs_is, keep_is, so_far, kept_so_far, long, linked, begun, slots, are, long_flags, many, leads) room = by u.name refl
+pub way_room : (roster : List Definition) (s mid : State) (us left : List Update) (u : Update) (rs : List Asked) (keep : List Bool) (bytes : List ℕ) (retained : List Bool) (index : ℕ) → IsUnderWay roster s us rs keep bytes mid retained index (u ∷ left) → ((p : ℕ) → kept_over (links (names_in s.slots) rs keep) p ≤ 127) → HasRoomFor retained mid.slots u.name
+way_room roster s mid us left u rs keep bytes retained index (ms, starts, k, done, kept, marks, bytes_are, rs_is, keep_is, so_far, kept_so_far, long, linked, begun, slots, are, long_flags, many, leads) room = by u.name refl
   where
     held : List (List ℕ)
     held = names_in s.slots
@@ -507,15 +507,15 @@ retained_marked retained starts slots u us name slot mark marks is are retains =
     one = let both : Some over.0 ≡ Some name = sym (are.1 over.0 slot retains.1.0 over.1 over.2).1.1 ∙ retains.1.1 in cc
 
 -- the mark behind so many
-mark_behind : (kept marks : List Bool) (mark : Bool) (place : ℕ) → length kept ≡ place → get_or (kept ++ mark ∷ marks) place false ≡ mark
+mark_behind : (kept marks : List Bool) (mark : Bool) (index : ℕ) → length kept ≡ index → get_or (kept ++ mark ∷ marks) index false ≡ mark
 mark_behind [] marks mark zero many = refl
-mark_behind [] marks mark (suc place) many = absurd (omega arith)
+mark_behind [] marks mark (suc index) many = absurd (omega arith)
 mark_behind (k ∷ kept) marks mark zero many = absurd (omega arith)
-mark_behind (k ∷ kept) marks mark (suc place) many = mark_behind kept marks mark place (omega arith)
+mark_behind (k ∷ kept) marks mark (suc index) many = mark_behind kept marks mark index (omega arith)
 
 -- where the request of an update isn't kept, no slot retains its name
-pub way_unkept : (roster : List Definition) (s mid : State) (us left : List Update) (u : Update) (rs : List Asked) (keep : List Bool) (bytes : List ℕ) (retained : List Bool) (place : ℕ) → IsUnderWay roster s us rs keep bytes mid retained place (u ∷ left) → get_or keep place false ≡ false → IsNotRetained retained mid.slots u.name
-way_unkept roster s mid us left u rs keep bytes retained place (ms, starts, k, done, kept, marks, bytes_are, rs_is, keep_is, so_far, kept_so_far, long, linked, begun, slots, are, long_flags, many, leads) off = by u.name refl
+pub way_unkept : (roster : List Definition) (s mid : State) (us left : List Update) (u : Update) (rs : List Asked) (keep : List Bool) (bytes : List ℕ) (retained : List Bool) (index : ℕ) → IsUnderWay roster s us rs keep bytes mid retained index (u ∷ left) → get_or keep index false ≡ false → IsNotRetained retained mid.slots u.name
+way_unkept roster s mid us left u rs keep bytes retained index (ms, starts, k, done, kept, marks, bytes_are, rs_is, keep_is, so_far, kept_so_far, long, linked, begun, slots, are, long_flags, many, leads) off = by u.name refl
   where
     by : (name : Option (List ℕ)) → u.name ≡ name → IsNotRetained retained mid.slots name
     by None is = tt
@@ -523,7 +523,7 @@ way_unkept roster s mid us left u rs keep bytes retained place (ms, starts, k, d
         let m = subst (λ (o : Option (List ℕ)). IsMarkFor starts o marks) is (mark_first roster k starts (after_requests (at_start (names_in s.slots)) done) u left u.name marks refl long linked begun) in
         let marked : AreMarked retained starts mid.slots (u ∷ left) (m.0 ∷ m.1) = subst (λ (l : List Bool). AreMarked retained starts mid.slots (u ∷ left) l) m.2 are in
         let whole : keep ≡ kept ++ (m.0 ∷ m.1) = keep_is ∙ ap (λ (l : List Bool). kept ++ l) m.2 in
-        let here : get_or keep place false ≡ m.0 = ap (λ (l : List Bool). get_or l place false) whole ∙ mark_behind kept m.1 m.0 place kept_so_far in
+        let here : get_or keep index false ≡ m.0 = ap (λ (l : List Bool). get_or l index false) whole ∙ mark_behind kept m.1 m.0 index kept_so_far in
         let on : m.0 ≡ true = retained_marked retained starts mid.slots u left n slot m.0 m.1 is marked retains in
         let bad : true ≡ false = sym on ∙ sym here ∙ off in
         cc
@@ -623,8 +623,8 @@ way_start roster s us k rs keep retained is_kept rs_is long linked many long_fla
             from_one n is = grind (arith, nat_tests)
 
 -- after the last update
-pub way_end : (roster : List Definition) (s mid : State) (us : List Update) (rs : List Asked) (keep : List Bool) (bytes : List ℕ) (retained : List Bool) (place : ℕ) → IsUnderWay roster s us rs keep bytes mid retained place [] → (ms : List Message) × AreSent roster s (starts_at_first s.slots) us keep ms mid × (bytes ≡ stream_of ms)
-way_end roster s mid us rs keep bytes retained place (ms, starts, k, done, kept, marks, bytes_are, rs_is, keep_is, so_far, kept_so_far, long, linked, begun, slots, are, long_flags, many, leads) =
+pub way_end : (roster : List Definition) (s mid : State) (us : List Update) (rs : List Asked) (keep : List Bool) (bytes : List ℕ) (retained : List Bool) (index : ℕ) → IsUnderWay roster s us rs keep bytes mid retained index [] → (ms : List Message) × AreSent roster s (starts_at_first s.slots) us keep ms mid × (bytes ≡ stream_of ms)
+way_end roster s mid us rs keep bytes retained index (ms, starts, k, done, kept, marks, bytes_are, rs_is, keep_is, so_far, kept_so_far, long, linked, begun, slots, are, long_flags, many, leads) =
     (ms, subst (λ (l : List Message). AreSent roster s (starts_at_first s.slots) us keep l mid) (append-nil ms) (leads [] mid (none marks long, refl, refl)), bytes_are)
   where
     none : (l : List Bool) → length l ≡ 0 → l ≡ []

@@ -48,7 +48,7 @@ abbrev pub retained_after : List Bool → Option ℕ → Bool → List Bool
 retained_after retained None flag = retained
 retained_after retained (Some slot) flag = slice_set retained (slot - 1) flag
 
--- and how many requests there were then
-abbrev pub place_after : ℕ → Option ℕ → ℕ
-place_after place None = place
-place_after place (Some slot) = place + 1
+-- and the index of the next request then
+abbrev pub index_after : ℕ → Option ℕ → ℕ
+index_after index None = index
+index_after index (Some slot) = index + 1

@@ -15,7 +15,7 @@ ghost use Rattle.known_state.specs.Shortest.{Shortest};
 ghost use Rattle.price_checker.specs.Verdicts.{Says, bound_shown};
 ghost use Rattle.price_checker.specs.declared.verdict.Verdict.TheVariants as verdicts;
 ghost use Rattle.teach_writer.specs.Planning.{IsPlanFor};
-ghost use Rattle.teach_writer.specs.NextRequests.{retained_after, place_after};
+ghost use Rattle.teach_writer.specs.NextRequests.{retained_after, index_after};
 ghost use Rattle.teach_writer.specs.Sending.{GoesThrough};
 
 use crate::lesson::Lesson;
@@ -27,56 +27,56 @@ use std::alloc::Global;
 use table_types::{Batch, Items, Memory, is_slot};
 
 /// After an update whose name went through that slot, if it has one: the slot retains the name where the next request for
-/// it is kept, as the flag of the request at this place says, and else is free. The next request is at the next place.
-fn retain_or_free(retained: &mut Retained, place: &mut usize, slot: Option<u8>, next: &[bool])
+/// it is kept, as the flag of the request at this index says, and else is free. The next request is at the next index.
+fn retain_or_free(retained: &mut Retained, index: &mut usize, slot: Option<u8>, next: &[bool])
     requires slot { IfSome slot (λ id. is_slot id ≡ true) }
-    requires place { IfSome slot (λ id. place.old < length next.now) }
-    ensures retained { retained.new ≡ retained_after retained.old slot (slice_index_or next.now place.old false) }
-    ensures place { place.new ≡ place_after place.old slot }
+    requires index { IfSome slot (λ id. index.old < length next.now) }
+    ensures retained { retained.new ≡ retained_after retained.old slot (slice_index_or next.now index.old false) }
+    ensures index { index.new ≡ index_after index.old slot }
 {
     if let Some(slot) = slot {
-        retained.set(slot, next[*place]);
-        *place += 1;
+        retained.set(slot, next[*index]);
+        *index += 1;
     }
 }
 
-/// Whether the request at this place is kept, if there is one.
-fn is_kept_at(keep: &[bool], place: usize) -> bool
-    ensures { result ≡ slice_index_or keep.now place false }
+/// Whether the request at this index is kept, if there is one.
+fn is_kept_at(keep: &[bool], index: usize) -> bool
+    ensures { result ≡ slice_index_or keep.now index false }
 {
-    if place < keep.len() {
-        keep[place]
+    if index < keep.len() {
+        keep[index]
     } else {
         false
     }
 }
 
-/// The slot in which the name of the request at this place is likely to be retained, if any is noted.
-fn expected(likely: &[Option<u8>], place: usize) -> Option<u8>
+/// The slot in which the name of the request at this index is likely to be retained, if one is noted.
+fn likely_slot(likely_slots: &[Option<u8>], index: usize) -> Option<u8>
     ensures { IfSome result (λ slot. is_slot slot ≡ true) }
 {
-    if place >= likely.len() {
+    if index >= likely_slots.len() {
         return None;
     }
-    match likely[place] {
+    match likely_slots[index] {
         Some(slot) if is_slot(u64::from(slot)) => Some(slot),
         _ => None,
     }
 }
 
-/// Notes for the next request for a name that the name of the request at this place went through that slot.
-fn expect(
-    likely: &mut [Option<u8>],
+/// Notes the slot through which the name of the request at this index went as the likely one for the next request for it.
+fn note_likely_slot(
+    likely_slots: &mut [Option<u8>],
     later: &[Option<NextRequest>],
-    place: usize,
+    index: usize,
     slot: Option<u8>,
 ) {
-    if place >= later.len() {
+    if index >= later.len() {
         return;
     }
-    if let Some(next) = later[place] {
-        if next.index < likely.len() {
-            likely[next.index] = slot;
+    if let Some(next) = later[index] {
+        if next.index < likely_slots.len() {
+            likely_slots[next.index] = slot;
         }
     }
 }
@@ -101,17 +101,23 @@ fn send_updates(
     let (next, later, first) = next_kept(alloc, requests, keep)?;
     let mut after = known.copy(alloc)?;
     let mut retained = retained_first(after.slots(), &first);
-    let mut likely = vec![in alloc; None; requests.len()]?;
+    let mut likely_slots = vec![in alloc; None; requests.len()]?;
     let mut bytes = Vec::new(alloc);
-    let mut place = 0;
+    let mut index = 0;
     for update in batch.updates() {
-        let expected = expected(&likely, place);
-        let kept = is_kept_at(keep, place);
+        let likely_slot = likely_slot(&likely_slots, index);
+        let kept = is_kept_at(keep, index);
         let slot = write_update(
-            alloc, &mut after, &retained, update, kept, expected, &mut bytes,
+            alloc,
+            &mut after,
+            &retained,
+            update,
+            kept,
+            likely_slot,
+            &mut bytes,
         )?;
-        expect(&mut likely, &later, place, slot);
-        retain_or_free(&mut retained, &mut place, slot, next.as_slice());
+        note_likely_slot(&mut likely_slots, &later, index, slot);
+        retain_or_free(&mut retained, &mut index, slot, next.as_slice());
     }
     Ok((bytes, after))
 }

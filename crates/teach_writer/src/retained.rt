@@ -69,16 +69,22 @@ impl Retained {
 
     /// A slot in which this name is retained, by what the slots hold: none where its request isn't kept. The likely one is
     /// tried first, if there is one.
-    pub fn find(&self, slots: &Slots, name: &Name, kept: bool, likely: Option<u8>) -> Option<u8>
+    pub fn find(
+        &self,
+        slots: &Slots,
+        name: &Name,
+        kept: bool,
+        likely_slot: Option<u8>,
+    ) -> Option<u8>
         requires kept { kept ≡ false → (slot : ℕ) → Retains self.now slots.now slot name.now → ⊥ }
-        requires likely { IfSome likely (λ slot. is_slot slot ≡ true) }
+        requires likely_slot { IfSome likely_slot (λ slot. is_slot slot ≡ true) }
         ensures found { IfSome result (λ slot. Retains self.now slots.now slot name.now) }
         ensures absent { IsNone result → (slot : ℕ) → Retains self.now slots.now slot name.now → ⊥ }
     {
         if !kept {
             return None;
         }
-        if let Some(slot) = likely {
+        if let Some(slot) = likely_slot {
             if self.retains(slots, slot, name) {
                 return Some(slot);
             }

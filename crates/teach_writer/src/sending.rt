@@ -54,11 +54,11 @@ fn name_field(
     table: &TableDef,
     update: &Update,
     kept: bool,
-    likely: Option<u8>,
+    likely_slot: Option<u8>,
 ) -> Result<NameField, Memory>
     requires fits { fits table.now update.now ≡ true }
     requires kept { kept ≡ false → IsNotRetained retained.now slots.now update.now.name }
-    requires likely { IfSome likely (λ slot. is_slot slot ≡ true) }
+    requires likely_slot { IfSome likely_slot (λ slot. is_slot slot ≡ true) }
     requires room { HasRoomFor retained.now slots.now update.now.name }
     ensures field { IfOk result (λ field. IsNameField retained.now slots.now (stores_name table.now) update.now.name field) }
     ensures fits { IfOk result (λ field. name_fits table.now field ≡ true) }
@@ -73,7 +73,7 @@ fn name_field(
             NameField::NotStored
         });
     };
-    match retained.find(slots, name, kept, likely) {
+    match retained.find(slots, name, kept, likely_slot) {
         Some(slot) => Ok(NameField::Held(slot)),
         None => Ok(NameField::Written(retained.free(), name.copy(alloc)?)),
     }
@@ -138,11 +138,11 @@ fn named(
     retained: &Retained,
     update: &Update,
     kept: bool,
-    likely: Option<u8>,
+    likely_slot: Option<u8>,
 ) -> Result<NameField, Memory>
     requires update { IsUpdateOf known.now.roster update.now }
     requires kept { kept ≡ false → IsNotRetained retained.now known.now.state.slots update.now.name }
-    requires likely { IfSome likely (λ slot. is_slot slot ≡ true) }
+    requires likely_slot { IfSome likely_slot (λ slot. is_slot slot ≡ true) }
     requires room { HasRoomFor retained.now known.now.state.slots update.now.name }
     ensures field { IfOk result (λ field. (d : Definition) → table_at known.now.roster update.now.table ≡ Some d →
         IsNameField retained.now known.now.state.slots (stores_name d) update.now.name field) }
@@ -152,7 +152,15 @@ fn named(
     ensures slot { IfOk result (λ field. IfSome (slot_of field) (λ id. is_slot id ≡ true)) }
 {
     match known.roster().table(update.table) {
-        Some(table) => name_field(alloc, retained, known.slots(), table, update, kept, likely),
+        Some(table) => name_field(
+            alloc,
+            retained,
+            known.slots(),
+            table,
+            update,
+            kept,
+            likely_slot,
+        ),
         None => unreachable!(),
     }
 }
@@ -175,12 +183,12 @@ pub fn write_update(
     retained: &Retained,
     update: &Update,
     kept: bool,
-    likely: Option<u8>,
+    likely_slot: Option<u8>,
     bytes: &mut Vec<u8>,
 ) -> Result<Option<u8>, Memory>
     requires update { IsUpdateOf known.old.roster update.now }
     requires kept { kept ≡ false → IsNotRetained retained.now known.old.state.slots update.now.name }
-    requires likely { IfSome likely (λ slot. is_slot slot ≡ true) }
+    requires likely_slot { IfSome likely_slot (λ slot. is_slot slot ≡ true) }
     requires room { HasRoomFor retained.now known.old.state.slots update.now.name }
     ensures order { IfOk result (λ slot. (field : NameField) × (ms : List Message) × (slot ≡ slot_of field)
         × (bytes.new.items ≡ bytes.old.items ++ stream_of ms)
@@ -190,7 +198,7 @@ pub fn write_update(
     ensures roster { known.new.roster ≡ known.old.roster }
 {
     select(alloc, known, update.table, bytes)?;
-    let field = named(alloc, known, retained, update, kept, likely)?;
+    let field = named(alloc, known, retained, update, kept, likely_slot)?;
     let slot = slot_of(&field);
     let message = update_sent(
         alloc,

@@ -6,7 +6,7 @@ ghost use Rattle.peers_msg.specs.declared.message.Message.{Message};
 ghost use Rattle.peers_msg.specs.Spelling.{stream_of};
 ghost use Rattle.known_state.specs.Cost.{full};
 ghost use Rattle.known_state.specs.Lessons.{IsLessonFor};
-ghost use Rattle.known_state.specs.Plans.{Plan, names_in};
+ghost use Rattle.known_state.specs.Plans.{Plan, Accepts, names_in};
 ghost use Rattle.known_state.specs.Shortest.{Shortest};
 ghost use Rattle.price_checker.specs.Verdicts.{Says, bound_shown};
 ghost use Rattle.price_checker.specs.declared.verdict.Verdict.TheVariants as verdicts;
@@ -16,7 +16,7 @@ ghost use Rattle.teach_writer.specs.Sending.{GoesThrough};
 use crate::lesson::{Lesson, TeachError};
 use crate::planned::teach_by;
 use dict_slots::Slots;
-use known_state::Known;
+use known_state::{Known, Request};
 use retention_flow::plan;
 use std::alloc::Global;
 use table_types::{Batch, Memory, Name};
@@ -33,6 +33,18 @@ fn names_held(alloc: Global, slots: &Slots) -> Result<Vec<Name>, Memory>
         }
     }
     Ok(names)
+}
+
+/// The names held of which a plan of these requests has to know: those that the slots hold, slot by slot, and none where there
+/// are no requests.
+fn names_to_plan(alloc: Global, slots: &Slots, requests: &[Request]) -> Result<Vec<Name>, Memory>
+    ensures enough { IfOk result (λ names. (plan : Plan) → Accepts 128 names.items requests.now plan → Accepts 128 (names_in slots.now) requests.now plan) }
+    ensures few { IfOk result (λ names. length names.items ≤ 128) }
+{
+    if requests.is_empty() {
+        return Ok(Vec::new(alloc));
+    }
+    names_held(alloc, slots)
 }
 
 /// The lesson that teaches the batch to a learner in the known state. It goes through the batch in order. Where an
@@ -54,7 +66,7 @@ pub fn teach(alloc: Global, known: &Known, batch: &Batch) -> Result<Lesson, Teac
     ensures said { IfOk result (λ lesson. Says known.now batch.now lesson.bytes lesson.prices (verdicts.Shortest (length lesson.bytes))) }
 {
     let requests = known.costs(alloc, batch)?;
-    let held = names_held(alloc, known.slots())?;
+    let held = names_to_plan(alloc, known.slots(), requests.as_slice())?;
     let plan = plan(
         alloc,
         usize::from(Slots::COUNT),
