@@ -287,16 +287,24 @@ fn plan_at_last(alloc: Global, slots: usize, held: &[Name], requests: &[Request]
     }
 }
 
+/// Whether that plan keeps the requests at these places, and no other; `None` where memory is wanted before.
+fn is_planned_at_last(alloc: Global, case: &Case, kept: &[usize]) -> Option<bool> {
+    let held = names(alloc, case.held)?;
+    let requests = requests(alloc, case.asked)?;
+    match plan_at_last(alloc, case.slots, held.as_slice(), requests.as_slice()) {
+        Some(plan) => Some(keeps(&plan, kept)),
+        None => Some(false),
+    }
+}
+
 /// It can be run with any allocation failing: the planner refuses, and answers when it is asked again.
 #[test]
 fn planner_answers_again(rt: HostRuntime) {
-    let case = &TWO_SLOTS;
-    let held: [Name; 0] = [];
-    let Some(requests) = requests(rt.alloc(), case.asked) else {
-        return;
-    };
-    match plan_at_last(rt.alloc(), case.slots, &held, requests.as_slice()) {
-        Some(plan) => assert!(rt; keeps(&plan, &[5])),
-        None => assert!(rt; false, "no plan"),
-    }
+    assert!(rt; is_planned_at_last(rt.alloc(), &TWO_SLOTS, &[5]) != Some(false));
+}
+
+/// The same where a slot holds a name.
+#[test]
+fn planner_answers_again_of_a_name_held(rt: HostRuntime) {
+    assert!(rt; is_planned_at_last(rt.alloc(), &HELD_ALONE, &[]) != Some(false));
 }
