@@ -13,3 +13,4 @@ pub mod LiveLaws
 pub mod SomeStep
 pub mod BatchLaws
 pub mod CopyLaws
+pub mod LearnedLaws

@@ -1,5 +1,6 @@
 -- What the parts of a cell stand for (profile).
-use Rattle.std.specs.Prelude.{◌≡◌, ◌+◌, ◌==◌, ℕ, List, [], ◌∷◌, slice_get, Option, Some, None, option_and_then, option_map, if◌then◌else◌}
+use Rattle.std.specs.Prelude.{◌≡◌, ◌<◌, ◌≤◌, ◌+◌, ◌-◌, ◌==◌, ℕ, true, List, [], ◌∷◌, slice_get, Option, Some, None, option_and_then, option_map, if◌then◌else◌}
+use Rattle.std.specs.List.{AllByRecursion}
 use Rattle.std.specs.Ordering.{nat_cmp}
 use Rattle.std.specs.Map.{lookup}
 use Rattle.std.specs.BTreeMap.{is_at}
@@ -41,3 +42,19 @@ index_of session (e ∷ es) = if e.0 == session then Some 0 else option_map (λ 
 -- a row to be stored, with both replies that tell of it
 abbrev pub new_row : ℕ → Key → StoredRow → NewRow
 new_row number key row = record { key = key; row = row; kept = record { number = number; row = row }; reply = record { number = number; row = row } }
+
+-- ---- learned rows that a push need not go over
+
+-- the row is learned if its number lies above one and up to another
+abbrev pub IsLearnedWithin : ℕ → ℕ → Key × StoredRow → Type 0
+IsLearnedWithin after last e = after < e.1.number → e.1.number ≤ last → e.1.learned ≡ true
+
+-- whatever row has a number above one and up to another, which was given, is learned
+pub record IsLearnedRun (after last next : ℕ) (rows : List (Key × StoredRow)) : Type 0 where
+  pub given : last < next
+  pub learned : AllByRecursion (IsLearnedWithin after last) rows
+
+-- the number before that of the first row that isn't learned, or the last number that was given
+abbrev pub last_learned : ℕ → List (Key × StoredRow) → ℕ
+last_learned next [] = next - 1
+last_learned next (e ∷ es) = if e.1.learned then last_learned next es else e.1.number - 1

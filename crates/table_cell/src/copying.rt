@@ -138,7 +138,7 @@ impl Table {
     ) -> Option<(&Key, &Row)>
         ensures { option_map (λ e. (e.0.now, e.1.now)) result ≡ slice_get (filter (is_unacked kind number now) self.now.rows) 0 }
     {
-        for (key, row) in self.stock.above(number) {
+        for (key, row) in self.stock.above(self.copy_start(kind, number)) {
             if tells_of(kind, row, now) {
                 return Some((key, row));
             }
@@ -159,7 +159,7 @@ impl Table {
         ensures { IfOk result (λ updates. updates.items ≡ take limit (map (update_of self.now.definition now) (filter (is_unacked kind number now) self.now.rows))) }
     {
         let mut updates = Vec::new(self.alloc);
-        for (key, row) in self.stock.above(number) {
+        for (key, row) in self.stock.above(self.copy_start(kind, number)) {
             if updates.len() >= limit {
                 break;
             }

@@ -9,6 +9,7 @@ mod copying;
 mod errors;
 mod events;
 mod laws;
+mod learned_run;
 mod new_row;
 mod progress;
 mod refusals;

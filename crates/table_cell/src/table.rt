@@ -9,6 +9,7 @@ ghost use Rattle.table_cell.specs.Histories.{new_table};
 ghost use Rattle.table_cell.specs.Machine.{Leaves, has_room, is_full, learned, live_row, stored, tracked};
 ghost use Rattle.table_cell.specs.Stock.{left_for};
 
+use crate::learned_run::LearnedRun;
 use crate::progress::Progress;
 use crate::stock::Stock;
 use std::alloc::Global;
@@ -26,14 +27,18 @@ pub(crate) struct Table {
     pub(crate) stock: Stock<MapRows>,
     pub(crate) latest: Moment,
     pub(crate) sessions: Vec<(u32, Progress)>,
+    pub(crate) learned_run: LearnedRun,
 }
 
 impl Model for Table {
+    ghost use Rattle.table_cell.specs.Cells.{IsLearnedRun};
     ghost use Rattle.table_cell.specs.Machine.{TableState};
 
     ghost Value = { TableState };
 
     ghost view = { λ t. record { definition = t.definition; size = t.size; nopurge = t.nopurge; rows = t.stock.rows; next = t.stock.next; latest = t.latest; sessions = t.sessions.items } };
+
+    ghost invariant = { λ t. IsLearnedRun t.learned_run.after t.learned_run.last t.stock.next t.stock.rows };
 }
 
 /// Whether a row is live at that moment.
@@ -66,6 +71,7 @@ impl Table {
             stock: Stock::new(alloc, MapRows::new(alloc), first),
             latest: Moment::least(),
             sessions: Vec::new(alloc),
+            learned_run: LearnedRun { after: 0, last: 0 },
         }
     }
 
