@@ -6,3 +6,4 @@ pub mod AgreeLaws
 pub mod CompareLaws
 pub mod FaultLaws
 pub mod RoundLaws
+pub mod EventLaws

@@ -30,6 +30,11 @@ Holds call left table c s (Err (errors.SeatAhead seen found)) c' s' =
 Holds call left table c s (Err errors.Memory) c' s' = MayCall table c s × (c' ≡ c) × (s' ≡ s)
 Holds call left table c s (Err (errors.Cell error)) c' s' = MayCall table c s × call c (Err error) c' × (s' ≡ s)
 
+-- The same of a call that makes no event: it takes no memory, and the seat stays.
+abbrev pub Looks : {A E : Type 0} → (CellState → Result A E → CellState → Type 0) → ℕ → CellState → SeatState → Result A (ShardError E) → CellState → SeatState → Type 0
+Looks call table c s (Err errors.Memory) c' s' = ⊥
+Looks call table c s r c' s' = Holds call (λ done. s) table c s r c' s'
+
 -- why the call isn't made, though there is memory: None where it may be made
 abbrev pub MayNot : {E : Type 0} → ℕ → CellState → SeatState → Option (ShardError E) → Type 0
 MayNot table c s None = MayCall table c s

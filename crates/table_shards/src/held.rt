@@ -6,7 +6,7 @@ ghost use Rattle.table_cell.specs.Histories.{Acknowledges, Closes, Copies, Learn
 ghost use Rattle.table_cell.specs.declared.events.CellEvent.TheVariants as events;
 ghost use Rattle.table_cell.specs.declared.events.CellReply.TheVariants as replies;
 ghost use Rattle.table_shards.specs.Receipts.{seen_of, with_receipt};
-ghost use Rattle.table_shards.specs.Holding.{Holds, MayCall, MayNot, Refuses, Settles, receipted};
+ghost use Rattle.table_shards.specs.Holding.{Holds, Looks, MayCall, MayNot, Refuses, Settles, receipted};
 
 use crate::errors::ShardError;
 use crate::locked::Locked;
@@ -201,7 +201,7 @@ pub fn ack(
     }
 }
 
-/// `TableCell::settle`. It makes no event, and the seat comes back as it was.
+/// `TableCell::settle`. It makes no event, takes no memory, and the seat comes back as it was.
 pub fn settle(
     locked: &mut Locked,
     seat: Seat,
@@ -209,7 +209,7 @@ pub fn settle(
     session: u32,
     batch: &Batch,
 ) -> (Seat, Result<(), ShardError<StrangeBatch>>)
-    ensures { Holds (λ c r e. Settles c session batch.now r e) (λ done. seat) table locked.old seat result.1 locked.new result.0 }
+    ensures { Looks (λ c r e. Settles c session batch.now r e) table locked.old seat result.1 locked.new result.0 }
 {
     if let Some(error) = refusal(locked, &seat, table) {
         return (seat, Err(error));

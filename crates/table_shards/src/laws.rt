@@ -1,10 +1,13 @@
 //! What holds of the definitions, whatever the program does.
 
-ghost use Rattle.std.specs.Prelude.{◌≡◌, ◌≤◌, ◌+◌, ◌∷◌, ◌++◌, [], ℕ, List, length};
-ghost use Rattle.table_cell.specs.Histories.{CellState, events_of};
+ghost use Rattle.std.specs.Prelude.{◌≡◌, ◌≤◌, ◌<◌, ◌+◌, ◌-◌, ◌∷◌, ◌++◌, [], ℕ, List, length};
+ghost use Rattle.table_cell.specs.Histories.{CellState, Made, events_of};
+ghost use Rattle.table_cell.specs.declared.events.CellEvent.{CellEvent};
+ghost use Rattle.table_cell.specs.declared.events.CellReply.{CellReply};
 ghost use Rattle.table_shards.specs.declared.receipt.Receipt.{Receipt};
 ghost use Rattle.table_shards.specs.Receipts.{SeatState, all_receipts, receipts_of, seen_of, with_receipt};
-ghost use Rattle.table_shards.specs.Agreement.{Agree, id_of};
+ghost use Rattle.table_shards.specs.Agreement.{Agree, IsEntry, id_of};
+ghost use Rattle.table_shards.specs.Holding.{MayCall, receipted};
 
 /// A seat with one receipt more of a table has that one at the end of its receipts of the table, and its place is what the
 /// seat has seen. Of other tables nothing has changed.
@@ -15,8 +18,20 @@ pub fn one_receipt_more()
         (seen_of other (with_receipt s table r) ≡ seen_of other s) × (receipts_of other (with_receipt s table r) ≡ receipts_of other s) }
 {}
 
+/// The receipt that a call of `held` leaves is the table's new event at its place, and that place is the number of events
+/// that the table then has. It is above what the seat had seen of the table, and no call lowers what a seat has seen.
+pub fn a_receipt_is_of_the_new_event()
+    ensures entry { (c e : CellState) (event : CellEvent) (reply : CellReply) → Made c event reply e →
+        IsEntry e (record { place = events_of c + 1; event = event; reply = reply }) }
+    ensures last { (c e : CellState) (event : CellEvent) (reply : CellReply) → Made c event reply e → events_of e ≡ events_of c + 1 }
+    ensures above { (c : CellState) (s : SeatState) (table : ℕ) (event : CellEvent) (reply : CellReply) → MayCall table c s →
+        seen_of table s < seen_of table (receipted table c s event reply) }
+    ensures seen { (c : CellState) (s : SeatState) (table other : ℕ) (event : CellEvent) (reply : CellReply) → MayCall table c s →
+        seen_of other s ≤ seen_of other (receipted table c s event reply) }
+{}
+
 /// Receipts that agree with a table are as many as its events after the first `began`.
 pub fn as_many_receipts_as_events()
     ensures { (c : CellState) (began : ℕ) (seats : List SeatState) → began ≤ events_of c → Agree c began seats →
-        began + length (all_receipts (id_of c) seats) ≡ events_of c }
+        length (all_receipts (id_of c) seats) ≡ events_of c - began }
 {}

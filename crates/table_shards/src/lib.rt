@@ -17,7 +17,7 @@ mod unlocked;
 
 pub use comparing::compare;
 pub use errors::{AuditError, ShardError};
-pub use laws::{as_many_receipts_as_events, one_receipt_more};
+pub use laws::{a_receipt_is_of_the_new_event, as_many_receipts_as_events, one_receipt_more};
 pub use locked::Locked;
 pub use receipt::Receipt;
 pub use seat::Seat;
