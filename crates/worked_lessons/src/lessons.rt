@@ -215,6 +215,12 @@ fn teacher_answers_again(rt: HostRuntime) {
     assert!(rt; is_taught_again(rt.alloc(), &TAUGHT[3]) != Some(false));
 }
 
+/// The same where slots hold the name.
+#[test]
+fn teacher_answers_again_of_a_name_held(rt: HostRuntime) {
+    assert!(rt; is_taught_again(rt.alloc(), &TAUGHT[4]) != Some(false));
+}
+
 /// `lt`: as `st` with keys of up to 255 bytes, and nothing known of it.
 static LT: KnownParts = KnownParts {
     table: TableParts {
