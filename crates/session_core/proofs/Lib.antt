@@ -6,3 +6,4 @@ mod StepLemmas
 mod RunLaws
 mod AskedLaws
 mod ConfirmedLaws
+mod FaultLaws

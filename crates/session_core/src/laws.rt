@@ -1,10 +1,11 @@
 //! What holds of the definitions, whatever the program does.
 
-ghost use Rattle.std.specs.Prelude.{◌≡◌, ◌∷◌, ◌++◌, [], true, false, List};
+ghost use Rattle.std.specs.Prelude.{◌≡◌, ◌⊎◌, None, ◌∷◌, ◌++◌, [], true, false, List};
 ghost use Rattle.std.specs.List.{AllByRecursion};
 ghost use Rattle.table_types.specs.Tables.{Definition};
 ghost use Rattle.session_core.specs.declared.action.Action.{Action};
 ghost use Rattle.session_core.specs.declared.event.Event.{Event};
+ghost use Rattle.session_core.specs.declared.phase.Phase.TheVariants as phases;
 ghost use Rattle.session_core.specs.Sessions.{SessionState, Goes, is_asked};
 ghost use Rattle.session_core.specs.Runs.{Runs, IsBegun, ends_resync, HasNothingLeft, HasNothingOut, was_confirmed};
 
@@ -28,4 +29,10 @@ pub fn unasked_is_no_step()
 pub fn confirmed_is_sent()
     ensures { (roster : List Definition) (begun s : SessionState) (steps : List (Event × List Action)) →
         IsBegun roster begun → Runs begun steps s → s.confirmed ≡ was_confirmed steps }
+{}
+
+/// A session that has a fault is over, in every run from the beginning.
+pub fn a_fault_ends_the_session()
+    ensures { (roster : List Definition) (begun s : SessionState) (steps : List (Event × List Action)) →
+        IsBegun roster begun → Runs begun steps s → (s.phase ≡ phases.Ended) ⊎ (s.fault ≡ None) }
 {}
