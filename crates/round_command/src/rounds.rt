@@ -1,0 +1,169 @@
+//! The subcommand `round`.
+
+ghost use Rattle.std.specs.Prelude.{◌≡◌, ◌≢◌, ◌≤◌, ℕ, List, IfOk, None};
+ghost use Rattle.std.specs.Io.KnownBytes.{Appends};
+ghost use Rattle.scene_commands.specs.Endings.{line_of};
+ghost use Rattle.table_shards.specs.Audits.{Audits, UnlockedState};
+ghost use Rattle.table_shards.specs.Receipts.{SeatState};
+ghost use Rattle.round_command.specs.Rounds.{IsPrinted};
+
+use crate::error::{RoundError, error_of};
+use crate::printing::printed;
+use crate::table::{SESSION, TABLE, new_table, roster};
+use crate::tracking::track_all;
+use crate::worker::{Worker, work};
+use known_state::Known;
+use peers_devices::{Faults, write_all};
+use peers_engine::Open;
+use scene_commands::Ending;
+use std::alloc::Global;
+use std::io::Write;
+use std::sync::Wait;
+use std::thread;
+use std::thread::Threads;
+use table_shards::{Audit, Seat, Shards, held};
+
+/// How many threads track, and how often each of them does.
+#[derive(Clone, Copy, Debug, PartialEq, Eq)]
+pub struct RoundSize {
+    /// How many threads change the table: the key of thread i is i, from 1.
+    pub threads: u32,
+    /// How often each of them adds 1 to its key.
+    pub tracks: u32,
+}
+
+/// Runs a round, and writes that its audit found nothing, and the rows.
+///
+/// Threads, at most 8, change one table, each under its lock, while a session's worker in a thread of its own copies, plans, settles and
+/// acknowledges until there is nothing to copy. Once all have ended, this thread goes on as the worker until there is nothing
+/// again, and audits all seats. Where no thread is to be had, all that ran are joined, and the end is `Device`. Where it ends
+/// early, nothing is written on the output, unless a device failed there.
+pub fn round<R: Threads + Wait + Sync, W: Write + Faults, E: Write + Faults>(
+    rt: &R,
+    alloc: Global,
+    asked: RoundSize,
+    output: &mut W,
+    errors: &mut E,
+) -> Ending
+    requires { asked.threads ≤ 8 }
+    ensures done { result ≡ Ending.Done → (u : UnlockedState) × (seats : List SeatState) × (text : List ℕ)
+        × Audits u seats None × IsPrinted u text × Appends (W.contents output.old) (W.contents output.new) text }
+    ensures silent { result ≢ Ending.Done → result ≢ Ending.Device → output.new ≡ output.old }
+    ensures said { result ≢ Ending.Device → Appends (E.contents errors.old) (E.contents errors.new) (line_of result) }
+{
+    let text = match audited_text(rt, alloc, asked) {
+        Ok(text) => text,
+        Err(RoundError::Memory) => return Ending::Memory.said(alloc, errors),
+        Err(RoundError::Device) => return Ending::device(errors),
+    };
+    match write_all(output, text.as_slice()) {
+        Ok(()) => Ending::Done,
+        Err(_) => Ending::device(errors),
+    }
+}
+
+/// Runs a round and audits it: what is printed of it.
+fn audited_text<R: Threads + Wait + Sync>(
+    rt: &R,
+    alloc: Global,
+    asked: RoundSize,
+) -> Result<Vec<u8>, RoundError>
+    requires { asked.threads ≤ 8 }
+    ensures { IfOk result (λ text. (u : UnlockedState) × (seats : List SeatState) × Audits u seats None × IsPrinted u text.items) }
+{
+    let audit = run(rt, alloc, asked)?;
+    printed(alloc, &audit)
+}
+
+/// Runs a round, and audits it.
+fn run<R: Threads + Wait + Sync>(
+    rt: &R,
+    alloc: Global,
+    asked: RoundSize,
+) -> Result<Audit, RoundError>
+    requires { asked.threads ≤ 8 }
+    ensures { IfOk result (λ audit. (seats : List SeatState) × Audits audit seats None) }
+{
+    let mut cells = Vec::new(alloc);
+    cells.push(new_table(alloc)?)?;
+    let (shards, seats) = Shards::new(alloc, cells, asked.threads + 2)?;
+    let known = Known::fresh(alloc, roster(alloc)?);
+    let seats = seats_after(rt, alloc, &shards, asked.tracks, seats, known)?;
+    let Ok(unlocked) = shards.unlock(alloc) else {
+        return Err(RoundError::Memory);
+    };
+    match unlocked.audit(seats) {
+        Ok(audit) => Ok(audit),
+        Err(_) => Err(RoundError::Device),
+    }
+}
+
+/// Opens the session, lets the threads run, and goes on as the worker until there is nothing to copy. All seats come back;
+/// the last two are the worker's and this thread's.
+fn seats_after<R: Threads + Wait + Sync>(
+    rt: &R,
+    alloc: Global,
+    shards: &Shards,
+    tracks: u32,
+    mut seats: Vec<Seat>,
+    known: Known,
+) -> Result<Vec<Seat>, RoundError> {
+    let (Some(own), Some(seat)) = (seats.pop(), seats.pop()) else {
+        return Err(RoundError::Device);
+    };
+    let own = opened(rt, shards, own)?;
+    let worker = Worker { seat, known };
+    let (mut seats, worker) = run_threads(rt, alloc, shards, tracks, seats, worker)?;
+    let Worker { seat, known } = worker;
+    seats.push(seat)?;
+    let (worker, ended) = work(rt, alloc, &Open, shards, Worker { seat: own, known });
+    ended?;
+    seats.push(worker.seat)?;
+    Ok(seats)
+}
+
+/// Opens the session, in one hold of the lock.
+fn opened<R: Wait>(rt: &R, shards: &Shards, seat: Seat) -> Result<Seat, RoundError> {
+    let Some(lock) = shards.cell(TABLE) else {
+        return Err(RoundError::Device);
+    };
+    let mut locked = lock.lock(rt);
+    match held::open_session(&mut locked, seat, TABLE, SESSION) {
+        (seat, Ok(())) => Ok(seat),
+        (_, Err(error)) => Err(error_of(error)),
+    }
+}
+
+/// Starts a tracking thread for each seat, whose key is the seat's number, and one for the worker, and joins them all. Where
+/// no thread is to be had, those that run end before it answers.
+fn run_threads<R: Threads + Wait + Sync>(
+    rt: &R,
+    alloc: Global,
+    shards: &Shards,
+    tracks: u32,
+    seats: Vec<Seat>,
+    worker: Worker,
+) -> Result<(Vec<Seat>, Worker), RoundError> {
+    thread::scope(thread::scope_env(), rt, move |scope| {
+        let mut trackers = Vec::new(alloc);
+        for seat in seats {
+            let key = seat.number();
+            match scope.spawn(move || track_all(rt, shards, seat, key, tracks)) {
+                Ok(tracker) => trackers.push(tracker)?,
+                Err(_) => return Err(RoundError::Device),
+            }
+        }
+        let Ok(teaching) = scope.spawn(move || work(rt, alloc, &Open, shards, worker)) else {
+            return Err(RoundError::Device);
+        };
+        let mut back = Vec::new(alloc);
+        for tracker in trackers {
+            let (seat, ended) = tracker.join(rt);
+            ended?;
+            back.push(seat)?;
+        }
+        let (worker, ended) = teaching.join(rt);
+        ended?;
+        Ok((back, worker))
+    })
+}

@@ -1,0 +1,35 @@
+//! The table of a round.
+
+use crate::error::RoundError;
+use std::alloc::Global;
+use table_cell::TableCell;
+use table_types::{DataType, KeyKind, Roster, TableDef};
+
+/// The id of the table.
+pub(crate) const TABLE: u64 = 1;
+
+/// The one session of the table.
+pub(crate) const SESSION: u32 = 1;
+
+/// The most rows that the table has.
+const SIZE: usize = 1_000_000;
+
+/// The definition of the table: `t1`, of integers, with gpc0, whose rows have no end.
+pub(crate) fn definition(alloc: Global) -> Result<TableDef, RoundError> {
+    let name = Vec::from_slice(alloc, b"t1")?;
+    let types = Vec::from_slice(alloc, &[(DataType::Gpc0, None)])?;
+    let definition = TableDef::new(alloc, TABLE, name, KeyKind::Integer, 4, 0, types)?;
+    Ok(definition)
+}
+
+/// The roster of the table alone.
+pub(crate) fn roster(alloc: Global) -> Result<Roster, RoundError> {
+    let mut tables = Vec::new(alloc);
+    tables.push(definition(alloc)?)?;
+    Ok(Roster::new(tables)?)
+}
+
+/// The table, without rows and sessions.
+pub(crate) fn new_table(alloc: Global) -> Result<TableCell, RoundError> {
+    Ok(TableCell::new(alloc, definition(alloc)?, SIZE, false, 1)?)
+}
