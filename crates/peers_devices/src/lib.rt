@@ -5,6 +5,6 @@ mod devices;
 mod input;
 mod output;
 
-pub use devices::{Counting, Faults};
+pub use devices::{Counting, Faults, rose};
 pub use input::{MOST_READS, ReadError, read_to_end};
 pub use output::{WriteError, write_all};

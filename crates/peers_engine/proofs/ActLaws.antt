@@ -1,0 +1,65 @@
+-- Actions done one after another.
+use Rattle.std.proofs.Common.{◌≡◌, ◌⊎◌, ℕ, Bool, true, false, List, [], ◌∷◌, ◌++◌, Option, Some, None, refl, sym, ap, ◌∙◌, subst, inl, inr, append_assoc}
+use Rattle.std.proofs.lemmas.List.{append-nil}
+use Rattle.session_core.specs.declared.action.Action.{Action}
+use Rattle.session_core.specs.declared.event.Event.{Event}
+use Rattle.session_core.specs.declared.phase.Phase.{Phase}
+use Rattle.session_core.specs.declared.phase.Phase.TheVariants as phases
+use Rattle.session_core.specs.Courses.{state_of_course}
+use Rattle.session_core.specs.Sessions.{SessionState, Goes, GoesIn, ended, state_of}
+use Rattle.peers_engine.specs.Doing.{Acts, Done, Told, ToldIn, asked}
+
+pub acts_on : (s mid e : SessionState) (before after : List Action) (told more : List (Event × List Action)) (out rest : List ℕ)
+    → Acts s before told out mid → Acts mid after more rest e → Acts s (before ++ after) (told ++ more) (out ++ rest) e
+acts_on s mid e [] after told more out rest (none, nothing, same) second =
+    subst (λ (t : List (Event × List Action)). Acts s after (t ++ more) (out ++ rest) e) (sym none)
+    (subst (λ (o : List ℕ). Acts s after more (o ++ rest) e) (sym nothing)
+    (subst (λ (x : SessionState). Acts x after more rest e) same second))
+acts_on s mid e (act ∷ acts) after told more out rest (bytes, then, answer, first, steps, next, done, tells, acted, is, written) second = (
+  bytes,
+  then ++ rest,
+  answer,
+  first,
+  steps ++ more,
+  next,
+  done,
+  tells,
+  acts_on next mid e acts after steps more then rest acted second,
+  rw is (append_assoc first steps more),
+  rw written (append_assoc bytes then rest),
+)
+
+-- one action, and the answer told
+pub one_act : (s e : SessionState) (act : Action) (answer : Option Event) (steps : List (Event × List Action)) (bytes : List ℕ)
+    → Done s.known act bytes answer → Told s answer steps e → Acts s (act ∷ []) steps bytes e
+one_act s e act answer steps bytes done told =
+    (bytes, [], answer, steps, [], e, done, told, (refl, refl, refl), sym (append-nil steps), sym (append-nil bytes))
+
+-- ---- an answer told
+
+told_open : (teaching : Bool) (s e : SessionState) (event : Event) (acts : List Action) → Goes s event acts e → ToldIn (state_of_course teaching) s event ((event, acts) ∷ []) e
+told_open true s e event acts goes = (acts, goes, refl)
+told_open false s e event acts goes = (acts, goes, refl)
+
+told_in : (phase : Phase) (s e : SessionState) (event : Event) (acts : List Action) → GoesIn phase s event acts e → Goes s event acts e → ToldIn (state_of phase) s event ((event, acts) ∷ []) e
+told_in (phases.New hello c) s e event acts here goes = (acts, goes, refl)
+told_in (phases.Hello greeter bytes c) s e event acts here goes = (acts, goes, refl)
+told_in (phases.Open c) s e event acts here goes = told_open c.teaching s e event acts goes
+told_in phases.Ended s e event acts here goes = absurd here
+
+told_some : (s e : SessionState) (answer : Option Event) (event : Event) (acts : List Action) → answer ≡ Some event → Goes s event acts e → Told s answer ((event, acts) ∷ []) e
+told_some s e answer event acts is goes = subst (λ (x : Option Event). Told s x ((event, acts) ∷ []) e) (sym is) (told_in s.phase s e event acts goes goes)
+
+-- an answer is heard
+pub told_goes : (s e : SessionState) (answer : Option Event) (event : Event) (old new : List Action) → answer ≡ Some event
+    → ((acts : List Action) × Goes s event acts e × (new ≡ old ++ acts))
+    → (steps : List (Event × List Action)) × Told s answer steps e × (new ≡ old ++ asked steps)
+told_goes s e answer event old new is (acts, goes, kept) =
+    ((event, acts) ∷ [], told_some s e answer event acts is goes, kept ∙ ap (λ (x : List Action). old ++ x) (sym (append-nil acts)))
+
+-- and where that fails the session is over, before that or after
+pub told_breaks : (s e : SessionState) (answer : Option Event) (event : Event) → answer ≡ Some event
+    → ((e ≡ ended s) ⊎ ((acts : List Action) × Goes s event acts e))
+    → (steps : List (Event × List Action)) × (mid : SessionState) × (Told s answer steps mid ⊎ ((steps ≡ []) × (mid ≡ s))) × (ended e ≡ ended mid)
+told_breaks s e answer event is (inl over) = ([], s, inr (refl, refl), ap ended over)
+told_breaks s e answer event is (inr (acts, goes)) = ((event, acts) ∷ [], e, inl (told_some s e answer event acts is goes), refl)

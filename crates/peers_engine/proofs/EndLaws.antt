@@ -1,0 +1,73 @@
+-- How a session ends.
+use Rattle.std.proofs.Common.{◌≡◌, ◌⊎◌, ℕ, List, refl, sym, ap, inl, inr}
+use Rattle.std.proofs.lemmas.Bool.{false≢true}
+use Rattle.std.proofs.lemmas.List.{append-nil}
+use Rattle.std.specs.Prelude.{Bool, true, false, ◌++◌, [], Option, Some, None}
+use Rattle.std.specs.Io.KnownBytes.{Appends, Consumes, Keeps}
+use Rattle.session_core.specs.declared.action.Action.{Action}
+use Rattle.session_core.specs.declared.event.Event.{Event}
+use Rattle.session_core.specs.declared.event.Event.TheVariants as events
+use Rattle.session_core.specs.declared.phase.Phase.{Phase}
+use Rattle.session_core.specs.declared.phase.Phase.TheVariants as phases
+use Rattle.session_core.specs.Sessions.{SessionState, Goes, GoesIn, ended}
+
+-- the events after which every session is over
+abbrev pub closes : Event → Bool
+closes events.End = true
+closes events.ReadFault = true
+closes events.WriteFault = true
+closes event = false
+
+closed_in : (phase : Phase) (s : SessionState) (event : Event) (acts : List Action) (e : SessionState) → closes event ≡ true → GoesIn phase s event acts e → e ≡ ended s
+closed_in (phases.New hello c) s events.End acts e is goes = goes.1
+closed_in (phases.New hello c) s events.ReadFault acts e is goes = goes.1
+closed_in (phases.New hello c) s events.WriteFault acts e is goes = goes.1
+closed_in (phases.Hello greeter bytes c) s events.End acts e is goes = goes.1
+closed_in (phases.Hello greeter bytes c) s events.ReadFault acts e is goes = goes.1
+closed_in (phases.Hello greeter bytes c) s events.WriteFault acts e is goes = goes.1
+closed_in (phases.Open c) s events.End acts e is goes = goes.1
+closed_in (phases.Open c) s events.ReadFault acts e is goes = goes.1
+closed_in (phases.Open c) s events.WriteFault acts e is goes = goes.1
+closed_in (phases.New hello c) s events.Opened acts e is goes = absurd (false≢true is)
+closed_in (phases.New hello c) s (events.Bytes piece) acts e is goes = absurd (false≢true is)
+closed_in (phases.New hello c) s events.Turn acts e is goes = absurd (false≢true is)
+closed_in (phases.New hello c) s (events.Copied table batch) acts e is goes = absurd (false≢true is)
+closed_in (phases.New hello c) s (events.Nothing table) acts e is goes = absurd (false≢true is)
+closed_in (phases.New hello c) s (events.Written known) acts e is goes = absurd (false≢true is)
+closed_in (phases.New hello c) s (events.Settled table settled) acts e is goes = absurd (false≢true is)
+closed_in (phases.New hello c) s (events.Refused table) acts e is goes = absurd (false≢true is)
+closed_in (phases.Hello greeter bytes c) s events.Opened acts e is goes = absurd (false≢true is)
+closed_in (phases.Hello greeter bytes c) s (events.Bytes piece) acts e is goes = absurd (false≢true is)
+closed_in (phases.Hello greeter bytes c) s events.Turn acts e is goes = absurd (false≢true is)
+closed_in (phases.Hello greeter bytes c) s (events.Copied table batch) acts e is goes = absurd (false≢true is)
+closed_in (phases.Hello greeter bytes c) s (events.Nothing table) acts e is goes = absurd (false≢true is)
+closed_in (phases.Hello greeter bytes c) s (events.Written known) acts e is goes = absurd (false≢true is)
+closed_in (phases.Hello greeter bytes c) s (events.Settled table settled) acts e is goes = absurd (false≢true is)
+closed_in (phases.Hello greeter bytes c) s (events.Refused table) acts e is goes = absurd (false≢true is)
+closed_in (phases.Open c) s events.Opened acts e is goes = absurd (false≢true is)
+closed_in (phases.Open c) s (events.Bytes piece) acts e is goes = absurd (false≢true is)
+closed_in (phases.Open c) s events.Turn acts e is goes = absurd (false≢true is)
+closed_in (phases.Open c) s (events.Copied table batch) acts e is goes = absurd (false≢true is)
+closed_in (phases.Open c) s (events.Nothing table) acts e is goes = absurd (false≢true is)
+closed_in (phases.Open c) s (events.Written known) acts e is goes = absurd (false≢true is)
+closed_in (phases.Open c) s (events.Settled table settled) acts e is goes = absurd (false≢true is)
+closed_in (phases.Open c) s (events.Refused table) acts e is goes = absurd (false≢true is)
+closed_in phases.Ended s event acts e is goes = absurd goes
+
+pub closed : (s : SessionState) (event : Event) (acts : List Action) (e : SessionState) → closes event ≡ true → Goes s event acts e → e ≡ ended s
+closed s event acts e is goes = closed_in s.phase s event acts e is goes
+
+-- what keeps the known bytes consumes none
+pub nothing_consumed : (old new : Option (List ℕ)) → Keeps old new → Consumes old new []
+nothing_consumed None new keeps = tt
+nothing_consumed (Some xs) None keeps = absurd keeps
+nothing_consumed (Some xs) (Some ys) keeps = sym keeps
+
+-- known bytes that stay are appended to by none, and none is consumed
+pub unchanged : (known : Option (List ℕ)) → Appends known known []
+unchanged None = tt
+unchanged (Some xs) = sym (append-nil xs)
+
+pub unconsumed : (known : Option (List ℕ)) → Consumes known known []
+unconsumed None = tt
+unconsumed (Some xs) = refl

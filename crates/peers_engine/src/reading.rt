@@ -1,0 +1,61 @@
+//! What comes of a read.
+
+ghost use Rattle.std.specs.Prelude.{◌≡◌, ◌<◌, ◌⊎◌, Ok, Some, Err, IfErr, IfOk, List, ℕ, option_to_list, vec_len};
+ghost use Rattle.std.specs.Io.KnownBytes.{Consumes, IsAtEnd, Keeps};
+ghost use Rattle.peers_devices.specs.Failures.{Rose};
+ghost use Rattle.session_core.specs.declared.event.Event.TheVariants as events;
+ghost use Rattle.peers_engine.specs.declared.errors.EngineError.TheVariants as errors;
+ghost use Rattle.peers_engine.specs.Doing.{IsQuiet};
+ghost use Rattle.peers_engine.specs.Turns.{IsRead, first_event};
+
+use crate::errors::EngineError;
+use peers_devices::{Faults, rose};
+use session_core::{Event, State};
+use std::alloc::{AllocError, Global};
+use std::io::Read;
+use table_types::Items;
+
+/// How many bytes one read takes at most.
+const MOST_BYTES: usize = 4096;
+
+/// The event with which a turn begins.
+pub(crate) fn first_event(state: State) -> Event
+    ensures { result ≡ first_event state }
+{
+    match state {
+        State::New => Event::Opened,
+        State::Hello | State::Ready | State::Teaching | State::Ended => Event::Turn,
+    }
+}
+
+/// Room for one read.
+fn room(alloc: Global) -> Result<Vec<u8>, AllocError>
+    ensures { IfOk result (λ bytes. 0 < vec_len bytes) }
+{
+    vec![in alloc; 0; MOST_BYTES]
+}
+
+/// Reads once. A read that fails without being counted, as an interrupted one may, is no event.
+pub(crate) fn read_event<R: Read + Faults>(
+    alloc: Global,
+    input: &mut R,
+) -> Result<Option<Event>, EngineError>
+    ensures heard { IfOk result (λ event. (read : List ℕ) × IsRead (option_to_list event) read
+        × Consumes (R.remaining input.old) (R.remaining input.new) read) }
+    ensures end { result ≡ Ok (Some events.End) → IsAtEnd (R.remaining input.new) }
+    ensures failed { result ≡ Err errors.Read → Rose (R.failed input.old) (R.failed input.new) }
+    ensures unread { IfErr result (λ _. Keeps (R.remaining input.old) (R.remaining input.new)) }
+    ensures unwritten { IfErr result (λ e. (e ≡ errors.Read) ⊎ IsQuiet e) }
+{
+    let earlier = input.failures();
+    let mut bytes = room(alloc).map_err(|_| EngineError::Memory)?;
+    match input.read(bytes.as_mut_slice()) {
+        Ok(0) => Ok(Some(Event::End)),
+        Ok(count) => {
+            bytes.truncate(count);
+            Ok(Some(Event::Bytes(Items::new(bytes))))
+        }
+        Err(_) if rose(earlier, input.failures()) => Err(EngineError::Read),
+        Err(_) => Ok(None),
+    }
+}

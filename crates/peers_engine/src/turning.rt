@@ -1,0 +1,269 @@
+//! A turn of a session.
+
+ghost use Rattle.std.specs.Prelude.{◌≡◌, ◌≢◌, ◌↔◌, ◌⊎◌, ◌++◌, ◌∷◌, [], ℕ, List, Ok, Err, IfErr, IfOk, OnErr, OnOk};
+ghost use Rattle.std.specs.Io.KnownBytes.{Appends, Consumes};
+ghost use Rattle.peers_devices.specs.Failures.{Rose};
+ghost use Rattle.session_core.specs.declared.action.Action.{Action};
+ghost use Rattle.session_core.specs.declared.event.Event.{Event};
+ghost use Rattle.session_core.specs.declared.state.State.TheVariants as states;
+ghost use Rattle.session_core.specs.Sessions.{Goes, SessionState, ended, state_of};
+ghost use Rattle.peers_engine.specs.declared.errors.EngineError.TheVariants as errors;
+ghost use Rattle.peers_engine.specs.declared.errors.Turned.TheVariants as turns;
+ghost use Rattle.peers_engine.specs.Doing.{Acts, IsQuiet, Stops, Told, asked};
+ghost use Rattle.peers_engine.specs.Turns.{Breaks, Halts, HaltsIn, IsRead, Reacts, ReactsToAll, Turns, first_event};
+
+use crate::context::Context;
+use crate::doing::do_action;
+use crate::errors::{EngineError, Turned};
+use crate::gate::Gate;
+use crate::reading::{first_event, read_event};
+use peers_devices::Faults;
+use session_core::{Action, Event, Session, State};
+use std::alloc::Global;
+use std::io::{Read, Write};
+use std::sync::Wait;
+use table_shards::{Seat, Shards};
+use table_types::{CopyKind, Moment};
+
+/// Has a session hear of an event, and adds what it asks for then.
+fn hear(
+    session: &mut Session,
+    now: Moment,
+    event: Event,
+    given: &mut Vec<Action>,
+) -> Result<(), EngineError>
+    ensures heard { OnOk result ((acts : List Action) × Goes session.old event acts session.new
+        × (given.new.items ≡ given.old.items ++ acts)) }
+    ensures broken { OnErr result ((session.new ≡ ended session.old) ⊎ ((acts : List Action) × Goes session.old event acts session.new)) }
+    ensures quiet { IfErr result IsQuiet }
+{
+    let mut more = session.on(event, now)?;
+    match given.append(&mut more) {
+        Ok(()) => Ok(()),
+        Err(_) => Err(EngineError::Memory),
+    }
+}
+
+/// Tells the session the answer to an action, if it has one, and adds what it asks for then. A session that is over is told
+/// nothing.
+fn tell(
+    session: &mut Session,
+    now: Moment,
+    answer: Option<Event>,
+    given: &mut Vec<Action>,
+) -> Result<(), EngineError>
+    ensures told { OnOk result ((steps : List (Event × List Action)) × Told session.old answer steps session.new
+        × (given.new.items ≡ given.old.items ++ asked steps)) }
+    ensures broken { OnErr result ((steps : List (Event × List Action)) × (mid : SessionState)
+        × (Told session.old answer steps mid ⊎ ((steps ≡ []) × (mid ≡ session.old))) × (ended session.new ≡ ended mid)) }
+    ensures quiet { IfErr result IsQuiet }
+{
+    match answer {
+        Some(event) if session.state() != State::Ended => hear(session, now, event, given),
+        Some(_) | None => Ok(()),
+    }
+}
+
+/// Does these actions in order, and gives what their answers ask for.
+fn do_all<H: Wait, G: Gate, W: Write + Faults>(
+    context: &Context<H, G>,
+    session: &mut Session,
+    output: &mut W,
+    seat: Seat,
+    actions: Vec<Action>,
+) -> (Seat, Result<Vec<Action>, EngineError>)
+    ensures seat { result.0.number ≡ seat.number }
+    ensures done { IfOk result.1 (λ given. (told : List (Event × List Action)) × (out : List ℕ)
+        × Acts session.old actions.items told out session.new × (given.items ≡ asked told)
+        × Appends (W.contents output.old) (W.contents output.new) out) }
+    ensures failed { IfErr result.1 (λ e. (told : List (Event × List Action)) × (out : List ℕ)
+        × Stops session.old actions.items e told out session.new
+        × Appends (W.contents output.old) (W.contents output.new) out) }
+    ensures unread { IfErr result.1 (λ e. e ≢ errors.Read) }
+{
+    let mut seat = seat;
+    let mut given = Vec::new(context.alloc);
+    for action in actions {
+        let (back, done) = do_action(context, session.known(), output, seat, action);
+        seat = back;
+        let answer = match done {
+            Ok(answer) => answer,
+            Err(error) => return (seat, Err(error)),
+        };
+        if let Err(error) = tell(session, context.now, answer, &mut given) {
+            return (seat, Err(error));
+        }
+    }
+    (seat, Ok(given))
+}
+
+/// Whether nothing but rows of this node's own is asked for.
+fn is_push(actions: &[Action]) -> bool {
+    actions.iter().all(|action| matches!(
+        action,
+        Action::Copy {
+            kind: CopyKind::Push,
+            ..
+        }
+    ))
+}
+
+/// Has the session hear of an event, and does what it asks for, and what it asks for then. Answers whether nothing was to
+/// be done: no action, or a push of which the table had nothing.
+fn react<H: Wait, G: Gate, W: Write + Faults>(
+    context: &Context<H, G>,
+    session: &mut Session,
+    output: &mut W,
+    seat: Seat,
+    event: Event,
+) -> (Seat, Result<bool, EngineError>)
+    ensures seat { result.0.number ≡ seat.number }
+    ensures done { OnOk result.1 ((out : List ℕ) × Reacts session.old event out session.new
+        × Appends (W.contents output.old) (W.contents output.new) out) }
+    ensures failed { IfErr result.1 (λ e. (out : List ℕ) × Halts session.old event e out session.new
+        × Appends (W.contents output.old) (W.contents output.new) out) }
+    ensures unread { IfErr result.1 (λ e. e ≢ errors.Read) }
+{
+    let actions = match session.on(event, context.now) {
+        Ok(actions) => actions,
+        Err(error) => return (seat, Err(EngineError::Session(error))),
+    };
+    let may_idle = is_push(actions.as_slice());
+    let (seat, done) = do_all(context, session, output, seat, actions);
+    let next = match done {
+        Ok(next) => next,
+        Err(error) => return (seat, Err(error)),
+    };
+    let is_idle = may_idle && next.is_empty();
+    let (seat, done) = do_all(context, session, output, seat, next);
+    if let Err(error) = done {
+        return (seat, Err(error));
+    }
+    (seat, Ok(is_idle))
+}
+
+/// Reads once, and does what comes of it. Answers whether nothing was to be done.
+fn receive<H: Wait, G: Gate, R: Read + Faults, W: Write + Faults>(
+    context: &Context<H, G>,
+    session: &mut Session,
+    input: &mut R,
+    output: &mut W,
+    seat: Seat,
+) -> (Seat, Result<bool, EngineError>)
+    ensures seat { result.0.number ≡ seat.number }
+    ensures done { OnOk result.1 ((heard : List Event) × (read out : List ℕ) × IsRead heard read
+        × ReactsToAll session.old (heard) out session.new
+        × Consumes (R.remaining input.old) (R.remaining input.new) read
+        × Appends (W.contents output.old) (W.contents output.new) out) }
+    ensures failed { IfErr result.1 (λ e. (heard : List Event) × (read out : List ℕ) × IsRead heard read
+        × HaltsIn session.old (heard) e out session.new
+        × Consumes (R.remaining input.old) (R.remaining input.new) read
+        × Appends (W.contents output.old) (W.contents output.new) out) }
+    ensures read { result.1 ≡ Err errors.Read → Rose (R.failed input.old) (R.failed input.new) }
+{
+    match read_event(context.alloc, input) {
+        Ok(Some(event)) => react(context, session, output, seat, event),
+        Ok(None) => (seat, Ok(true)),
+        Err(error) => (seat, Err(error)),
+    }
+}
+
+/// A turn, after an error of which the session isn't over yet. Answers whether nothing was to be done.
+fn take_turn<H: Wait, G: Gate, R: Read + Faults, W: Write + Faults>(
+    context: &Context<H, G>,
+    session: &mut Session,
+    input: &mut R,
+    output: &mut W,
+    seat: Seat,
+) -> (Seat, Result<bool, EngineError>)
+    ensures seat { result.0.number ≡ seat.number }
+    ensures done { OnOk result.1 ((heard : List Event) × (read out : List ℕ) × IsRead heard read
+        × ReactsToAll session.old (first_event (state_of session.old.phase) ∷ heard) out session.new
+        × Consumes (R.remaining input.old) (R.remaining input.new) read
+        × Appends (W.contents output.old) (W.contents output.new) out) }
+    ensures failed { IfErr result.1 (λ e. (heard : List Event) × (read out : List ℕ) × IsRead heard read
+        × HaltsIn session.old (first_event (state_of session.old.phase) ∷ heard) e out session.new
+        × Consumes (R.remaining input.old) (R.remaining input.new) read
+        × Appends (W.contents output.old) (W.contents output.new) out) }
+    ensures read { result.1 ≡ Err errors.Read → Rose (R.failed input.old) (R.failed input.new) }
+{
+    let event = first_event(session.state());
+    let (seat, done) = react(context, session, output, seat, event);
+    match done {
+        Ok(true) => receive(context, session, input, output, seat),
+        Ok(false) => (seat, Ok(false)),
+        Err(error) => (seat, Err(error)),
+    }
+}
+
+/// Ends the session after an error.
+fn end(session: &mut Session, error: EngineError, now: Moment)
+    ensures { session.new ≡ ended session.old }
+{
+    let event = match error {
+        EngineError::Read => Event::ReadFault,
+        EngineError::Write { sent: _ } => Event::WriteFault,
+        EngineError::Session(_) | EngineError::Memory | EngineError::Strange => Event::End,
+    };
+    let _closing = session.on(event, now);
+}
+
+/// One turn of a session, which has that number in the tables and works from that seat.
+///
+/// A new session is opened; any other may copy a batch, whose lesson is then written. Where there is none to copy, the turn
+/// reads once, at most 4,096 bytes. All that the session asks for is done in order, what an answer asks for after what was
+/// asked for already. A copy has at most 512 updates.
+///
+/// A table's lock is held for one call at a time, and none while a lesson is planned or written, or at the gate, to which the
+/// turn comes after a copy, after the plan, and after the lesson is written. It waits where a lock, the gate, a read or a
+/// write does.
+///
+/// `Read` comes only where the reader's count of failures rose. `Write` comes only where the writer's rose, where a write
+/// took no byte, and where more than a million writes failed without being counted; `sent` is below the length of what was
+/// being written. A read that fails without being counted is passed over.
+pub fn turn<H: Wait, R: Read + Faults, W: Write + Faults, G: Gate>(
+    rt: &H,
+    alloc: Global,
+    session: &mut Session,
+    input: &mut R,
+    output: &mut W,
+    gate: &G,
+    shards: &Shards,
+    seat: Seat,
+    number: u32,
+    now: Moment,
+) -> (Seat, Result<Turned, EngineError>)
+    ensures run { OnOk result.1 (Turns session.old session.new) }
+    ensures closed { IfOk result.1 (λ turned. (turned ≡ turns.Closed) ↔ (state_of session.new.phase ≡ states.Ended)) }
+    ensures broken { OnErr result.1 (Breaks session.old session.new) }
+    ensures ended { OnErr result.1 (state_of session.new.phase ≡ states.Ended) }
+    ensures seat { result.0.number ≡ seat.number }
+    ensures written { OnOk result.1 ((heard : List Event) × (read out : List ℕ) × IsRead heard read
+        × ReactsToAll session.old (first_event (state_of session.old.phase) ∷ heard) out session.new
+        × Consumes (R.remaining input.old) (R.remaining input.new) read
+        × Appends (W.contents output.old) (W.contents output.new) out) }
+    ensures stopped { IfErr result.1 (λ e. (heard : List Event) × (read out : List ℕ) × IsRead heard read
+        × HaltsIn session.old (first_event (state_of session.old.phase) ∷ heard) e out session.new
+        × Consumes (R.remaining input.old) (R.remaining input.new) read
+        × Appends (W.contents output.old) (W.contents output.new) out) }
+    ensures read { result.1 ≡ Err errors.Read → Rose (R.failed input.old) (R.failed input.new) }
+{
+    let context = Context {
+        rt,
+        alloc,
+        gate,
+        shards,
+        number,
+        now,
+    };
+    let (seat, done) = take_turn(&context, session, input, output, seat);
+    if let Err(error) = done {
+        end(session, error, now);
+        return (seat, Err(error));
+    }
+    if session.state() == State::Ended {
+        (seat, Ok(Turned::Closed))
+    } else {
+        (seat, Ok(Turned::Going))
+    }
+}
