@@ -72,6 +72,8 @@ done_printed scene text (endings.Stream fault) is printed = absurd (cc)
 done_printed scene text (endings.Line n) is printed = absurd printed
 done_printed scene text endings.Scene is printed = absurd printed
 done_printed scene text endings.NotShortest is printed = absurd printed
+done_printed scene text endings.Strange is printed = absurd printed
+done_printed scene text endings.Unasked is printed = absurd printed
 done_printed scene text endings.Memory is printed = absurd printed
 done_printed scene text endings.Device is printed = absurd printed
 
@@ -85,6 +87,8 @@ fault_printed scene text (endings.Stream other) fault is printed =
 fault_printed scene text (endings.Line n) fault is printed = absurd printed
 fault_printed scene text endings.Scene fault is printed = absurd printed
 fault_printed scene text endings.NotShortest fault is printed = absurd printed
+fault_printed scene text endings.Strange fault is printed = absurd printed
+fault_printed scene text endings.Unasked fault is printed = absurd printed
 fault_printed scene text endings.Memory fault is printed = absurd printed
 fault_printed scene text endings.Device fault is printed = absurd printed
 
@@ -101,5 +105,7 @@ only_printed scene text (endings.Stream f) printed done fault = fault f refl
 only_printed scene text (endings.Line n) printed done fault = printed
 only_printed scene text endings.Scene printed done fault = printed
 only_printed scene text endings.NotShortest printed done fault = printed
+only_printed scene text endings.Strange printed done fault = printed
+only_printed scene text endings.Unasked printed done fault = printed
 only_printed scene text endings.Memory printed done fault = printed
 only_printed scene text endings.Device printed done fault = printed

@@ -13,7 +13,7 @@ use Rattle.table_types.specs.declared.batch.BatchError.TheVariants as batches
 use Rattle.table_types.specs.declared.roster.RosterError.{RosterError}
 use Rattle.table_types.specs.declared.roster.RosterError.TheVariants as rosters
 use Rattle.scene_commands.specs.declared.ending.Ending.{Ending}
-use Rattle.scene_commands.specs.declared.ending.Ending.TheVariants.{Done, Line, Scene, Stream, NotShortest, Memory, Device}
+use Rattle.scene_commands.specs.declared.ending.Ending.TheVariants.{Done, Line, Scene, Stream, NotShortest, Strange, Unasked, Memory, Device}
 
 -- the exit status
 abbrev pub status_of : Ending → ℕ
@@ -22,6 +22,8 @@ status_of (Line number) = 1
 status_of Scene = 1
 status_of (Stream fault) = 1
 status_of NotShortest = 1
+status_of Strange = 1
+status_of Unasked = 1
 status_of Memory = 3
 status_of Device = 4
 
@@ -32,6 +34,8 @@ line_of (Line number) = codes "line " ++ (decimal number ++ codes ": refused\n")
 line_of Scene = codes "scene: refused\n"
 line_of (Stream fault) = codes "fault " ++ (fault_name fault ++ codes "\n")
 line_of NotShortest = []
+line_of Strange = codes "fault Strange\n"
+line_of Unasked = codes "fault Unasked\n"
 line_of Memory = codes "memory\n"
 line_of Device = codes "device\n"
 
@@ -40,6 +44,8 @@ abbrev pub IsEarly : Ending → Type 0
 IsEarly Done = ⊥
 IsEarly (Stream fault) = ⊥
 IsEarly NotShortest = ⊥
+IsEarly Strange = ⊥
+IsEarly Unasked = ⊥
 IsEarly ending = Unit {0}
 
 -- ---- by which ending each refusal ends a subcommand

@@ -26,6 +26,10 @@ pub enum Ending {
     Stream(Fault),
     /// The verdict on a stream isn't that it is the shortest. The verdict itself is on the output, and nothing more is said.
     NotShortest,
+    /// A session met what it has no answer to: a table refused a call for a cause that no session meets: `fault Strange`.
+    Strange,
+    /// A session was told what it hadn't asked for: `fault Unasked`.
+    Unasked,
     /// Memory ran out: `memory`.
     Memory,
     /// A device failed: `device`.
@@ -33,14 +37,20 @@ pub enum Ending {
 }
 
 impl Ending {
-    /// The exit status of a program that ends so: 0 where all was done, 1 for refused input, a fault of the stream, and a
-    /// stream that isn't the shortest, 3 for want of memory, 4 for a device. (2 is for words of a command line that are refused.)
+    /// The exit status of a program that ends so: 0 where all was done, 1 for refused input, a fault of the stream or of a
+    /// session, and a stream that isn't the shortest, 3 for want of memory, 4 for a device. (2 is for words of a command line
+    /// that are refused.)
     pub fn status(self) -> u8
         ensures { result ≡ status_of self }
     {
         match self {
             Ending::Done => 0,
-            Ending::Line(_) | Ending::Scene | Ending::Stream(_) | Ending::NotShortest => 1,
+            Ending::Line(_)
+            | Ending::Scene
+            | Ending::Stream(_)
+            | Ending::NotShortest
+            | Ending::Strange
+            | Ending::Unasked => 1,
             Ending::Memory => 3,
             Ending::Device => 4,
         }
@@ -66,7 +76,7 @@ impl Ending {
     }
 
     /// Writes its line on the writer for errors, and answers this ending, or `Device` where the writer fails.
-    pub(crate) fn written<E: Write + Faults>(self, errors: &mut E, line: &str) -> Ending
+    pub fn written<E: Write + Faults>(self, errors: &mut E, line: &str) -> Ending
         ensures ends { (result ≡ self) ⊎ (result ≡ Ending.Device) }
         ensures written { result ≢ Ending.Device → Appends (E.contents errors.old) (E.contents errors.new) line.now }
     {
@@ -77,7 +87,7 @@ impl Ending {
     }
 
     /// The line that says it.
-    pub(crate) fn line(self, alloc: Global) -> Result<String, AllocError>
+    pub fn line(self, alloc: Global) -> Result<String, AllocError>
         ensures { IfOk result (λ line. string_bytes line ≡ line_of self) }
     {
         match self {
@@ -88,6 +98,8 @@ impl Ending {
                 let name = fault.name();
                 format!(in alloc; "fault {name}\n")
             }
+            Ending::Strange => String::from_str(alloc, "fault Strange\n"),
+            Ending::Unasked => String::from_str(alloc, "fault Unasked\n"),
             Ending::Memory => String::from_str(alloc, "memory\n"),
             Ending::Device => String::from_str(alloc, "device\n"),
         }

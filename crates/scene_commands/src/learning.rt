@@ -100,13 +100,13 @@ fn fed(alloc: Global, scene: Scene) -> Result<(Learner, Result<usize, Fault>), E
     let Some(moment) = moment else {
         return Err(Ending::Scene);
     };
-    let mut learner = Learner::new(alloc, rising(tables)?)?;
+    let mut learner = Learner::new(alloc, rising_roster(tables)?)?;
     let answer = learner.feed(stream.as_slice(), moment);
     Ok((learner, answer))
 }
 
-/// The roster of these tables in rising id.
-fn rising(mut tables: Vec<TableDef>) -> Result<Roster, RosterError>
+/// The roster of these tables, in rising id.
+pub fn rising_roster(mut tables: Vec<TableDef>) -> Result<Roster, RosterError>
     ensures { IfOk result (λ roster. AreInRisingId tables.items roster) }
 {
     tables.sort_unstable_by_key(|table| table.id());

@@ -11,5 +11,5 @@ mod teaching;
 pub use checking::check;
 pub use ending::Ending;
 pub use laws::taught_lessons_are_shortest;
-pub use learning::learn;
+pub use learning::{learn, rising_roster};
 pub use teaching::lesson;

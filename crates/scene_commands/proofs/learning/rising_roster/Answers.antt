@@ -2,7 +2,7 @@ use Rattle.std.proofs.Common.{rules, subst, sym}
 use Rattle.std.specs.List.Sorted.{IsNonDecreasingBy, IsPermutation}
 use Rattle.std.proofs.lemmas.List.Sorted.{IsNonDecreasingBy-from_sort, answers_always}
 use Rattle.table_types.specs.Tables.{Definition}
-use Rattle.scene_commands.proofs.learning.rising.Goals as goal
+use Rattle.scene_commands.proofs.learning.rising_roster.Goals as goal
 
 pub returns : goal.returns
 returns c =
