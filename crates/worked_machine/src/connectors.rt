@@ -1,7 +1,7 @@
 //! What the peer `a` answers to what `b` sends it, where they share table `t1`.
 
-use crate::runs::{CONNECTED, begun, connecting};
-use crate::steps::{Asked, Given, Step, runs};
+use crate::runs::{CONFIRMED, CONNECTED, connects};
+use crate::steps::{After, Asked, Given, PLAIN, Step};
 use learner::Fault;
 use peers_msg::{Breach, ErrorKind};
 use session_core::State;
@@ -33,9 +33,13 @@ static TWO_UPDATES: [Step; 3] = [
 
 #[test]
 fn two_updates(rt: HostRuntime) {
-    let mut session = begun(rt.alloc(), CONNECTED.as_slice()).expect(&rt, "session");
-    assert!(rt; runs(rt.alloc(), &mut session, TWO_UPDATES.as_slice()));
-    assert!(rt; session.confirmed() && session.fault().is_none());
+    assert!(rt;
+        connects(
+            rt.alloc(),
+            &[CONNECTED.as_slice(), TWO_UPDATES.as_slice()],
+            &CONFIRMED
+        )
+    );
 }
 
 /// The hello is refused.
@@ -52,10 +56,24 @@ static REFUSED: [Step; 2] = [
     },
 ];
 
+/// It is put off.
+static TRY_AGAIN: [Step; 2] = [
+    Step {
+        given: Given::Opened,
+        asked: &[Asked::Send(b"HAProxyS 2.1\nb\na 1 1\n")],
+        state: State::Hello,
+    },
+    Step {
+        given: Given::Bytes(b"300\n"),
+        asked: &[Asked::Close],
+        state: State::Ended,
+    },
+];
+
 #[test]
 fn refused(rt: HostRuntime) {
-    let mut session = connecting(rt.alloc(), false).expect(&rt, "session");
-    assert!(rt; runs(rt.alloc(), &mut session, REFUSED.as_slice()));
+    assert!(rt; connects(rt.alloc(), &[REFUSED.as_slice()], &PLAIN));
+    assert!(rt; connects(rt.alloc(), &[TRY_AGAIN.as_slice()], &PLAIN));
 }
 
 /// A switch to a table that isn't defined.
@@ -65,9 +83,19 @@ static NO_TABLE: [Step; 1] = [Step {
     state: State::Ended,
 }];
 
+static FAULT: After = After {
+    confirmed: false,
+    fault: Some(Fault::Breach(Breach::NoTable)),
+    refused: None,
+};
+
 #[test]
 fn no_table(rt: HostRuntime) {
-    let mut session = begun(rt.alloc(), CONNECTED.as_slice()).expect(&rt, "session");
-    assert!(rt; runs(rt.alloc(), &mut session, NO_TABLE.as_slice()));
-    assert!(rt; session.fault() == Some(Fault::Breach(Breach::NoTable)));
+    assert!(rt;
+        connects(
+            rt.alloc(),
+            &[CONNECTED.as_slice(), NO_TABLE.as_slice()],
+            &FAULT
+        )
+    );
 }

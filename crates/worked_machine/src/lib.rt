@@ -2,7 +2,11 @@
 #![tactic(auto)]
 
 #[cfg(test)]
+mod answers;
+#[cfg(test)]
 mod connectors;
+#[cfg(test)]
+mod resyncs;
 #[cfg(test)]
 mod runs;
 #[cfg(test)]

@@ -1,6 +1,6 @@
 //! Runs of sessions between the peers `a` and `b` that share table `t1`.
 
-use crate::steps::{Asked, Given, Step, refuses, runs};
+use crate::steps::{After, Asked, Given, PLAIN, Step, makes};
 use example_parts::{T1, alone, named};
 use learner::Fault;
 use peers_hello::Hello;
@@ -33,14 +33,14 @@ pub fn connecting(alloc: Global, up_to_date: bool) -> Option<Session> {
     connecting_with(alloc, alone(alloc, &T1)?, up_to_date)
 }
 
-/// The same, which isn't up to date and makes these steps first.
-pub fn begun(alloc: Global, steps: &[Step]) -> Option<Session> {
-    let mut session = connecting(alloc, false)?;
-    if runs(alloc, &mut session, steps) {
-        Some(session)
-    } else {
-        None
-    }
+/// Whether the session of `a`, which isn't up to date, makes these steps, and that can be read of it then.
+pub fn connects(alloc: Global, steps: &[&[Step]], after: &After) -> bool {
+    makes(alloc, connecting(alloc, false), steps, after)
+}
+
+/// Whether the session of `b` makes these steps, and that can be read of it then.
+fn accepts(alloc: Global, up_to_date: bool, steps: &[Step], after: &After) -> bool {
+    makes(alloc, accepting(alloc, up_to_date), &[steps], after)
 }
 
 static ACCEPTOR_RESYNC: [Step; 5] = [
@@ -71,21 +71,15 @@ static ACCEPTOR_RESYNC: [Step; 5] = [
     },
 ];
 
+static OVER: After = After {
+    confirmed: false,
+    fault: None,
+    refused: Some((Given::Turn, SessionError::Ended)),
+};
+
 #[test]
 fn acceptor_resync(rt: HostRuntime) {
-    let mut session = accepting(rt.alloc(), true).expect(&rt, "session");
-    assert!(rt; session.state() == State::Hello);
-    assert!(rt; runs(rt.alloc(), &mut session, ACCEPTOR_RESYNC.as_slice()));
-    assert!(rt; refuses(rt.alloc(), &mut session, &Given::Turn, SessionError::Ended));
-    assert!(rt;
-        refuses(
-            rt.alloc(),
-            &mut session,
-            &Given::Opened,
-            SessionError::Ended
-        )
-    );
-    assert!(rt; !session.confirmed() && session.fault().is_none());
+    assert!(rt; accepts(rt.alloc(), true, ACCEPTOR_RESYNC.as_slice(), &OVER));
 }
 
 /// The same resync, where `b` isn't up to date.
@@ -109,8 +103,7 @@ static ACCEPTOR_PARTIAL: [Step; 3] = [
 
 #[test]
 fn acceptor_partial(rt: HostRuntime) {
-    let mut session = accepting(rt.alloc(), false).expect(&rt, "session");
-    assert!(rt; runs(rt.alloc(), &mut session, ACCEPTOR_PARTIAL.as_slice()));
+    assert!(rt; accepts(rt.alloc(), false, ACCEPTOR_PARTIAL.as_slice(), &PLAIN));
 }
 
 /// A hello that is refused, whole and in pieces.
@@ -129,8 +122,7 @@ static REFUSED: [Step; 2] = [
 
 #[test]
 fn refused_hello(rt: HostRuntime) {
-    let mut session = accepting(rt.alloc(), true).expect(&rt, "session");
-    assert!(rt; runs(rt.alloc(), &mut session, REFUSED.as_slice()));
+    assert!(rt; accepts(rt.alloc(), true, REFUSED.as_slice(), &PLAIN));
 }
 
 /// From the beginning until messages go to and fro.
@@ -218,11 +210,22 @@ static WAITING: [Step; 11] = [
     },
 ];
 
+/// It confirmed the end of the other's resync.
+pub static CONFIRMED: After = After {
+    confirmed: true,
+    fault: None,
+    refused: None,
+};
+
 #[test]
 fn a_request_waits(rt: HostRuntime) {
-    let mut session = begun(rt.alloc(), CONNECTED.as_slice()).expect(&rt, "session");
-    assert!(rt; runs(rt.alloc(), &mut session, WAITING.as_slice()));
-    assert!(rt; session.confirmed() && session.fault().is_none());
+    assert!(rt;
+        connects(
+            rt.alloc(),
+            &[CONNECTED.as_slice(), WAITING.as_slice()],
+            &CONFIRMED
+        )
+    );
 }
 
 /// A definition and an update are learned and acknowledged; then a message comes that is too large, after another
@@ -247,32 +250,37 @@ static LEARNING: [Step; 2] = [
     },
 ];
 
+static TOO_LARGE: After = After {
+    confirmed: false,
+    fault: Some(Fault::Breach(Breach::SizeLimit)),
+    refused: None,
+};
+
 #[test]
 fn learning(rt: HostRuntime) {
-    let mut session = begun(rt.alloc(), CONNECTED.as_slice()).expect(&rt, "session");
-    assert!(rt; runs(rt.alloc(), &mut session, LEARNING.as_slice()));
-    assert!(rt; session.fault() == Some(Fault::Breach(Breach::SizeLimit)));
-    assert!(rt; !session.confirmed());
+    assert!(rt;
+        connects(
+            rt.alloc(),
+            &[CONNECTED.as_slice(), LEARNING.as_slice()],
+            &TOO_LARGE
+        )
+    );
 }
+
+static UNASKED: After = After {
+    confirmed: false,
+    fault: None,
+    refused: Some((Given::Nothing(1), SessionError::Unasked)),
+};
+
+static TOO_EARLY: After = After {
+    confirmed: false,
+    fault: None,
+    refused: Some((Given::Bytes(b"200\n"), SessionError::Unasked)),
+};
 
 #[test]
 fn unasked(rt: HostRuntime) {
-    let mut session = begun(rt.alloc(), CONNECTED.as_slice()).expect(&rt, "session");
-    assert!(rt;
-        refuses(
-            rt.alloc(),
-            &mut session,
-            &Given::Nothing(1),
-            SessionError::Unasked
-        )
-    );
-    let mut session = connecting(rt.alloc(), true).expect(&rt, "session");
-    assert!(rt;
-        refuses(
-            rt.alloc(),
-            &mut session,
-            &Given::Bytes(b"200\n"),
-            SessionError::Unasked
-        )
-    );
+    assert!(rt; connects(rt.alloc(), &[CONNECTED.as_slice()], &UNASKED));
+    assert!(rt; connects(rt.alloc(), &[], &TOO_EARLY));
 }

@@ -2,6 +2,7 @@
 
 use example_parts::{KeyParts, T1, UpdateParts, alone, updates};
 use known_state::Known;
+use learner::Fault;
 use peers_msg::ErrorKind;
 use session_core::{Action, Event, Session, SessionError, State};
 use std::alloc::Global;
@@ -109,23 +110,55 @@ fn is_step(alloc: Global, session: &mut Session, step: &Step) -> Option<bool> {
     Some(are_asked(actions.as_slice(), step.asked) && session.state() == step.state)
 }
 
-/// Whether the session makes these steps.
-pub fn runs(alloc: Global, session: &mut Session, steps: &[Step]) -> bool {
-    for step in steps {
-        if is_step(alloc, session, step) != Some(true) {
-            return false;
+/// Whether the session makes these steps, one run after another.
+fn runs(alloc: Global, session: &mut Session, steps: &[&[Step]]) -> bool {
+    for run in steps {
+        for step in *run {
+            if is_step(alloc, session, step) != Some(true) {
+                return false;
+            }
         }
     }
     true
 }
 
 /// Whether the session refuses the event for that, and is over then.
-pub fn refuses(alloc: Global, session: &mut Session, given: &Given, error: SessionError) -> bool {
+fn refuses(alloc: Global, session: &mut Session, given: &Given, error: SessionError) -> bool {
     match event(alloc, given) {
         Some(event) => match session.on(event, Moment::least()) {
             Ok(_) => false,
             Err(found) => found == error && session.state() == State::Ended,
         },
+        None => false,
+    }
+}
+
+/// What can be read of a session when its steps are made, and the event that it refuses then.
+pub struct After {
+    pub confirmed: bool,
+    pub fault: Option<Fault>,
+    pub refused: Option<(Given, SessionError)>,
+}
+
+/// It confirmed nothing, has no fault, and isn't given another event.
+pub static PLAIN: After = After {
+    confirmed: false,
+    fault: None,
+    refused: None,
+};
+
+/// Whether the session makes these steps, and that can be read of it then.
+pub fn makes(alloc: Global, session: Option<Session>, steps: &[&[Step]], after: &After) -> bool {
+    match session {
+        Some(mut session) => {
+            runs(alloc, &mut session, steps)
+                && session.confirmed() == after.confirmed
+                && session.fault() == after.fault
+                && match &after.refused {
+                    Some((given, error)) => refuses(alloc, &mut session, given, *error),
+                    None => true,
+                }
+        }
         None => false,
     }
 }

@@ -1,7 +1,7 @@
 //! A session of the peer `a`, who connects to `b`, is up to date, and shares the tables `t1` and `st` with it.
 
 use crate::runs::{CONNECTED, connecting_with};
-use crate::steps::{Asked, Given, Step, runs};
+use crate::steps::{Asked, Given, PLAIN, Step, makes};
 use example_parts::{ST, T1, definition};
 use session_core::State;
 use std::alloc::Global;
@@ -77,11 +77,44 @@ static RESYNC: [Step; 5] = [
     },
 ];
 
+/// In the next resync each table is asked again.
+static RESYNC_AGAIN: [Step; 3] = [
+    Step {
+        given: Given::Bytes(b"\x00\x00"),
+        asked: &[Asked::Reopen(1), Asked::Reopen(3)],
+        state: State::Teaching,
+    },
+    Step {
+        given: Given::Turn,
+        asked: &[Asked::Copy(3, CopyKind::Resync)],
+        state: State::Teaching,
+    },
+    Step {
+        given: Given::Nothing(3),
+        asked: &[],
+        state: State::Teaching,
+    },
+];
+
+/// Whether that session makes these steps.
+fn makes_all(alloc: Global, steps: &[&[Step]]) -> bool {
+    match two_tables(alloc) {
+        Some(roster) => makes(alloc, connecting_with(alloc, roster, true), steps, &PLAIN),
+        None => false,
+    }
+}
+
 #[test]
 fn both_in_turn(rt: HostRuntime) {
-    let roster = two_tables(rt.alloc()).expect(&rt, "roster");
-    let mut session = connecting_with(rt.alloc(), roster, true).expect(&rt, "session");
-    assert!(rt; runs(rt.alloc(), &mut session, CONNECTED.as_slice()));
-    assert!(rt; runs(rt.alloc(), &mut session, IN_TURN.as_slice()));
-    assert!(rt; runs(rt.alloc(), &mut session, RESYNC.as_slice()));
+    assert!(rt;
+        makes_all(
+            rt.alloc(),
+            &[
+                CONNECTED.as_slice(),
+                IN_TURN.as_slice(),
+                RESYNC.as_slice(),
+                RESYNC_AGAIN.as_slice()
+            ]
+        )
+    );
 }
