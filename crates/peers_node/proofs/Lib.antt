@@ -1,1 +1,3 @@
 mod Choices
+mod RoundWords
+mod Numbers

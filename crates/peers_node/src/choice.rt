@@ -11,4 +11,11 @@ pub enum Options {
     Learn,
     /// Read a script and write what a table answers to its calls.
     Table,
+    /// Run a round: so many threads, each of which tracks so many times.
+    Round {
+        /// How many threads, 1 to 8.
+        threads: u32,
+        /// How often each of them tracks, 1 to 1,000.
+        tracks: u32,
+    },
 }

@@ -1,13 +1,15 @@
 //! Reading the command line.
-ghost use Rattle.std.specs.Prelude.{◌≡◌, ◌≢◌, [], Err, IfErr, IfOk, IfSome, None, Ok, Some};
-ghost use Rattle.clap.specs.Words.{app_of, kind_of, subcommand_name_of};
+ghost use Rattle.std.specs.Prelude.{◌≡◌, ◌≢◌, ◌∷◌, ◌≤◌, ◌<◌, ℕ, [], Err, IfErr, IfOk, IfSome, None, Ok, Some, codes, false};
+ghost use Rattle.clap.specs.Words.{app_of, found_of, kind_of, rows_of, rule_of, subcommand_of, subcommand_rows_of};
+ghost use Rattle.clap.specs.declared.builder.command.Command.TheViews.{out-Command as fields_of};
+ghost use Rattle.peers_node.specs.declared.choice.Options.TheVariants as choices;
 ghost use Rattle.peers_node.specs.declared.options_error.OptionsError.TheVariants as errors;
-ghost use Rattle.peers_node.specs.CommandLine.{Chooses, cause_of, faults_of, name_of, program, scenes, subcommand_named, teaching, texts, top};
+ghost use Rattle.peers_node.specs.CommandLine.{Chooses, Gives, HasNumber, HasOptions, IsNumber, Meets, TakesNone, cause_of, faults_of, name_of, number_option, program, rounds, scenes, scripts, teaching, texts, top};
 
 use crate::choice::Options;
 use crate::options_error::OptionsError;
 use clap::error::ErrorKind;
-use clap::{ArgMatches, Command, Error};
+use clap::{Arg, ArgMatches, Command, Error, value_parser};
 use std::alloc::{AllocError, Global};
 
 /// Reads the words of a command line, the program's name first.
@@ -16,7 +18,7 @@ use std::alloc::{AllocError, Global};
 /// `Memory` stands for want of memory, and only where the words are a command line: whether they are is decided without
 /// memory where the parser has none.
 pub fn options<'a>(alloc: Global, words: &'a [&'a str]) -> Result<Options, OptionsError>
-    ensures ok { IfOk result (λ chosen. (subcommand_named (texts words.now) ≡ Some (name_of chosen)) × (faults_of (texts words.now) ≡ [])) }
+    ensures ok { IfOk result (λ chosen. Meets (subcommand_of program (texts words.now)) chosen × (faults_of (texts words.now) ≡ [])) }
     ensures words { result ≡ Err OptionsError.Words → (chosen : Options) → Chooses (texts words.now) chosen → ⊥ }
     ensures memory { result ≡ Err OptionsError.Memory → (chosen : Options) × Chooses (texts words.now) chosen }
 {
@@ -32,21 +34,55 @@ pub fn options<'a>(alloc: Global, words: &'a [&'a str]) -> Result<Options, Optio
     }
 }
 
-/// What words choose, decided without memory: those that are the program's name and then a subcommand's.
+/// What words choose, decided without memory: those that are the program's name, then a subcommand's, and then its options
+/// in the order in which the help names them, each in a word of its own before its value.
 pub fn choice_of(words: &[&str]) -> Option<Options>
     ensures some { IfSome result (λ chosen. Chooses (texts words.now) chosen) }
     ensures none { result ≡ None → (chosen : Options) → Chooses (texts words.now) chosen → ⊥ }
 {
     match words {
         [_, name] => named(*name),
+        [_, name, first, value, second, other] => given(*name, *first, *value, *second, *other),
         _ => None,
     }
 }
 
-/// The choice of this name.
+/// The choice of this name with two options.
+#[tactic(auto, using(crate::proofs::Choices::two_are_a_rounds))]
+fn given(name: &str, first: &str, value: &str, second: &str, other: &str) -> Option<Options>
+    ensures some { IfSome result (λ chosen. (name.now ≡ name_of chosen) × Gives (first.now ∷ value.now ∷ second.now ∷ other.now ∷ []) chosen) }
+    ensures none { result ≡ None → (chosen : Options) → name.now ≡ name_of chosen → Gives (first.now ∷ value.now ∷ second.now ∷ other.now ∷ []) chosen → ⊥ }
+{
+    if name != "round" || first != "--threads" || second != "--tracks" {
+        return None;
+    }
+    match (number(value, MOST_THREADS), number(other, MOST_TRACKS)) {
+        (Some(threads), Some(tracks)) => Some(Options::Round { threads, tracks }),
+        _ => None,
+    }
+}
+
+/// The most threads of a round.
+const MOST_THREADS: u32 = 8;
+
+/// The most that a thread of a round tracks.
+const MOST_TRACKS: u32 = 1_000;
+
+/// The number that a text writes, if that is 1 to `most`.
+fn number(text: &str, most: u32) -> Option<u32>
+    ensures some { IfSome result (λ number. IsNumber most number text.now) }
+    ensures none { result ≡ None → (number : ℕ) → IsNumber most number text.now → ⊥ }
+{
+    match text.parse::<u32>() {
+        Ok(number) if 1 <= number && number <= most => Some(number),
+        _ => None,
+    }
+}
+
+/// The choice of this name that has no options.
 fn named(name: &str) -> Option<Options>
-    ensures some { IfSome result (λ chosen. name.now ≡ name_of chosen) }
-    ensures none { result ≡ None → (chosen : Options) → name.now ≡ name_of chosen → ⊥ }
+    ensures some { IfSome result (λ chosen. (name.now ≡ name_of chosen) × TakesNone chosen) }
+    ensures none { result ≡ None → (chosen : Options) → TakesNone chosen → name.now ≡ name_of chosen → ⊥ }
 {
     match name {
         "lesson" => Some(Options::Lesson),
@@ -99,7 +135,7 @@ impl From<AllocError> for Refusal {
 
 /// What words choose, as the parser of command lines reads them.
 pub fn read_words<'a>(alloc: Global, words: &'a [&'a str]) -> Result<Options, Refusal>
-    ensures ok { IfOk result (λ chosen. (subcommand_named (texts words.now) ≡ Some (name_of chosen)) × (faults_of (texts words.now) ≡ [])) }
+    ensures ok { IfOk result (λ chosen. Meets (subcommand_of program (texts words.now)) chosen × (faults_of (texts words.now) ≡ [])) }
     ensures refused { IfErr result (λ refusal. cause_of refusal ≡ OptionsError.Words → (chosen : Options) → Chooses (texts words.now) chosen → ⊥) }
 {
     match command(alloc)?.try_get_matches_from(words) {
@@ -151,9 +187,9 @@ fn scenes<'a>(alloc: Global) -> Result<Command<'a>, AllocError>
     teaching(alloc)?.subcommand(learn)
 }
 
-/// The program with its subcommands.
-fn command<'a>(alloc: Global) -> Result<Command<'a>, AllocError>
-    ensures { IfOk result (λ command. app_of command ≡ program) }
+/// The program with all subcommands that read a scene or a script.
+fn scripts<'a>(alloc: Global) -> Result<Command<'a>, AllocError>
+    ensures { IfOk result (λ command. app_of command ≡ scripts) }
 {
     let table = Command::new(alloc, "table").about(
         "Reads a script, and writes what a table answers to each of its calls",
@@ -161,13 +197,74 @@ fn command<'a>(alloc: Global) -> Result<Command<'a>, AllocError>
     scenes(alloc)?.subcommand(table)
 }
 
-/// The choice whose subcommand was met.
-fn chosen(matches: &ArgMatches<'_>) -> Option<Options>
-    ensures some { IfSome result (λ chosen. subcommand_name_of matches.now ≡ Some (name_of chosen)) }
-    ensures none { result ≡ None → (chosen : Options) → subcommand_name_of matches.now ≡ Some (name_of chosen) → ⊥ }
+/// An option that has to be there, with a number from 1 to `most`.
+fn number_option<'a>(alloc: Global, name: &'a str, value: &'a str, most: u32) -> Arg<'a>
+    ensures rule { rule_of result ≡ number_option name.entry.now most }
+    ensures own { result.global ≡ false }
 {
-    match matches.subcommand_name() {
-        Some(name) => named(name),
+    Arg::new(alloc, name)
+        .long(name)
+        .value_name(value)
+        .value_parser(value_parser!(u32).range(1..=i64::from(most)))
+        .required(true)
+}
+
+/// The subcommand that runs a round.
+fn rounds<'a>(alloc: Global) -> Result<Command<'a>, AllocError>
+    ensures app { IfOk result (λ command. app_of command ≡ rounds) }
+    ensures local { IfOk result (λ command. (fields_of command).has_globals ≡ false) }
+{
+    let threads = number_option(alloc, "threads", "T", MOST_THREADS).help("How many threads track");
+    let tracks = number_option(alloc, "tracks", "N", MOST_TRACKS).help(
+        "How often each of them does",
+    );
+    Command::new(alloc, "round")
+        .about("Lets threads change a table while a session copies it, and audits what they did")
+        .arg(threads)?
+        .arg(tracks)
+}
+
+/// The program with its subcommands.
+fn command<'a>(alloc: Global) -> Result<Command<'a>, AllocError>
+    ensures { IfOk result (λ command. app_of command ≡ program) }
+{
+    scripts(alloc)?.subcommand(rounds(alloc)?)
+}
+
+/// The choice whose subcommand was met, with its options.
+#[tactic(auto, using(crate::proofs::Choices::has_none))]
+fn chosen(matches: &ArgMatches<'_>) -> Option<Options>
+    ensures some { IfSome result (λ chosen. Meets (subcommand_rows_of matches.now) chosen) }
+    ensures none { result ≡ None → (chosen : Options) → Meets (subcommand_rows_of matches.now) chosen → ⊥ }
+{
+    match matches.subcommand() {
+        Some(("round", options)) => round_of(options),
+        Some((name, _)) => named(name),
         None => None,
+    }
+}
+
+/// The round that the options ask for.
+fn round_of(options: &ArgMatches<'_>) -> Option<Options>
+    ensures some { IfSome result (λ chosen. (name_of chosen ≡ codes "round") × HasOptions (rows_of (found_of options.now)) chosen) }
+    ensures none { result ≡ None → (threads tracks : ℕ) → HasOptions (rows_of (found_of options.now)) (choices.Round threads tracks) → ⊥ }
+{
+    match (
+        number_met(options, "threads", MOST_THREADS),
+        number_met(options, "tracks", MOST_TRACKS),
+    ) {
+        (Some(threads), Some(tracks)) => Some(Options::Round { threads, tracks }),
+        _ => None,
+    }
+}
+
+/// The number of an option that was met, if it is 1 to `most`.
+fn number_met(matches: &ArgMatches<'_>, option: &str, most: u32) -> Option<u32>
+    ensures some { IfSome result (λ number. HasNumber (rows_of (found_of matches.now)) option.now most number) }
+    ensures none { result ≡ None → (number : ℕ) → HasNumber (rows_of (found_of matches.now)) option.now most number → ⊥ }
+{
+    match matches.get_one::<u32>(option) {
+        Some(number) if 1 <= number && number <= most => Some(number),
+        _ => None,
     }
 }

@@ -10,10 +10,11 @@ mod run;
 pub use choice::Options;
 pub use command_line::options;
 pub use options_error::OptionsError;
+pub use round_command::{RoundSize, round};
 pub use scene_commands::{Ending, learn, lesson};
 pub use script_commands::table;
 use std::process::ExitCode;
 
 fn main(rt: HostRuntime) -> ExitCode {
-    ExitCode::from(run::status(rt))
+    ExitCode::from(run::status(&rt, &rt))
 }

@@ -4,11 +4,14 @@ use crate::choice::Options;
 use crate::command_line::{Refusal, choice_of, read_words};
 use crate::options_error::OptionsError;
 use peers_devices::{Counting, Faults, write_all};
+use round_command::{RoundSize, round};
 use scene_commands::{Ending, check, learn, lesson};
 use script_commands::table;
 use std::alloc::{AllocError, Global};
 use std::env;
 use std::io::{ErrorKind, Write};
+use std::sync::Wait;
+use std::thread::Threads;
 
 /// The exit status of a command line that is refused, or asks for help.
 const WORDS: u8 = 2;
@@ -16,13 +19,13 @@ const WORDS: u8 = 2;
 /// What is said of words that are no command line where there is no memory for more.
 const NO_COMMAND_LINE: &str = "error: not a command line of this program\n";
 
-/// Runs the subcommand that the command line chooses, and answers the exit status.
-pub fn status(rt: HostRuntime) -> u8 {
+/// Runs the subcommand that the command line chooses, and answers the exit status. `runner` runs its threads.
+pub fn status<R: Threads + Wait + Sync>(rt: &HostRuntime, runner: &R) -> u8 {
     let alloc = rt.alloc();
     let mut errors = Counting::new(rt.stderr());
-    match arguments(&rt) {
+    match arguments(rt) {
         Ok(arguments) => match texts(alloc, arguments.as_slice()) {
-            Ok(words) => dispatched(&rt, words.as_slice(), &mut errors),
+            Ok(words) => dispatched(rt, runner, words.as_slice(), &mut errors),
             Err(_) => Ending::Memory.said(alloc, &mut errors).status(),
         },
         Err(OptionsError::Words) => said("error: an argument isn't text\n", &mut errors),
@@ -50,7 +53,13 @@ fn texts<'a>(alloc: Global, arguments: &'a [String]) -> Result<Vec<&'a str>, All
 }
 
 /// Runs what these words choose.
-fn dispatched<'a, E: Write + Faults>(rt: &HostRuntime, words: &'a [&'a str], errors: &mut E) -> u8 {
+#[tactic(auto, using(crate::proofs::Choices::few_threads))]
+fn dispatched<'a, R: Threads + Wait + Sync, E: Write + Faults>(
+    rt: &HostRuntime,
+    runner: &R,
+    words: &'a [&'a str],
+    errors: &mut E,
+) -> u8 {
     let alloc = rt.alloc();
     let mut input = Counting::new(rt.stdin());
     let mut output = Counting::new(rt.stdout());
@@ -59,6 +68,10 @@ fn dispatched<'a, E: Write + Faults>(rt: &HostRuntime, words: &'a [&'a str], err
         Ok(Options::Check) => check(alloc, &mut input, &mut output, errors).status(),
         Ok(Options::Learn) => learn(alloc, &mut input, &mut output, errors).status(),
         Ok(Options::Table) => table(alloc, &mut input, &mut output, errors).status(),
+        Ok(Options::Round { threads, tracks }) => {
+            let size = RoundSize { threads, tracks };
+            round(runner, alloc, size, &mut output, errors).status()
+        }
         Err(refusal) => refused(alloc, words, &refusal, errors),
     }
 }

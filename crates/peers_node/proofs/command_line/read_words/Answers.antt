@@ -1,7 +1,7 @@
-use Rattle.std.proofs.Common.{sym, ◌≡◌, ◌∙◌, ap, refl, true}
+use Rattle.std.proofs.Common.{sym, ◌≡◌, ◌∙◌, ap, refl, subst, true}
 use Rattle.clap.specs.Words.{fault_of, is_simple, is_simple_and_free, kind_of, subcommand_of, takes}
-use Rattle.peers_node.specs.CommandLine.{texts}
-use Rattle.peers_node.proofs.Choices.{choice_taken, memory_refuses_no_word, name_met, name_read, program_is_free, program_is_simple}
+use Rattle.peers_node.specs.CommandLine.{Meets, texts}
+use Rattle.peers_node.proofs.Choices.{choice_met, choice_taken, memory_refuses_no_word, program_is_free, program_is_simple}
 use Rattle.peers_node.proofs.command_line.read_words.Goals as goal
 
 pub returns-in-Ok-clause-refused : goal.returns-in-Ok-clause-refused
@@ -9,7 +9,7 @@ returns-in-Ok-clause-refused c = λ _ chosen chooses.
     let words = texts c.args.words.now in
     let simple = ap is_simple c.in_ok-command.ensures ∙ program_is_simple in
     let rows = (c.in-Ok.ensures.matches simple).1 ∙ ap (λ app. subcommand_of app words) c.in_ok-command.ensures in
-    c.chosen.ensures.none c.in-None.is chosen (name_met c.in-Ok.matches words chosen rows chooses)
+    c.chosen.ensures.none c.in-None.is chosen (subst (λ met. Meets met chosen) (sym rows) (choice_met words chosen chooses))
 
 pub returns-clause-refused : goal.returns-clause-refused
 returns-clause-refused c = λ refused chosen chooses.
@@ -23,6 +23,6 @@ returns-in-Some-clause-ok c =
     let simple = ap is_simple c.in_ok-command.ensures ∙ program_is_simple in
     let free = ap is_simple_and_free c.in_ok-command.ensures ∙ program_is_free in
     let rows = (c.in-Ok.ensures.matches simple).1 ∙ ap (λ app. subcommand_of app words) c.in_ok-command.ensures in (
-      name_read c.in-Ok.matches words c.in-Some.chosen rows c.in-Some.ensures.some,
+      subst (λ met. Meets met c.in-Some.chosen) rows c.in-Some.ensures.some,
       ap (λ app. fault_of app words) (sym c.in_ok-command.ensures) ∙ c.in-Ok.ensures.kinds free,
     )
