@@ -1,0 +1,38 @@
+-- By which endings rows are printed.
+use Rattle.std.proofs.Common.{◌≡◌, ◌≢◌, ◌⊎◌, inl, inr, subst}
+use Rattle.std.specs.Prelude.{Err, IfOk, Ok, Result}
+use Rattle.scene_commands.specs.Endings.{IsEarly}
+use Rattle.scene_commands.specs.declared.ending.Ending.{Ending}
+use Rattle.scene_commands.specs.declared.ending.Ending.TheVariants as endings
+use Rattle.link_commands.specs.Nodes.{HasRows}
+
+-- not where a device failed
+pub rows_no_device : (e : Ending) → HasRows e → e ≢ endings.Device
+rows_no_device e rows is = subst HasRows is rows
+
+-- and not where the end came early
+early_no_rows : (e : Ending) → IsEarly e → HasRows e → ⊥
+early_no_rows endings.Done early rows = early
+early_no_rows (endings.Stream fault) early rows = early
+early_no_rows endings.NotShortest early rows = early
+early_no_rows endings.Strange early rows = early
+early_no_rows endings.Unasked early rows = early
+early_no_rows (endings.Line n) early rows = rows
+early_no_rows endings.Scene early rows = rows
+early_no_rows endings.Memory early rows = rows
+early_no_rows endings.Device early rows = rows
+
+-- nor in what is said of it
+pub said_no_rows : (e after : Ending) → IsEarly e → (after ≡ e) ⊎ ((after ≡ endings.Memory) ⊎ (after ≡ endings.Device)) → HasRows after → ⊥
+said_no_rows e after early (inl same) rows = early_no_rows e early (subst HasRows same rows)
+said_no_rows e after early (inr (inl memory)) rows = subst HasRows memory rows
+said_no_rows e after early (inr (inr device)) rows = subst HasRows device rows
+
+-- what is so of an answer, of what was answered
+pub of_ok : {A E : Type 0} (P : A → Type 0) (r : Result A E) (x : A) → r ≡ Ok x → IfOk r P → P x
+of_ok P r x is holds = subst (λ m. IfOk m P) is holds
+
+-- what follows from what is so of an answer
+pub told_of : {A E : Type 0} (P Q : A → Type 0) (r : Result A E) → ((x : A) → P x → Q x) → IfOk r P → IfOk r Q
+told_of P Q (Ok x) then holds = then x holds
+told_of P Q (Err e) then holds = tt

@@ -1,0 +1,6 @@
+mod Lists
+mod LoadingLaws
+mod TurningLaws
+mod PrintingLaws
+mod NodeLaws
+mod EndingLaws

@@ -1,0 +1,7 @@
+use Rattle.link_commands.proofs.NodeLaws.{report_printed}
+use Rattle.link_commands.proofs.node.Node.meet.Goals as goal
+
+pub returns-clause-printed : goal.returns-clause-printed
+returns-clause-printed g c =
+    report_printed c.args.self.leaves c.args.self.session c.play-played.new.session c.args.turns c.play-played.result.turns c.play-played.result.ending
+    c.report_of.result c.play-played.ensures.plays c.play-played.ensures.within c.report_of.ensures.text c.report_of.ensures.ending

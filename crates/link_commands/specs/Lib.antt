@@ -1,0 +1,4 @@
+pub mod Loading
+pub mod Nodes
+pub mod Printing
+pub mod Turning
