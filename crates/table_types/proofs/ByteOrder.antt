@@ -97,9 +97,10 @@ module _ (us vs : List ℕ) (g : AreBytes us) (h : AreBytes vs) (at : ℕ) where
       let other : 8 ≤ length (drop at vs) = omega (arith, length-drop at vs) in
       let x = eight (drop at us) one in
       let y = eight (drop at vs) other in
-      let t = told 8 0 (drop at us) (drop at vs) one other (rest us g) (rest vs h) in
-      ( (λ f. (λ i. nat_cmp (x i) (y i)) ∙ sym (so_far ∙ t.apart (λ e. f (x ∙ e ∙ sym y))))
-      , (λ e. so_far ∙ t.alike (sym x ∙ e ∙ y) ∙ (λ i. compared (further us i) (further vs i))) )
+      let t = told 8 0 (drop at us) (drop at vs) one other (rest us g) (rest vs h) in (
+        (λ f. (λ i. nat_cmp (x i) (y i)) ∙ sym (so_far ∙ t.apart (λ e. f (x ∙ e ∙ sym y)))),
+        (λ e. so_far ∙ t.alike (sym x ∙ e ∙ y) ∙ (λ i. compared (further us i) (further vs i))),
+      )
     where
       further : (xs : List ℕ) → drop 8 (drop at xs) ≡ drop (at + 8) xs
       further xs = drop-drop 8 at xs

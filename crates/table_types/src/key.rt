@@ -200,8 +200,10 @@ fn compare(left: &Key, right: &Key) -> Ordering
         (Key::Int(left), Key::Int(right)) => left.cmp(right),
         (Key::Ip4(left), Key::Ip4(right)) => left.cmp(right),
         (Key::Ip6(left), Key::Ip6(right)) => left.cmp(right),
-        (Key::Str(left), Key::Str(right)) | (Key::Bin(left), Key::Bin(right)) =>
-            compare_bytes(left.as_slice(), right.as_slice()),
+        (Key::Str(left), Key::Str(right)) | (Key::Bin(left), Key::Bin(right)) => compare_bytes(
+            left.as_slice(),
+            right.as_slice(),
+        ),
         _ => rank(left).cmp(&rank(right)),
     }
 }
