@@ -33,8 +33,8 @@ impl<R: Rows> Stock<R> {
 }
 
 impl Table {
-    #[tactic(auto, using(crate::proofs::LearnedLaws::run_joined))]
     /// A run of learned rows that begins at that number or below it, found from the one that is known.
+    #[tactic(auto, using(crate::proofs::LearnedLaws::run_joined))]
     fn learned_from(&self, number: u32) -> LearnedRun
         ensures { IsLearnedRun result.after result.last self.now.next self.now.rows }
     {
