@@ -6,6 +6,14 @@ mod copies;
 #[cfg(test)]
 mod full;
 #[cfg(test)]
+mod growth;
+#[cfg(test)]
 mod learning;
 #[cfg(test)]
+mod own_rows;
+#[cfg(test)]
 mod parts;
+#[cfg(test)]
+mod refused;
+#[cfg(test)]
+mod sessions;

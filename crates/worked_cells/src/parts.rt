@@ -2,10 +2,10 @@
 
 ghost use Rattle.std.specs.Prelude.{◌≤◌};
 
-use example_parts::{T1, definition};
+use example_parts::{KeyParts, T1, UpdateParts, definition, update};
 use std::alloc::Global;
-use table_cell::{Reply, TableCell, TrackError};
-use table_types::{Batch, Cell, Change, DataType, Key, Moment, Row, Value};
+use table_cell::{CopyError, Reply, TableCell, TrackError};
+use table_types::{Batch, Cell, Change, CopyKind, DataType, Key, Moment, Row, Update, Value};
 
 /// The moment so many milliseconds after the least one.
 pub fn at(later: u32) -> Option<Moment> {
@@ -73,4 +73,37 @@ pub fn has(cell: &TableCell, rows: &[(u32, u64)]) -> Option<bool> {
         }
     }
     Some(true)
+}
+
+/// An update of `t1` that a peer numbered 9: key 7 has 5, and lives for so many milliseconds.
+pub fn told(alloc: Global, life: u32) -> Option<Update> {
+    let mut told = update(
+        alloc,
+        &UpdateParts {
+            table: 1,
+            number: 9,
+            life: None,
+            key: KeyParts::Int(7),
+            values: &[Value::Count(5)],
+            name: b"",
+        },
+    )?;
+    told.life = Some(life);
+    Some(told)
+}
+
+/// Learns that update in session 1 at the least moment, and gives the number and the count that are answered.
+pub fn taught(alloc: Global, cell: &mut TableCell, life: u32) -> Option<(u32, u64)> {
+    let reply = cell.learn(1, told(alloc, life)?, Moment::least()).ok()?;
+    Some((reply.number, count(&reply.row)?))
+}
+
+/// The number, the life and the count of the only row that a copy for session 1 tells of.
+pub fn copied(cell: &mut TableCell, kind: CopyKind, later: u32) -> Option<(u32, u32, u64)> {
+    only(&cell.copy(1, kind, 512, at(later)?).ok()?)
+}
+
+/// Why nothing is copied for session 1.
+pub fn not_copied(cell: &mut TableCell, kind: CopyKind, later: u32) -> Option<CopyError> {
+    cell.copy(1, kind, 512, at(later)?).err()
 }
