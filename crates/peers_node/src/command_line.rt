@@ -148,7 +148,7 @@ pub fn read_words<'a>(alloc: Global, words: &'a [&'a str]) -> Result<Options, Re
 }
 
 /// The version of the program.
-const VERSION: &str = "0.1.0";
+pub(crate) const VERSION: &str = "0.1.0";
 
 /// The program without its subcommands.
 fn top<'a>(alloc: Global) -> Command<'a>
@@ -158,7 +158,7 @@ fn top<'a>(alloc: Global) -> Command<'a>
         .version(VERSION)
         .about("Shares HAProxy stick tables over the peers protocol")
         .after_help(
-            "A scene, or for table a script, is read on standard input; docs/FORMATS.md says how they are written.",
+            "serve and join meet another node: see serve --help. A scene, or for table a script, is read on standard input; docs/FORMATS.md says how they are written.",
         )
         .subcommand_required(true)
         .arg_required_else_help(true)
@@ -198,7 +198,7 @@ fn scripts<'a>(alloc: Global) -> Result<Command<'a>, AllocError>
 }
 
 /// An option that has to be there, with a number from 1 to `most`.
-fn number_option<'a>(alloc: Global, name: &'a str, value: &'a str, most: u32) -> Arg<'a>
+pub(crate) fn number_option<'a>(alloc: Global, name: &'a str, value: &'a str, most: u32) -> Arg<'a>
     ensures rule { rule_of result ≡ number_option name.entry.now most }
     ensures own { result.global ≡ false }
 {
@@ -259,7 +259,7 @@ fn round_of(options: &ArgMatches<'_>) -> Option<Options>
 }
 
 /// The number of an option that was met, if it is 1 to `most`.
-fn number_met(matches: &ArgMatches<'_>, option: &str, most: u32) -> Option<u32>
+pub(crate) fn number_met(matches: &ArgMatches<'_>, option: &str, most: u32) -> Option<u32>
     ensures some { IfSome result (λ number. HasNumber (rows_of (found_of matches.now)) option.now most number) }
     ensures none { result ≡ None → (number : ℕ) → HasNumber (rows_of (found_of matches.now)) option.now most number → ⊥ }
 {

@@ -4,11 +4,13 @@
 
 mod choice;
 mod command_line;
+mod links;
 mod options_error;
 mod run;
 
 pub use choice::Options;
 pub use command_line::options;
+pub use link_commands::{Link, join, serve};
 pub use options_error::OptionsError;
 pub use round_command::{RoundSize, round};
 pub use scene_commands::{Ending, learn, lesson};

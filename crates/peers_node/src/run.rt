@@ -2,7 +2,9 @@
 
 use crate::choice::Options;
 use crate::command_line::{Refusal, choice_of, read_words};
+use crate::links::{Side, read_link, side_of};
 use crate::options_error::OptionsError;
+use link_commands::{join, serve};
 use peers_devices::{Counting, Faults, write_all};
 use round_command::{RoundSize, round};
 use scene_commands::{Ending, check, learn, lesson};
@@ -10,6 +12,7 @@ use script_commands::table;
 use std::alloc::{AllocError, Global};
 use std::env;
 use std::io::{ErrorKind, Write};
+use std::net::{Net, TcpListener, TcpStream};
 use std::sync::Wait;
 use std::thread::Threads;
 
@@ -19,13 +22,20 @@ const WORDS: u8 = 2;
 /// What is said of words that are no command line where there is no memory for more.
 const NO_COMMAND_LINE: &str = "error: not a command line of this program\n";
 
-/// Runs the subcommand that the command line chooses, and answers the exit status. `runner` runs its threads.
-pub fn status<R: Threads + Wait + Sync>(rt: &HostRuntime, runner: &R) -> u8 {
+/// Runs the subcommand that the command line chooses, and answers the exit status. `runner` runs its threads and opens
+/// its sockets.
+pub fn status<R: Threads + Wait + Sync + Net<Listener = TcpListener, Stream = TcpStream>>(
+    rt: &HostRuntime,
+    runner: &R,
+) -> u8 {
     let alloc = rt.alloc();
     let mut errors = Counting::new(rt.stderr());
     match arguments(rt) {
         Ok(arguments) => match texts(alloc, arguments.as_slice()) {
-            Ok(words) => dispatched(rt, runner, words.as_slice(), &mut errors),
+            Ok(words) => match side_of(words.as_slice()) {
+                Some(side) => met(rt, runner, side, words.as_slice(), &mut errors),
+                None => dispatched(rt, runner, words.as_slice(), &mut errors),
+            },
             Err(_) => Ending::Memory.said(alloc, &mut errors).status(),
         },
         Err(OptionsError::Words) => said("error: an argument isn't text\n", &mut errors),
@@ -54,12 +64,11 @@ fn texts<'a>(alloc: Global, arguments: &'a [String]) -> Result<Vec<&'a str>, All
 
 /// Runs what these words choose.
 #[tactic(auto, using(crate::proofs::Choices::few_threads))]
-fn dispatched<'a, R: Threads + Wait + Sync, E: Write + Faults>(
-    rt: &HostRuntime,
-    runner: &R,
-    words: &'a [&'a str],
-    errors: &mut E,
-) -> u8 {
+fn dispatched<
+    'a,
+    R: Threads + Wait + Sync + Net<Listener = TcpListener, Stream = TcpStream>,
+    E: Write + Faults,
+>(rt: &HostRuntime, runner: &R, words: &'a [&'a str], errors: &mut E) -> u8 {
     let alloc = rt.alloc();
     let mut input = Counting::new(rt.stdin());
     let mut output = Counting::new(rt.stdout());
@@ -73,6 +82,53 @@ fn dispatched<'a, R: Threads + Wait + Sync, E: Write + Faults>(
             round(runner, alloc, size, &mut output, errors).status()
         }
         Err(refusal) => refused(alloc, words, &refusal, errors),
+    }
+}
+
+/// Meets another node, as these words say.
+fn met<'a, R: Wait + Net<Listener = TcpListener, Stream = TcpStream>, E: Write + Faults>(
+    rt: &HostRuntime,
+    runner: &R,
+    side: Side,
+    words: &'a [&'a str],
+    errors: &mut E,
+) -> u8 {
+    let alloc = rt.alloc();
+    let mut input = Counting::new(rt.stdin());
+    let mut output = Counting::new(rt.stdout());
+    match (side, read_link(alloc, words)) {
+        (Side::Serve, Ok(link)) => serve(
+            runner,
+            alloc,
+            link,
+            &mut input,
+            &mut output,
+            errors,
+        ).status(),
+        (Side::Join, Ok(link)) => join(
+            runner,
+            alloc,
+            link,
+            &mut input,
+            &mut output,
+            errors,
+        ).status(),
+        (_, Err(refusal)) => no_link(alloc, &refusal, errors),
+    }
+}
+
+/// Says why there is no link.
+fn no_link<E: Write + Faults>(alloc: Global, refusal: &Refusal, errors: &mut E) -> u8 {
+    match (refusal.cause(), refusal) {
+        (OptionsError::Memory, _) => Ending::Memory.said(alloc, errors).status(),
+        (OptionsError::Words, Refusal::NoCommand) => said(
+            "error: a name is 1 to 255 bytes without NUL\n",
+            errors,
+        ),
+        (OptionsError::Words, Refusal::Parser(_)) => match refusal.text(alloc) {
+            Ok(text) => said(text.as_str(), errors),
+            Err(_) => said(NO_COMMAND_LINE, errors),
+        },
     }
 }
 
