@@ -1,3 +1,4 @@
 pub mod IndexLaws
 pub mod NumberLaws
 pub mod KeptLaws
+pub mod NumberedLaws

@@ -27,6 +27,12 @@ pub record AreIndexed (by_number : List (ℕ × Key)) (by_key : List (Key × ℕ
   pub below : AllByRecursion (λ pair. pair.0 < next) by_number
   pub most : next ≤ 2 ^ 32
 
+-- the numbers rise, and lie below the next
+pub record AreNumbered (pairs : List (ℕ × Key)) (next : ℕ) : Type 0 where
+  pub rising : IsStrictlySortedBy nat_cmp (keys_of pairs)
+  pub below : AllByRecursion (λ pair. pair.0 < next) pairs
+  pub most : next ≤ 2 ^ 32
+
 -- without the pair of that number, if there is one
 abbrev pub pairs_without : Option ℕ → List (ℕ × Key) → List (ℕ × Key)
 pairs_without None pairs = pairs

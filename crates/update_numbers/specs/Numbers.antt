@@ -21,6 +21,10 @@ without key pairs = filter (λ pair. not (is_of key pair)) pairs
 abbrev pub given : Key → Numbering → Numbering
 given key ns = record { pairs = without key ns.pairs ++ (ns.next, key) ∷ []; next = ns.next + 1 }
 
+-- the key takes the next number, and keeps what it has
+abbrev pub pushed : Key → Numbering → Numbering
+pushed key ns = record { pairs = ns.pairs ++ (ns.next, key) ∷ []; next = ns.next + 1 }
+
 -- the key gives up its number
 abbrev pub dropped : Key → Numbering → Numbering
 dropped key ns = record { pairs = without key ns.pairs; next = ns.next }

@@ -1,6 +1,8 @@
 //! The numbers of a table's updates, by key and by number.
 #![tactic(auto)]
 
+mod numbered_keys;
 mod numbers;
 
+pub use numbered_keys::NumberedKeys;
 pub use numbers::{NumberError, Numbers, Reserved};
