@@ -1,21 +1,26 @@
 -- What the calls of a stock leave of the rows by key and of their numbers.
-use Rattle.std.proofs.Common.{◌≡◌, ℕ, ◌+◌, ◌<◌, ◌≤◌, ◌^◌, Bool, true, false, not, List, [], ◌∷◌, ◌++◌, length, Option, Some, None, Result, Ok, Err, IfSome, IfNone, OnOk, OnErr, refl, sym, ap, ◌∙◌, subst, arith}
+use Rattle.std.proofs.Common.{◌≡◌, ℕ, ◌+◌, ◌<◌, ◌≤◌, ◌^◌, Bool, true, false, not, List, [], ◌∷◌, ◌++◌, length, Option, Some, None, Result, Ok, Err, IfSome, IfNone, OnOk, OnErr, refl, sym, ap, ◌∙◌, subst, append-nil, arith}
 use Rattle.std.specs.Prelude.{cond, filter, is_some, map, nat_lt}
 use Rattle.std.specs.List.{AllByRecursion}
 use Rattle.std.specs.List.Sorted.{IsStrictlySortedBy}
 use Rattle.std.specs.BTreeMap.{insert_entry}
-use Rattle.std.specs.Ordering.{is_eq}
+use Rattle.std.specs.Cmp.{nat_cmp_is}
+use Rattle.std.specs.declared.cmp.Ordering.TheVariants.{Greater}
+use Rattle.std.specs.Ordering.{is_eq, nat_cmp}
 use Rattle.table_types.specs.declared.key.Key.{Key}
 use Rattle.table_types.specs.Keys.{key_cmp}
 use Rattle.table_types.specs.Rows.{StoredRow}
 use Rattle.table_types.proofs.KeyLaws.{one_key}
 use Rattle.table_rows.specs.Rows.{AreLive, IsFirstToEnd, is_live, row_at, rows_without}
-use Rattle.update_numbers.specs.Numbers.{Numbering, above, dropped, given}
+use Rattle.update_numbers.specs.Index.{pairs_without}
+use Rattle.update_numbers.specs.Numbers.{Numbering, above, dropped, given, pushed, without as numbers_without}
+use Rattle.update_numbers.proofs.IndexLaws.{number-same}
+use Rattle.update_numbers.proofs.NumberLaws.{numbering}
 use Rattle.table_cell.specs.Machine.{without}
-use Rattle.table_cell.specs.Soundness.{KeysDiffer}
-use Rattle.table_cell.specs.Stock.{AreKept, AreTied, HaveRows, IsStock, Stocked, leave, left_for, numbered, rows_of, stocked}
-use Rattle.table_cell.proofs.RowsLaws.{all_filter, none_parts, some_none}
-use Rattle.table_cell.proofs.StockLaws.{all_found, are_kept, as_many, live_rows, numbered-above, put_sound, put_tied, rows_again, same_row, seen_stock, taken_sound, taken_tied}
+use Rattle.table_cell.specs.Soundness.{KeysDiffer, NumbersRise}
+use Rattle.table_cell.specs.Stock.{AreKept, AreTied, HaveRows, IsStock, Stocked, leave, left_for, number_of, numbered, rows_of, stocked}
+use Rattle.table_cell.proofs.RowsLaws.{all_filter, none_parts, rise_each, some_none}
+use Rattle.table_cell.proofs.StockLaws.{all_found, are_kept, as_many, found_in, live_rows, numbered-above, numbered-without, put_sound, put_tied, rows_again, same_row, seen_stock, taken_sound, taken_tied}
 
 -- ---- answers
 
@@ -52,6 +57,25 @@ without_absent key [] none = refl
 without_absent key (e ∷ es) none =
     let parts = none_parts key e es none in
     rw parts.0 (ap (λ (fs : List (Key × StoredRow)). e ∷ fs) (without_absent key es parts.1))
+
+-- the pair of the number that a key's row has is the key's, also in front of others
+removed_rows : (least next : ℕ) (es : List (Key × StoredRow)) → NumbersRise least next es → KeysDiffer es → (key : Key) (row : StoredRow) (others : List (ℕ × Key)) → row_at key es ≡ Some row → pairs_without (Some row.number) (map numbered es ++ others) ≡ map numbered (without key es) ++ others
+removed_rows least next [] rise differ key row others at = absurd cc
+removed_rows least next (e ∷ es) (first, rest) (none, differ) key row others at = by (is_eq (key_cmp key e.0)) refl (λ there. removed_rows (e.1.number + 1) next es rest differ key row others there)
+  where
+    by : (b : Bool) → is_eq (key_cmp key e.0) ≡ b → (row_at key es ≡ Some row → pairs_without (Some row.number) (map numbered es ++ others) ≡ map numbered (without key es) ++ others)
+        → pairs_without (Some row.number) (map numbered (e ∷ es) ++ others) ≡ map numbered (without key (e ∷ es)) ++ others
+    by true same further =
+        let stored : e.1 ≡ row = same_row e.1 row (sym (rw same refl) ∙ at) in
+        let gone : row_at key es ≡ None = ap (λ (k : Key). row_at k es) (one_key key e.0 same) ∙ none in
+        let here : is_eq (nat_cmp row.number e.1.number) ≡ true = ap (λ (r : StoredRow). is_eq (nat_cmp r.number e.1.number)) (sym stored) ∙ number-same e.1.number in
+        rw (here, same) (ap (λ (fs : List (Key × StoredRow)). map numbered fs ++ others) (sym (without_absent key es gone)))
+    by false apart further =
+        let there : row_at key es ≡ Some row = sym (rw apart refl) ∙ at in
+        let (over, below) = found_in es (λ (f : Key × StoredRow). (e.1.number + 1 ≤ f.1.number) × (f.1.number < next)) (rise_each (e.1.number + 1) next es rest) key row there in
+        let above : e.1.number < row.number = omega (arith, over) in
+        let other : is_eq (nat_cmp row.number e.1.number) ≡ false = ap is_eq (sym (nat_cmp_is row.number e.1.number Greater above)) in
+        rw (other, apart) (ap (λ (ps : List (ℕ × Key)). numbered e ∷ ps) (further there))
 
 one_less : (key : Key) (row : StoredRow) (es : List (Key × StoredRow)) → KeysDiffer es → row_at key es ≡ Some row → length (without key es) + 1 ≡ length es
 one_less key row [] differ at = absurd cc
@@ -196,6 +220,35 @@ module _ (content : List (Key × StoredRow)) (numbers : Numbering) (kept : AreKe
   -- nothing has changed
   pub stays_kept : (content_after : List (Key × StoredRow)) (numbers_after : Numbering) → content_after ≡ content → numbers_after ≡ numbers → AreKept content_after numbers_after.pairs numbers_after.next
   stays_kept content_after numbers_after same_content same_numbers = rw (same_content, same_numbers) kept
+
+  -- the numbers without that of a key's row
+  pair_gone : (key : Key) (row : StoredRow) (others : List (ℕ × Key)) → row_at key content ≡ Some row → pairs_without (Some row.number) (numbers.pairs ++ others) ≡ numbers_without key numbers.pairs ++ others
+  pair_gone key row others at =
+      ap (λ (ps : List (ℕ × Key)). pairs_without (Some row.number) (ps ++ others)) kept.tied.numbers
+      ∙ removed_rows 1 numbers.next rows kept.sound.numbers kept.sound.keys key row others (sym (kept.tied.same key) ∙ at)
+      ∙ ap (λ (ps : List (ℕ × Key)). ps ++ others) (sym (numbered-without key rows) ∙ ap (numbers_without key) (sym kept.tied.numbers))
+
+  no_pair : (key : Key) → row_at key content ≡ None → numbers_without key numbers.pairs ≡ numbers.pairs
+  no_pair key none =
+      ap (numbers_without key) kept.tied.numbers
+      ∙ numbered-without key rows
+      ∙ ap (λ (es : List (Key × StoredRow)). map numbered es) (without_absent key rows (sym (kept.tied.same key) ∙ none))
+      ∙ sym kept.tied.numbers
+
+  pub pair_dropped : (key : Key) (row : Option StoredRow) → row ≡ row_at key content → (after : Numbering) → after ≡ numbering numbers.next (pairs_without (number_of row) numbers.pairs) → after ≡ dropped key numbers
+  pair_dropped key (Some row) at after is =
+      is ∙ ap (numbering numbers.next) (ap (pairs_without (Some row.number)) (sym (append-nil numbers.pairs)) ∙ pair_gone key row [] (sym at) ∙ append-nil (numbers_without key numbers.pairs))
+  pair_dropped key None none after is = is ∙ ap (numbering numbers.next) (sym (no_pair key (sym none)))
+
+  -- the next number was pushed for a key, whose older one, if it has one, goes
+  module _ (key : Key) (mid : Numbering) (is : mid ≡ pushed key numbers) where
+    pub given_so : (older : Option StoredRow) → older ≡ row_at key content → (after : Numbering) → after ≡ numbering mid.next (pairs_without (number_of older) mid.pairs) → after ≡ given key numbers
+    given_so (Some row) at after gone =
+        gone
+        ∙ ap (λ (ns : Numbering). numbering ns.next (pairs_without (Some row.number) ns.pairs)) is
+        ∙ ap (numbering (numbers.next + 1)) (pair_gone key row ((numbers.next, key) ∷ []) (sym at))
+    given_so None none after stays =
+        stays ∙ is ∙ ap (λ (ps : List (ℕ × Key)). numbering (numbers.next + 1) (ps ++ (numbers.next, key) ∷ [])) (sym (no_pair key (sym none)))
 
   pub all_live : (now : ℕ) → AreLive now content → filter (λ e. is_live now e.1) rows ≡ rows
   all_live now live = filter_live now rows (live_rows content numbers.pairs rows kept.tied kept.sound.keys now live)

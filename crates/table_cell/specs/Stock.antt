@@ -36,6 +36,11 @@ left_for key leaving rows = cond (is_some (row_at key rows)) rows (leave leaving
 abbrev pub numbered : Key × StoredRow → ℕ × Key
 numbered e = (e.1.number, e.0)
 
+-- the number of a row, if there is one
+abbrev pub number_of : Option StoredRow → Option ℕ
+number_of None = None
+number_of (Some row) = Some row.number
+
 -- a key with its row, if it has one, before others
 abbrev pub with_row : Key → Option StoredRow → List (Key × StoredRow) → List (Key × StoredRow)
 with_row key None rest = rest

@@ -2,30 +2,29 @@
 
 ghost use Rattle.std.specs.Prelude.{◌≡◌, ◌≤◌, ◌<◌, ◌+◌, ◌^◌, [], ◌∷◌, ◌++◌, nat_lt, not, filter, length, IfNone, IfOk, IfSome, OnErr, OnOk, option_copied, option_map, slice_get};
 ghost use Rattle.std.specs.Bool.{OnFalse, OnTrue};
-ghost use Rattle.std.specs.BTreeMap.{insert_entry};
 ghost use Rattle.std.specs.List.Sorted.{IsStrictlySortedBy};
 ghost use Rattle.std.specs.Map.{keys_of};
 ghost use Rattle.table_types.specs.declared.key.Key.{Key};
 ghost use Rattle.table_types.specs.Keys.{key_cmp};
 ghost use Rattle.table_rows.specs.Rows.{IsFirstToEnd, is_live, row_at};
-ghost use Rattle.update_numbers.specs.Numbers.{given};
+ghost use Rattle.update_numbers.specs.Index.{pairs_without};
+ghost use Rattle.update_numbers.specs.Numbers.{Numbering, pushed};
 ghost use Rattle.table_cell.specs.Machine.{without};
-ghost use Rattle.table_cell.specs.Stock.{IsStock, left_for};
+ghost use Rattle.table_cell.specs.Stock.{IsStock, left_for, number_of};
 
 use crate::above::Above;
 use std::alloc::Global;
 use std::marker::Model;
-use std::mem;
 use table_rows::Rows;
 use table_types::{Key, Memory, Moment, Row};
-use update_numbers::Numbers;
+use update_numbers::NumberedKeys;
 
 /// The rows of a table by their keys, with the numbers that they were given, and the number that is given next.
 #[derive(Drop)]
 pub(crate) struct Stock<R: Rows> {
     alloc: Global,
     rows: R,
-    numbers: Numbers,
+    numbers: NumberedKeys,
 }
 
 impl<R: Rows> Model for Stock<R> {
@@ -38,26 +37,20 @@ impl<R: Rows> Model for Stock<R> {
     ghost invariant = { λ a. AreKept (R.content a.rows) a.numbers.pairs a.numbers.next };
 }
 
-/// Puts a row under its key and gives the key the next number. After `Memory` nothing has changed.
-fn put_numbered<R: Rows>(
-    numbers: Numbers,
-    rows: &mut R,
-    key: Key,
-    row: Row,
-) -> (Numbers, Result<(), Memory>)
-    ensures numbers { OnOk result.1 (result.0 ≡ given key numbers) }
-    ensures rows { OnOk result.1 (R.content rows.new ≡ insert_entry key_cmp (R.content rows.old) key row) }
-    ensures numbers_stay { OnErr result.1 (result.0 ≡ numbers) }
-    ensures rows_stay { OnErr result.1 (R.content rows.new ≡ R.content rows.old) }
+/// Takes out the number of a row, if there is one. Takes no memory.
+fn drop_number(numbers: &mut NumberedKeys, row: Option<Row>)
+    ensures { numbers.new ≡ record { pairs = pairs_without (number_of row) numbers.old.pairs; next = numbers.old.next } }
 {
-    let reserved = match numbers.reserve(&key) {
-        Ok(reserved) => reserved,
-        Err((_, numbers)) => return (numbers, Err(Memory)),
-    };
-    match rows.put(key, row) {
-        Ok(_) => (reserved.commit(), Ok(())),
-        Err(_) => (reserved.release(), Err(Memory)),
+    if let Some(row) = row {
+        numbers.remove(row.number());
     }
+}
+
+/// Takes back the number that was given last. Takes no memory.
+fn take_back(numbers: &mut NumberedKeys)
+    ensures { (before : Numbering) (key : Key) → numbers.old ≡ pushed key before → numbers.new ≡ before }
+{
+    numbers.pop();
 }
 
 impl<R: Rows> Stock<R> {
@@ -70,7 +63,7 @@ impl<R: Rows> Stock<R> {
         Stock {
             alloc,
             rows,
-            numbers: Numbers::new(alloc, first),
+            numbers: NumberedKeys::new(alloc, first),
         }
     }
 
@@ -111,18 +104,21 @@ impl<R: Rows> Stock<R> {
         ensures stored { OnOk result (self.new ≡ record { rows = without key self.old.rows ++ (key, row) ∷ []; next = self.old.next + 1 }) }
         ensures stays { OnErr result (self.new ≡ self.old) }
     {
-        let numbers = mem::replace(&mut self.numbers, Numbers::new(self.alloc, 1));
-        let (numbers, stored) = put_numbered(numbers, &mut self.rows, key, row);
-        self.numbers = numbers;
-        stored
+        self.numbers.push(key.copy(self.alloc)?)?;
+        let Ok(older) = self.rows.put(key, row) else {
+            take_back(&mut self.numbers);
+            return Err(Memory);
+        };
+        drop_number(&mut self.numbers, older);
+        Ok(())
     }
 
     /// Takes out the row of a key. Takes no memory.
     fn take(&mut self, key: &Key)
         ensures { self.new ≡ record { rows = without key.now self.old.rows; next = self.old.next } }
     {
-        self.rows.take(key);
-        self.numbers.drop_key(key);
+        let row = self.rows.take(key);
+        drop_number(&mut self.numbers, row);
     }
 
     /// Stores a row, which has the next number, in place of the key's. Where the key had none, the row of `leaving` is
@@ -152,13 +148,11 @@ impl<R: Rows> Stock<R> {
         ensures one { OnTrue result (length self.new.rows + 1 ≡ length self.old.rows) }
         ensures none { OnFalse result (filter (λ e. is_live now e.1) self.new.rows ≡ self.new.rows) }
     {
-        match self.rows.take_ended(now) {
-            Some((key, _)) => {
-                self.numbers.drop_key(&key);
-                true
-            }
-            None => false,
-        }
+        let Some((_, ended)) = self.rows.take_ended(now) else {
+            return false;
+        };
+        drop_number(&mut self.numbers, Some(ended));
+        true
     }
 
     /// Takes out what isn't live at that moment. Takes no memory.
@@ -194,7 +188,7 @@ impl<R: Rows> Stock<R> {
     pub(crate) fn above(&self, number: u32) -> Above<'_, R>
         ensures { result ≡ filter (λ e. nat_lt number e.1.number) self.now.rows }
     {
-        Above::new(self.numbers.all_above(number), &self.rows)
+        Above::new(self.numbers.above(number), &self.rows)
     }
 
     /// Equal rows with their keys, in rising key.

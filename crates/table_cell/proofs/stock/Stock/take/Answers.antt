@@ -1,10 +1,16 @@
-use Rattle.table_cell.proofs.StockSteps.{taken_kept, taken_seen}
+use Rattle.table_cell.proofs.StockSteps.{pair_dropped, taken_kept, taken_seen}
 use Rattle.table_cell.proofs.stock.Stock.take.Goals as goal
 
 pub invariant_of-self : goal.invariant_of-self
 invariant_of-self g c =
-    taken_kept (g.R.Rows.content c.self.inside.rows) c.self.inside.numbers c.self.invariant c.args.key.now (g.R.Rows.content c.take.new.self) c.drop_key.new.self c.take.ensures.others c.drop_key.ensures.dropped
+    let content = g.R.Rows.content c.self.inside.rows in
+    let key = c.args.key.now in
+    let dropped = pair_dropped content c.self.inside.numbers c.self.invariant key c.take-row.result c.take-row.ensures.taken c.drop_number.new.numbers c.drop_number.ensures in
+    taken_kept content c.self.inside.numbers c.self.invariant key (g.R.Rows.content c.take-row.new.self) c.drop_number.new.numbers c.take-row.ensures.others dropped
 
 pub returns : goal.returns
 returns g c =
-    rw (← c.self.view_is) (taken_seen (g.R.Rows.content c.self.inside.rows) c.self.inside.numbers c.self.invariant c.args.key.now (g.R.Rows.content c.take.new.self) c.drop_key.new.self c.take.ensures.others c.drop_key.ensures.dropped)
+    let content = g.R.Rows.content c.self.inside.rows in
+    let key = c.args.key.now in
+    let dropped = pair_dropped content c.self.inside.numbers c.self.invariant key c.take-row.result c.take-row.ensures.taken c.drop_number.new.numbers c.drop_number.ensures in
+    rw (← c.self.view_is) (taken_seen content c.self.inside.numbers c.self.invariant key (g.R.Rows.content c.take-row.new.self) c.drop_number.new.numbers c.take-row.ensures.others dropped)
