@@ -1,13 +1,14 @@
 -- The parser takes the words of each choice, and meets its subcommand.
-use Rattle.std.proofs.Common.{◌≡◌, ◌≤◌, ◌==◌, ◌∙◌, ℕ, List, [], ◌∷◌, ap, ap₂, codes, refl, rules, slice_index, subst, sym, true, true≢false}
+use Rattle.std.proofs.Common.{◌≡◌, ◌≤◌, ◌==◌, ◌∙◌, ◌⊎◌, ℕ, List, [], ◌∷◌, ap, ap₂, codes, inl, inr, refl, rules, slice_index, subst, sym, true, true≢false}
 use Rattle.std.specs.Prelude.{Option, None, Some, option_map}
 use Rattle.clap.specs.Words.{Row, is_simple, is_simple_and_free, subcommand_name_of, subcommand_of, subcommand_rows_of, takes}
 use Rattle.clap.specs.declared.error.kind.ErrorKind.{ErrorKind}
 use Rattle.clap.specs.declared.error.kind.ErrorKind.TheVariants.{OutOfMemory}
 use Rattle.clap.specs.declared.parser.matches.ArgMatches.{ArgMatches}
 use Rattle.clap.proofs.OnLiterals.{clap_on_literals}
-use Rattle.peers_node.specs.CommandLine.{Chooses, Gives, HasOptions, IsNumber, Meets, TakesNone, cause_of_kind, name_of, program}
+use Rattle.peers_node.specs.CommandLine.{Chooses, Gives, GivesInOrder, HasOptions, Meets, TakesNone, cause_of_kind, name_of, program}
 use Rattle.peers_node.proofs.RoundWords.{words_met, words_taken}
+use Rattle.peers_node.proofs.TurnedWords.{turned_met, turned_taken}
 use Rattle.peers_node.proofs.Numbers.{number_within}
 use Rattle.peers_node.specs.declared.options_error.OptionsError.{OptionsError}
 use Rattle.peers_node.specs.declared.options_error.OptionsError.TheVariants as errors
@@ -43,8 +44,10 @@ options_taken name (_ ∷ (_ ∷ (_ ∷ (_ ∷ [])))) Lesson gives = elim gives 
 options_taken name (_ ∷ (_ ∷ (_ ∷ (_ ∷ [])))) Check gives = elim gives [ ]
 options_taken name (_ ∷ (_ ∷ (_ ∷ (_ ∷ [])))) Learn gives = elim gives [ ]
 options_taken name (_ ∷ (_ ∷ (_ ∷ (_ ∷ [])))) Table gives = elim gives [ ]
-options_taken name (first ∷ (t ∷ (second ∷ (n ∷ [])))) (Round threads tracks) (is_first, number, is_second, other) =
+options_taken name (first ∷ (t ∷ (second ∷ (n ∷ [])))) (Round threads tracks) (inl (is_first, number, is_second, other)) =
     ap₂ (λ f s. takes program (name ∷ codes "round" ∷ f ∷ t ∷ s ∷ n ∷ [])) is_first is_second ∙ words_taken name threads tracks t n number other
+options_taken name (first ∷ (n ∷ (second ∷ (t ∷ [])))) (Round threads tracks) (inr (is_second, number, is_first, other)) =
+    ap₂ (λ f s. takes program (name ∷ codes "round" ∷ f ∷ n ∷ s ∷ t ∷ [])) is_first is_second ∙ turned_taken name threads tracks t n number other
 
 options_met : (name : List ℕ) (options : List (List ℕ)) (chosen : Options) → Gives options chosen → Meets (subcommand_of program (name ∷ name_of chosen ∷ options)) chosen
 options_met name [] chosen gives = met name chosen gives
@@ -56,9 +59,12 @@ options_met name (_ ∷ (_ ∷ (_ ∷ (_ ∷ [])))) Lesson gives = elim gives [ 
 options_met name (_ ∷ (_ ∷ (_ ∷ (_ ∷ [])))) Check gives = elim gives [ ]
 options_met name (_ ∷ (_ ∷ (_ ∷ (_ ∷ [])))) Learn gives = elim gives [ ]
 options_met name (_ ∷ (_ ∷ (_ ∷ (_ ∷ [])))) Table gives = elim gives [ ]
-options_met name (first ∷ (t ∷ (second ∷ (n ∷ [])))) (Round threads tracks) (is_first, number, is_second, other) =
+options_met name (first ∷ (t ∷ (second ∷ (n ∷ [])))) (Round threads tracks) (inl (is_first, number, is_second, other)) =
     subst (λ w. Meets (subcommand_of program w) (Round threads tracks)) (sym (ap₂ (λ f s. name ∷ codes "round" ∷ f ∷ t ∷ s ∷ n ∷ []) is_first is_second))
     (words_met name threads tracks t n number other)
+options_met name (first ∷ (n ∷ (second ∷ (t ∷ [])))) (Round threads tracks) (inr (is_second, number, is_first, other)) =
+    subst (λ w. Meets (subcommand_of program w) (Round threads tracks)) (sym (ap₂ (λ f s. name ∷ codes "round" ∷ f ∷ n ∷ s ∷ t ∷ []) is_first is_second))
+    (turned_met name threads tracks t n number other)
 
 pub choice_taken : (words : List (List ℕ)) (chosen : Options) → Chooses words chosen → takes program words ≡ true
 choice_taken [] chosen is = elim is [ ]
@@ -72,13 +78,14 @@ choice_met (name ∷ (word ∷ options)) chosen (same, gives) =
     subst (λ w. Meets (subcommand_of program (name ∷ w ∷ options)) chosen) (sym same) (options_met name options chosen gives)
 
 -- two options are those of a round
-pub two_are_a_rounds : (name first t second n : List ℕ) (chosen : Options) → name ≡ name_of chosen → Gives (first ∷ t ∷ second ∷ n ∷ []) chosen
-    → (threads tracks : ℕ) × (name ≡ codes "round") × (first ≡ codes "--threads") × IsNumber 8 threads t × (second ≡ codes "--tracks") × IsNumber 1000 tracks n
-two_are_a_rounds name first t second n Lesson same gives = elim gives [ ]
-two_are_a_rounds name first t second n Check same gives = elim gives [ ]
-two_are_a_rounds name first t second n Learn same gives = elim gives [ ]
-two_are_a_rounds name first t second n Table same gives = elim gives [ ]
-two_are_a_rounds name first t second n (Round threads tracks) same (is_first, number, is_second, other) = (threads, tracks, same, is_first, number, is_second, other)
+pub two_are_a_rounds : (name first value second other : List ℕ) (chosen : Options) → name ≡ name_of chosen → Gives (first ∷ value ∷ second ∷ other ∷ []) chosen
+    → (threads tracks : ℕ) × (name ≡ codes "round")
+    × (GivesInOrder first value second other threads tracks ⊎ GivesInOrder second other first value threads tracks)
+two_are_a_rounds name first value second other Lesson same gives = elim gives [ ]
+two_are_a_rounds name first value second other Check same gives = elim gives [ ]
+two_are_a_rounds name first value second other Learn same gives = elim gives [ ]
+two_are_a_rounds name first value second other Table same gives = elim gives [ ]
+two_are_a_rounds name first value second other (Round threads tracks) same gives = (threads, tracks, same, gives)
 
 -- the name of the subcommand that was met, by its name and rows
 pub named : (m : ArgMatches) → subcommand_name_of m ≡ option_map (λ found. found.0) (subcommand_rows_of m)

@@ -1,3 +1,4 @@
 mod Choices
 mod RoundWords
+mod TurnedWords
 mod Numbers

@@ -1,4 +1,4 @@
--- The parser takes the words of `round` with its options, and meets them.
+-- The parser takes the words of `round` with its options in the order of the help, and meets them.
 use Rattle.std.proofs.Common.{◌≡◌, ◌==◌, ◌&&◌, ◌<◌, ◌≤◌, ◌^◌, ℕ, Bool, List, [], ◌∷◌, ◌∙◌, ap, ap₂, arith, codes, refl, sym, subst, pos, true, false, inl, inr}
 use Rattle.std.specs.Prelude.{Some, None, Option}
 use Rattle.std.specs.Str.{bytes_eq}
@@ -25,7 +25,7 @@ use Rattle.peers_node.specs.CommandLine.{HasNumber, HasOptions, IsNumber, Meets,
 use Rattle.peers_node.specs.declared.choice.Options.TheVariants as choices
 use Rattle.std.specs.Str.Parse.{digits_value, without_leading_plus}
 
-both : (x y : Bool) → x ≡ true → y ≡ true → (x && y) ≡ true
+pub both : (x y : Bool) → x ≡ true → y ≡ true → (x && y) ≡ true
 both x y hx hy = rw (hx, hy) refl
 
 -- ---- a word that begins with no hyphen
@@ -56,7 +56,7 @@ pub value_passes_by : (s : Shape) (names : Names) (h : Held) (id : Text) (positi
     → turn_passes s names (waits_at h id position) (a ∷ xs) ≡ true
 value_passes_by s names h id position a xs ha = rw (no_hyphens a xs ha, no_long a xs ha, no_short a xs ha) refl
 
-passes_step : (s : Shape) (names : Names) (w v : Walk) (word : Text) (rest : List Text) → turn_passes s names w word ≡ true → walked s.rules names w word ≡ v
+pub passes_step : (s : Shape) (names : Names) (w v : Walk) (word : Text) (rest : List Text) → turn_passes s names w word ≡ true → walked s.rules names w word ≡ v
     → walk_passes s names v rest ≡ true → walk_passes s names w (word ∷ rest) ≡ true
 unfolding walk_passes
 passes_step s names w v word rest turn moved passed = both _ _ turn (subst (λ u. walk_passes s names u rest ≡ true) (sym moved) passed)
@@ -110,10 +110,10 @@ taken name w₁ w₂ w₃ w₄ passes = both _ _ refl (both _ _ passes (level_is
 
 -- ---- the subcommand's words
 
-abbrev threads_in : ℕ → Text → Type 0
+abbrev pub threads_in : ℕ → Text → Type 0
 threads_in first rest = accepts false (vp.Signed (pos 1) (pos 8)) (first ∷ rest) ≡ true
 
-abbrev tracks_in : ℕ → Text → Type 0
+abbrev pub tracks_in : ℕ → Text → Type 0
 tracks_in first rest = accepts false (vp.Signed (pos 1) (pos 1000)) (first ∷ rest) ≡ true
 
 abbrev all_words : Text → Text → List Text
@@ -178,7 +178,7 @@ end_rows : (t n : Text) → finished leaf.rules (at_end t n).held ≡ both_rows 
 unfolding clap_on_literals
 end_rows t n = refl
 
-stopped_at : (name w₁ w₂ w₃ w₄ : Text) → subcommand_of program (name ∷ codes "round" ∷ w₁ ∷ w₂ ∷ w₃ ∷ w₄ ∷ [])
+pub stopped_at : (name w₁ w₂ w₃ w₄ : Text) → subcommand_of program (name ∷ codes "round" ∷ w₁ ∷ w₂ ∷ w₃ ∷ w₄ ∷ [])
     ≡ Some (codes "round", finished leaf.rules (walk leaf.rules [] nothing_held (w₁ ∷ w₂ ∷ w₃ ∷ w₄ ∷ [])).held)
 unfolding clap_on_literals
 stopped_at name w₁ w₂ w₃ w₄ = refl
@@ -215,10 +215,10 @@ number_passes most n a xs small is =
     let within : digits_value 10 (without_leading_plus (a ∷ xs)) < 2 ^ 63 = omega (arith, greatest, small) in
     Accepts-accepts false (vp.Signed (pos 1) (pos most)) (a ∷ xs) (rw (no_hyphen most n a xs is) (is.0, fits_signed _ within, least_first _ _ least, least_first _ _ greatest))
 
-as_written : (a : ℕ) (xs : Text) → (a == 45) ≡ false → without_minus (a ∷ xs) ≡ a ∷ xs
+pub as_written : (a : ℕ) (xs : Text) → (a == 45) ≡ false → without_minus (a ∷ xs) ≡ a ∷ xs
 as_written a xs ha = rw ha refl
 
-nothing_is_no_number : (most n : ℕ) → IsNumber most n [] → ⊥
+pub nothing_is_no_number : (most n : ℕ) → IsNumber most n [] → ⊥
 nothing_is_no_number most n is = let long : 0 < 0 = is.0.0 in absurd (omega arith)
 
 -- ---- the choice

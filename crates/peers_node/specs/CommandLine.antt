@@ -1,5 +1,5 @@
 -- Which words are a command line of the program, and what they choose.
-use Rattle.std.specs.Prelude.{◌≡◌, ◌≤◌, ℕ, pos, true, List, [], ◌∷◌, Option, None, Some, map, codes}
+use Rattle.std.specs.Prelude.{◌≡◌, ◌≤◌, ◌⊎◌, ℕ, pos, true, List, [], ◌∷◌, Option, None, Some, map, codes}
 use Rattle.std.specs.Borrow.{Bor}
 use Rattle.std.specs.Str.Parse.{IsNumeral, digits_value, without_leading_plus}
 use Rattle.clap.specs.Kinds.{Kinds}
@@ -36,14 +36,19 @@ abbrev pub IsNumber : ℕ → ℕ → List ℕ → Type 0
 IsNumber most number text =
     IsNumeral 10 (without_leading_plus text) × (digits_value 10 (without_leading_plus text) ≡ number) × (1 ≤ number) × (number ≤ most)
 
--- the words after the subcommand's name are its options, each with its value
+-- the words are the options of a round, each with its value, in the order in which the help names them
+abbrev pub GivesInOrder : List ℕ → List ℕ → List ℕ → List ℕ → ℕ → ℕ → Type 0
+GivesInOrder first value second other threads tracks =
+    (first ≡ codes "--threads") × IsNumber 8 threads value × (second ≡ codes "--tracks") × IsNumber 1000 tracks other
+
+-- the words after the subcommand's name are its options, each with its value, in any order
 abbrev pub Gives : List (List ℕ) → Options → Type 0
 Gives [] chosen = TakesNone chosen
 Gives (first ∷ value ∷ second ∷ other ∷ []) (Round threads tracks) =
-    (first ≡ codes "--threads") × IsNumber 8 threads value × (second ≡ codes "--tracks") × IsNumber 1000 tracks other
+    GivesInOrder first value second other threads tracks ⊎ GivesInOrder second other first value threads tracks
 Gives _ chosen = ⊥
 
--- the words are the program's name, then this choice's, and then its options, in the order in which the help names them
+-- the words are the program's name, then this choice's, and then its options
 abbrev pub Chooses : List (List ℕ) → Options → Type 0
 Chooses (program ∷ name ∷ options) chosen = (name ≡ name_of chosen) × Gives options chosen
 Chooses _ chosen = ⊥

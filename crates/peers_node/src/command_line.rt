@@ -35,7 +35,7 @@ pub fn options<'a>(alloc: Global, words: &'a [&'a str]) -> Result<Options, Optio
 }
 
 /// What words choose, decided without memory: those that are the program's name, then a subcommand's, and then its options
-/// in the order in which the help names them, each in a word of its own before its value.
+/// in any order, each in a word of its own before its value.
 pub fn choice_of(words: &[&str]) -> Option<Options>
     ensures some { IfSome result (λ chosen. Chooses (texts words.now) chosen) }
     ensures none { result ≡ None → (chosen : Options) → Chooses (texts words.now) chosen → ⊥ }
@@ -53,10 +53,24 @@ fn given(name: &str, first: &str, value: &str, second: &str, other: &str) -> Opt
     ensures some { IfSome result (λ chosen. (name.now ≡ name_of chosen) × Gives (first.now ∷ value.now ∷ second.now ∷ other.now ∷ []) chosen) }
     ensures none { result ≡ None → (chosen : Options) → name.now ≡ name_of chosen → Gives (first.now ∷ value.now ∷ second.now ∷ other.now ∷ []) chosen → ⊥ }
 {
-    if name != "round" || first != "--threads" || second != "--tracks" {
+    if name != "round" {
         return None;
     }
-    match (number(value, MOST_THREADS), number(other, MOST_TRACKS)) {
+    if first == "--threads" && second == "--tracks" {
+        return sized(value, other);
+    }
+    if first == "--tracks" && second == "--threads" {
+        return sized(other, value);
+    }
+    None
+}
+
+/// The round of as many threads and tracks as these texts write.
+fn sized(threads: &str, tracks: &str) -> Option<Options>
+    ensures some { IfSome result (λ chosen. (count each : ℕ) × (chosen ≡ choices.Round count each) × IsNumber 8 count threads.now × IsNumber 1000 each tracks.now) }
+    ensures none { result ≡ None → (count each : ℕ) → IsNumber 8 count threads.now → IsNumber 1000 each tracks.now → ⊥ }
+{
+    match (number(threads, MOST_THREADS), number(tracks, MOST_TRACKS)) {
         (Some(threads), Some(tracks)) => Some(Options::Round { threads, tracks }),
         _ => None,
     }
