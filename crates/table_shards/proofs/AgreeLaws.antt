@@ -85,11 +85,11 @@ entry_within c place e is = elim (cases_Bool (nat_lt c.dropped place)) [
       absurd (some_none e (sym none))
 ]
 
-pub receipts_count : (c : CellState) (began : ℕ) (seats : List SeatState) → began ≤ events_of c → Agree c began seats → length (all_receipts (id_of c) seats) ≡ events_of c - began
-receipts_count c began seats le agree =
+-- where there are no more than the first `began`, no receipt is left: each would be of a later place that has an event
+pub receipts_count : (c : CellState) (began : ℕ) (seats : List SeatState) → Agree c began seats → length (all_receipts (id_of c) seats) ≡ events_of c - began
+receipts_count c began seats agree =
     let rs = all_receipts (id_of c) seats in
     let n = events_of c - began in
-    let whole : began + n ≡ events_of c = omega arith in
     let within : AllByRecursion (Within began n) rs =
-    all_so (λ r. (began < r.place) × IsEntry c r) (Within began n) (λ r own. (own.0, (let most = entry_within c r.place (r.event, r.reply) own.1 in omega (arith, most, whole)))) rs agree.own in
-    as_many n began rs within (λ place above most. agree.once place above (omega (arith, most, whole)))
+    all_so (λ r. (began < r.place) × IsEntry c r) (Within began n) (λ r own. (own.0, (let most = entry_within c r.place (r.event, r.reply) own.1 in omega (arith, most, own.0)))) rs agree.own in
+    as_many n began rs within (λ place above most. agree.once place above (omega (arith, above, most)))

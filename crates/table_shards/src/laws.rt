@@ -30,8 +30,9 @@ pub fn a_receipt_is_of_the_new_event()
         seen_of other s ≤ seen_of other (receipted table c s event reply) }
 {}
 
-/// Receipts that agree with a table are as many as its events after the first `began`.
+/// Receipts that agree with a table are as many as its events after the first `began`, and none where it has no more events
+/// than that.
 pub fn as_many_receipts_as_events()
-    ensures { (c : CellState) (began : ℕ) (seats : List SeatState) → began ≤ events_of c → Agree c began seats →
+    ensures { (c : CellState) (began : ℕ) (seats : List SeatState) → Agree c began seats →
         length (all_receipts (id_of c) seats) ≡ events_of c - began }
 {}
