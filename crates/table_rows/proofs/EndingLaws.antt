@@ -10,7 +10,7 @@ use Rattle.table_types.specs.Keys.{key_cmp}
 use Rattle.table_types.specs.Rows.{StoredRow}
 use Rattle.table_types.proofs.KeyLaws.{exact_keys, key_cmp-same, one_key}
 use Rattle.table_rows.specs.declared.ending.Ending.{Ending}
-use Rattle.table_rows.specs.Endings.{Agree, IsOlder, are_same, ending_cmp, ending_of, is_among_without}
+use Rattle.table_rows.specs.Endings.{Agree, IsOlder, are_same, ending_cmp, ending_of, is_among_without, later_cmp}
 
 abbrev ending_from : ℕ × (ℕ × Key) → Ending
 ending_from p = record { end = p.0; number = p.1.0; key = p.1.1 }
@@ -18,8 +18,11 @@ ending_from p = record { end = p.0; number = p.1.0; key = p.1.1 }
 exact_endings : (a b : Ending) → ending_cmp a b ≡ Equal → a ≡ b
 exact_endings a b h = ap ending_from (exact_pairs nat_cmp (λ (x y : ℕ × Key). ordering_then (nat_cmp x.0 y.0) (key_cmp x.1 y.1)) exact_unsigned (exact_pairs nat_cmp key_cmp exact_unsigned exact_keys) (a.end, (a.number, a.key)) (b.end, (b.number, b.key)) h)
 
+exact_later : (a b : Ending) → later_cmp a b ≡ Equal → a ≡ b
+exact_later a b h = sym (exact_endings b a h)
+
 pub one_ending : (a b : Ending) → are_same a b ≡ true → a ≡ b
-one_ending a b same = tells_apart exact_endings a b same
+one_ending a b same = tells_apart exact_later a b same
 
 nat_cmp-same : (n : ℕ) → nat_cmp n n ≡ Equal
 nat_cmp-same n = sym (nat_cmp_is n n Equal refl)

@@ -6,7 +6,7 @@ use Rattle.std.proofs.lemmas.List.{append_assoc}
 use Rattle.std.specs.List.Sorted.{IsStrictlySortedBy}
 use Rattle.std.specs.declared.cmp.Ordering.{Ordering}
 use Rattle.std.specs.declared.cmp.Ordering.TheVariants.{Less, Equal, Greater}
-use Rattle.std.specs.Ordering.{is_eq, is_gt, nat_cmp, ordering_reverse, ordering_then}
+use Rattle.std.specs.Ordering.{is_eq, is_gt, is_lt, nat_cmp, ordering_reverse, ordering_then}
 use Rattle.std.specs.Cmp.{nat_cmp_is}
 use Rattle.std.specs.Map.{keys_of}
 use Rattle.std.specs.BTreeMap.{insert_entry}
@@ -18,7 +18,8 @@ use Rattle.table_types.specs.KeyOrder.{key_cmp_total}
 use Rattle.table_types.specs.Rows.{StoredRow}
 use Rattle.table_types.proofs.KeyLaws.{exact_keys}
 use Rattle.table_rows.specs.declared.ending.Ending.{Ending}
-use Rattle.table_rows.specs.Endings.{AreIndexed, end_or_last, ending_cmp, ending_of, is_among}
+use Rattle.table_rows.specs.EndingOrder.{ending_cmp_total}
+use Rattle.table_rows.specs.Endings.{AreIndexed, end_or_last, ending_cmp, ending_of, is_among, later_cmp}
 use Rattle.table_rows.specs.Rows.{AreLive, IsFirstToEnd, end_cmp, ends_cmp, goes_past, is_live, row_at}
 use Rattle.table_rows.proofs.EndingLaws.{key-same, true_or_false}
 
@@ -53,11 +54,20 @@ ends_are None None short_a short_b = refl
 end_is : (k : Key) (row : StoredRow) (q : Key) (other : StoredRow) → IfSome row.ends (λ end. end < 2 ^ 63) → IfSome other.ends (λ end. end < 2 ^ 63) → end_cmp (k, row) (q, other) ≡ ending_cmp (ending_of k row) (ending_of q other)
 end_is k row q other short short_other = ap (λ (o : Ordering). ordering_then o (ordering_then (nat_cmp row.number other.number) (key_cmp k q))) (ends_are row.ends other.ends short short_other)
 
-not_after : (a b : ℕ) (o : Ordering) → is_gt (ordering_then (nat_cmp a b) o) ≡ false → a ≤ b
+pub not_after : (a b : ℕ) (o : Ordering) → is_gt (ordering_then (nat_cmp a b) o) ≡ false → a ≤ b
 not_after a b o first = elim (cases_lt b a) [
   | inl less ↦ absurd (true_or_false (is_gt (ordering_then (nat_cmp a b) o)) (rw (sym (nat_cmp_is a b Greater less)) refl) first)
   | inr at_most ↦ at_most
 ]
+
+-- what nothing comes before isn't after anything
+pub not_before : (f e : Ending) → is_lt (later_cmp f e) ≡ false → is_gt (ending_cmp f e) ≡ false
+not_before f e first = ap is_gt (ending_cmp_total.antisymm f e) ∙ turned (ending_cmp e f) ∙ first
+  where
+    turned : (o : Ordering) → is_gt (ordering_reverse o) ≡ is_lt o
+    turned Less = refl
+    turned Equal = refl
+    turned Greater = refl
 
 lives : (now : ℕ) (row : StoredRow) → now < end_or_last row.ends → is_live now row ≡ true
 lives now row later = by row.ends later
@@ -93,7 +103,10 @@ module _ (rows : List (Key × StoredRow)) (endings : List Ending) (index : AreIn
     pub first_row : (stored : StoredRow) × (row_at first.key rows ≡ Some stored) × (first ≡ ending_of first.key stored)
     first_row = index.agree.only first member
 
-    module _ (least : (e : Ending) → is_among endings e ≡ true → is_gt (ending_cmp first e) ≡ false) where
+    module _ (greatest : (e : Ending) → is_among endings e ≡ true → is_lt (later_cmp first e) ≡ false) where
+      pub least : (e : Ending) → is_among endings e ≡ true → is_gt (ending_cmp first e) ≡ false
+      least e among = not_before first e (greatest e among)
+
       pub is_first : IsFirstToEnd rows first.key
       is_first = by (index.agree.only first member)
         where

@@ -25,14 +25,18 @@ ending_of key row = record { end = end_or_last row.ends; number = row.number; ke
 abbrev pub ending_cmp : Ending → Ending → Ordering
 ending_cmp a b = ordering_then (nat_cmp a.end b.end) (ordering_then (nat_cmp a.number b.number) (key_cmp a.key b.key))
 
+-- the other way round: the last to end comes first
+abbrev pub later_cmp : Ending → Ending → Ordering
+later_cmp a b = ending_cmp b a
+
 abbrev pub are_same : Ending → Ending → Bool
-are_same a b = is_eq (ending_cmp a b)
+are_same a b = is_eq (later_cmp a b)
 
 abbrev pub row_of : List (Key × StoredRow) → Key → Option StoredRow
 row_of rows key = row_at key rows
 
 abbrev pub is_among : List Ending → Ending → Bool
-is_among endings ending = list_any (is_at (ending_cmp ending)) endings
+is_among endings ending = list_any (is_at (later_cmp ending)) endings
 
 -- each row stands among the endings, and nothing else does
 pub record Agree (row : Key → Option StoredRow) (among : Ending → Bool) : Type 0 where

@@ -1,12 +1,17 @@
 //! Where rows stand in the order in which they end.
 
-ghost use Rattle.std.specs.Prelude.{◌≡◌, ◌<◌, ◌^◌, IfSome};
-ghost use Rattle.table_rows.specs.Endings.{end_or_last, ending_of};
+ghost use Rattle.std.specs.Prelude.{◌≡◌, ◌<◌, ◌^◌, IfSome, refl};
+ghost use Rattle.std.specs.Ordering.{as_partial_cmp};
+ghost use Rattle.std.specs.Cmp.{partial_order_from_agreeing_total};
+ghost use Rattle.table_rows.specs.Endings.{end_or_last, ending_of, later_cmp};
+ghost use Rattle.table_rows.specs.EndingOrder.{later_cmp_ties, later_cmp_total};
 
+use std::cmp::Ordering;
 use table_types::{Key, Row};
 
-/// Where the row of a key stands in the order in which rows end.
-#[derive(Debug, Drop, PartialEq, Eq, PartialOrd, Ord)]
+/// Where the row of a key stands in the order in which rows end. The last to end comes first: rows that are put mostly end
+/// after all others, and a search that begins at the front finds their place at once.
+#[derive(Debug, Drop, PartialEq, Eq)]
 pub struct Ending {
     /// The milliseconds of the moment at which the row ends, or `u64::MAX` where it lives for ever.
     pub end: u64,
@@ -36,6 +41,37 @@ impl Ending {
             end: end_of(row),
             number: row.number(),
             key,
+        }
+    }
+}
+
+impl PartialOrd for Ending {
+    ghost partial_cmp = { as_partial_cmp later_cmp };
+
+    ghost laws = { partial_order_from_agreeing_total later_cmp later_cmp_total (λ a b. refl) later_cmp_ties };
+
+    fn partial_cmp(&self, other: &Self) -> Option<Ordering> {
+        Some(self.cmp(other))
+    }
+}
+
+impl Ord for Ending {
+    ghost cmp = { later_cmp };
+
+    ghost total = { later_cmp_total };
+
+    ghost matches_partial_cmp = { λ a b. refl };
+
+    ghost matches_eq = { later_cmp_ties };
+
+    #[inline(always)]
+    fn cmp(&self, other: &Self) -> Ordering {
+        match other.end.cmp(&self.end) {
+            Ordering::Equal => match other.number.cmp(&self.number) {
+                Ordering::Equal => other.key.cmp(&self.key),
+                order => order,
+            },
+            order => order,
         }
     }
 }

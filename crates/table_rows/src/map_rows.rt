@@ -132,21 +132,21 @@ impl Rows for MapRows {
     }
 
     fn first_to_end(&self) -> Option<&Key> {
-        match self.endings.first() {
+        match self.endings.last() {
             Some(ending) => Some(&ending.key),
             None => None,
         }
     }
 
     fn take_ended(&mut self, now: Moment) -> Option<(Key, Row)> {
-        let first = match self.endings.first() {
+        let first = match self.endings.last() {
             Some(ending) => ending.end,
             None => return None,
         };
         if first > now.milliseconds() {
             return None;
         }
-        let ending = self.endings.pop_first()?;
+        let ending = self.endings.pop_last()?;
         let row = self.rows.remove(&ending.key)?;
         let Ending { key, .. } = ending;
         Some((key, row))

@@ -1,11 +1,11 @@
-use Rattle.std.proofs.Common.{◌≡◌, ◌<◌, ◌≤◌, false, cond, Option, Some, None, List, slice_get, sym, ap, ◌∙◌, subst, arith}
+use Rattle.std.proofs.Common.{◌≡◌, ◌<◌, ◌≤◌, false, cond, Option, Some, None, List, sym, ap, ◌∙◌, subst, arith}
 use Rattle.table_types.specs.declared.key.Key.{Key}
 use Rattle.table_types.specs.Rows.{StoredRow}
 use Rattle.table_rows.specs.declared.ending.Ending.{Ending}
 use Rattle.table_rows.specs.Endings.{are_same, end_or_last, is_among, row_of}
 use Rattle.table_rows.specs.Rows.{AreLive}
 use Rattle.table_rows.proofs.EndingLaws.{taken_agree}
-use Rattle.table_rows.proofs.RowLaws.{all_live, first_row, has_ended, is_first, no_endings, no_rows}
+use Rattle.table_rows.proofs.RowLaws.{all_live, first_row, has_ended, is_first, least, no_endings, no_rows, not_after}
 use Rattle.table_rows.proofs.map_rows.MapRowsRows.take_ended.Goals as goal
 
 -- there are no rows
@@ -19,7 +19,7 @@ pub returns-then-first-milliseconds-clause-live : goal.returns-then-first-millis
 returns-then-first-milliseconds-clause-live c =
     let first = c.in-Some.ending.now in
     let later : c.args.now < first.end = omega (arith, c.if-first-milliseconds.true, c.milliseconds.ensures.value) in
-    rw (← c.self.view_is) (all_live c.self.inside.rows.entries c.self.inside.endings.keys c.self.invariant first c.in-Some.ensures.member c.in-Some.ensures.least c.args.now later)
+    rw (← c.self.view_is) (all_live c.self.inside.rows.entries c.self.inside.endings.keys c.self.invariant first c.in-Some.ensures.member c.in-Some.ensures.greatest c.args.now later)
 
 not_there : (row : StoredRow) → ◌≡◌ {A = Option StoredRow} None (Some row) → ⊥
 not_there row e = cc
@@ -43,7 +43,7 @@ invariant_of-self-2 c =
     let ending = c.in_ok-ending.ending in
     let row = first_row es ks c.self.invariant ending c.in_ok-ending.ensures.member in
     record {
-      agree = taken_agree (row_of es) (is_among ks) c.self.invariant.agree ending.key row.0 row.1 (row_of c.remove.new.self.entries) (is_among c.pop_first.new.self.keys)
+      agree = taken_agree (row_of es) (is_among ks) c.self.invariant.agree ending.key row.0 row.1 (row_of c.remove.new.self.entries) (is_among c.pop_last.new.self.keys)
           c.in_ok-row.ensures.updates.0
           (λ e. c.in_ok-ending.ensures.updates.0 e ∙ ap (λ (v : Ending). cond (are_same v e) false (is_among ks e)) row.2);
       rising = c.in_ok-row.ensures.ordered;
@@ -51,13 +51,10 @@ invariant_of-self-2 c =
 
 pub returns-clause-first : goal.returns-clause-first
 returns-clause-first c =
-    rw (← c.self.view_is) (is_first c.self.inside.rows.entries c.self.inside.endings.keys c.self.invariant c.in_ok-ending.ending c.in_ok-ending.ensures.member c.in_ok-ending.ensures.least)
+    rw (← c.self.view_is) (is_first c.self.inside.rows.entries c.self.inside.endings.keys c.self.invariant c.in_ok-ending.ending c.in_ok-ending.ensures.member c.in_ok-ending.ensures.greatest)
 
 same_row : (a b : StoredRow) → ◌≡◌ {A = Option StoredRow} (Some a) (Some b) → a ≡ b
 same_row a b e = cc
-
-same_ending : (a b : Ending) → ◌≡◌ {A = Option Ending} (Some a) (Some b) → a ≡ b
-same_ending a b e = cc
 
 pub returns-clause-ended : goal.returns-clause-ended
 returns-clause-ended c =
@@ -65,8 +62,6 @@ returns-clause-ended c =
     let row = first_row c.self.inside.rows.entries c.self.inside.endings.keys c.self.invariant ending c.in_ok-ending.ensures.member in
     let is : row.0 ≡ c.in_ok-row.row = same_row row.0 c.in_ok-row.row (sym row.1 ∙ sym c.in_ok-row.ensures.value) in
     let end : ending.end ≡ end_or_last c.in_ok-row.row.ends = ap (λ (e : Ending). e.end) row.2 ∙ ap (λ (r : StoredRow). end_or_last r.ends) is in
-    let head : Some c.in-Some.ending.now ≡ Some ending = sym c.in-Some.ensures.first ∙ ap (λ (ks : List Ending). slice_get ks 0) c.in_ok-ending.ensures.removal in
-    let first : c.in-Some.ending.now ≡ ending = same_ending c.in-Some.ending.now ending head in
-    let first_end : c.in-Some.ending.now.end ≡ ending.end = ap (λ (e : Ending). e.end) first in
+    let first_end : ending.end ≤ c.in-Some.ending.now.end = not_after ending.end c.in-Some.ending.now.end _ (least c.self.inside.rows.entries c.self.inside.endings.keys c.self.invariant ending c.in_ok-ending.ensures.member c.in_ok-ending.ensures.greatest c.in-Some.ending.now c.in-Some.ensures.member) in
     let ended : end_or_last c.in_ok-row.row.ends ≤ c.args.now = omega (arith, c.if-first-milliseconds.false, c.milliseconds.ensures.value, first_end, end) in
     has_ended c.args.now c.in_ok-row.row c.milliseconds.ensures.most ended
