@@ -1,5 +1,5 @@
 -- What the calls of a stock leave of the rows by key and of their numbers.
-use Rattle.std.proofs.Common.{◌≡◌, ℕ, ◌+◌, ◌<◌, ◌≤◌, ◌^◌, Bool, true, false, not, List, [], ◌∷◌, ◌++◌, length, Option, Some, None, Result, Ok, Err, IfSome, IfNone, OnOk, OnErr, refl, sym, ap, ◌∙◌, subst, append-nil, arith}
+use Rattle.std.proofs.Common.{◌≡◌, ℕ, ◌+◌, ◌<◌, ◌≤◌, ◌^◌, Bool, true, false, not, List, [], ◌∷◌, ◌++◌, length, Option, Some, None, IfSome, IfNone, refl, sym, ap, ◌∙◌, subst, append-nil, arith}
 use Rattle.std.specs.Prelude.{cond, filter, is_some, map, nat_lt}
 use Rattle.std.specs.List.{AllByRecursion}
 use Rattle.std.specs.List.Sorted.{IsStrictlySortedBy}
@@ -31,14 +31,6 @@ if_some P Q f None p = p
 pub if_none : {A : Type 0} {P Q : Type 0} → (P → Q) → (o : Option A) → IfNone o P → IfNone o Q
 if_none f (Some a) p = p
 if_none f None p = f p
-
-pub on_ok : {A B P P' Q : Type 0} (r : Result A B) → OnOk r P → OnOk r P' → (P → P' → Q) → OnOk r Q
-on_ok (Ok a) p q f = f p q
-on_ok (Err b) p q f = p
-
-pub either_way : {A B P P' Q Q' T : Type 0} (r : Result A B) → OnOk r P → OnOk r P' → OnErr r Q → OnErr r Q' → (P → P' → T) → (Q → Q' → T) → T
-either_way (Ok a) p p' q q' f g = f p p'
-either_way (Err b) p p' q q' f g = g q q'
 
 -- ---- no rows yet
 
@@ -216,10 +208,6 @@ module _ (content : List (Key × StoredRow)) (numbers : Numbering) (kept : AreKe
 
   pub count : length numbers.pairs ≡ length rows
   count = ap (λ (ps : List (ℕ × Key)). length ps) kept.tied.numbers ∙ as_many rows
-
-  -- nothing has changed
-  pub stays_kept : (content_after : List (Key × StoredRow)) (numbers_after : Numbering) → content_after ≡ content → numbers_after ≡ numbers → AreKept content_after numbers_after.pairs numbers_after.next
-  stays_kept content_after numbers_after same_content same_numbers = rw (same_content, same_numbers) kept
 
   -- the numbers without that of a key's row
   pair_gone : (key : Key) (row : StoredRow) (others : List (ℕ × Key)) → row_at key content ≡ Some row → pairs_without (Some row.number) (numbers.pairs ++ others) ≡ numbers_without key numbers.pairs ++ others

@@ -53,7 +53,8 @@ impl TableCell {
     ) -> Result<TableCell, Memory>
         requires size { (1 ≤ size) × (size ≤ 1000000) }
         requires first { 1 ≤ first }
-        ensures { IfOk result (λ cell. cell ≡ new_cell definition size nopurge first) }
+        ensures made { IsOk result }
+        ensures cell { IfOk result (λ cell. cell ≡ new_cell definition size nopurge first) }
     {
         Ok(TableCell {
             alloc,
