@@ -7,3 +7,5 @@ mod locks;
 pub mod parts;
 #[cfg(test)]
 mod seats;
+#[cfg(test)]
+mod swaps;
