@@ -1,4 +1,4 @@
-//! Why a round ends early.
+//! Why a round ends before it is audited.
 
 use std::alloc::{AllocError, AllocFailed};
 use table_cell::{AckError, CopyError, OpenError, StrangeBatch, TrackError};
@@ -7,108 +7,111 @@ use table_types::{DefError, Memory, RosterError};
 use teach_writer::TeachError;
 use thiserror::Error;
 
-/// Why a round ends early.
+/// Why a round ends before its rows are printed.
 #[derive(Clone, Copy, Debug, PartialEq, Eq, Error)]
-pub enum RoundError {
+pub enum RoundFailure {
     /// Memory was wanted, and the growth was refused.
     #[error("memory")]
     Memory,
-    /// No thread was to be had, or something is refused that isn't refused in a round.
-    #[error("device")]
-    Device,
+    /// No thread was to be had.
+    #[error("no thread to be had")]
+    NoThread,
+    /// A call is refused that isn't refused in a round, or the audit finds a fault.
+    #[error("a call of the round is refused")]
+    Refused,
 }
 
-impl From<AllocError> for RoundError {
-    fn from(_refused: AllocError) -> RoundError {
-        RoundError::Memory
+impl From<AllocError> for RoundFailure {
+    fn from(_refused: AllocError) -> RoundFailure {
+        RoundFailure::Memory
     }
 }
 
-impl<T: Drop> From<AllocFailed<T>> for RoundError {
-    fn from(_refused: AllocFailed<T>) -> RoundError {
-        RoundError::Memory
+impl<T: Drop> From<AllocFailed<T>> for RoundFailure {
+    fn from(_refused: AllocFailed<T>) -> RoundFailure {
+        RoundFailure::Memory
     }
 }
 
-impl From<Memory> for RoundError {
-    fn from(_refused: Memory) -> RoundError {
-        RoundError::Memory
+impl From<Memory> for RoundFailure {
+    fn from(_refused: Memory) -> RoundFailure {
+        RoundFailure::Memory
     }
 }
 
-impl From<DefError> for RoundError {
-    fn from(refused: DefError) -> RoundError {
+impl From<DefError> for RoundFailure {
+    fn from(refused: DefError) -> RoundFailure {
         match refused {
-            DefError::Memory => RoundError::Memory,
-            _ => RoundError::Device,
+            DefError::Memory => RoundFailure::Memory,
+            _ => RoundFailure::Refused,
         }
     }
 }
 
-impl From<RosterError> for RoundError {
-    fn from(refused: RosterError) -> RoundError {
+impl From<RosterError> for RoundFailure {
+    fn from(refused: RosterError) -> RoundFailure {
         match refused {
-            RosterError::Memory => RoundError::Memory,
-            _ => RoundError::Device,
+            RosterError::Memory => RoundFailure::Memory,
+            _ => RoundFailure::Refused,
         }
     }
 }
 
-impl From<TeachError> for RoundError {
-    fn from(refused: TeachError) -> RoundError {
+impl From<TeachError> for RoundFailure {
+    fn from(refused: TeachError) -> RoundFailure {
         match refused {
-            TeachError::Memory => RoundError::Memory,
+            TeachError::Memory => RoundFailure::Memory,
         }
     }
 }
 
-impl From<TrackError> for RoundError {
-    fn from(refused: TrackError) -> RoundError {
+impl From<TrackError> for RoundFailure {
+    fn from(refused: TrackError) -> RoundFailure {
         match refused {
-            TrackError::Memory => RoundError::Memory,
-            _ => RoundError::Device,
+            TrackError::Memory => RoundFailure::Memory,
+            _ => RoundFailure::Refused,
         }
     }
 }
 
-impl From<CopyError> for RoundError {
-    fn from(refused: CopyError) -> RoundError {
+impl From<CopyError> for RoundFailure {
+    fn from(refused: CopyError) -> RoundFailure {
         match refused {
-            CopyError::Memory => RoundError::Memory,
-            _ => RoundError::Device,
+            CopyError::Memory => RoundFailure::Memory,
+            _ => RoundFailure::Refused,
         }
     }
 }
 
-impl From<AckError> for RoundError {
-    fn from(refused: AckError) -> RoundError {
+impl From<AckError> for RoundFailure {
+    fn from(refused: AckError) -> RoundFailure {
         match refused {
-            AckError::Memory => RoundError::Memory,
-            _ => RoundError::Device,
+            AckError::Memory => RoundFailure::Memory,
+            _ => RoundFailure::Refused,
         }
     }
 }
 
-impl From<OpenError> for RoundError {
-    fn from(refused: OpenError) -> RoundError {
+impl From<OpenError> for RoundFailure {
+    fn from(refused: OpenError) -> RoundFailure {
         match refused {
-            OpenError::Memory => RoundError::Memory,
-            _ => RoundError::Device,
+            OpenError::Memory => RoundFailure::Memory,
+            _ => RoundFailure::Refused,
         }
     }
 }
 
-impl From<StrangeBatch> for RoundError {
-    fn from(_refused: StrangeBatch) -> RoundError {
-        RoundError::Device
+impl From<StrangeBatch> for RoundFailure {
+    fn from(_refused: StrangeBatch) -> RoundFailure {
+        RoundFailure::Refused
     }
 }
 
 /// Why a round ends where a call under its table's lock is refused.
-pub(crate) fn error_of<E: Into<RoundError>>(refused: ShardError<E>) -> RoundError {
+pub(crate) fn failure_of<E: Into<RoundFailure>>(refused: ShardError<E>) -> RoundFailure {
     match refused {
-        ShardError::NoTable | ShardError::SeatAhead { .. } => RoundError::Device,
-        ShardError::Memory => RoundError::Memory,
+        ShardError::NoTable | ShardError::SeatAhead { .. } => RoundFailure::Refused,
+        ShardError::Memory => RoundFailure::Memory,
         ShardError::Cell(refused) => refused.into(),
     }
 }

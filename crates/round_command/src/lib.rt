@@ -2,14 +2,14 @@
 //! acknowledges, and an audit of all that they did.
 #![tactic(auto)]
 
-mod error;
+mod failure;
 mod printing;
 mod rounds;
 mod table;
 mod tracking;
 mod worker;
 
-pub use error::RoundError;
+pub use failure::RoundFailure;
 pub use rounds::{RoundSize, round};
 pub use tracking::track_all;
 pub use worker::{Worker, work};

@@ -7,7 +7,7 @@ ghost use Rattle.table_types.specs.Rows.{StoredRow};
 ghost use Rattle.table_cell.specs.Histories.{AreInRisingKey};
 ghost use Rattle.round_command.specs.Rounds.{IsPrinted};
 
-use crate::error::RoundError;
+use crate::failure::RoundFailure;
 use scene_text::push_row;
 use std::alloc::Global;
 use table_cell::TableCell;
@@ -39,11 +39,11 @@ fn push_rows(alloc: Global, text: &mut Vec<u8>, cell: &TableCell) -> Result<(), 
 }
 
 /// The text of a round: that the audit found nothing, and then the rows of its table.
-pub(crate) fn printed(alloc: Global, audit: &Audit) -> Result<Vec<u8>, RoundError>
+pub(crate) fn printed(alloc: Global, audit: &Audit) -> Result<Vec<u8>, RoundFailure>
     ensures { IfOk result (λ text. IsPrinted audit.now text.items) }
 {
     let [table] = audit.tables() else {
-        return Err(RoundError::Device);
+        return Err(RoundFailure::Refused);
     };
     let mut text = Vec::from_slice(alloc, b"audit ok\n")?;
     push_rows(alloc, &mut text, &table.cell)?;

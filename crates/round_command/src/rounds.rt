@@ -1,13 +1,11 @@
 //! The subcommand `round`.
 
-ghost use Rattle.std.specs.Prelude.{◌≡◌, ◌≢◌, ◌≤◌, ℕ, List, IfOk, None};
+ghost use Rattle.std.specs.Prelude.{◌≡◌, ◌≢◌, ◌≤◌, ◌⊎◌, ℕ, List, IfOk};
 ghost use Rattle.std.specs.Io.KnownBytes.{Appends};
 ghost use Rattle.scene_commands.specs.Endings.{line_of};
-ghost use Rattle.table_shards.specs.Audits.{Audits, UnlockedState};
-ghost use Rattle.table_shards.specs.Receipts.{SeatState};
-ghost use Rattle.round_command.specs.Rounds.{IsPrinted};
+ghost use Rattle.round_command.specs.Rounds.{IsAudited, IsCutShort, IsTextOf};
 
-use crate::error::{RoundError, error_of};
+use crate::failure::{RoundFailure, failure_of};
 use crate::printing::printed;
 use crate::table::{SESSION, TABLE, new_table, roster};
 use crate::tracking::track_all;
@@ -36,8 +34,9 @@ pub struct RoundSize {
 ///
 /// Threads, at most 8, change one table, each under its lock, while a session's worker in a thread of its own copies, plans, settles and
 /// acknowledges until there is nothing to copy. Once all have ended, this thread goes on as the worker until there is nothing
-/// again, and audits all seats. Where no thread is to be had, all that ran are joined, and the end is `Device`. Where it ends
-/// early, nothing is written on the output, unless a device failed there.
+/// again, and audits all seats. Where no thread is to be had, all that ran are joined, and the end is `Device`. Nothing is written
+/// on the output before the audit has found nothing wrong: where the round ends early, the output is as it was, unless the output
+/// itself fails, which may have taken a part of the text.
 pub fn round<R: Threads + Wait + Sync, W: Write + Faults, E: Write + Faults>(
     rt: &R,
     alloc: Global,
@@ -46,15 +45,16 @@ pub fn round<R: Threads + Wait + Sync, W: Write + Faults, E: Write + Faults>(
     errors: &mut E,
 ) -> Ending
     requires { asked.threads ≤ 8 }
-    ensures done { result ≡ Ending.Done → (u : UnlockedState) × (seats : List SeatState) × (text : List ℕ)
-        × Audits u seats None × IsPrinted u text × Appends (W.contents output.old) (W.contents output.new) text }
-    ensures silent { result ≢ Ending.Done → result ≢ Ending.Device → output.new ≡ output.old }
+    ensures done { result ≡ Ending.Done → (text : List ℕ) × IsTextOf asked.threads text × Appends (W.contents output.old) (W.contents output.new) text }
+    ensures silent { result ≢ Ending.Done → (output.new ≡ output.old)
+        ⊎ ((result ≡ Ending.Device) × IsCutShort asked.threads (W.contents output.old) (W.contents output.new)) }
+    ensures ends { (result ≡ Ending.Done) ⊎ ((result ≡ Ending.Memory) ⊎ (result ≡ Ending.Device)) }
     ensures said { result ≢ Ending.Device → Appends (E.contents errors.old) (E.contents errors.new) (line_of result) }
 {
     let text = match audited_text(rt, alloc, asked) {
         Ok(text) => text,
-        Err(RoundError::Memory) => return Ending::Memory.said(alloc, errors),
-        Err(RoundError::Device) => return Ending::device(errors),
+        Err(RoundFailure::Memory) => return Ending::Memory.said(alloc, errors),
+        Err(RoundFailure::NoThread | RoundFailure::Refused) => return Ending::device(errors),
     };
     match write_all(output, text.as_slice()) {
         Ok(()) => Ending::Done,
@@ -67,9 +67,9 @@ fn audited_text<R: Threads + Wait + Sync>(
     rt: &R,
     alloc: Global,
     asked: RoundSize,
-) -> Result<Vec<u8>, RoundError>
+) -> Result<Vec<u8>, RoundFailure>
     requires { asked.threads ≤ 8 }
-    ensures { IfOk result (λ text. (u : UnlockedState) × (seats : List SeatState) × Audits u seats None × IsPrinted u text.items) }
+    ensures { IfOk result (λ text. IsTextOf asked.threads text.items) }
 {
     let audit = run(rt, alloc, asked)?;
     printed(alloc, &audit)
@@ -80,9 +80,9 @@ fn run<R: Threads + Wait + Sync>(
     rt: &R,
     alloc: Global,
     asked: RoundSize,
-) -> Result<Audit, RoundError>
+) -> Result<Audit, RoundFailure>
     requires { asked.threads ≤ 8 }
-    ensures { IfOk result (λ audit. (seats : List SeatState) × Audits audit seats None) }
+    ensures { IfOk result (λ audit. IsAudited asked.threads audit) }
 {
     let mut cells = Vec::new(alloc);
     cells.push(new_table(alloc)?)?;
@@ -90,11 +90,11 @@ fn run<R: Threads + Wait + Sync>(
     let known = Known::fresh(alloc, roster(alloc)?);
     let seats = seats_after(rt, alloc, &shards, asked.tracks, seats, known)?;
     let Ok(unlocked) = shards.unlock(alloc) else {
-        return Err(RoundError::Memory);
+        return Err(RoundFailure::Memory);
     };
     match unlocked.audit(seats) {
         Ok(audit) => Ok(audit),
-        Err(_) => Err(RoundError::Device),
+        Err(_) => Err(RoundFailure::Refused),
     }
 }
 
@@ -107,9 +107,9 @@ fn seats_after<R: Threads + Wait + Sync>(
     tracks: u32,
     mut seats: Vec<Seat>,
     known: Known,
-) -> Result<Vec<Seat>, RoundError> {
+) -> Result<Vec<Seat>, RoundFailure> {
     let (Some(own), Some(seat)) = (seats.pop(), seats.pop()) else {
-        return Err(RoundError::Device);
+        return Err(RoundFailure::Refused);
     };
     let own = opened(rt, shards, own)?;
     let worker = Worker { seat, known };
@@ -123,14 +123,14 @@ fn seats_after<R: Threads + Wait + Sync>(
 }
 
 /// Opens the session, in one hold of the lock.
-fn opened<R: Wait>(rt: &R, shards: &Shards, seat: Seat) -> Result<Seat, RoundError> {
+fn opened<R: Wait>(rt: &R, shards: &Shards, seat: Seat) -> Result<Seat, RoundFailure> {
     let Some(lock) = shards.cell(TABLE) else {
-        return Err(RoundError::Device);
+        return Err(RoundFailure::Refused);
     };
     let mut locked = lock.lock(rt);
     match held::open_session(&mut locked, seat, TABLE, SESSION) {
         (seat, Ok(())) => Ok(seat),
-        (_, Err(error)) => Err(error_of(error)),
+        (_, Err(error)) => Err(failure_of(error)),
     }
 }
 
@@ -143,18 +143,18 @@ fn run_threads<R: Threads + Wait + Sync>(
     tracks: u32,
     seats: Vec<Seat>,
     worker: Worker,
-) -> Result<(Vec<Seat>, Worker), RoundError> {
+) -> Result<(Vec<Seat>, Worker), RoundFailure> {
     thread::scope(thread::scope_env(), rt, move |scope| {
         let mut trackers = Vec::new(alloc);
         for seat in seats {
             let key = seat.number();
             match scope.spawn(move || track_all(rt, shards, seat, key, tracks)) {
                 Ok(tracker) => trackers.push(tracker)?,
-                Err(_) => return Err(RoundError::Device),
+                Err(_) => return Err(RoundFailure::NoThread),
             }
         }
         let Ok(teaching) = scope.spawn(move || work(rt, alloc, &Open, shards, worker)) else {
-            return Err(RoundError::Device);
+            return Err(RoundFailure::NoThread);
         };
         let mut back = Vec::new(alloc);
         for tracker in trackers {

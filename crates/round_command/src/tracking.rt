@@ -1,6 +1,6 @@
 //! A thread that changes the table.
 
-use crate::error::{RoundError, error_of};
+use crate::failure::{RoundFailure, failure_of};
 use crate::table::TABLE;
 use std::sync::Wait;
 use table_cell::Reply;
@@ -13,9 +13,9 @@ fn track_once<R: Wait>(
     shards: &Shards,
     seat: Seat,
     key: u32,
-) -> (Seat, Result<Reply, RoundError>) {
+) -> (Seat, Result<Reply, RoundFailure>) {
     let Some(lock) = shards.cell(TABLE) else {
-        return (seat, Err(RoundError::Device));
+        return (seat, Err(RoundFailure::Refused));
     };
     let change = Change::Add(DataType::Gpc0, 1);
     let mut locked = lock.lock(rt);
@@ -27,7 +27,7 @@ fn track_once<R: Wait>(
         change,
         Moment::least(),
     );
-    (seat, answer.map_err(|error| error_of(error)))
+    (seat, answer.map_err(|error| failure_of(error)))
 }
 
 /// Adds 1 to gpc0 of the key so many times, each in a hold of the table's lock of its own. Hands back the seat, with what the
@@ -38,7 +38,7 @@ pub fn track_all<R: Wait>(
     seat: Seat,
     key: u32,
     tracks: u32,
-) -> (Seat, Result<Option<Reply>, RoundError>) {
+) -> (Seat, Result<Option<Reply>, RoundFailure>) {
     let mut seat = seat;
     let mut last = None;
     for _ in 0..tracks {

@@ -3,7 +3,7 @@
 ghost use Rattle.std.specs.Prelude.{ℕ, IfOk, List};
 ghost use Rattle.known_state.specs.Lessons.{IsLessonFor};
 
-use crate::error::{RoundError, error_of};
+use crate::failure::{RoundFailure, failure_of};
 use crate::table::{SESSION, TABLE};
 use known_state::Known;
 use peers_engine::{Gate, Stage};
@@ -28,9 +28,9 @@ fn copied<R: Wait>(
     rt: &R,
     shards: &Shards,
     seat: Seat,
-) -> (Seat, Result<Option<Batch>, RoundError>) {
+) -> (Seat, Result<Option<Batch>, RoundFailure>) {
     let Some(lock) = shards.cell(TABLE) else {
-        return (seat, Err(RoundError::Device));
+        return (seat, Err(RoundFailure::Refused));
     };
     let mut locked = lock.lock(rt);
     let (seat, answer) = held::copy(
@@ -45,16 +45,16 @@ fn copied<R: Wait>(
     match answer {
         Ok(batch) => (seat, Ok(Some(batch))),
         Err(ShardError::Cell(CopyError::Nothing)) => (seat, Ok(None)),
-        Err(error) => (seat, Err(error_of(error))),
+        Err(error) => (seat, Err(failure_of(error))),
     }
 }
 
 /// What a learner in that state knows once it was taught the batch. No lock is held, and no runtime is at hand to take one.
-fn planned(alloc: Global, known: &Known, batch: &Batch) -> Result<Known, RoundError>
+fn planned(alloc: Global, known: &Known, batch: &Batch) -> Result<Known, RoundFailure>
     ensures { IfOk result (λ after. (bytes : List ℕ) × IsLessonFor known.now batch.now bytes after) }
 {
     if !batch.is_for(known.roster()) {
-        return Err(RoundError::Device);
+        return Err(RoundFailure::Refused);
     }
     let lesson = teach(alloc, known, batch)?;
     Ok(lesson.known)
@@ -66,13 +66,13 @@ fn settled<R: Wait>(
     shards: &Shards,
     seat: Seat,
     batch: &Batch,
-) -> (Seat, Result<(), RoundError>) {
+) -> (Seat, Result<(), RoundFailure>) {
     let Some(lock) = shards.cell(TABLE) else {
-        return (seat, Err(RoundError::Device));
+        return (seat, Err(RoundFailure::Refused));
     };
     let mut locked = lock.lock(rt);
     let (seat, answer) = held::settle(&mut locked, seat, TABLE, SESSION, batch);
-    (seat, answer.map_err(|error| error_of(error)))
+    (seat, answer.map_err(|error| failure_of(error)))
 }
 
 /// Acknowledges the last number of the batch, in one hold of the lock.
@@ -81,15 +81,15 @@ fn acknowledged<R: Wait>(
     shards: &Shards,
     seat: Seat,
     batch: &Batch,
-) -> (Seat, Result<(), RoundError>) {
+) -> (Seat, Result<(), RoundFailure>) {
     let (Some(lock), Some(last)) = (shards.cell(TABLE), batch.updates().last()) else {
-        return (seat, Err(RoundError::Device));
+        return (seat, Err(RoundFailure::Refused));
     };
     let mut locked = lock.lock(rt);
     let (seat, answer) = held::ack(&mut locked, seat, TABLE, SESSION, last.number);
     match answer {
         Ok(_) => (seat, Ok(())),
-        Err(error) => (seat, Err(error_of(error))),
+        Err(error) => (seat, Err(failure_of(error))),
     }
 }
 
@@ -101,7 +101,7 @@ fn taught<R: Wait, G: Gate>(
     shards: &Shards,
     worker: Worker,
     batch: &Batch,
-) -> (Worker, Result<(), RoundError>) {
+) -> (Worker, Result<(), RoundFailure>) {
     let Worker { seat, known } = worker;
     gate.at(rt, Stage::Copied);
     let known = match planned(alloc, &known, batch) {
@@ -125,7 +125,7 @@ pub fn work<R: Wait, G: Gate>(
     gate: &G,
     shards: &Shards,
     worker: Worker,
-) -> (Worker, Result<(), RoundError>) {
+) -> (Worker, Result<(), RoundFailure>) {
     let mut worker = worker;
     for _ in rt.forever() {
         let Worker { seat, known } = worker;
