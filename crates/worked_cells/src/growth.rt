@@ -1,10 +1,12 @@
 //! Calls that want memory: one that gets none changes nothing, and answers when it is made again. Each test can be run
 //! with any one allocation failing, as it can with none.
 
-use crate::parts::{add, added, cell, copied, count};
+ghost use Rattle.std.specs.Prelude.{◌≤◌};
+
+use crate::parts::{add, added, cell, copied, count, has, told};
 use std::alloc::Global;
-use table_cell::{Reply, TableCell, TrackError};
-use table_types::{CopyKind, Settled};
+use table_cell::{LearnError, Reply, TableCell, TrackError};
+use table_types::{CopyKind, Moment, Settled};
 
 /// Session 1 is open, and key 7 has 4.
 fn is_begun(cell: &mut TableCell) -> Option<bool> {
@@ -12,7 +14,14 @@ fn is_begun(cell: &mut TableCell) -> Option<bool> {
 }
 
 fn prepared(alloc: Global) -> Option<TableCell> {
-    let mut cell = cell(alloc, 10, false, 1)?;
+    prepared_for(alloc, 10)
+}
+
+/// The same in a table of at most that many rows.
+fn prepared_for(alloc: Global, size: usize) -> Option<TableCell>
+    requires { (1 ≤ size) × (size ≤ 1000000) }
+{
+    let mut cell = cell(alloc, size, false, 1)?;
     if is_begun(&mut cell) == Some(true) {
         Some(cell)
     } else {
@@ -47,6 +56,44 @@ fn tracks(cell: &mut TableCell) -> Option<bool> {
     Some(last == Ok((2, 2)) && cell.events() == 3)
 }
 
+/// The same where key 7 leaves to make room for key 8.
+fn tracks_in_full(cell: &mut TableCell) -> Option<bool> {
+    if !tracks(cell)? {
+        return Some(false);
+    }
+    has_at_last(cell, &[(8, 2)])
+}
+
+/// Whether the cell has these rows, looked at once more where memory was wanted for it.
+fn has_at_last(cell: &TableCell, rows: &[(u32, u64)]) -> Option<bool> {
+    match has(cell, rows) {
+        Some(answer) => Some(answer),
+        None => has(cell, rows),
+    }
+}
+
+/// The number and the count that key 7 is answered at 5, which a peer tells; the update is made once more where memory
+/// was wanted for it.
+fn learned(alloc: Global, cell: &mut TableCell) -> Option<Result<(u32, u64), LearnError>> {
+    let update = match told(alloc, 10_000) {
+        Some(update) => update,
+        None => told(alloc, 10_000)?,
+    };
+    Some(match cell.learn(1, update, Moment::least()) {
+        Ok(reply) => Ok((reply.number, count(&reply.row).unwrap_or(0))),
+        Err(error) => Err(error),
+    })
+}
+
+fn learns(alloc: Global, cell: &mut TableCell) -> Option<bool> {
+    let first = learned(alloc, cell)?;
+    let wanted = first == Err(LearnError::Memory)
+        && cell.events() == 2
+        && has_at_last(cell, &[(7, 4)])?;
+    let last = if wanted { learned(alloc, cell)? } else { first };
+    Some(last == Ok((2, 5)) && cell.events() == 3)
+}
+
 /// The row that is copied, once more where memory was wanted for it and no event was left.
 fn copied_at_last(cell: &mut TableCell) -> Option<(u32, u32, u64)> {
     let first = copied(cell, CopyKind::Push, 0);
@@ -72,6 +119,18 @@ fn tracked(alloc: Global) -> Option<bool> {
     tracks(&mut prepared_at_last(alloc)?)
 }
 
+fn tracked_in_full(alloc: Global) -> Option<bool> {
+    let mut cell = match prepared_for(alloc, 1) {
+        Some(cell) => cell,
+        None => prepared_for(alloc, 1)?,
+    };
+    tracks_in_full(&mut cell)
+}
+
+fn taught(alloc: Global) -> Option<bool> {
+    learns(alloc, &mut prepared_at_last(alloc)?)
+}
+
 fn gone_on(alloc: Global) -> Option<bool> {
     goes_on(&mut prepared_at_last(alloc)?)
 }
@@ -79,6 +138,16 @@ fn gone_on(alloc: Global) -> Option<bool> {
 #[test]
 fn tracks_again(rt: HostRuntime) {
     assert!(rt; tracked(rt.alloc()) == Some(true));
+}
+
+#[test]
+fn tracks_again_where_it_is_full(rt: HostRuntime) {
+    assert!(rt; tracked_in_full(rt.alloc()) == Some(true));
+}
+
+#[test]
+fn learns_again(rt: HostRuntime) {
+    assert!(rt; taught(rt.alloc()) == Some(true));
 }
 
 #[test]

@@ -17,3 +17,5 @@ mod parts;
 mod refused;
 #[cfg(test)]
 mod sessions;
+#[cfg(test)]
+mod texts;
