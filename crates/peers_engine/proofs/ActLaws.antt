@@ -47,7 +47,7 @@ told_in (phases.Hello greeter bytes c) s e event acts here goes = (acts, goes, r
 told_in (phases.Open c) s e event acts here goes = told_open c.teaching s e event acts goes
 told_in phases.Ended s e event acts here goes = absurd here
 
-told_some : (s e : SessionState) (answer : Option Event) (event : Event) (acts : List Action) → answer ≡ Some event → Goes s event acts e → Told s answer ((event, acts) ∷ []) e
+pub told_some : (s e : SessionState) (answer : Option Event) (event : Event) (acts : List Action) → answer ≡ Some event → Goes s event acts e → Told s answer ((event, acts) ∷ []) e
 told_some s e answer event acts is goes = subst (λ (x : Option Event). Told s x ((event, acts) ∷ []) e) (sym is) (told_in s.phase s e event acts goes goes)
 
 -- an answer is heard
@@ -56,10 +56,3 @@ pub told_goes : (s e : SessionState) (answer : Option Event) (event : Event) (ol
     → (steps : List (Event × List Action)) × Told s answer steps e × (new ≡ old ++ asked steps)
 told_goes s e answer event old new is (acts, goes, kept) =
     ((event, acts) ∷ [], told_some s e answer event acts is goes, kept ∙ ap (λ (x : List Action). old ++ x) (sym (append-nil acts)))
-
--- and where that fails the session is over, before that or after
-pub told_breaks : (s e : SessionState) (answer : Option Event) (event : Event) → answer ≡ Some event
-    → ((e ≡ ended s) ⊎ ((acts : List Action) × Goes s event acts e))
-    → (steps : List (Event × List Action)) × (mid : SessionState) × (Told s answer steps mid ⊎ ((steps ≡ []) × (mid ≡ s))) × (ended e ≡ ended mid)
-told_breaks s e answer event is (inl over) = ([], s, inr (refl, refl), ap ended over)
-told_breaks s e answer event is (inr (acts, goes)) = ((event, acts) ∷ [], e, inl (told_some s e answer event acts is goes), refl)

@@ -12,9 +12,9 @@ use Rattle.session_core.specs.declared.action.Action.TheVariants as actions
 use Rattle.session_core.specs.declared.event.Event.{Event}
 use Rattle.session_core.specs.declared.event.Event.TheVariants as events
 use Rattle.peers_engine.specs.declared.errors.EngineError.{EngineError}
-use Rattle.peers_engine.specs.Doing.{Done, Falls, IsCut, error_text}
+use Rattle.peers_engine.specs.Doing.{Done, Fails, Falls, error_text}
 use Rattle.peers_engine.proofs.EndLaws.{unchanged}
-use Rattle.peers_engine.proofs.HaltLaws.{falls_cut}
+use Rattle.peers_engine.proofs.HaltLaws.{falls_short}
 
 -- the answer of a call that has one
 abbrev pub IsAnswer : Result Event EngineError → Option Event → Type 0
@@ -71,8 +71,8 @@ teach_done k action batch old new result answer is given (event, ok, some) =
 -- an error message that didn't go out whole
 pub part_falls : (k : KnownState) (action : Action) (kind : ErrorKind) (old new : Option (List ℕ)) (result : Result (Unit {0}) EngineError) (error : EngineError)
     → action ≡ actions.Part kind → IfErr result (λ (e : EngineError). Falls (error_text kind) e old new) → result ≡ Err error
-    → (out : List ℕ) × IsCut error k (action ∷ []) out × Appends old new out
+    → (out : List ℕ) × Fails k action error out × Appends old new out
 part_falls k action kind old new result error is given failed =
-    subst (λ (a : Action). (out : List ℕ) × IsCut error k (a ∷ []) out × Appends old new out) (sym is)
-    (falls_cut error k (actions.Part kind) (error_text kind) None old new (refl, refl)
+    subst (λ (a : Action). (out : List ℕ) × Fails k a error out × Appends old new out) (sym is)
+    (falls_short error k (actions.Part kind) (error_text kind) None old new (refl, refl)
     (subst (λ (r : Result (Unit {0}) EngineError). IfErr r (λ (e : EngineError). Falls (error_text kind) e old new)) failed given))

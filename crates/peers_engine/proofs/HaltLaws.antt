@@ -1,19 +1,24 @@
 -- Where an error ends what a session asked for.
-use Rattle.std.proofs.Common.{◌≡◌, ◌⊎◌, ℕ, List, [], ◌∷◌, ◌++◌, Option, Some, None, refl, sym, ap, ◌∙◌, subst, inl, inr, append_assoc}
+use Rattle.std.proofs.Common.{◌≡◌, ◌⊎◌, ℕ, Bool, true, false, List, [], ◌∷◌, ◌++◌, Option, Some, None, refl, sym, ap, ◌∙◌, subst, inl, inr, append_assoc}
 use Rattle.std.proofs.lemmas.List.{append-nil}
 use Rattle.std.proofs.lemmas.List.Concat.{flat_map-append}
-use Rattle.std.specs.Prelude.{take}
+use Rattle.std.proofs.lemmas.Bool.{false≢true, and_parts}
+use Rattle.std.specs.Prelude.{◌≢◌, take}
+use Rattle.std.specs.List.{list_all}
 use Rattle.std.specs.Io.KnownBytes.{Appends}
 use Rattle.known_state.specs.Known.{KnownState}
+use Rattle.table_types.specs.declared.copies.CopyKind.TheVariants as copies
 use Rattle.session_core.specs.declared.action.Action.{Action}
+use Rattle.session_core.specs.declared.action.Action.TheVariants as actions
 use Rattle.session_core.specs.declared.event.Event.{Event}
+use Rattle.session_core.specs.declared.state.State.TheVariants as states
 use Rattle.session_core.specs.Sessions.{SessionState, Goes, ended, state_of}
 use Rattle.session_core.specs.Runs.{Runs}
 use Rattle.peers_engine.specs.declared.errors.EngineError.{EngineError}
 use Rattle.peers_engine.specs.declared.errors.EngineError.TheVariants as errors
-use Rattle.peers_engine.specs.Doing.{Acts, Done, Falls, IsCut, IsQuiet, Stops, Told, asked}
-use Rattle.peers_engine.specs.Turns.{Breaks, Halts, HaltsIn, Reacts, ReactsToAll, Turns, first_event}
-use Rattle.peers_engine.proofs.ActLaws.{acts_on, one_act}
+use Rattle.peers_engine.specs.Doing.{Acts, Done, Fails, Falls, IsAtTable, IsCut, IsLost, IsRefusal, IsUnheard, Stops, Told, asked}
+use Rattle.peers_engine.specs.Turns.{Breaks, Halts, HaltsAt, Hears, Idles, Reacts, StopsTurn, TakesTurn, Turns, first_event, is_push}
+use Rattle.peers_engine.proofs.ActLaws.{acts_on, one_act, told_some}
 use Rattle.peers_engine.proofs.EndLaws.{unchanged}
 use Rattle.peers_engine.proofs.CalmLaws.{acts_calm, acts_last}
 use Rattle.peers_engine.proofs.RunLaws.{acts_run, runs_on}
@@ -31,61 +36,44 @@ pub act_more : (s mid e : SessionState) (acts : List Action) (act : Action) (ans
 act_more s mid e acts act answer told steps out bytes acted done tells =
     acts_on s mid e acts (act ∷ []) told steps out bytes acted (one_act mid e act answer steps bytes done tells)
 
--- what was written of an action doesn't depend on those after it
-cut_on : (error : EngineError) (k : KnownState) (act : Action) (rest : List Action) (out : List ℕ) → IsCut error k (act ∷ []) out → IsCut error k (act ∷ rest) out
-cut_on (errors.Write sent) k act rest out cut = cut
-cut_on errors.Read k act rest out cut = cut
-cut_on errors.Memory k act rest out cut = cut
-cut_on errors.Strange k act rest out cut = cut
-cut_on (errors.Session refused) k act rest out cut = cut
+-- a write failed
+pub falls_short : (error : EngineError) (k : KnownState) (act : Action) (bytes : List ℕ) (answer : Option Event) (old new : Option (List ℕ))
+    → Done k act bytes answer → Falls bytes error old new → (out : List ℕ) × Fails k act error out × Appends old new out
+falls_short (errors.Write sent) k act bytes answer old new done (within, appended) = (take sent bytes, (bytes, answer, done, within, refl), appended)
+falls_short errors.Read k act bytes answer old new done falls = absurd falls
+falls_short errors.Memory k act bytes answer old new done falls = absurd falls
+falls_short errors.Strange k act bytes answer old new done falls = absurd falls
+falls_short (errors.Session refused) k act bytes answer old new done falls = absurd falls
+
+-- a table refused, and nothing was written
+pub nothing_done : (error : EngineError) (k : KnownState) (act : Action) (known : Option (List ℕ)) → IsRefusal error → IsAtTable act → (out : List ℕ) × Fails k act error out × Appends known known out
+nothing_done errors.Memory k act known refusal here = ([], (refusal, here, refl), unchanged known)
+nothing_done errors.Strange k act known refusal here = ([], (refusal, here, refl), unchanged known)
+nothing_done errors.Read k act known refusal here = absurd refusal
+nothing_done (errors.Write sent) k act known refusal here = absurd refusal
+nothing_done (errors.Session refused) k act known refusal here = absurd refusal
 
 -- an action failed
 pub act_stops : (s mid : SessionState) (all before rest : List Action) (act : Action) (error : EngineError) (told : List (Event × List Action)) (first last : List ℕ)
-    → all ≡ before ++ (act ∷ rest) → Acts s before told first mid → IsCut error mid.known (act ∷ []) last → Stops s all error told (first ++ last) mid
-act_stops s mid all before rest act error told first last is acted cut =
-    (before, act ∷ rest, first, last, mid, is, acted, cut_on error mid.known act rest last cut, refl, refl)
+    → all ≡ before ++ (act ∷ rest) → Acts s before told first mid → Fails mid.known act error last → Stops s all error told (first ++ last) mid
+act_stops s mid all before rest act error told first last is acted fails =
+    (before, act ∷ rest, first, last, mid, is, acted, inl (inl fails), refl, refl)
 
-quiet_none : (error : EngineError) (k : KnownState) (rest : List Action) → IsQuiet error → IsCut error k rest []
-quiet_none (errors.Write sent) k rest quiet = absurd quiet
-quiet_none errors.Read k rest quiet = absurd quiet
-quiet_none errors.Memory k [] quiet = refl
-quiet_none errors.Memory k (act ∷ rest) quiet = inl refl
-quiet_none errors.Strange k [] quiet = refl
-quiet_none errors.Strange k (act ∷ rest) quiet = inl refl
-quiet_none (errors.Session refused) k [] quiet = refl
-quiet_none (errors.Session refused) k (act ∷ rest) quiet = inl refl
+more_told : (told : List (Event × List Action)) (step : Event × List Action) → (told ++ (step ∷ [])) ≢ []
+more_told [] step is = cc is
+more_told (one ∷ told) step is = cc is
 
-quiet_all : (error : EngineError) (k : KnownState) (act : Action) (rest : List Action) (out : List ℕ) (answer : Option Event) → IsQuiet error → Done k act out answer → IsCut error k (act ∷ rest) out
-quiet_all (errors.Write sent) k act rest out answer quiet done = absurd quiet
-quiet_all errors.Read k act rest out answer quiet done = absurd quiet
-quiet_all errors.Memory k act rest out answer quiet done = inr (answer, done)
-quiet_all errors.Strange k act rest out answer quiet done = inr (answer, done)
-quiet_all (errors.Session refused) k act rest out answer quiet done = inr (answer, done)
-
--- a write failed
-pub falls_cut : (error : EngineError) (k : KnownState) (act : Action) (bytes : List ℕ) (answer : Option Event) (old new : Option (List ℕ))
-    → Done k act bytes answer → Falls bytes error old new → (out : List ℕ) × IsCut error k (act ∷ []) out × Appends old new out
-falls_cut (errors.Write sent) k act bytes answer old new done (within, appended) = (take sent bytes, (bytes, answer, done, within, refl), appended)
-falls_cut errors.Read k act bytes answer old new done falls = absurd falls
-falls_cut errors.Memory k act bytes answer old new done falls = absurd falls
-falls_cut errors.Strange k act bytes answer old new done falls = absurd falls
-falls_cut (errors.Session refused) k act bytes answer old new done falls = absurd falls
-
--- a table refused, and nothing was written
-pub refused_cut : (error : EngineError) (k : KnownState) (act : Action) (known : Option (List ℕ)) → IsQuiet error → (out : List ℕ) × IsCut error k (act ∷ []) out × Appends known known out
-refused_cut error k act known quiet = ([], quiet_none error k (act ∷ []) quiet, unchanged known)
-
--- an action was done, and its answer couldn't be told, or what it asks for not be kept
-pub tell_stops : (s mid e : SessionState) (all before rest : List Action) (act : Action) (answer : Option Event) (error : EngineError) (told : List (Event × List Action)) (first bytes : List ℕ)
-    → all ≡ before ++ (act ∷ rest) → Acts s before told first mid → Done mid.known act bytes answer → IsQuiet error
-    → ((steps : List (Event × List Action)) × (then : SessionState) × (Told mid answer steps then ⊎ ((steps ≡ []) × (then ≡ mid))) × (ended e ≡ ended then))
+-- an action was done, and its answer was refused, or what it asks for couldn't be kept
+pub tell_stops : (s mid e : SessionState) (all before rest : List Action) (act : Action) (answer : Option Event) (event : Event) (error : EngineError) (told : List (Event × List Action)) (first bytes : List ℕ)
+    → all ≡ before ++ (act ∷ rest) → Acts s before told first mid → Done mid.known act bytes answer → answer ≡ Some event → state_of mid.phase ≢ states.Ended → IsUnheard mid event error e
     → (told' : List (Event × List Action)) × Stops s all error told' (first ++ bytes) e
-tell_stops s mid e all before rest act answer error told first bytes is acted done quiet (steps, then, inl tells, same) =
+tell_stops s mid e all before rest act answer event error told first bytes is acted done some going (inl (refused, over)) =
+    let answered = subst (λ (x : Option Event). Done mid.known act bytes x) some done in
+    (told, (before, act ∷ rest, first, bytes, mid, is, acted, inl (inr (event, answered, going, refused)), refl, ap ended over))
+tell_stops s mid e all before rest act answer event error told first bytes is acted done some going (inr (acts, goes, memory)) =
     let rejoined : all ≡ (before ++ (act ∷ [])) ++ rest = is ∙ sym (append_assoc before (act ∷ []) rest) in
-    let acts = act_more s mid then before act answer told steps first bytes acted done tells in
-    (told ++ steps, (before ++ (act ∷ []), rest, first ++ bytes, [], then, rejoined, acts, quiet_none error then.known rest quiet, sym (append-nil (first ++ bytes)), same))
-tell_stops s mid e all before rest act answer error told first bytes is acted done quiet (steps, then, inr (none, still), same) =
-    (told, (before, act ∷ rest, first, bytes, mid, is, acted, quiet_all error mid.known act rest bytes answer quiet done, refl, same ∙ ap ended still))
+    let more = act_more s mid e before act answer told ((event, acts) ∷ []) first bytes acted done (told_some mid e answer event acts some goes) in
+    (told ++ ((event, acts) ∷ []), (before ++ (act ∷ []), rest, first ++ bytes, [], e, rejoined, more, inr (more_told told (event, acts), memory, refl), sym (append-nil (first ++ bytes)), refl))
 
 -- ---- one event
 
@@ -103,31 +91,25 @@ react_done s mid next e event acts told more out rest goes first second =
           (acts_on mid next e acts (asked told) told more out rest first second),
     )
 
-cut_first : (error : EngineError) (k : KnownState) (act : Action) (rest : List Action) (out : List ℕ) → IsCut error k (act ∷ rest) out → IsCut error k (act ∷ []) out
-cut_first (errors.Write sent) k act rest out cut = cut
-cut_first errors.Read k act rest out cut = cut
-cut_first errors.Memory k act rest out cut = cut
-cut_first errors.Strange k act rest out cut = cut
-cut_first (errors.Session refused) k act rest out cut = cut
+cut_more : (s : SessionState) (rest more : List Action) (told : List (Event × List Action)) (error : EngineError) (out : List ℕ) → (IsCut s rest error out ⊎ IsLost told error out) → (IsCut s (rest ++ more) error out ⊎ IsLost told error out)
+cut_more s [] more told error out (inl cut) = absurd cut
+cut_more s (act ∷ rest) more told error out (inl cut) = inl cut
+cut_more s rest more told error out (inr lost) = inr lost
 
-cut_more : (error : EngineError) (k : KnownState) (rest more : List Action) (out : List ℕ) → IsCut error k rest out → IsCut error k (rest ++ more) out
-cut_more error k (act ∷ rest) more out cut = cut_on error k act (rest ++ more) out (cut_first error k act rest out cut)
-cut_more (errors.Write sent) k [] more out cut = absurd cut
-cut_more errors.Read k [] [] out cut = cut
-cut_more errors.Read k [] (act ∷ more) out cut = inl cut
-cut_more errors.Memory k [] [] out cut = cut
-cut_more errors.Memory k [] (act ∷ more) out cut = inl cut
-cut_more errors.Strange k [] [] out cut = cut
-cut_more errors.Strange k [] (act ∷ more) out cut = inl cut
-cut_more (errors.Session refused) k [] [] out cut = cut
-cut_more (errors.Session refused) k [] (act ∷ more) out cut = inl cut
+after_nothing : (first rest : List (Event × List Action)) → rest ≢ [] → (first ++ rest) ≢ []
+after_nothing [] rest some is = some is
+after_nothing (step ∷ first) rest some is = cc is
+
+lost_later : (s : SessionState) (rest : List Action) (first told : List (Event × List Action)) (error : EngineError) (out : List ℕ) → (IsCut s rest error out ⊎ IsLost told error out) → (IsCut s rest error out ⊎ IsLost (first ++ told) error out)
+lost_later s rest first told error out (inl cut) = inl cut
+lost_later s rest first told error out (inr (some, memory, nothing)) = inr (after_nothing first told some, memory, nothing)
 
 -- an error among what the event asked for
 pub react_stops : (s mid e : SessionState) (event : Event) (acts : List Action) (error : EngineError) (told : List (Event × List Action)) (out : List ℕ)
     → Goes s event acts mid → Stops mid acts error told out e → Halts s event error out e
 react_stops s mid e event acts error told out goes (before, rest, first, last, next, is, acted, cut, written, same) =
     let all : acts ++ asked told ≡ before ++ (rest ++ asked told) = ap (λ (x : List Action). x ++ asked told) is ∙ append_assoc before rest (asked told) in
-    inr (acts, told, mid, goes, (before, rest ++ asked told, first, last, next, all, acted, cut_more error next.known rest (asked told) last cut, written, same))
+    inr (acts, told, mid, goes, (before, rest ++ asked told, first, last, next, all, acted, cut_more next rest (asked told) told error last cut, written, same))
 
 -- an error among what the answers asked for
 pub react_stops_later : (s mid next e : SessionState) (event : Event) (acts : List Action) (error : EngineError) (told more : List (Event × List Action)) (out rest : List ℕ)
@@ -140,26 +122,27 @@ react_stops_later s mid next e event acts error told more out rest goes done (be
     ∙ sym (append_assoc acts before (left ++ asked more)))) in
     let done_on = acts_on mid next then acts before told more out first done acted in
     let rejoined : out ++ rest ≡ (out ++ first) ++ last = ap (λ (x : List ℕ). out ++ x) written ∙ sym (append_assoc out first last) in
-    inr (acts, told ++ more, mid, goes, (acts ++ before, left ++ asked more, out ++ first, last, then, all, done_on, cut_more error then.known left (asked more) last cut, rejoined, same))
+    inr (acts, told ++ more, mid, goes, (acts ++ before, left ++ asked more, out ++ first, last, then, all, done_on, lost_later then (left ++ asked more) told more error last (cut_more then left (asked more) more error last cut), rejoined, same))
 
 -- ---- runs
 
 run_of : (s e : SessionState) (event : Event) (out : List ℕ) → Reacts s event out e → (acts : List Action) × (steps : List (Event × List Action)) × Runs s ((event, acts) ∷ steps) e
 run_of s e event out (acts, told, mid, goes, done) = (acts, told, (mid, goes, acts_run mid e (acts ++ asked told) told out done))
 
-all_run : (s e : SessionState) (heard : List Event) (out : List ℕ) → ReactsToAll s heard out e → (steps : List (Event × List Action)) × Runs s steps e
-all_run s e [] out (none, same) = ([], same)
-all_run s e (event ∷ heard) out (first, more, mid, reacts, rest, is) =
-    let one = run_of s mid event first reacts in
-    let others = all_run mid e heard more rest in
-    (((event, one.0) ∷ one.1) ++ others.0, runs_on s mid e ((event, one.0) ∷ one.1) others.0 one.2 others.1)
+idles_run : (s e : SessionState) (event : Event) → Idles s event e → (acts : List Action) × (steps : List (Event × List Action)) × Runs s ((event, acts) ∷ steps) e
+idles_run s e event (acts, told, mid, goes, pushes, done, nothing) = (acts, told, (mid, goes, acts_run mid e acts told [] done))
+
+hears_run : (s e : SessionState) (heard : Option Event) (out : List ℕ) → Hears s heard out e → (steps : List (Event × List Action)) × Runs s steps e
+hears_run s e None out (nothing, same) = ([], same)
+hears_run s e (Some event) out reacts = let one = run_of s e event out reacts in ((event, one.0) ∷ one.1, one.2)
 
 -- the session moved by a run
-pub turns_of : (s e : SessionState) (heard : List Event) (out : List ℕ) → ReactsToAll s (first_event (state_of s.phase) ∷ heard) out e → Turns s e
-turns_of s e heard out (first, more, mid, reacts, rest, is) =
-    let one = run_of s mid (first_event (state_of s.phase)) first reacts in
-    let others = all_run mid e heard more rest in
-    (one.0, one.1 ++ others.0, runs_on s mid e ((first_event (state_of s.phase), one.0) ∷ one.1) others.0 one.2 others.1)
+pub turns_of : (s e : SessionState) (heard : Option Event) (out : List ℕ) → TakesTurn s heard out e → Turns s e
+turns_of s e heard out (inl (none, reacts)) = run_of s e (first_event (state_of s.phase)) out reacts
+turns_of s e heard out (inr (mid, idles, hears)) =
+    let one = idles_run s mid (first_event (state_of s.phase)) idles in
+    let more = hears_run mid e heard out hears in
+    (one.0, one.1 ++ more.0, runs_on s mid e ((first_event (state_of s.phase), one.0) ∷ one.1) more.0 one.2 more.1)
 
 -- how far a run went
 abbrev Ran : SessionState → Event → SessionState → Type 0
@@ -167,36 +150,28 @@ Ran s event e =
     (acts : List Action) × (steps : List (Event × List Action)) × (mid : SessionState) × Runs s ((event, acts) ∷ steps) mid × (ended e ≡ ended mid)
 
 halts_ran : (s e : SessionState) (event : Event) (error : EngineError) (out : List ℕ) → Halts s event error out e → (ended e ≡ ended s) ⊎ Ran s event e
-halts_ran s e event error out (inl (quiet, none, same)) = inl same
+halts_ran s e event error out (inl (refused, none, same)) = inl same
 halts_ran s e event error out (inr (acts, told, mid, goes, (before, rest, first, last, next, is, acted, cut, written, same))) =
     inr (acts, told, next, (mid, goes, acts_run mid next before told first acted), same)
 
-halted_ran : (s e : SessionState) (heard : List Event) (error : EngineError) (out : List ℕ) → HaltsIn s heard error out e
+halted_ran : (s e : SessionState) (heard : Option Event) (error : EngineError) (out : List ℕ) → HaltsAt s heard error out e
     → (steps : List (Event × List Action)) × (mid : SessionState) × Runs s steps mid × (ended e ≡ ended mid)
-halted_ran s e [] (errors.Write sent) out halts = absurd halts
-halted_ran s e [] errors.Read out (none, same) = ([], s, refl, same)
-halted_ran s e [] errors.Memory out (none, same) = ([], s, refl, same)
-halted_ran s e [] errors.Strange out (none, same) = ([], s, refl, same)
-halted_ran s e [] (errors.Session refused) out (none, same) = ([], s, refl, same)
-halted_ran s e (event ∷ heard) error out (inl halts) = elim (halts_ran s e event error out halts) [
+halted_ran s e None error out (unread, nothing, same) = ([], s, refl, same)
+halted_ran s e (Some event) error out halts = elim (halts_ran s e event error out halts) [
   | inl same ↦ ([], s, refl, same)
   | inr ran ↦ ((event, ran.0) ∷ ran.1, ran.2, ran.3, ran.4)
 ]
-halted_ran s e (event ∷ heard) error out (inr (first, more, mid, reacts, rest, is)) =
-    let one = run_of s mid event first reacts in
-    let others = halted_ran mid e heard error more rest in
-    (((event, one.0) ∷ one.1) ++ others.0, others.1, runs_on s mid others.1 ((event, one.0) ∷ one.1) others.0 one.2 others.2, others.3)
 
 -- the session moved by a run or none, and was then ended
-pub breaks_of : (s e new : SessionState) (heard : List Event) (error : EngineError) (out : List ℕ) → HaltsIn s (first_event (state_of s.phase) ∷ heard) error out e → new ≡ ended e → Breaks s new
-breaks_of s e new heard error out (inl halts) is = elim (halts_ran s e (first_event (state_of s.phase)) error out halts) [
+pub breaks_of : (s e new : SessionState) (heard : Option Event) (error : EngineError) (out : List ℕ) → StopsTurn s heard error out e → new ≡ ended e → Breaks s new
+breaks_of s e new heard error out (inl (none, halts)) is = elim (halts_ran s e (first_event (state_of s.phase)) error out halts) [
   | inl same ↦ inl (is ∙ same)
   | inr ran ↦ inr (ran.2, (ran.0, ran.1, ran.3), is ∙ ran.4)
 ]
-breaks_of s e new heard error out (inr (first, more, mid, reacts, rest, written)) is =
-    let one = run_of s mid (first_event (state_of s.phase)) first reacts in
-    let others = halted_ran mid e heard error more rest in
-    inr (others.1, (one.0, one.1 ++ others.0, runs_on s mid others.1 ((first_event (state_of s.phase), one.0) ∷ one.1) others.0 one.2 others.2), is ∙ others.3)
+breaks_of s e new heard error out (inr (mid, idles, halts)) is =
+    let one = idles_run s mid (first_event (state_of s.phase)) idles in
+    let more = halted_ran mid e heard error out halts in
+    inr (more.1, (one.0, one.1 ++ more.0, runs_on s mid more.1 ((first_event (state_of s.phase), one.0) ∷ one.1) more.0 one.2 more.2), is ∙ more.3)
 
 -- ---- the end
 
@@ -204,29 +179,59 @@ halt_ended : (s e : SessionState) (event : Event) (error : EngineError) (out : L
 halt_ended s e event error out (inl halts) = inl halts
 halt_ended s e event error out (inr halts) = inr halts
 
-halts_ended : (s e : SessionState) (heard : List Event) (error : EngineError) (out : List ℕ) → HaltsIn s heard error out e → HaltsIn s heard error out (ended e)
-halts_ended s e [] (errors.Write sent) out halts = absurd halts
-halts_ended s e [] errors.Read out halts = halts
-halts_ended s e [] errors.Memory out halts = halts
-halts_ended s e [] errors.Strange out halts = halts
-halts_ended s e [] (errors.Session refused) out halts = halts
-halts_ended s e (event ∷ heard) error out (inl halts) = inl (halt_ended s e event error out halts)
-halts_ended s e (event ∷ heard) error out (inr (first, more, mid, reacts, rest, is)) = inr (first, more, mid, reacts, halts_ended mid e heard error more rest, is)
+halts_ended : (s e : SessionState) (heard : Option Event) (error : EngineError) (out : List ℕ) → HaltsAt s heard error out e → HaltsAt s heard error out (ended e)
+halts_ended s e None error out halts = halts
+halts_ended s e (Some event) error out halts = halt_ended s e event error out halts
+
+stops_ended : (s e : SessionState) (heard : Option Event) (error : EngineError) (out : List ℕ) → StopsTurn s heard error out e → StopsTurn s heard error out (ended e)
+stops_ended s e heard error out (inl (none, halts)) = inl (none, halt_ended s e (first_event (state_of s.phase)) error out halts)
+stops_ended s e heard error out (inr (mid, idles, halts)) = inr (mid, idles, halts_ended mid e heard error out halts)
 
 -- what was written stays written when the session is ended
-pub halted : (s e new : SessionState) (heard : List Event) (error : EngineError) (out : List ℕ) → HaltsIn s heard error out e → new ≡ ended e → HaltsIn s heard error out new
-halted s e new heard error out halts is = subst (λ (x : SessionState). HaltsIn s heard error out x) (sym is) (halts_ended s e heard error out halts)
+pub halted : (s e new : SessionState) (heard : Option Event) (error : EngineError) (out : List ℕ) → StopsTurn s heard error out e → new ≡ ended e → StopsTurn s heard error out new
+halted s e new heard error out halts is = subst (λ (x : SessionState). StopsTurn s heard error out x) (sym is) (stops_ended s e heard error out halts)
 
--- ---- one event, and then others
+-- ---- nothing to do
 
-pub one_event : (s e : SessionState) (event : Event) (out : List ℕ) → Reacts s event out e → ReactsToAll s (event ∷ []) out e
-one_event s e event out reacts = (out, [], e, reacts, (refl, refl), sym (append-nil out))
+-- pushes write nothing
+push_silent : (k : KnownState) (act : Action) (out : List ℕ) (answer : Option Event) → is_push act ≡ true → Done k act out answer → out ≡ []
+push_silent k (actions.Copy table copies.Push) out answer is done = done.0
+push_silent k (actions.Copy table copies.Resync) out answer is done = done.0
+push_silent k (actions.Send bytes) out answer is done = absurd (false≢true is)
+push_silent k (actions.Learn u) out answer is done = absurd (false≢true is)
+push_silent k (actions.Ack table number) out answer is done = absurd (false≢true is)
+push_silent k (actions.Reopen table) out answer is done = absurd (false≢true is)
+push_silent k (actions.Teach batch) out answer is done = absurd (false≢true is)
+push_silent k (actions.Part kind) out answer is done = absurd (false≢true is)
+push_silent k actions.Close out answer is done = absurd (false≢true is)
 
--- an error before anything is heard
-pub halts_none : (s : SessionState) (error : EngineError) → ((error ≡ errors.Read) ⊎ IsQuiet error) → HaltsIn s [] error [] s
-halts_none s error (inl is) = subst (λ (x : EngineError). HaltsIn s [] x [] s) (sym is) (refl, refl)
-halts_none s (errors.Write sent) (inr quiet) = absurd quiet
-halts_none s errors.Read (inr quiet) = absurd quiet
-halts_none s errors.Memory (inr quiet) = (refl, refl)
-halts_none s errors.Strange (inr quiet) = (refl, refl)
-halts_none s (errors.Session refused) (inr quiet) = (refl, refl)
+pushes_silent : (s e : SessionState) (acts : List Action) (told : List (Event × List Action)) (out : List ℕ) → list_all is_push acts ≡ true → Acts s acts told out e → out ≡ []
+pushes_silent s e [] told out are (none, nothing, same) = nothing
+pushes_silent s e (act ∷ acts) told out are (bytes, more, answer, first, rest, mid, done, tells, after, is, written) =
+    let both = and_parts (is_push act) (list_all is_push acts) are in
+    written
+    ∙ (ap (λ (x : List ℕ). x ++ more) (push_silent s.known act bytes answer both.0 done)
+    ∙ pushes_silent mid e acts rest more both.1 after)
+
+none_done : (s e : SessionState) (acts : List Action) (told : List (Event × List Action)) (out : List ℕ) → acts ≡ [] → Acts s acts told out e → (out ≡ []) × (e ≡ s)
+none_done s e acts told out none done =
+    let nothing = subst (λ (x : List Action). Acts s x told out e) none done in
+    (nothing.1, nothing.2)
+
+-- only pushes were asked for, and nothing came of them
+pub idle_done : (s mid next e : SessionState) (event : Event) (acts : List Action) (told more : List (Event × List Action)) (out rest : List ℕ)
+    → Goes s event acts mid → Acts mid acts told out next → Acts next (asked told) more rest e → list_all is_push acts ≡ true → asked told ≡ [] → Idles s event e × (out ++ rest ≡ [])
+idle_done s mid next e event acts told more out rest goes first second pushes none =
+    let silent = pushes_silent mid next acts told out pushes first in
+    let last = none_done next e (asked told) more rest none second in (
+      (
+        acts,
+        told,
+        mid,
+        goes,
+        pushes,
+        subst (λ (x : SessionState). Acts mid acts told [] x) (sym last.1) (subst (λ (x : List ℕ). Acts mid acts told x next) silent first),
+        none,
+      ),
+      ap (λ (x : List ℕ). x ++ rest) silent ∙ last.0,
+    )

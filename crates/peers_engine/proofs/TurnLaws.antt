@@ -1,18 +1,24 @@
 -- From one action to a whole turn.
 use Rattle.std.proofs.Common.{◌≡◌, ◌⊎◌, ℕ, Bool, List, [], ◌∷◌, ◌++◌, Option, Some, None, Result, Ok, Err, IfOk, IfErr, OnOk, refl, sym, ap, ◌∙◌, subst, inl, inr}
-use Rattle.std.specs.Prelude.{option_to_list}
+use Rattle.std.specs.Prelude.{◌≢◌, true, false}
+use Rattle.std.specs.List.{list_all}
 use Rattle.std.specs.Io.KnownBytes.{Appends, Consumes}
 use Rattle.std.proofs.KnownBytes.{Appends-trans}
 use Rattle.std.proofs.lemmas.List.Concat.{flat_map-append}
 use Rattle.known_state.specs.Known.{KnownState}
 use Rattle.session_core.specs.declared.action.Action.{Action}
+use Rattle.session_core.specs.declared.error.SessionError.TheVariants as refusals
 use Rattle.session_core.specs.declared.event.Event.{Event}
-use Rattle.session_core.specs.Sessions.{SessionState, Goes, ended, state_of}
+use Rattle.session_core.specs.declared.phase.Phase.{Phase}
+use Rattle.session_core.specs.declared.phase.Phase.TheVariants as phases
+use Rattle.session_core.specs.declared.state.State.TheVariants as states
+use Rattle.session_core.specs.Courses.{state_of_course}
+use Rattle.session_core.specs.Sessions.{SessionState, Goes, Refuses, ended, state_of}
 use Rattle.peers_engine.specs.declared.errors.EngineError.{EngineError}
-use Rattle.peers_engine.specs.Doing.{Acts, Done, IsCut, IsQuiet, Stops, Told, asked}
-use Rattle.peers_engine.specs.Turns.{Breaks, Halts, HaltsIn, IsRead, Reacts, ReactsToAll, Turns, first_event}
+use Rattle.peers_engine.specs.Doing.{Acts, Done, Fails, IsUnheard, Stops, Told, asked}
+use Rattle.peers_engine.specs.Turns.{Breaks, Halts, HaltsAt, Hears, Idles, IsRead, Reacts, StopsTurn, TakesTurn, Turns, first_event, is_push}
 use Rattle.peers_engine.proofs.EndLaws.{unconsumed}
-use Rattle.peers_engine.proofs.HaltLaws.{act_more, act_stops, breaks_of, halted, one_event, react_done, react_stops, react_stops_later, tell_stops, turns_of}
+use Rattle.peers_engine.proofs.HaltLaws.{act_more, act_stops, breaks_of, halted, idle_done, react_done, react_stops, react_stops_later, tell_stops, turns_of}
 
 -- what is known of a result whose variant is known
 pub of_ok : {X : Type 0} (P : X → Type 0) (result : Result X EngineError) (x : X) → IfOk result P → result ≡ Ok x → P x
@@ -38,39 +44,41 @@ abbrev pub OneDone : KnownState → Action → Option (List ℕ) → Option (Lis
 OneDone k act old new answer = (out : List ℕ) × Done k act out answer × Appends old new out
 
 -- one action isn't done whole
-abbrev pub OneCut : KnownState → Action → Option (List ℕ) → Option (List ℕ) → EngineError → Type 0
-OneCut k act old new error = (out : List ℕ) × IsCut error k (act ∷ []) out × Appends old new out
+abbrev pub OneFails : KnownState → Action → Option (List ℕ) → Option (List ℕ) → EngineError → Type 0
+OneFails k act old new error = (out : List ℕ) × Fails k act error out × Appends old new out
 
-cut_known : (s mid : SessionState) (k : KnownState) (all before rest given : List Action) (act : Action) (error : EngineError) (a b d : Option (List ℕ))
-    → all ≡ before ++ (act ∷ rest) → k ≡ mid.known → AreDone s before given mid a b → OneCut k act b d error → AreStopped s all error mid a d
-cut_known s mid k all before rest given act error a b d is same (told, out, acted, kept, appended) (last, cut, more) = (
+-- an answer isn't heard by a session that isn't over
+abbrev pub IsUntold : SessionState → Option Event → SessionState → EngineError → Type 0
+IsUntold s answer e error = (event : Event) × (answer ≡ Some event) × (state_of s.phase ≢ states.Ended) × IsUnheard s event error e
+
+fails_known : (s mid : SessionState) (k : KnownState) (all before rest given : List Action) (act : Action) (error : EngineError) (a b d : Option (List ℕ))
+    → all ≡ before ++ (act ∷ rest) → k ≡ mid.known → AreDone s before given mid a b → OneFails k act b d error → AreStopped s all error mid a d
+fails_known s mid k all before rest given act error a b d is same (told, out, acted, kept, appended) (last, fails, more) = (
   told,
   out ++ last,
-  act_stops s mid all before rest act error told out last is acted (subst (λ (x : KnownState). IsCut error x (act ∷ []) last) same cut),
+  act_stops s mid all before rest act error told out last is acted (subst (λ (x : KnownState). Fails x act error last) same fails),
   Appends-trans a b d out last appended more,
 )
 
 -- the next action fails
 pub next_fails : (s mid : SessionState) (k : KnownState) (all before rest given : List Action) (act : Action) (error : EngineError) (result : Result (Option Event) EngineError) (a b d : Option (List ℕ))
-    → all ≡ before ++ (act ∷ rest) → k ≡ mid.known → AreDone s before given mid a b → IfErr result (OneCut k act b d) → result ≡ Err error → AreStopped s all error mid a d
+    → all ≡ before ++ (act ∷ rest) → k ≡ mid.known → AreDone s before given mid a b → IfErr result (OneFails k act b d) → result ≡ Err error → AreStopped s all error mid a d
 next_fails s mid k all before rest given act error result a b d is same done fails err =
-    cut_known s mid k all before rest given act error a b d is same done (of_err (OneCut k act b d) result error fails err)
+    fails_known s mid k all before rest given act error a b d is same done (of_err (OneFails k act b d) result error fails err)
 
 tell_known : (s mid e : SessionState) (k : KnownState) (all before rest given : List Action) (act : Action) (answer : Option Event) (error : EngineError) (a b d : Option (List ℕ))
-    → all ≡ before ++ (act ∷ rest) → k ≡ mid.known → AreDone s before given mid a b → OneDone k act b d answer → IsQuiet error
-    → ((steps : List (Event × List Action)) × (then : SessionState) × (Told mid answer steps then ⊎ ((steps ≡ []) × (then ≡ mid))) × (ended e ≡ ended then))
+    → all ≡ before ++ (act ∷ rest) → k ≡ mid.known → AreDone s before given mid a b → OneDone k act b d answer → IsUntold mid answer e error
     → AreStopped s all error e a d
-tell_known s mid e k all before rest given act answer error a b d is same (told, out, acted, kept, appended) (bytes, done, more) quiet broken =
-    let stops = tell_stops s mid e all before rest act answer error told out bytes is acted (subst (λ (x : KnownState). Done x act bytes answer) same done) quiet broken in
+tell_known s mid e k all before rest given act answer error a b d is same (told, out, acted, kept, appended) (bytes, done, more) (event, some, going, unheard) =
+    let stops = tell_stops s mid e all before rest act answer event error told out bytes is acted (subst (λ (x : KnownState). Done x act bytes answer) same done) some going unheard in
     (stops.0, out ++ bytes, stops.1, Appends-trans a b d out bytes appended more)
 
 -- the answer of the next action can't be told
 pub tell_fails : (s mid e : SessionState) (k : KnownState) (all before rest given : List Action) (act : Action) (answer : Option Event) (error : EngineError) (result : Result (Option Event) EngineError) (a b d : Option (List ℕ))
-    → all ≡ before ++ (act ∷ rest) → k ≡ mid.known → AreDone s before given mid a b → IfOk result (OneDone k act b d) → result ≡ Ok answer → IsQuiet error
-    → ((steps : List (Event × List Action)) × (then : SessionState) × (Told mid answer steps then ⊎ ((steps ≡ []) × (then ≡ mid))) × (ended e ≡ ended then))
+    → all ≡ before ++ (act ∷ rest) → k ≡ mid.known → AreDone s before given mid a b → IfOk result (OneDone k act b d) → result ≡ Ok answer → IsUntold mid answer e error
     → AreStopped s all error e a d
-tell_fails s mid e k all before rest given act answer error result a b d is same done does ok quiet broken =
-    tell_known s mid e k all before rest given act answer error a b d is same done (of_ok (OneDone k act b d) result answer does ok) quiet broken
+tell_fails s mid e k all before rest given act answer error result a b d is same done does ok untold =
+    tell_known s mid e k all before rest given act answer error a b d is same done (of_ok (OneDone k act b d) result answer does ok) untold
 
 more_known : (s mid e : SessionState) (k : KnownState) (before given more : List Action) (act : Action) (answer : Option Event) (a b d : Option (List ℕ))
     → k ≡ mid.known → AreDone s before given mid a b → OneDone k act b d answer
@@ -133,56 +141,86 @@ both_done s mid next e event acts given last a b d goes (told, out, acted, kept,
   Appends-trans a b d out rest appended also,
 )
 
+abbrev pub is_ok_true : Result Bool EngineError → Bool
+is_ok_true (Ok x) = x
+is_ok_true (Err error) = false
+
+-- an answer that is that nothing was to be done
+pub idle_of : (result : Result Bool EngineError) → result ≡ Ok true → is_ok_true result ≡ true
+idle_of result is = ap is_ok_true is
+
+-- nothing is done but pushes, of which nothing comes
+abbrev pub HasIdled : SessionState → Event → SessionState → Option (List ℕ) → Option (List ℕ) → Type 0
+HasIdled s event e old new = Idles s event e × Appends old new []
+
+pub both_idle : (s mid next e : SessionState) (event : Event) (acts given last : List Action) (a b d : Option (List ℕ))
+    → Goes s event acts mid → AreDone mid acts given next a b → AreDone next given last e b d → list_all is_push acts ≡ true → given ≡ [] → HasIdled s event e a d
+both_idle s mid next e event acts given last a b d goes (told, out, acted, kept, appended) (more, rest, then, is, also) pushes none =
+    let idle = idle_done s mid next e event acts told more out rest goes acted (subst (λ (x : List Action). Acts next x more rest e) kept then) pushes (sym kept ∙ none) in
+    (idle.0, subst (λ (x : List ℕ). Appends a d x) idle.1 (Appends-trans a b d out rest appended also))
+
 -- ---- a turn
 
-abbrev pub HasTurned : SessionState → List Event → SessionState → List ℕ → Option (List ℕ) → Option (List ℕ) → Type 0
-HasTurned s heard e out old new = ReactsToAll s heard out e × Appends old new out
+-- what a turn did, and how far one came that an error ended
+abbrev pub HasTurned : SessionState → SessionState → Option (List ℕ) → Option (List ℕ) → Option (List ℕ) → Option (List ℕ) → Type 0
+HasTurned s e from to a b =
+    (heard : Option Event) × (read out : List ℕ) × IsRead heard read × TakesTurn s heard out e × Consumes from to read × Appends a b out
+
+abbrev pub HasStopped : SessionState → SessionState → Option (List ℕ) → Option (List ℕ) → Option (List ℕ) → Option (List ℕ) → EngineError → Type 0
+HasStopped s e from to a b error =
+    (heard : Option Event) × (read out : List ℕ) × IsRead heard read × StopsTurn s heard error out e × Consumes from to read × Appends a b out
 
 -- what was read is heard, up to an error
 pub read_fails : (s e : SessionState) (found : Option Event) (event : Event) (error : EngineError) (from to a b : Option (List ℕ))
-    → found ≡ Some event → ((read : List ℕ) × IsRead (option_to_list found) read × Consumes from to read) → HasHalted s event e a b error
-    → (heard : List Event) × (read out : List ℕ) × IsRead heard read × HaltsIn s heard error out e × Consumes from to read × Appends a b out
+    → found ≡ Some event → ((read : List ℕ) × IsRead found read × Consumes from to read) → HasHalted s event e a b error
+    → (heard : Option Event) × (read out : List ℕ) × IsRead heard read × HaltsAt s heard error out e × Consumes from to read × Appends a b out
 read_fails s e found event error from to a b is (read, reads, consumed) (out, halts, appended) =
-    (event ∷ [], read, out, subst (λ (x : Option Event). IsRead (option_to_list x) read) is reads, inl halts, consumed, appended)
+    (Some event, read, out, subst (λ (x : Option Event). IsRead x read) is reads, halts, consumed, appended)
 
--- the first event, and what is read then
-pub then_done : (s mid e : SessionState) (event first : Event) (from to a b d : Option (List ℕ)) → event ≡ first → HasReacted s event mid a b
-    → ((heard : List Event) × (read out : List ℕ) × IsRead heard read × ReactsToAll mid heard out e × Consumes from to read × Appends b d out)
-    → (heard : List Event) × (read out : List ℕ) × IsRead heard read × ReactsToAll s (first ∷ heard) out e × Consumes from to read × Appends a d out
-then_done s mid e event first from to a b d is (one, reacts, appended) (heard, read, out, reads, all, consumed, more) =
-    (heard, read, one ++ out, reads, (one, out, mid, subst (λ (x : Event). Reacts s x one mid) is reacts, all, refl), consumed, Appends-trans a b d one out appended more)
+-- the first event leaves nothing to do, and then it reads
+pub then_done : (s mid e : SessionState) (event : Event) (from to a b d : Option (List ℕ)) → event ≡ first_event (state_of s.phase) → HasIdled s event mid a b
+    → ((heard : Option Event) × (read out : List ℕ) × IsRead heard read × Hears mid heard out e × Consumes from to read × Appends b d out)
+    → HasTurned s e from to a d
+then_done s mid e event from to a b d is (idles, silent) (heard, read, out, reads, hears, consumed, more) =
+    (heard, read, out, reads, inr (mid, subst (λ (x : Event). Idles s x mid) is idles, hears), consumed, Appends-trans a b d [] out silent more)
 
-pub then_fails : (s mid e : SessionState) (event first : Event) (error : EngineError) (from to a b d : Option (List ℕ)) → event ≡ first → HasReacted s event mid a b
-    → ((heard : List Event) × (read out : List ℕ) × IsRead heard read × HaltsIn mid heard error out e × Consumes from to read × Appends b d out)
-    → (heard : List Event) × (read out : List ℕ) × IsRead heard read × HaltsIn s (first ∷ heard) error out e × Consumes from to read × Appends a d out
-then_fails s mid e event first error from to a b d is (one, reacts, appended) (heard, read, out, reads, all, consumed, more) =
-    (heard, read, one ++ out, reads, inr (one, out, mid, subst (λ (x : Event). Reacts s x one mid) is reacts, all, refl), consumed, Appends-trans a b d one out appended more)
+pub then_fails : (s mid e : SessionState) (event : Event) (error : EngineError) (from to a b d : Option (List ℕ)) → event ≡ first_event (state_of s.phase) → HasIdled s event mid a b
+    → ((heard : Option Event) × (read out : List ℕ) × IsRead heard read × HaltsAt mid heard error out e × Consumes from to read × Appends b d out)
+    → HasStopped s e from to a d error
+then_fails s mid e event error from to a b d is (idles, silent) (heard, read, out, reads, halts, consumed, more) =
+    (heard, read, out, reads, inr (mid, subst (λ (x : Event). Idles s x mid) is idles, halts), consumed, Appends-trans a b d [] out silent more)
 
 -- the first event alone
-pub alone_done : (s e : SessionState) (event first : Event) (known a b : Option (List ℕ)) → event ≡ first → HasReacted s event e a b
-    → (heard : List Event) × (read out : List ℕ) × IsRead heard read × ReactsToAll s (first ∷ heard) out e × Consumes known known read × Appends a b out
-alone_done s e event first known a b is (out, reacts, appended) =
-    ([], [], out, refl, subst (λ (x : Event). ReactsToAll s (x ∷ []) out e) is (one_event s e event out reacts), unconsumed known, appended)
+pub alone_done : (s e : SessionState) (event : Event) (known a b : Option (List ℕ)) → event ≡ first_event (state_of s.phase) → HasReacted s event e a b → HasTurned s e known known a b
+alone_done s e event known a b is (out, reacts, appended) =
+    (None, [], out, refl, inl (refl, subst (λ (x : Event). Reacts s x out e) is reacts), unconsumed known, appended)
 
-pub alone_fails : (s e : SessionState) (event first : Event) (error : EngineError) (known a b : Option (List ℕ)) → event ≡ first → HasHalted s event e a b error
-    → (heard : List Event) × (read out : List ℕ) × IsRead heard read × HaltsIn s (first ∷ heard) error out e × Consumes known known read × Appends a b out
-alone_fails s e event first error known a b is (out, halts, appended) =
-    ([], [], out, refl, inl (subst (λ (x : Event). Halts s x error out e) is halts), unconsumed known, appended)
+pub alone_fails : (s e : SessionState) (event : Event) (error : EngineError) (known a b : Option (List ℕ)) → event ≡ first_event (state_of s.phase) → HasHalted s event e a b error → HasStopped s e known known a b error
+alone_fails s e event error known a b is (out, halts, appended) =
+    (None, [], out, refl, inl (refl, subst (λ (x : Event). Halts s x error out e) is halts), unconsumed known, appended)
 
 -- the session after a turn
-pub turned : (s e : SessionState) (from to a b : Option (List ℕ))
-    → ((heard : List Event) × (read out : List ℕ) × IsRead heard read × ReactsToAll s (first_event (state_of s.phase) ∷ heard) out e × Consumes from to read × Appends a b out)
-    → Turns s e
+pub turned : (s e : SessionState) (from to a b : Option (List ℕ)) → HasTurned s e from to a b → Turns s e
 turned s e from to a b (heard, read, out, reads, all, consumed, appended) = turns_of s e heard out all
 
-pub broken : (s e new : SessionState) (error : EngineError) (from to a b : Option (List ℕ))
-    → ((heard : List Event) × (read out : List ℕ) × IsRead heard read × HaltsIn s (first_event (state_of s.phase) ∷ heard) error out e × Consumes from to read × Appends a b out)
-    → new ≡ ended e → Breaks s new
-broken s e new error from to a b (heard, read, out, reads, halts, consumed, appended) is = breaks_of s e new heard error out halts is
+pub broken : (s e new : SessionState) (error : EngineError) (from to a b : Option (List ℕ)) → HasStopped s e from to a b error → new ≡ ended e → Breaks s new
+broken s e new error from to a b (heard, read, out, reads, stops, consumed, appended) is = breaks_of s e new heard error out stops is
 
-pub stopped : (s e new : SessionState) (error : EngineError) (from to a b : Option (List ℕ))
-    → ((heard : List Event) × (read out : List ℕ) × IsRead heard read × HaltsIn s (first_event (state_of s.phase) ∷ heard) error out e × Consumes from to read × Appends a b out)
-    → new ≡ ended e
-    → (heard : List Event) × (read out : List ℕ) × IsRead heard read × HaltsIn s (first_event (state_of s.phase) ∷ heard) error out new × Consumes from to read × Appends a b out
-stopped s e new error from to a b (heard, read, out, reads, halts, consumed, appended) is =
-    (heard, read, out, reads, halted s e new (first_event (state_of s.phase) ∷ heard) error out halts is, consumed, appended)
+pub stopped : (s e new : SessionState) (error : EngineError) (from to a b : Option (List ℕ)) → HasStopped s e from to a b error → new ≡ ended e → HasStopped s new from to a b error
+stopped s e new error from to a b (heard, read, out, reads, stops, consumed, appended) is =
+    (heard, read, out, reads, halted s e new heard error out stops is, consumed, appended)
+
+-- ---- a session that is over refuses each event for that
+
+open_on : (teaching : Bool) → state_of_course teaching ≢ states.Ended
+open_on true is = cc is
+open_on false is = cc is
+
+in_over : (phase : Phase) (event : Event) → state_of phase ≡ states.Ended → Refuses phase event refusals.Ended
+in_over (phases.New hello c) event is = cc is
+in_over (phases.Hello greeter bytes c) event is = cc is
+in_over (phases.Open c) event is = absurd (open_on c.teaching is)
+in_over phases.Ended event is = refl
+
+pub over_refuses : (s : SessionState) → state_of s.phase ≡ states.Ended → Refuses s.phase (first_event (state_of s.phase)) refusals.Ended
+over_refuses s is = in_over s.phase (first_event (state_of s.phase)) is

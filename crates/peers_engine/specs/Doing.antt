@@ -1,5 +1,5 @@
 -- How what a session asks for is done, and what is written then (profile).
-use Rattle.std.specs.Prelude.{◌≡◌, ◌⊎◌, ◌<◌, ℕ, List, [], ◌∷◌, ◌++◌, length, take, Option, Some, None}
+use Rattle.std.specs.Prelude.{◌≡◌, ◌≢◌, ◌⊎◌, ◌<◌, ℕ, List, [], ◌∷◌, ◌++◌, length, take, Option, Some, None}
 use Rattle.std.specs.List.{flat_map}
 use Rattle.std.specs.Io.KnownBytes.{Appends}
 use Rattle.table_types.specs.declared.update.Update.{Update}
@@ -10,12 +10,13 @@ use Rattle.known_state.specs.Known.{KnownState}
 use Rattle.known_state.specs.Lessons.{IsLessonFor}
 use Rattle.session_core.specs.declared.action.Action.{Action}
 use Rattle.session_core.specs.declared.action.Action.TheVariants as actions
+use Rattle.session_core.specs.declared.error.SessionError.{SessionError}
 use Rattle.session_core.specs.declared.event.Event.{Event}
 use Rattle.session_core.specs.declared.event.Event.TheVariants as events
 use Rattle.session_core.specs.declared.phase.Phase.TheVariants as phases
 use Rattle.session_core.specs.declared.state.State.{State}
 use Rattle.session_core.specs.declared.state.State.TheVariants as states
-use Rattle.session_core.specs.Sessions.{SessionState, Goes, ended, state_of}
+use Rattle.session_core.specs.Sessions.{SessionState, Goes, Refuses, ended, state_of}
 use Rattle.peers_engine.specs.declared.errors.EngineError.{EngineError}
 use Rattle.peers_engine.specs.declared.errors.EngineError.TheVariants as errors
 
@@ -68,25 +69,52 @@ Acts s (act ∷ acts) told out e =
 abbrev pub asked : List (Event × List Action) → List Action
 asked steps = flat_map (λ step. step.1) steps
 
--- an error with which neither a read nor a write failed
-abbrev pub IsQuiet : EngineError → Type 0
-IsQuiet (errors.Write sent) = ⊥
-IsQuiet errors.Read = ⊥
-IsQuiet error = Unit {0}
+-- the error of a table that refused an action, or of memory that was wanted for it
+abbrev pub IsRefusal : EngineError → Type 0
+IsRefusal errors.Memory = Unit {0}
+IsRefusal errors.Strange = Unit {0}
+IsRefusal error = ⊥
+
+-- an action for which a table is called; for a lesson that is to test that its batch is the session's latest one
+abbrev pub IsAtTable : Action → Type 0
+IsAtTable (actions.Send bytes) = ⊥
+IsAtTable (actions.Part kind) = ⊥
+IsAtTable actions.Close = ⊥
+IsAtTable act = Unit {0}
 
 -- a write of these bytes failed: the first of them went out, and not all
 abbrev pub Falls : List ℕ → EngineError → Option (List ℕ) → Option (List ℕ) → Type 0
 Falls bytes (errors.Write sent) old new = (sent < length bytes) × Appends old new (take sent bytes)
 Falls bytes error old new = ⊥
 
--- What was written of the first of the actions that weren't done whole, by what ended it: the first bytes where a write
--- failed, and else nothing, or all where its answer wasn't told.
-abbrev pub IsCut : EngineError → KnownState → List Action → List ℕ → Type 0
-IsCut (errors.Write sent) k [] out = ⊥
-IsCut (errors.Write sent) k (act ∷ rest) out =
+-- An action isn't done whole: a write failed, and the first of its bytes went out; or a table refused it, or memory was
+-- wanted for it, and nothing was written.
+abbrev pub Fails : KnownState → Action → EngineError → List ℕ → Type 0
+Fails k act (errors.Write sent) out =
     (bytes : List ℕ) × (answer : Option Event) × Done k act bytes answer × (sent < length bytes) × (out ≡ take sent bytes)
-IsCut error k [] out = out ≡ []
-IsCut error k (act ∷ rest) out = (out ≡ []) ⊎ ((answer : Option Event) × Done k act out answer)
+Fails k act error out = IsRefusal error × IsAtTable act × (out ≡ [])
+
+-- a session refuses an event, and that is the error
+abbrev pub IsRefused : SessionState → Event → EngineError → Type 0
+IsRefused s event error = (why : SessionError) × Refuses s.phase event why × (error ≡ errors.Session why)
+
+-- A session doesn't go on after an event: it refuses it; or hears it, and there is no memory for what it asks for.
+abbrev pub IsUnheard : SessionState → Event → EngineError → SessionState → Type 0
+IsUnheard s event error e =
+    (IsRefused s event error × (e ≡ ended s))
+    ⊎ ((acts : List Action) × Goes s event acts e × (error ≡ errors.Memory))
+
+-- What ended it at the first of the actions that were left, and what was written of that one: it wasn't done whole; or it
+-- was, and its answer was refused.
+abbrev pub IsCut : SessionState → List Action → EngineError → List ℕ → Type 0
+IsCut s [] error out = ⊥
+IsCut s (act ∷ rest) error out =
+    Fails s.known act error out
+    ⊎ ((answer : Event) × Done s.known act out (Some answer) × (state_of s.phase ≢ states.Ended) × IsRefused s answer error)
+
+-- there is no memory for what an answer that was told asks for
+abbrev pub IsLost : List (Event × List Action) → EngineError → List ℕ → Type 0
+IsLost told error out = (told ≢ []) × (error ≡ errors.Memory) × (out ≡ [])
 
 -- Of the actions the first were done, and what came then ended it: what was written, and where the session stands, but for
 -- that it is then over.
@@ -97,6 +125,6 @@ Stops s acts error told out e =
     × (mid : SessionState)
     × (acts ≡ before ++ rest)
     × Acts s before told first mid
-    × IsCut error mid.known rest last
+    × (IsCut mid rest error last ⊎ IsLost told error last)
     × (out ≡ first ++ last)
     × (ended e ≡ ended mid)

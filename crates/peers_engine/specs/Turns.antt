@@ -1,6 +1,9 @@
 -- A turn of a session (profile).
-use Rattle.std.specs.Prelude.{◌≡◌, ◌⊎◌, ℕ, List, [], ◌∷◌, ◌++◌}
+use Rattle.std.specs.Prelude.{◌≡◌, ◌⊎◌, ◌<◌, ◌≤◌, ℕ, Bool, true, false, List, [], ◌∷◌, ◌++◌, length, Option, Some, None}
+use Rattle.std.specs.List.{list_all}
+use Rattle.table_types.specs.declared.copies.CopyKind.TheVariants as copies
 use Rattle.session_core.specs.declared.action.Action.{Action}
+use Rattle.session_core.specs.declared.action.Action.TheVariants as actions
 use Rattle.session_core.specs.declared.event.Event.{Event}
 use Rattle.session_core.specs.declared.event.Event.TheVariants as events
 use Rattle.session_core.specs.declared.state.State.{State}
@@ -9,7 +12,7 @@ use Rattle.session_core.specs.Sessions.{SessionState, Goes, ended, state_of}
 use Rattle.session_core.specs.Runs.{Runs}
 use Rattle.peers_engine.specs.declared.errors.EngineError.{EngineError}
 use Rattle.peers_engine.specs.declared.errors.EngineError.TheVariants as errors
-use Rattle.peers_engine.specs.Doing.{Acts, IsQuiet, Stops, asked}
+use Rattle.peers_engine.specs.Doing.{Acts, IsRefused, Stops, asked}
 
 -- the event with which a turn begins: a new session is opened, and any other may teach
 abbrev pub first_event : State → Event
@@ -37,41 +40,62 @@ Reacts s event out e =
     × Goes s event acts mid
     × Acts mid (acts ++ asked told) told out e
 
--- these events, one after another
-abbrev pub ReactsToAll : SessionState → List Event → List ℕ → SessionState → Type 0
-ReactsToAll s [] out e = (out ≡ []) × (e ≡ s)
-ReactsToAll s (event ∷ rest) out e =
-    (first more : List ℕ)
-    × (mid : SessionState)
-    × Reacts s event first mid
-    × ReactsToAll mid rest more e
-    × (out ≡ first ++ more)
-
--- An event isn't heard, or is and what was asked for is done up to where an error ended it.
+-- an event is refused; or it is heard, and what was asked for is done up to where an error ended it
 abbrev pub Halts : SessionState → Event → EngineError → List ℕ → SessionState → Type 0
 Halts s event error out e =
-    (IsQuiet error × (out ≡ []) × (ended e ≡ ended s))
+    (IsRefused s event error × (out ≡ []) × (ended e ≡ ended s))
     ⊎ ((acts : List Action)
     × (told : List (Event × List Action))
     × (mid : SessionState)
     × Goes s event acts mid
     × Stops mid (acts ++ asked told) error told out e)
 
--- these events, one after another, up to where an error ended it, which may come after the last
-abbrev pub HaltsIn : SessionState → List Event → EngineError → List ℕ → SessionState → Type 0
-HaltsIn s [] (errors.Write sent) out e = ⊥
-HaltsIn s [] error out e = (out ≡ []) × (ended e ≡ ended s)
-HaltsIn s (event ∷ rest) error out e =
-    Halts s event error out e
-    ⊎ ((first more : List ℕ)
-    × (mid : SessionState)
-    × Reacts s event first mid
-    × HaltsIn mid rest error more e
-    × (out ≡ first ++ more))
+-- ---- a whole turn
 
--- what a turn reads: nothing, bytes, or the end
-abbrev pub IsRead : List Event → List ℕ → Type 0
-IsRead [] bytes = bytes ≡ []
-IsRead (events.Bytes read ∷ []) bytes = bytes ≡ read
-IsRead (events.End ∷ []) bytes = bytes ≡ []
-IsRead heard bytes = ⊥
+-- a copy of this node's own rows
+abbrev pub is_push : Action → Bool
+is_push (actions.Copy table copies.Push) = true
+is_push act = false
+
+-- an event leaves nothing to do: it asks for nothing, or for pushes alone, and nothing comes of them
+abbrev pub Idles : SessionState → Event → SessionState → Type 0
+Idles s event e =
+    (acts : List Action)
+    × (told : List (Event × List Action))
+    × (mid : SessionState)
+    × Goes s event acts mid
+    × (list_all is_push acts ≡ true)
+    × Acts mid acts told [] e
+    × (asked told ≡ [])
+
+-- what a read gives, and the event that comes of it: none, 1 to 4,096 bytes, or the end
+abbrev pub IsRead : Option Event → List ℕ → Type 0
+IsRead None bytes = bytes ≡ []
+IsRead (Some (events.Bytes read)) bytes = (bytes ≡ read) × (0 < length read) × (length read ≤ 4096)
+IsRead (Some events.End) bytes = bytes ≡ []
+IsRead (Some event) bytes = ⊥
+
+-- a read failed, or there was no memory for it
+abbrev pub IsUnread : EngineError → Type 0
+IsUnread error = (error ≡ errors.Read) ⊎ (error ≡ errors.Memory)
+
+-- An event is heard, if there is one; and up to an error, which may come before there is one.
+abbrev pub Hears : SessionState → Option Event → List ℕ → SessionState → Type 0
+Hears s None out e = (out ≡ []) × (e ≡ s)
+Hears s (Some event) out e = Reacts s event out e
+
+abbrev pub HaltsAt : SessionState → Option Event → EngineError → List ℕ → SessionState → Type 0
+HaltsAt s None error out e = IsUnread error × (out ≡ []) × (ended e ≡ ended s)
+HaltsAt s (Some event) error out e = Halts s event error out e
+
+-- A turn hears its first event; and where that leaves nothing to do it reads, and hears the event that comes of it, if any.
+abbrev pub TakesTurn : SessionState → Option Event → List ℕ → SessionState → Type 0
+TakesTurn s heard out e =
+    ((heard ≡ None) × Reacts s (first_event (state_of s.phase)) out e)
+    ⊎ ((mid : SessionState) × Idles s (first_event (state_of s.phase)) mid × Hears mid heard out e)
+
+-- the same up to an error
+abbrev pub StopsTurn : SessionState → Option Event → EngineError → List ℕ → SessionState → Type 0
+StopsTurn s heard error out e =
+    ((heard ≡ None) × Halts s (first_event (state_of s.phase)) error out e)
+    ⊎ ((mid : SessionState) × Idles s (first_event (state_of s.phase)) mid × HaltsAt mid heard error out e)

@@ -10,7 +10,7 @@ ghost use Rattle.session_core.specs.declared.action.Action.TheVariants as action
 ghost use Rattle.session_core.specs.declared.event.Event.{Event};
 ghost use Rattle.session_core.specs.declared.event.Event.TheVariants as events;
 ghost use Rattle.peers_engine.specs.declared.errors.EngineError.TheVariants as errors;
-ghost use Rattle.peers_engine.specs.Doing.{Done, Falls, IsCut, IsQuiet, error_text};
+ghost use Rattle.peers_engine.specs.Doing.{Done, Fails, Falls, IsRefusal, error_text};
 
 use crate::context::Context;
 use crate::errors::EngineError;
@@ -58,7 +58,7 @@ fn copy_batch<H: Wait, G: Gate>(
 ) -> (Seat, Result<Event, EngineError>)
     ensures seat { result.0.number ≡ seat.number }
     ensures answer { IfOk result.1 (λ event. ((batch : List Update) × (event ≡ events.Copied table batch)) ⊎ (event ≡ events.Nothing table)) }
-    ensures refused { IfErr result.1 IsQuiet }
+    ensures refused { IfErr result.1 IsRefusal }
 {
     let (seat, copied) = copy(context, seat, table, kind);
     if let Ok(Event::Copied(_, _)) = &copied {
@@ -70,7 +70,7 @@ fn copy_batch<H: Wait, G: Gate>(
 /// Makes the lesson of a batch. No table's lock is held.
 fn plan<H, G>(context: &Context<H, G>, known: &Known, batch: &Batch) -> Result<Lesson, EngineError>
     ensures lesson { IfOk result (λ lesson. IsLessonFor known.now batch.now lesson.bytes lesson.known) }
-    ensures refused { IfErr result IsQuiet }
+    ensures refused { IfErr result IsRefusal }
 {
     if !batch.is_for(known.roster()) {
         return Err(EngineError::Strange);
@@ -89,7 +89,7 @@ fn teach_batch<H: Wait, G: Gate, W: Write + Faults>(
     ensures seat { result.0.number ≡ seat.number }
     ensures taught { IfOk result.1 (λ event. (out : List ℕ) × (after : KnownState) × IsLessonFor known.now batch.now out after
         × (event ≡ events.Written after) × Appends (W.contents output.old) (W.contents output.new) out) }
-    ensures failed { IfErr result.1 (λ e. (out : List ℕ) × IsCut e known.now (actions.Teach batch.now ∷ []) out
+    ensures failed { IfErr result.1 (λ e. (out : List ℕ) × Fails known.now (actions.Teach batch.now) e out
         × Appends (W.contents output.old) (W.contents output.new) out) }
     ensures unread { IfErr result.1 (λ e. e ≢ errors.Read) }
 {
@@ -146,7 +146,7 @@ pub(crate) fn do_action<H: Wait, G: Gate, W: Write + Faults>(
     ensures seat { result.0.number ≡ seat.number }
     ensures done { IfOk result.1 (λ answer. (out : List ℕ) × Done known.now action out answer
         × Appends (W.contents output.old) (W.contents output.new) out) }
-    ensures failed { IfErr result.1 (λ e. (out : List ℕ) × IsCut e known.now (action ∷ []) out
+    ensures failed { IfErr result.1 (λ e. (out : List ℕ) × Fails known.now action e out
         × Appends (W.contents output.old) (W.contents output.new) out) }
     ensures unread { IfErr result.1 (λ e. e ≢ errors.Read) }
 {

@@ -1,12 +1,11 @@
 //! What comes of a read.
 
-ghost use Rattle.std.specs.Prelude.{◌≡◌, ◌<◌, ◌⊎◌, Ok, Some, Err, IfErr, IfOk, List, ℕ, option_to_list, vec_len};
+ghost use Rattle.std.specs.Prelude.{◌≡◌, Ok, Some, Err, IfErr, IfOk, List, ℕ, vec_len};
 ghost use Rattle.std.specs.Io.KnownBytes.{Consumes, IsAtEnd, Keeps};
 ghost use Rattle.peers_devices.specs.Failures.{Rose};
 ghost use Rattle.session_core.specs.declared.event.Event.TheVariants as events;
 ghost use Rattle.peers_engine.specs.declared.errors.EngineError.TheVariants as errors;
-ghost use Rattle.peers_engine.specs.Doing.{IsQuiet};
-ghost use Rattle.peers_engine.specs.Turns.{IsRead, first_event};
+ghost use Rattle.peers_engine.specs.Turns.{IsRead, IsUnread, first_event};
 
 use crate::errors::EngineError;
 use peers_devices::{Faults, rose};
@@ -30,7 +29,7 @@ pub(crate) fn first_event(state: State) -> Event
 
 /// Room for one read.
 fn room(alloc: Global) -> Result<Vec<u8>, AllocError>
-    ensures { IfOk result (λ bytes. 0 < vec_len bytes) }
+    ensures { IfOk result (λ bytes. vec_len bytes ≡ 4096) }
 {
     vec![in alloc; 0; MOST_BYTES]
 }
@@ -40,12 +39,12 @@ pub(crate) fn read_event<R: Read + Faults>(
     alloc: Global,
     input: &mut R,
 ) -> Result<Option<Event>, EngineError>
-    ensures heard { IfOk result (λ event. (read : List ℕ) × IsRead (option_to_list event) read
+    ensures heard { IfOk result (λ event. (read : List ℕ) × IsRead event read
         × Consumes (R.remaining input.old) (R.remaining input.new) read) }
     ensures end { result ≡ Ok (Some events.End) → IsAtEnd (R.remaining input.new) }
     ensures failed { result ≡ Err errors.Read → Rose (R.failed input.old) (R.failed input.new) }
     ensures unread { IfErr result (λ _. Keeps (R.remaining input.old) (R.remaining input.new)) }
-    ensures unwritten { IfErr result (λ e. (e ≡ errors.Read) ⊎ IsQuiet e) }
+    ensures unwritten { IfErr result IsUnread }
 {
     let earlier = input.failures();
     let mut bytes = room(alloc).map_err(|_| EngineError::Memory)?;

@@ -4,7 +4,7 @@ ghost use Rattle.std.specs.Prelude.{◌≡◌, ◌⊎◌, IfErr, IfOk, List};
 ghost use Rattle.table_types.specs.declared.update.Update.{Update};
 ghost use Rattle.table_types.specs.declared.copies.Settled.{Settled};
 ghost use Rattle.session_core.specs.declared.event.Event.TheVariants as events;
-ghost use Rattle.peers_engine.specs.Doing.{IsQuiet};
+ghost use Rattle.peers_engine.specs.Doing.{IsRefusal};
 
 use crate::context::Context;
 use crate::errors::EngineError;
@@ -16,7 +16,7 @@ use table_types::{Batch, CopyKind, Update};
 
 /// What a call's refusal, which no session answers, makes of a turn. `memory` is the cell's own want of memory.
 fn refused<E: Copy + PartialEq>(error: ShardError<E>, memory: E) -> EngineError
-    ensures { IsQuiet result }
+    ensures { IsRefusal result }
 {
     if error == ShardError::Memory || error == ShardError::Cell(memory) {
         EngineError::Memory
@@ -32,7 +32,7 @@ pub(crate) fn learn<H: Wait, G>(
     update: Update,
 ) -> (Seat, Result<(), EngineError>)
     ensures seat { result.0.number ≡ seat.number }
-    ensures refused { IfErr result.1 IsQuiet }
+    ensures refused { IfErr result.1 IsRefusal }
 {
     let table = update.table;
     let Some(cell) = context.shards.cell(table) else {
@@ -64,7 +64,7 @@ pub(crate) fn acknowledge<H: Wait, G>(
 ) -> (Seat, Result<Event, EngineError>)
     ensures seat { result.0.number ≡ seat.number }
     ensures answer { IfOk result.1 (λ event. ((settled : Settled) × (event ≡ events.Settled table settled)) ⊎ (event ≡ events.Refused table)) }
-    ensures refused { IfErr result.1 IsQuiet }
+    ensures refused { IfErr result.1 IsRefusal }
 {
     let Some(cell) = context.shards.cell(table) else {
         return (seat, Err(EngineError::Strange));
@@ -89,7 +89,7 @@ pub(crate) fn copy<H: Wait, G>(
 ) -> (Seat, Result<Event, EngineError>)
     ensures seat { result.0.number ≡ seat.number }
     ensures answer { IfOk result.1 (λ event. ((batch : List Update) × (event ≡ events.Copied table batch)) ⊎ (event ≡ events.Nothing table)) }
-    ensures refused { IfErr result.1 IsQuiet }
+    ensures refused { IfErr result.1 IsRefusal }
 {
     let Some(cell) = context.shards.cell(table) else {
         return (seat, Err(EngineError::Strange));
@@ -120,7 +120,7 @@ pub(crate) fn settle<H: Wait, G>(
     batch: &Batch,
 ) -> (Seat, Result<(), EngineError>)
     ensures seat { result.0.number ≡ seat.number }
-    ensures refused { IfErr result.1 IsQuiet }
+    ensures refused { IfErr result.1 IsRefusal }
 {
     let Some(first) = batch.updates().first() else {
         return (seat, Err(EngineError::Strange));
@@ -143,7 +143,7 @@ fn close<H: Wait, G>(
     table: u64,
 ) -> (Seat, Result<(), EngineError>)
     ensures seat { result.0.number ≡ seat.number }
-    ensures refused { IfErr result.1 IsQuiet }
+    ensures refused { IfErr result.1 IsRefusal }
 {
     let Some(cell) = context.shards.cell(table) else {
         return (seat, Err(EngineError::Strange));
@@ -165,7 +165,7 @@ fn open<H: Wait, G>(
     table: u64,
 ) -> (Seat, Result<(), EngineError>)
     ensures seat { result.0.number ≡ seat.number }
-    ensures refused { IfErr result.1 IsQuiet }
+    ensures refused { IfErr result.1 IsRefusal }
 {
     let Some(cell) = context.shards.cell(table) else {
         return (seat, Err(EngineError::Strange));
@@ -187,7 +187,7 @@ pub(crate) fn reopen<H: Wait, G>(
     table: u64,
 ) -> (Seat, Result<(), EngineError>)
     ensures seat { result.0.number ≡ seat.number }
-    ensures refused { IfErr result.1 IsQuiet }
+    ensures refused { IfErr result.1 IsRefusal }
 {
     let (seat, closed) = close(context, seat, table);
     match closed {

@@ -1,16 +1,19 @@
 //! A turn of a session.
 
-ghost use Rattle.std.specs.Prelude.{◌≡◌, ◌≢◌, ◌↔◌, ◌⊎◌, ◌++◌, ◌∷◌, [], ℕ, List, Ok, Err, IfErr, IfOk, OnErr, OnOk};
+ghost use Rattle.std.specs.Prelude.{◌≡◌, ◌≢◌, ◌↔◌, ◌⊎◌, ◌++◌, [], ℕ, Bool, true, List, Option, Some, Ok, Err, IfErr, IfOk, OnErr, OnOk};
+ghost use Rattle.std.specs.List.{list_all};
 ghost use Rattle.std.specs.Io.KnownBytes.{Appends, Consumes};
 ghost use Rattle.peers_devices.specs.Failures.{Rose};
 ghost use Rattle.session_core.specs.declared.action.Action.{Action};
+ghost use Rattle.session_core.specs.declared.error.SessionError.{SessionError};
+ghost use Rattle.session_core.specs.declared.error.SessionError.TheVariants as refusals;
 ghost use Rattle.session_core.specs.declared.event.Event.{Event};
 ghost use Rattle.session_core.specs.declared.state.State.TheVariants as states;
-ghost use Rattle.session_core.specs.Sessions.{Goes, SessionState, ended, state_of};
+ghost use Rattle.session_core.specs.Sessions.{Goes, Refuses, SessionState, ended, state_of};
 ghost use Rattle.peers_engine.specs.declared.errors.EngineError.TheVariants as errors;
 ghost use Rattle.peers_engine.specs.declared.errors.Turned.TheVariants as turns;
-ghost use Rattle.peers_engine.specs.Doing.{Acts, IsQuiet, Stops, Told, asked};
-ghost use Rattle.peers_engine.specs.Turns.{Breaks, Halts, HaltsIn, IsRead, Reacts, ReactsToAll, Turns, first_event};
+ghost use Rattle.peers_engine.specs.Doing.{Acts, IsUnheard, Stops, Told, asked};
+ghost use Rattle.peers_engine.specs.Turns.{Breaks, Halts, HaltsAt, Hears, Idles, IsRead, Reacts, StopsTurn, TakesTurn, Turns, first_event, is_push};
 
 use crate::context::Context;
 use crate::doing::do_action;
@@ -34,8 +37,7 @@ fn hear(
 ) -> Result<(), EngineError>
     ensures heard { OnOk result ((acts : List Action) × Goes session.old event acts session.new
         × (given.new.items ≡ given.old.items ++ acts)) }
-    ensures broken { OnErr result ((session.new ≡ ended session.old) ⊎ ((acts : List Action) × Goes session.old event acts session.new)) }
-    ensures quiet { IfErr result IsQuiet }
+    ensures unheard { IfErr result (λ e. IsUnheard session.old event e session.new) }
 {
     let mut more = session.on(event, now)?;
     match given.append(&mut more) {
@@ -54,9 +56,8 @@ fn tell(
 ) -> Result<(), EngineError>
     ensures told { OnOk result ((steps : List (Event × List Action)) × Told session.old answer steps session.new
         × (given.new.items ≡ given.old.items ++ asked steps)) }
-    ensures broken { OnErr result ((steps : List (Event × List Action)) × (mid : SessionState)
-        × (Told session.old answer steps mid ⊎ ((steps ≡ []) × (mid ≡ session.old))) × (ended session.new ≡ ended mid)) }
-    ensures quiet { IfErr result IsQuiet }
+    ensures unheard { IfErr result (λ e. (event : Event) × (answer ≡ Some event) × (state_of session.old.phase ≢ states.Ended)
+        × IsUnheard session.old event e session.new) }
 {
     match answer {
         Some(event) if session.state() != State::Ended => hear(session, now, event, given),
@@ -98,7 +99,9 @@ fn do_all<H: Wait, G: Gate, W: Write + Faults>(
 }
 
 /// Whether nothing but rows of this node's own is asked for.
-fn is_push(actions: &[Action]) -> bool {
+fn are_pushes(actions: &[Action]) -> bool
+    ensures { result ≡ list_all is_push actions.now }
+{
     actions.iter().all(|action| matches!(
         action,
         Action::Copy {
@@ -123,12 +126,15 @@ fn react<H: Wait, G: Gate, W: Write + Faults>(
     ensures failed { IfErr result.1 (λ e. (out : List ℕ) × Halts session.old event e out session.new
         × Appends (W.contents output.old) (W.contents output.new) out) }
     ensures unread { IfErr result.1 (λ e. e ≢ errors.Read) }
+    ensures idle { result.1 ≡ Ok true → Idles session.old event session.new × Appends (W.contents output.old) (W.contents output.new) [] }
+    ensures refused { (e : SessionError) → e ≢ refusals.Memory → Refuses session.old.phase event e
+        → (result.1 ≡ Err (errors.Session e)) × (output.new ≡ output.old) }
 {
     let actions = match session.on(event, context.now) {
         Ok(actions) => actions,
         Err(error) => return (seat, Err(EngineError::Session(error))),
     };
-    let may_idle = is_push(actions.as_slice());
+    let may_idle = are_pushes(actions.as_slice());
     let (seat, done) = do_all(context, session, output, seat, actions);
     let next = match done {
         Ok(next) => next,
@@ -151,12 +157,12 @@ fn receive<H: Wait, G: Gate, R: Read + Faults, W: Write + Faults>(
     seat: Seat,
 ) -> (Seat, Result<bool, EngineError>)
     ensures seat { result.0.number ≡ seat.number }
-    ensures done { OnOk result.1 ((heard : List Event) × (read out : List ℕ) × IsRead heard read
-        × ReactsToAll session.old (heard) out session.new
+    ensures done { OnOk result.1 ((heard : Option Event) × (read out : List ℕ) × IsRead heard read
+        × Hears session.old heard out session.new
         × Consumes (R.remaining input.old) (R.remaining input.new) read
         × Appends (W.contents output.old) (W.contents output.new) out) }
-    ensures failed { IfErr result.1 (λ e. (heard : List Event) × (read out : List ℕ) × IsRead heard read
-        × HaltsIn session.old (heard) e out session.new
+    ensures failed { IfErr result.1 (λ e. (heard : Option Event) × (read out : List ℕ) × IsRead heard read
+        × HaltsAt session.old heard e out session.new
         × Consumes (R.remaining input.old) (R.remaining input.new) read
         × Appends (W.contents output.old) (W.contents output.new) out) }
     ensures read { result.1 ≡ Err errors.Read → Rose (R.failed input.old) (R.failed input.new) }
@@ -177,15 +183,18 @@ fn take_turn<H: Wait, G: Gate, R: Read + Faults, W: Write + Faults>(
     seat: Seat,
 ) -> (Seat, Result<bool, EngineError>)
     ensures seat { result.0.number ≡ seat.number }
-    ensures done { OnOk result.1 ((heard : List Event) × (read out : List ℕ) × IsRead heard read
-        × ReactsToAll session.old (first_event (state_of session.old.phase) ∷ heard) out session.new
+    ensures done { OnOk result.1 ((heard : Option Event) × (read out : List ℕ) × IsRead heard read
+        × TakesTurn session.old heard out session.new
         × Consumes (R.remaining input.old) (R.remaining input.new) read
         × Appends (W.contents output.old) (W.contents output.new) out) }
-    ensures failed { IfErr result.1 (λ e. (heard : List Event) × (read out : List ℕ) × IsRead heard read
-        × HaltsIn session.old (first_event (state_of session.old.phase) ∷ heard) e out session.new
+    ensures failed { IfErr result.1 (λ e. (heard : Option Event) × (read out : List ℕ) × IsRead heard read
+        × StopsTurn session.old heard e out session.new
         × Consumes (R.remaining input.old) (R.remaining input.new) read
         × Appends (W.contents output.old) (W.contents output.new) out) }
     ensures read { result.1 ≡ Err errors.Read → Rose (R.failed input.old) (R.failed input.new) }
+    ensures reads { (input.new ≡ input.old) ⊎ ((mid : SessionState) × Idles session.old (first_event (state_of session.old.phase)) mid) }
+    ensures refused { (e : SessionError) → e ≢ refusals.Memory → Refuses session.old.phase (first_event (state_of session.old.phase)) e
+        → (result.1 ≡ Err (errors.Session e)) × (input.new ≡ input.old) × (output.new ≡ output.old) }
 {
     let event = first_event(session.state());
     let (seat, done) = react(context, session, output, seat, event);
@@ -238,15 +247,20 @@ pub fn turn<H: Wait, R: Read + Faults, W: Write + Faults, G: Gate>(
     ensures broken { OnErr result.1 (Breaks session.old session.new) }
     ensures ended { OnErr result.1 (state_of session.new.phase ≡ states.Ended) }
     ensures seat { result.0.number ≡ seat.number }
-    ensures written { OnOk result.1 ((heard : List Event) × (read out : List ℕ) × IsRead heard read
-        × ReactsToAll session.old (first_event (state_of session.old.phase) ∷ heard) out session.new
+    ensures written { OnOk result.1 ((heard : Option Event) × (read out : List ℕ) × IsRead heard read
+        × TakesTurn session.old heard out session.new
         × Consumes (R.remaining input.old) (R.remaining input.new) read
         × Appends (W.contents output.old) (W.contents output.new) out) }
-    ensures stopped { IfErr result.1 (λ e. (heard : List Event) × (read out : List ℕ) × IsRead heard read
-        × HaltsIn session.old (first_event (state_of session.old.phase) ∷ heard) e out session.new
+    ensures stopped { IfErr result.1 (λ e. (heard : Option Event) × (read out : List ℕ) × IsRead heard read
+        × StopsTurn session.old heard e out session.new
         × Consumes (R.remaining input.old) (R.remaining input.new) read
         × Appends (W.contents output.old) (W.contents output.new) out) }
     ensures read { result.1 ≡ Err errors.Read → Rose (R.failed input.old) (R.failed input.new) }
+    ensures reads { (input.new ≡ input.old) ⊎ ((mid : SessionState) × Idles session.old (first_event (state_of session.old.phase)) mid) }
+    ensures refused { (e : SessionError) → e ≢ refusals.Memory → Refuses session.old.phase (first_event (state_of session.old.phase)) e
+        → (result.1 ≡ Err (errors.Session e)) × (input.new ≡ input.old) × (output.new ≡ output.old) }
+    ensures over { state_of session.old.phase ≡ states.Ended
+        → (result.1 ≡ Err (errors.Session refusals.Ended)) × (input.new ≡ input.old) × (output.new ≡ output.old) }
 {
     let context = Context {
         rt,

@@ -2,7 +2,7 @@ use Rattle.std.proofs.Common.{List, ℕ, Some, subst, sym, refl}
 use Rattle.known_state.specs.Lessons.{IsLessonFor}
 use Rattle.session_core.specs.declared.action.Action.TheVariants as actions
 use Rattle.session_core.specs.declared.event.Event.TheVariants as events
-use Rattle.peers_engine.proofs.HaltLaws.{falls_cut}
+use Rattle.peers_engine.proofs.HaltLaws.{falls_short}
 use Rattle.peers_engine.proofs.doing.teach_batch.Goals as goal
 
 pub returns-in-Err-send-clause-failed : goal.returns-in-Err-send-clause-failed
@@ -10,5 +10,5 @@ returns-in-Err-send-clause-failed g c =
     let lesson = c.in-Ok.lesson in
     let taught : IsLessonFor c.args.known.now c.args.batch.now c.as_slice.result.now lesson.known =
     subst (λ (bytes : List ℕ). IsLessonFor c.args.known.now c.args.batch.now bytes lesson.known) (sym c.as_slice.ensures) c.in-Ok.ensures.lesson in
-    falls_cut c.in-Err-send.error c.args.known.now (actions.Teach c.args.batch.now) c.as_slice.result.now (Some (events.Written lesson.known))
+    falls_short c.in-Err-send.error c.args.known.now (actions.Teach c.args.batch.now) c.as_slice.result.now (Some (events.Written lesson.known))
     (g.W.Write.contents c.args.output.now) (g.W.Write.contents c.send.new.output) (lesson.known, taught, refl) c.in-Err-send.ensures.failed

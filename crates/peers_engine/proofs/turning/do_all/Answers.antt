@@ -22,7 +22,7 @@ returns-in-Err-tell-clause-failed g c =
     (contents c.args.output.now) (contents c.loop-action.output) (contents c.do_action-back.new.output)
     (taken_next c.args.actions.items c.into_iter-action-iterator.result c.loop-action.action-iterator c.next.new.self c.loop-action.yielded c.in-Some.action
     c.into_iter-action-iterator.ensures.into_iter_gives.0 c.loop-action.yielded_by c.in-Some.ensures.steps)
-    c.known.ensures c.loop-action.invariant.done c.do_action-back.ensures.done c.in-Ok.is c.in-Err-tell.ensures.quiet c.in-Err-tell.ensures.broken
+    c.known.ensures c.loop-action.invariant.done c.do_action-back.ensures.done c.in-Ok.is c.in-Err-tell.ensures.unheard
 
 pub loop-action-preserved : goal.loop-action-preserved
 loop-action-preserved g c =

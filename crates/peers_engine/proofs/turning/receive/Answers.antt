@@ -1,7 +1,6 @@
-use Rattle.std.proofs.Common.{refl, []}
+use Rattle.std.proofs.Common.{refl, [], None}
 use Rattle.std.proofs.lemmas.Result.{IfErr-weaker}
 use Rattle.peers_engine.proofs.EndLaws.{nothing_consumed, unchanged}
-use Rattle.peers_engine.proofs.HaltLaws.{halts_none}
 use Rattle.peers_engine.proofs.TurnLaws.{read_fails}
 use Rattle.peers_engine.proofs.turning.receive.Goals as goal
 
@@ -16,11 +15,11 @@ returns-in-Ok-Some-clause-failed g c =
 
 pub returns-in-Err-clause-failed : goal.returns-in-Err-clause-failed
 returns-in-Err-clause-failed g c = (
-  [],
+  None,
   [],
   [],
   refl,
-  halts_none c.args.session.now c.in-Err.error c.in-Err.ensures.unwritten,
+  (c.in-Err.ensures.unwritten, refl, refl),
   nothing_consumed (g.R.Read.remaining c.args.input.now) (g.R.Read.remaining c.read_event.new.input) c.in-Err.ensures.unread,
   unchanged (g.W.Write.contents c.args.output.now),
 )

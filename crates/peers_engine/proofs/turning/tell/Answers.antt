@@ -1,5 +1,5 @@
-use Rattle.std.proofs.lemmas.Result.{on_err_weaker, on_ok_weaker}
-use Rattle.peers_engine.proofs.ActLaws.{told_breaks, told_goes}
+use Rattle.std.proofs.lemmas.Result.{on_ok_weaker}
+use Rattle.peers_engine.proofs.ActLaws.{told_goes}
 use Rattle.peers_engine.proofs.turning.tell.Goals as goal
 
 pub returns-in-Some-clause-told : goal.returns-in-Some-clause-told
@@ -7,7 +7,3 @@ returns-in-Some-clause-told c =
     on_ok_weaker c.hear.result
     (told_goes c.args.session.now c.hear.new.session c.args.answer c.in-Some.event c.args.given.now.items c.hear.new.given.items c.in-Some.is)
     c.hear.ensures.heard
-
-pub returns-in-Some-clause-broken : goal.returns-in-Some-clause-broken
-returns-in-Some-clause-broken c =
-    on_err_weaker c.hear.result (told_breaks c.args.session.now c.hear.new.session c.args.answer c.in-Some.event c.in-Some.is) c.hear.ensures.broken
