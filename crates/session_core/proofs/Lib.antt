@@ -7,3 +7,4 @@ mod RunLaws
 mod AskedLaws
 mod ConfirmedLaws
 mod FaultLaws
+mod StepIsUnique

@@ -36,3 +36,10 @@ pub fn a_fault_ends_the_session()
     ensures { (roster : List Definition) (begun s : SessionState) (steps : List (Event × List Action)) →
         IsBegun roster begun → Runs begun steps s → (s.phase ≡ phases.Ended) ⊎ (s.fault ≡ None) }
 {}
+
+/// A session does one thing at an event: what it asks for, and where it stands then, are given by the event and by where it
+/// stood.
+pub fn a_step_is_unique()
+    ensures { (s e end : SessionState) (event : Event) (acts others : List Action) →
+        Goes s event acts e → Goes s event others end → (acts ≡ others) × (e ≡ end) }
+{}
