@@ -12,7 +12,7 @@ use table_types::{Memory, Name};
 /// The slots lie in the value itself, so only the names take memory.
 #[derive(Debug, Drop)]
 pub struct Slots {
-    places: [Option<Name>; 128],
+    names: [Option<Name>; 128],
 }
 
 impl Model for Slots {
@@ -20,15 +20,15 @@ impl Model for Slots {
 
     ghost Value = { List (Option (List ℕ)) };
 
-    ghost view = { λ a. a.places };
+    ghost view = { λ a. a.names };
 
-    ghost invariant = { λ a. length a.places ≡ 128 };
+    ghost invariant = { λ a. length a.names ≡ 128 };
 }
 
-fn holds(place: &Option<Name>, name: &Name) -> bool
-    ensures { IsTrue result ↔ (place.now ≡ Some name.now) }
+fn holds(slot: &Option<Name>, name: &Name) -> bool
+    ensures { IsTrue result ↔ (slot.now ≡ Some name.now) }
 {
-    match place {
+    match slot {
         Some(held) => held.is_same(name),
         None => false,
     }
@@ -48,7 +48,7 @@ impl Slots {
     pub fn new(_alloc: Global) -> Slots
         ensures { result ≡ no_names }
     {
-        Slots { places: no_names() }
+        Slots { names: no_names() }
     }
 
     /// How many slots there are: 128.
@@ -56,7 +56,7 @@ impl Slots {
         ensures count { result ≡ length self.now }
         ensures all { result ≡ 128 }
     {
-        self.places.as_slice().len()
+        self.names.as_slice().len()
     }
 
     /// The lowest slot that holds this name, and `None` where no slot does.
@@ -66,9 +66,9 @@ impl Slots {
         ensures absent { IsNone result → (slot : ℕ) → Holds self.now slot name.now → ⊥ }
         ensures count { length self.now ≡ 128 }
     {
-        for (place, held) in self.places.iter().enumerate() {
+        for (index, held) in self.names.iter().enumerate() {
             if holds(held, name) {
-                return Some(place as u8 + 1);
+                return Some(index as u8 + 1);
             }
         }
         None
@@ -80,7 +80,7 @@ impl Slots {
         ensures held { option_copied result ≡ slot_at self.now id }
         ensures count { length self.now ≡ 128 }
     {
-        self.places[usize::from(id) - 1].as_ref()
+        self.names[usize::from(id) - 1].as_ref()
     }
 
     /// Writes a name into slot `id`, 1 to 128, and hands out the one that it held. It takes no memory.
@@ -90,7 +90,7 @@ impl Slots {
         ensures written { self.new ≡ slice_set self.old (id - 1) (Some name) }
         ensures count { length self.new ≡ 128 }
     {
-        self.places[usize::from(id) - 1].replace(name)
+        self.names[usize::from(id) - 1].replace(name)
     }
 
     /// Equal slots.
@@ -98,8 +98,8 @@ impl Slots {
         ensures { IfOk result (λ copy. copy ≡ self.now) }
     {
         let mut copy = Slots::new(alloc);
-        for (place, held) in self.places.iter().enumerate() {
-            copy.places[place] = Name::copy_of(alloc, held)?;
+        for (index, held) in self.names.iter().enumerate() {
+            copy.names[index] = Name::copy_of(alloc, held)?;
         }
         Ok(copy)
     }

@@ -42,22 +42,22 @@ fn read_long(first: u8, later: &[u8]) -> Read
     ensures { result ≡ long_of first later.now (tail_length 8 later.now) }
 {
     let mut sum = u128::from(first);
-    for place in 0..later.len().min(9) {
-        sum += shifted(later[place], place);
-        if later[place] < 128 || place == 8 {
-            return whole(sum, place + 2);
+    for index in 0..later.len().min(9) {
+        sum += shifted(later[index], index);
+        if later[index] < 128 || index == 8 {
+            return whole(sum, index + 2);
         }
     }
     Read::Short
 }
 
-// A later byte in its place.
-fn shifted(byte: u8, place: usize) -> u128
-    requires { place < 9 }
-    ensures exact { result ≡ byte * 2 ^ (4 + 7 * place) }
+// The later byte of that index, from 0, by its weight.
+fn shifted(byte: u8, index: usize) -> u128
+    requires { index < 9 }
+    ensures exact { result ≡ byte * 2 ^ (4 + 7 * index) }
     ensures below { result < 2 ^ 68 }
 {
-    u128::from(byte) << (4 + 7 * place)
+    u128::from(byte) << (4 + 7 * index)
 }
 
 // The answer for all bytes of a number.

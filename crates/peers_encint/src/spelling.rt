@@ -42,12 +42,12 @@ fn write(n: u64, out: &mut [u8; 10]) -> usize
     }
     out[0] = 240 | (n & 15) as u8;
     let mut rest = (n - 240) >> 4;
-    for place in 1..9 {
+    for index in 1..9 {
         if rest < 128 {
-            out[place] = rest as u8;
-            return place + 1;
+            out[index] = rest as u8;
+            return index + 1;
         }
-        out[place] = (rest & 255) as u8 | 128;
+        out[index] = (rest & 255) as u8 | 128;
         rest = (rest - 128) >> 7;
     }
     out[9] = rest as u8;

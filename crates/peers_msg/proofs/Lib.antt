@@ -17,4 +17,5 @@ pub mod FrameEnds
 pub mod ReceivedLaws
 pub mod ListLaws
 pub mod CuttingLaws
+pub mod CallLaws
 pub mod OneOutcome

@@ -10,7 +10,6 @@ use Rattle.peers_encint.specs.Integers.{spelling, read_of, IsBytes}
 use Rattle.peers_encint.proofs.ReadingLaws.{takes}
 use Rattle.table_types.specs.declared.data_type.DataType.{DataType}
 use Rattle.table_types.specs.declared.key.KeyKind.{KeyKind}
-use Rattle.table_types.specs.declared.key.KeyKind.TheVariants as kinds
 use Rattle.table_types.specs.Names.{is_name}
 use Rattle.table_types.specs.Keys.{number_of, kind_at, fits_length}
 use Rattle.table_types.proofs.KindLaws.{kind_numbered}

@@ -1,4 +1,4 @@
--- A decoder does one thing, but where memory runs out.
+-- A decoder does one thing, but where memory is wanted.
 use Rattle.std.proofs.Common.{◌≡◌, ◌≢◌, ℕ, Bool, true, false, List, ◌++◌, Option, Some, None, Result, Ok, Err, refl, sym, ap, ◌∙◌}
 use Rattle.peers_msg.specs.declared.fault.Breach.{Breach}
 use Rattle.peers_msg.specs.declared.fault.Fault.{Fault}

@@ -31,7 +31,7 @@ abbrev pub IsWhole : Decoding → Type 0
 IsWhole d = (m : Message) × (rest : List ℕ) × (message_at d.received d.unread ≡ Ok (Some (m, rest)))
 
 -- What asking for a message does. A message is taken off the bytes and received, a breach closes, and nothing else changes
--- anything. Memory runs out only for a whole message.
+-- anything. Memory is wanted only for a whole message.
 abbrev pub DecoderNext : Decoding → Result (Option Message) Fault → Decoding → Type 0
 DecoderNext d (Ok None) e = (d.closed ≡ false) × (message_at d.received d.unread ≡ Ok None) × (e ≡ d)
 DecoderNext d (Ok (Some m)) e =

@@ -10,7 +10,7 @@ use Rattle.peers_msg.specs.declared.name_field.NameField.{NameField}
 use Rattle.peers_msg.specs.declared.name_field.NameField.TheVariants as names
 use Rattle.peers_msg.specs.declared.message.Message.{Message}
 use Rattle.peers_msg.specs.declared.message.Message.TheVariants as messages
-use Rattle.peers_msg.specs.Messages.{UpdateFields, is_other}
+use Rattle.peers_msg.specs.Messages.{UpdateFields, is_other, most_data}
 use Rattle.peers_msg.specs.Received.{Received, selected_table}
 use Rattle.peers_msg.specs.Spelling.{data_of}
 
@@ -40,9 +40,9 @@ has_shape h (messages.Ack table number) = nat_lt table (2 ^ 64) && is_word numbe
 has_shape h (messages.Update u) = fits_table (selected_table h) u
 has_shape h (messages.Other o) = is_other o
 
--- a message fits what was received: it has the shape and ranges, and its data has at most 16,384 bytes
+-- a message fits what was received: it has the shape and ranges, and no more data than a message may have
 unfoldable pub fits : Received → Message → Bool
-fits h m = has_shape h m && nat_le (length (data_of m)) 16384
+fits h m = has_shape h m && nat_le (length (data_of m)) most_data
 
 -- messages that fit wherever they stand
 abbrev pub IsPlain : Message → Type 0

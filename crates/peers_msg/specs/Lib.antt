@@ -10,4 +10,5 @@ pub mod Reading
 pub mod BorrowedMessages
 pub mod Stream
 pub mod Decoding
+pub mod Calls
 pub mod Framing

@@ -25,10 +25,14 @@ pub record OtherFields : Type 0 where
 abbrev pub is_known_pair : ℕ → ℕ → Bool
 is_known_pair class message_type = class == 0 && nat_le message_type 4 || class == 1 && nat_le message_type 1 || class == 10 && (nat_le 128 message_type && nat_le message_type 134)
 
--- a message of another pair: its class and type are bytes, it has data only where the type is 128 or more,
--- and then at most 16,384 bytes
+-- how many bytes the data of a message may have
+abbrev pub most_data : ℕ
+most_data = 16384
+
+-- a message of another pair: its class and type are bytes, and it has data only where the type is 128 or more, and then
+-- no more than a message may have
 abbrev pub is_other : OtherFields → Bool
-is_other o = nat_lt o.class 256 && nat_lt o.message_type 256 && not (is_known_pair o.class o.message_type) && (if nat_lt o.message_type 128 then length o.body == 0 else nat_le (length o.body) 16384)
+is_other o = nat_lt o.class 256 && nat_lt o.message_type 256 && not (is_known_pair o.class o.message_type) && (if nat_lt o.message_type 128 then length o.body == 0 else nat_le (length o.body) most_data)
 
 -- how many bytes a key has, without a length before them
 abbrev pub key_bytes : Key → ℕ

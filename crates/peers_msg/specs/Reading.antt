@@ -30,7 +30,7 @@ use Rattle.peers_msg.specs.declared.meaning.Meaning.{Meaning}
 use Rattle.peers_msg.specs.declared.meaning.Meaning.TheVariants as meanings
 use Rattle.peers_msg.specs.declared.fault.Breach.{Breach}
 use Rattle.peers_msg.specs.declared.fault.Breach.TheVariants.{BadInteger, SizeLimit, BadDefinition, UnknownDataType, NoTable, BadKey, BadValue, Trailing}
-use Rattle.peers_msg.specs.Messages.{UpdateFields}
+use Rattle.peers_msg.specs.Messages.{UpdateFields, most_data}
 use Rattle.peers_msg.specs.Received.{Received, selected_table}
 use Rattle.table_types.specs.SlotIds.{is_slot}
 
@@ -301,7 +301,7 @@ pub record Frame : Type 0 where
 -- so many bytes of data, once they all stand
 abbrev pub whole_data : ℕ → List ℕ → Result (Option (List ℕ × List ℕ)) Breach
 whole_data n bytes =
-    if nat_lt 16384 n then Err SizeLimit
+    if nat_lt most_data n then Err SizeLimit
     else (if nat_lt (length bytes) n then Ok None
     else Ok (Some (take n bytes, drop n bytes)))
 

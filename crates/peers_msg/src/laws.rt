@@ -1,9 +1,10 @@
 //! What holds of the definitions, whatever the program does.
 
-ghost use Rattle.std.specs.Prelude.{List, length, fold, true, ℕ, ◌≡◌, ◌≤◌, [], ◌++◌, Result, Ok, Err, Option, Some, ◌≢◌, None, ◌↔◌};
+ghost use Rattle.std.specs.Prelude.{List, length, fold, true, ℕ, ◌≡◌, ◌≤◌, [], ◌∷◌, ◌++◌, Result, Ok, Err, Option, Some, ◌≢◌, None, ◌↔◌};
 ghost use Rattle.peers_encint.specs.Integers.{IsBytes};
 ghost use Rattle.peers_msg.specs.Reading.{message_at, with_more};
 ghost use Rattle.peers_msg.specs.Decoding.{Decoding, DecoderFeeds, DecoderNext, AreRead, AreReadInPieces, IsEnd, together};
+ghost use Rattle.peers_msg.specs.Calls.{AreCalled};
 ghost use Rattle.peers_msg.specs.Stream.{AllFit};
 ghost use Rattle.peers_msg.specs.Received.{Received, AreDistinct, nothing_received, received_after, resumed};
 ghost use Rattle.peers_msg.specs.OwnTables.{own_part};
@@ -68,6 +69,16 @@ pub fn any_cutting()
         (ms ≡ ns) × (g ≡ k) × (x ++ more ≡ y) × (message_at k y ≡ Err breach) }
 {}
 
+/// In whatever order a decoder is fed pieces and asked for messages, it reads in pieces: what was unread is the first of
+/// them, and then come those that it took. So the messages that it gives fit, and they are spelled by those bytes up to
+/// what is unread at the end; and what it received is what they say.
+pub fn any_calls()
+    ensures pieces { (d e : Decoding) (calls : List (Option (List ℕ))) (pieces : List (List ℕ)) (ms : List Message) → AreCalled d calls pieces ms e →
+        AreReadInPieces d.received [] (d.unread ∷ pieces) ms e.received e.unread }
+    ensures spelled { (d e : Decoding) (calls : List (Option (List ℕ))) (pieces : List (List ℕ)) (ms : List Message) → IsBytes (d.unread ++ together pieces) → AreCalled d calls pieces ms e →
+        (d.unread ++ together pieces ≡ stream_of ms ++ e.unread) × AllFit d.received ms × (e.received ≡ fold received_after d.received ms) }
+{}
+
 /// A list of messages that are read one after another fits, the bytes are the list's encoding and what is left, and what
 /// was received is what the list says. And a list that fits is read back from its encoding, whatever follows it.
 pub fn lists_are_read()
@@ -77,7 +88,7 @@ pub fn lists_are_read()
 {}
 
 /// A decoder does one thing: where two outcomes of feeding it a piece, or of asking it for a message, are both allowed
-/// and neither is running out of memory, the answer is the same and so is what it holds then.
+/// and neither is want of memory, the answer is the same and so is what it holds then.
 pub fn one_outcome()
     ensures feed { (d a b : Decoding) (piece : List ℕ) (one other : Result (Unit {0}) Fault) → DecoderFeeds d piece one a → DecoderFeeds d piece other b →
         one ≢ Err faults.Memory → other ≢ Err faults.Memory → (one ≡ other) × (a ≡ b) }

@@ -177,10 +177,10 @@ fn data_at(message_type: u8, bytes: &[u8]) -> Result<Option<(&[u8], &[u8])>, Bre
 fn frame_at(bytes: &[u8]) -> Result<Option<(Frame<'_>, &[u8])>, Breach>
     ensures { Reads (option_map (λ x. (record { class = x.0.class; message_type = x.0.message_type; body = x.0.body.now }, x.1.now))) result (frame_at bytes.now) }
 {
-    let [class, message_type, behind @ ..] = bytes else {
+    let [class, message_type, later @ ..] = bytes else {
         return Ok(None);
     };
-    Ok(match data_at(*message_type, behind)? {
+    Ok(match data_at(*message_type, later)? {
         Some((body, rest)) => {
             let frame = Frame {
                 class: *class,

@@ -4,11 +4,11 @@ use Rattle.peers_encint.proofs.ReadingSteps.{counted}
 use Rattle.peers_encint.proofs.reading.read_long.Given as goal
 
 -- the bytes so far are added, and none of them ends the number
-abbrev pub invariant-loop-place : goal.invariant-loop-place
-invariant-loop-place l =
+abbrev pub invariant-loop-index : goal.invariant-loop-index
+invariant-loop-index l =
     record {
-      within : l.place ≤ 8;
-      added : l.sum ≡ l.first + added_from 4 (take l.place l.later);
-      below : l.sum < 256 + l.place * 2 ^ 68;
-      counts : counted l.place l.later ≡ tail_length 8 l.later;
+      within : l.index ≤ 8;
+      added : l.sum ≡ l.first + added_from 4 (take l.index l.later);
+      below : l.sum < 256 + l.index * 2 ^ 68;
+      counts : counted l.index l.later ≡ tail_length 8 l.later;
     }

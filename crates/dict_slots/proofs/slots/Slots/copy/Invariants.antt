@@ -1,5 +1,5 @@
 use Rattle.std.proofs.Common.{◌≡◌, length, take}
 use Rattle.dict_slots.proofs.slots.Slots.copy.Given as goal
 
-abbrev pub invariant-loop-place : goal.invariant-loop-place
-invariant-loop-place l = (length l.copy-inside.places ≡ 128) × (take l.place l.copy-inside.places ≡ take l.place l.held-items)
+abbrev pub invariant-loop-index : goal.invariant-loop-index
+invariant-loop-index l = (length l.copy-inside.names ≡ 128) × (take l.index l.copy-inside.names ≡ take l.index l.held-items)

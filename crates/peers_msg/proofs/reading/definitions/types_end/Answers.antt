@@ -1,4 +1,3 @@
-use Rattle.std.proofs.Common.{[], ◌∷◌, ◌++◌, get_or}
 use Rattle.std.proofs.lemmas.Result.{err_from_is_err_and}
 use Rattle.table_types.specs.DataTypes.{all_types}
 use Rattle.peers_msg.specs.Reading.{types_at}

@@ -1,0 +1,34 @@
+-- A decoder's calls, one after another, in any order of feeding and asking.
+use Rattle.std.specs.Prelude.{◌≡◌, ℕ, List, [], ◌∷◌, ◌++◌, Option, Some, None, Result, Ok, Err}
+use Rattle.peers_msg.specs.declared.fault.Fault.{Fault}
+use Rattle.peers_msg.specs.declared.message.Message.{Message}
+use Rattle.peers_msg.specs.Decoding.{Decoding, DecoderFeeds, DecoderNext}
+
+-- the piece that was fed, where it was taken
+abbrev pub taken_of : List ℕ → Result (Unit {0}) Fault → List (List ℕ)
+taken_of piece (Ok _) = piece ∷ []
+taken_of piece (Err fault) = []
+
+-- the message that was asked for, where one was given
+abbrev pub given_of : Result (Option Message) Fault → List Message
+given_of (Ok (Some m)) = m ∷ []
+given_of answer = []
+
+-- Calls one after another lead from d to e, where Some feeds that piece and None asks for a message: these pieces were
+-- taken, and these messages given.
+abbrev pub AreCalled : Decoding → List (Option (List ℕ)) → List (List ℕ) → List Message → Decoding → Type 0
+AreCalled d [] pieces ms e = (pieces ≡ []) × (ms ≡ []) × (e ≡ d)
+AreCalled d (Some piece ∷ calls) pieces ms e =
+    (answer : Result (Unit {0}) Fault)
+    × (others : List (List ℕ))
+    × (mid : Decoding)
+    × (pieces ≡ taken_of piece answer ++ others)
+    × DecoderFeeds d piece answer mid
+    × AreCalled mid calls others ms e
+AreCalled d (None ∷ calls) pieces ms e =
+    (answer : Result (Option Message) Fault)
+    × (others : List Message)
+    × (mid : Decoding)
+    × (ms ≡ given_of answer ++ others)
+    × DecoderNext d answer mid
+    × AreCalled mid calls pieces others e
