@@ -7,10 +7,9 @@ use Rattle.peers_msg.specs.declared.name_field.NameField.{NameField}
 use Rattle.peers_msg.specs.declared.name_field.NameField.TheVariants as names
 use Rattle.peers_msg.specs.declared.message.Message.{Message}
 use Rattle.peers_msg.specs.declared.message.Message.TheVariants as messages
-use Rattle.peers_msg.specs.Messages.{UpdateFields}
 use Rattle.peers_msg.specs.Fitting.{fits}
 use Rattle.known_state.specs.State.{State, Step, Named, name_of, reads_empty, resolved_number, slots_after}
-use Rattle.known_state.specs.Effects.{IsEffect, Resolves, carried_by, made, refusal_of, selected_number, slots_with, written_by}
+use Rattle.known_state.specs.Effects.{IsEffect, Resolves, carried_by, made, message_refusal, refusal_of, selected_number, slots_with, written_by}
 use Rattle.known_state.specs.declared.effect.Effect.{Effect}
 use Rattle.known_state.specs.declared.effect.Effect.TheVariants as effects
 use Rattle.known_state.specs.declared.effect.Refusal.{Refusal}
@@ -61,11 +60,31 @@ no_other s e m us effect is step =
 pub resolved_unrefused : (s : State) (number : Option ℕ) (field : NameField) (r : ResolvedUpdate) → Resolves s number field r → refusal_of s number field ≡ None
 resolved_unrefused s number field r (selected, is, reads, written) = rw (selected, is, reads) refl
 
--- an update that is refused makes no step
-pub refused_steps : (s e : State) (u : UpdateFields) (us : List Update) (refusal : Refusal) → refusal_of s u.number u.name ≡ Some refusal → Step s (messages.Update u) us e → ⊥
-refused_steps s e u us refusal refused (fit, table, is_table, number, is_number, name, named, carried, received, last_numbers) =
-    let none : refusal_of s u.number u.name ≡ None = rw (is_table, is_number, (named_so s.slots u.name name e.slots named).0) refl in
-    let bad : None ≡ Some refusal = sym none ∙ refused in
+-- what has an effect isn't refused
+pub effect_unrefused : (s : State) (m : Message) (effect : Effect) → IsEffect s m effect → message_refusal s m ≡ None
+effect_unrefused s (messages.Update u) effect (r, is, resolves) = resolved_unrefused s u.number u.name r resolves
+effect_unrefused s (messages.Define d) effect is = refl
+effect_unrefused s (messages.Switch id) effect is = refl
+effect_unrefused s (messages.Control c) effect is = refl
+effect_unrefused s (messages.Error e) effect is = refl
+effect_unrefused s (messages.Ack table number) effect is = refl
+effect_unrefused s (messages.Other o) effect is = refl
+
+-- nor is what makes a step
+pub step_unrefused : (s e : State) (m : Message) (us : List Update) → Step s m us e → message_refusal s m ≡ None
+step_unrefused s e (messages.Update u) us (fit, table, is_table, number, is_number, name, named, carried, received, last_numbers) =
+    rw (is_table, is_number, (named_so s.slots u.name name e.slots named).0) refl
+step_unrefused s e (messages.Define d) us step = refl
+step_unrefused s e (messages.Switch id) us step = refl
+step_unrefused s e (messages.Control c) us step = refl
+step_unrefused s e (messages.Error k) us step = refl
+step_unrefused s e (messages.Ack table number) us step = refl
+step_unrefused s e (messages.Other o) us step = refl
+
+-- so a message that is refused makes none
+pub refused_steps : (s e : State) (m : Message) (us : List Update) (refusal : Refusal) → message_refusal s m ≡ Some refusal → Step s m us e → ⊥
+refused_steps s e m us refusal refused step =
+    let bad : None ≡ Some refusal = sym (step_unrefused s e m us step) ∙ refused in
     cc
 
 tests_fail : (a b : Bool) → (if a then Some refusals.NoNumber else (if b then Some refusals.EmptySlot else None)) ≡ None → (a ≡ false) × (b ≡ false)

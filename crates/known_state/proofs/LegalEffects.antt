@@ -1,6 +1,6 @@
 -- What the effect of a legal message makes, and why a known state refuses an update.
 use Rattle.std.proofs.Common.{◌≡◌, ℕ, Bool, true, false, List, Option, Some, None, refl, sym, ap, subst, ◌∙◌}
-use Rattle.std.specs.Prelude.{◌≢◌, not, is_none, is_some, option_map, option_and_then, if◌then◌else◌}
+use Rattle.std.specs.Prelude.{◌≢◌, is_some, option_map}
 use Rattle.std.proofs.lemmas.Bool.{eq-eqb}
 use Rattle.table_types.specs.declared.update.Update.{Update}
 use Rattle.table_types.specs.Tables.{Definition}
@@ -11,11 +11,11 @@ use Rattle.table_types.proofs.ShapeLaws.{means_shape, same_definition}
 use Rattle.peers_msg.specs.declared.message.Message.{Message}
 use Rattle.peers_msg.specs.declared.message.Message.TheVariants as messages
 use Rattle.peers_msg.specs.Messages.{UpdateFields}
+use Rattle.peers_msg.specs.OwnTables.{is_own}
 use Rattle.peers_msg.specs.Received.{selected_table}
 use Rattle.peers_msg.specs.Fitting.{fits}
-use Rattle.known_state.specs.LastNumbers.{last_of}
-use Rattle.known_state.specs.State.{State, Step, IsOwn, resolved_number, reads_empty}
-use Rattle.known_state.specs.Effects.{Resolves, carried_by, made, refusal_of, selected_number}
+use Rattle.known_state.specs.State.{State, Step, IsOwn}
+use Rattle.known_state.specs.Effects.{Resolves, carried_by, made, refusal_of}
 use Rattle.known_state.specs.Known.{KnownState, AreOwn, IsLegalEffect, IsTakenBy, refused_as, update_refusal}
 use Rattle.known_state.specs.declared.effect.Effect.{Effect}
 use Rattle.known_state.specs.declared.effect.ResolvedUpdate.{ResolvedUpdate}
@@ -24,7 +24,6 @@ use Rattle.known_state.specs.declared.effect.Refusal.TheVariants as refusals
 use Rattle.known_state.specs.declared.known.StepError.{StepError}
 use Rattle.known_state.specs.declared.known.StepError.TheVariants as step_errors
 use Rattle.known_state.proofs.EffectLemmas.{effect_steps, resolved_unrefused}
-use Rattle.known_state.proofs.StepLemmas.{selected-id}
 use Rattle.known_state.proofs.StepPays.{own_stays}
 
 -- the effect of a legal message makes its step, in a known state of these parts
@@ -46,18 +45,8 @@ legal_own k roster s e m effect view all legal made_is =
 -- an update of the selected table that fits is refused for what its state refuses it
 pub refused_so : (k : KnownState) (u : UpdateFields) (d : Definition) → selected_table k.state.received ≡ Some d → fits k.state.received (messages.Update u) ≡ true → update_refusal k u (selected_table k.state.received) ≡ option_map refused_as (refusal_of k.state u.number u.name)
 refused_so k u d sel fit =
-    let number : selected_number k.state u.number ≡ resolved_number u.number (last_of k.state.last_numbers d.id) = ap (λ (o : Option ℕ). option_and_then (λ table. resolved_number u.number (last_of k.state.last_numbers table)) o) (selected-id k.state.received d sel) in
     let here : update_refusal k u (selected_table k.state.received) ≡ update_refusal k u (Some d) = ap (λ (o : Option Definition). update_refusal k u o) sel in
-    here ∙ fitting (fits k.state.received (messages.Update u)) fit (is_none (resolved_number u.number (last_of k.state.last_numbers d.id))) (is_none (selected_number k.state u.number)) (reads_empty k.state.slots u.name) (ap (λ (o : Option ℕ). is_none o) number)
-  where
-    at : (a b : Bool) → (if a then Some step_errors.NoNumber else (if b then Some step_errors.EmptySlot else None)) ≡ option_map refused_as (if a then Some refusals.NoNumber else (if b then Some refusals.EmptySlot else None))
-    at true b = refl
-    at false true = refl
-    at false false = refl
-
-    fitting : (f : Bool) → f ≡ true → (a c b : Bool) → c ≡ a → (if not f then Some step_errors.Foreign else (if a then Some step_errors.NoNumber else (if b then Some step_errors.EmptySlot else None))) ≡ option_map refused_as (if c then Some refusals.NoNumber else (if b then Some refusals.EmptySlot else None))
-    fitting false f a c b same = cc
-    fitting true f a c b same = at a b ∙ ap (λ (x : Bool). option_map refused_as (if x then Some refusals.NoNumber else (if b then Some refusals.EmptySlot else None))) (sym same)
+    here ∙ rw fit refl
 
 -- whether its state refuses it, and why, is told
 pub refusal_here : (k : KnownState) (s : State) (u : UpdateFields) (d : Definition) (number : Option ℕ) (field : NameField) (refusal : Option Refusal) → s ≡ k.state → number ≡ u.number → field ≡ u.name → selected_table k.state.received ≡ Some d → fits k.state.received (messages.Update u) ≡ true
@@ -122,6 +111,13 @@ taken_switch k id taken = at (has_id id k.roster) refl (table_at k.state.receive
 
 same_as_itself : (d : Definition) → is_same_definition d d ≡ true
 same_as_itself d = rw (eq-eqb d.id d.id refl, eq-eqb d.expire d.expire refl, means_shape d d refl) refl
+
+-- a definition that isn't the roster's own isn't the one that its id stands for
+pub not_own : (roster : List Definition) (d : Definition) → is_own roster d ≡ false → table_at roster d.id ≢ Some d
+not_own roster d other found =
+    let own : is_own roster d ≡ true = rw found (same_as_itself d) in
+    let bad : false ≡ true = sym other ∙ own in
+    absurd cc
 
 -- and a definition among them is the roster's own
 pub taken_define : (k : KnownState) (d : Definition) → IsTakenBy k (messages.Define d) → table_at k.roster d.id ≡ Some d

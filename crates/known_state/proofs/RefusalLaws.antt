@@ -1,5 +1,5 @@
 -- What a known state refuses is no step.
-use Rattle.std.proofs.Common.{◌≡◌, ℕ, Bool, true, false, ◌&&◌, List, Option, Some, None, refl, sym, ◌∙◌, subst}
+use Rattle.std.proofs.Common.{◌≡◌, ℕ, Bool, true, false, ◌&&◌, List, Option, Some, None, refl, sym, ap, ◌∙◌, subst}
 use Rattle.std.specs.Prelude.{is_some, nat_lt, nat_le, ◌^◌, length}
 use Rattle.peers_msg.specs.Spelling.{data_of}
 use Rattle.table_types.specs.declared.update.Update.{Update}
@@ -10,13 +10,13 @@ use Rattle.peers_msg.specs.declared.message.Message.TheVariants as messages
 use Rattle.peers_msg.specs.Messages.{UpdateFields}
 use Rattle.peers_msg.specs.Received.{Received, selected_table}
 use Rattle.peers_msg.specs.Fitting.{fits}
-use Rattle.known_state.specs.State.{State, Step, IsOwn, resolved_number}
-use Rattle.known_state.specs.LastNumbers.{last_of}
+use Rattle.known_state.specs.State.{State, Step, IsOwn}
+use Rattle.known_state.specs.Effects.{refusal_of}
 use Rattle.known_state.specs.declared.known.StepError.{StepError}
 use Rattle.known_state.specs.Known.{KnownState, AreOwn, Refuses, switch_refusal, update_refusal}
 use Rattle.known_state.proofs.KnownLemmas.{table_at-id, table_at-passes}
 use Rattle.known_state.proofs.ResolvingLemmas.{named_so}
-use Rattle.known_state.proofs.StepLemmas.{has_id-table_at, selected-id}
+use Rattle.known_state.proofs.StepLemmas.{has_id-table_at}
 
 pub switch_found : (h : Received) (id : ℕ) → fits h (messages.Switch id) ≡ true → (d : Definition) × (table_at h.tables id ≡ Some d)
 unfolding fits
@@ -50,10 +50,9 @@ no_step k (messages.Switch id) e us after own refuses is_own step =
     cc
 no_step k (messages.Update u) e us after own refuses is_own (fit, table, is_table, number, is_number, name, named, carried, received, last_numbers) =
     let sel = selection k.state.received u fit in
-    let same : Some sel.0.id ≡ Some table = sym (selected-id k.state.received sel.0 sel.1) ∙ is_table in
-    let id_is : sel.0.id ≡ table = cc in
-    let numbered : resolved_number u.number (last_of k.state.last_numbers sel.0.id) ≡ Some number = subst (λ (n : ℕ). resolved_number u.number (last_of k.state.last_numbers n) ≡ Some number) (sym id_is) is_number in
-    let none : update_refusal k u (selected_table k.state.received) ≡ None = rw (sel.1, fit, numbered, (named_so k.state.slots u.name name after.slots named).0) refl in
+    let unrefused : refusal_of k.state u.number u.name ≡ None = rw (is_table, is_number, (named_so k.state.slots u.name name after.slots named).0) refl in
+    let here : update_refusal k u (selected_table k.state.received) ≡ update_refusal k u (Some sel.0) = ap (λ (o : Option Definition). update_refusal k u o) sel.1 in
+    let none : update_refusal k u (selected_table k.state.received) ≡ None = here ∙ rw (fit, unrefused) refl in
     let bad : None ≡ Some e = sym none ∙ refuses in
     cc
 no_step k (messages.Control c) e us after own refuses is_own step = refuses

@@ -25,6 +25,11 @@ refusal_of s number field =
     if is_none (selected_number s number) then Some refusals.NoNumber
     else (if reads_empty s.slots field then Some refusals.EmptySlot else None)
 
+-- why a message that fits is refused: only an update may be
+abbrev pub message_refusal : State → Message → Option Refusal
+message_refusal s (messages.Update u) = refusal_of s u.number u.name
+message_refusal s m = None
+
 -- the slot that a name field writes, and the name
 abbrev pub written_by : NameField → Option (ℕ × List ℕ)
 written_by (names.Written slot name) = Some (slot, name)

@@ -1,5 +1,5 @@
 -- What a teacher knows of its learner, and why a message is refused there (profile).
-use Rattle.std.specs.Prelude.{◌≡◌, ◌≢◌, ◌==◌, ◌&&◌, ℕ, Bool, true, false, not, ◌||◌, List, [], ◌∷◌, fold, is_none, Option, Some, None, codes, if◌then◌else◌}
+use Rattle.std.specs.Prelude.{◌≡◌, ◌≢◌, ◌==◌, ◌&&◌, ℕ, Bool, true, false, not, ◌||◌, List, [], ◌∷◌, fold, is_none, Option, Some, None, option_map, codes, if◌then◌else◌}
 use Rattle.std.specs.List.{AllByRecursion, list_any, list_all}
 use Rattle.table_types.specs.Tables.{Definition}
 use Rattle.table_types.specs.Updates.{stores_name}
@@ -11,9 +11,9 @@ use Rattle.peers_msg.specs.Received.{nothing_received, resumed, selected_table}
 use Rattle.peers_msg.specs.Fitting.{fits}
 use Rattle.peers_msg.specs.OwnTables.{own_part}
 use Rattle.dict_slots.specs.Slots.{no_names}
-use Rattle.known_state.specs.State.{State, IsOwn, resolved_number, reads_empty}
-use Rattle.known_state.specs.Effects.{IsEffect}
-use Rattle.known_state.specs.LastNumbers.{last_of, set_last, own_last_numbers}
+use Rattle.known_state.specs.State.{State, IsOwn}
+use Rattle.known_state.specs.Effects.{IsEffect, refusal_of}
+use Rattle.known_state.specs.LastNumbers.{set_last, own_last_numbers}
 use Rattle.known_state.specs.declared.effect.Effect.{Effect}
 use Rattle.known_state.specs.declared.effect.Refusal.{Refusal}
 use Rattle.known_state.specs.declared.effect.Refusal.TheVariants as refusals
@@ -85,29 +85,27 @@ switch_refusal k id =
     if not (has_id id k.roster) then Some step_errors.Foreign
     else (if is_none (table_at k.state.received.tables id) then Some step_errors.NotDefined else None)
 
+-- a state's refusal, as a known state's
+abbrev pub refused_as : Refusal → StepError
+refused_as refusals.NoNumber = step_errors.NoNumber
+refused_as refusals.EmptySlot = step_errors.EmptySlot
+refused_as refusals.Memory = step_errors.Memory
+
 -- why an update is refused, by the table that is selected
 abbrev pub update_refusal : KnownState → UpdateFields → Option Definition → Option StepError
 update_refusal k u None = Some step_errors.NoTable
 update_refusal k u (Some d) =
     if not (fits k.state.received (messages.Update u)) then Some step_errors.Foreign
-    else (if is_none (resolved_number u.number (last_of k.state.last_numbers d.id)) then Some step_errors.NoNumber
-    else (if reads_empty k.state.slots u.name then Some step_errors.EmptySlot
-    else None))
+    else option_map refused_as (refusal_of k.state u.number u.name)
 
--- Why a message is refused in a known state. An update: with no table selected, where it doesn't fit, where it is
--- incremental and its table has no last number, or where it reads an empty slot. A definition that isn't the roster's
--- own. A switch to an id that isn't the roster's, or to a table that isn't defined yet.
+-- Why a message is refused in a known state. An update: with no table selected, where it doesn't fit, or where the state
+-- refuses it. A definition that isn't the roster's own. A switch to an id that isn't the roster's, or to a table that
+-- isn't defined yet.
 abbrev pub Refuses : KnownState → Message → StepError → Type 0
 Refuses k (messages.Update u) e = update_refusal k u (selected_table k.state.received) ≡ Some e
 Refuses k (messages.Define d) e = (table_at k.roster d.id ≢ Some d) × (e ≡ step_errors.Foreign)
 Refuses k (messages.Switch id) e = switch_refusal k id ≡ Some e
 Refuses k m e = ⊥
-
--- why a message is refused whose update is
-abbrev pub refused_as : Refusal → StepError
-refused_as refusals.NoNumber = step_errors.NoNumber
-refused_as refusals.EmptySlot = step_errors.EmptySlot
-refused_as refusals.Memory = step_errors.Memory
 
 -- the word for the cause
 abbrev pub step_error_name : StepError → List ℕ

@@ -3,11 +3,9 @@
 ghost use Rattle.std.specs.Prelude.{◌≡◌, ℕ, List, true, Some};
 ghost use Rattle.table_types.specs.declared.update.Update.{Update};
 ghost use Rattle.peers_msg.specs.declared.message.Message.{Message};
-ghost use Rattle.peers_msg.specs.declared.message.Message.TheVariants as messages;
-ghost use Rattle.peers_msg.specs.Messages.{UpdateFields};
 ghost use Rattle.peers_msg.specs.Fitting.{fits};
 ghost use Rattle.known_state.specs.State.{State, Step};
-ghost use Rattle.known_state.specs.Effects.{IsEffect, carried_by, made, refusal_of};
+ghost use Rattle.known_state.specs.Effects.{IsEffect, carried_by, made, message_refusal};
 ghost use Rattle.known_state.specs.declared.effect.Effect.{Effect};
 ghost use Rattle.known_state.specs.declared.effect.Refusal.{Refusal};
 ghost use Rattle.known_state.specs.declared.effect.Refusal.TheVariants as refusals;
@@ -63,12 +61,12 @@ pub enum Effect {
 
 /// Effects are the steps that the definition says. A message that fits makes by its effect a step, which carries the
 /// update with its table, number and name resolved, and leads to the state that the effect makes; it makes no other.
-/// An update that is refused makes none.
+/// A message that is refused makes none.
 pub fn effects_are_steps()
     ensures step { (s : State) (m : Message) (effect : Effect) → fits s.received m ≡ true → IsEffect s m effect →
         Step s m (carried_by s m effect) (made s effect) }
     ensures only { (s e : State) (m : Message) (us : List Update) (effect : Effect) → IsEffect s m effect → Step s m us e →
         (us ≡ carried_by s m effect) × (e ≡ made s effect) }
-    ensures refused { (s e : State) (u : UpdateFields) (us : List Update) (refusal : Refusal) →
-        refusal_of s u.number u.name ≡ Some refusal → Step s (messages.Update u) us e → ⊥ }
+    ensures refused { (s e : State) (m : Message) (us : List Update) (refusal : Refusal) →
+        message_refusal s m ≡ Some refusal → Step s m us e → ⊥ }
 {}

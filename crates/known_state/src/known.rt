@@ -20,7 +20,7 @@ use crate::last_numbers::LastNumbers;
 use crate::parts::{are_defined, are_known, repeats, repeats_last};
 use crate::state::State;
 use dict_slots::Slots;
-use peers_msg::{Message, NameField, Received, UpdateMsg};
+use peers_msg::{Message, NameField, Received, UpdateMsg, is_own};
 use std::alloc::Global;
 use std::marker::Model;
 use table_types::{Memory, Name, Roster, TableDef};
@@ -282,9 +282,10 @@ impl Known {
         ensures refused { IfSome result (λ e. Refuses self.now (messages.Define table.now) e) }
         ensures taken { result ≡ None → IsTakenBy self.now (messages.Define table.now) }
     {
-        match self.roster.table(table.id()) {
-            Some(own) if own.is_same(table) => None,
-            _ => Some(StepError::Foreign),
+        if is_own(&self.roster, table) {
+            None
+        } else {
+            Some(StepError::Foreign)
         }
     }
 
@@ -362,11 +363,11 @@ impl Known {
         ensures refused { IfErr result (λ e. e ≢ step_errors.Memory → Refuses self.now (messages.Define table.now) e) }
         ensures exactly { (e : StepError) → Refuses self.now (messages.Define table.now) e → result ≡ Err e }
     {
-        match self.roster.table(table.id()) {
-            Some(own) if own.is_same(table) => {}
-            _ => return Err(StepError::Foreign),
+        let _id = table.id();
+        match self.refusal_of_definition(table) {
+            Some(error) => Err(error),
+            None => Ok(Effect::Define(table.copy(self.alloc)?)),
         }
-        Ok(Effect::Define(table.copy(self.alloc)?))
     }
 
     fn select(&self, id: u64) -> Result<Effect, StepError>
