@@ -88,7 +88,7 @@ links_of node (arc ∷ arcs) = link_at node arc ∷ links_of (node + 1) arcs
 abbrev pub arc_at : List RequestArc → ℕ → RequestArc
 arc_at arcs node = slice_index_or arcs node (record { from = 0; saving = 0; kept = false })
 
--- no arc begins behind its request
+-- no arc begins after its request
 abbrev pub GoBack : List RequestArc → Type 0
 GoBack arcs = (node : ℕ) → node < length arcs → (arc_at arcs node).from ≤ node
 

@@ -24,7 +24,7 @@ pub struct RequestArc {
     pub kept: bool,
 }
 
-/// The arc of a request behind a node, whose name was last requested there or held, if anywhere.
+/// The arc of the request after a node, whose name was last requested there or held, if anywhere.
 fn arc_of(from: Option<usize>, node: usize, request: &Request) -> RequestArc
     ensures arc { result ≡ arc_of from node request.now }
     ensures little { result.saving ≤ 32768 }

@@ -250,7 +250,7 @@ fn links_of_512_fit(rt: HostRuntime) {
     assert!(rt; count_of(&plan) == 384);
 }
 
-/// Of 200 names in turn, there are 312 links, one from each place up to 312, and each goes over the 199 places behind that.
+/// Of 200 names in turn, there are 312 links, one from each place up to 312, and each goes over the 199 places after that.
 /// So of 199 links in a row 127 may be kept: 127 of the first 199, and the 113 after them, which are alike to the first 113.
 #[test]
 fn links_of_200_names(rt: HostRuntime) {
