@@ -14,8 +14,9 @@ use Rattle.peers_msg.specs.declared.message.Message.{Message}
 use Rattle.peers_msg.specs.declared.message.Message.TheVariants as messages
 use Rattle.peers_msg.specs.Received.{Received, selected_table, received_after}
 use Rattle.peers_msg.specs.Spelling.{spelled, stream_of}
-use Rattle.peers_msg.specs.Fitting.{update_fits, name_fits}
+use Rattle.peers_msg.specs.Fitting.{update_fits, name_fits, fits as message_fits}
 use Rattle.known_state.specs.State.{State, Step, Teaches, IsOwn, Legal, resolved_number, name_of, reads_empty}
+use Rattle.known_state.specs.Effects.{refusal_of}
 use Rattle.known_state.specs.LastNumbers.{last_of}
 use Rattle.known_state.specs.Known.{KnownState, AreOwn, switch_refusal, update_refusal, IsTakenBy}
 use Rattle.known_state.proofs.KnownLemmas.{table_at-id, table_at-passes, define_selects}
@@ -100,7 +101,10 @@ sent_fits last field d u is field_fits fit word = rw (word, life_word d u.life (
 pub sent_taken : (k : KnownState) (d : Definition) (u : Update) (last : Option ℕ) (field : NameField) → last ≡ last_of k.state.last_numbers d.id → selected_table k.state.received ≡ Some d → is_definition d ≡ true → name_fits d field ≡ true → reads_empty k.state.slots field ≡ false → fits d u ≡ true → is_optional_word (number_sent last u.number) ≡ true → IsTakenBy k (messages.Update (sent_as last field u))
 sent_taken k d u last field is_last sel is field_fits reads fit word = λ e refuses.
     let resolved_here : resolved_number (number_sent last u.number) (last_of k.state.last_numbers d.id) ≡ Some u.number = subst (λ (l : Option ℕ). resolved_number (number_sent last u.number) l ≡ Some u.number) is_last (sent_resolved last u.number) in
-    let none : update_refusal k (sent_as last field u) (selected_table k.state.received) ≡ None = rw (sel, update_fits_received k.state.received (sent_as last field u) d sel (sent_fits last field d u is field_fits fit word) is, resolved_here, reads) refl in
+    let unrefused : refusal_of k.state (number_sent last u.number) field ≡ None = rw (selected-id k.state.received d sel, resolved_here, reads) refl in
+    let fits_here : message_fits k.state.received (messages.Update (sent_as last field u)) ≡ true = update_fits_received k.state.received (sent_as last field u) d sel (sent_fits last field d u is field_fits fit word) is in
+    let here : update_refusal k (sent_as last field u) (selected_table k.state.received) ≡ update_refusal k (sent_as last field u) (Some d) = ap (λ (o : Option Definition). update_refusal k (sent_as last field u) o) sel in
+    let none : update_refusal k (sent_as last field u) (selected_table k.state.received) ≡ None = here ∙ rw (fits_here, unrefused) refl in
     let bad : None ≡ Some e = sym none ∙ refuses in
     cc
 
