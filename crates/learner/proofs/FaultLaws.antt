@@ -21,13 +21,13 @@ use Rattle.learner.proofs.OneOutcome.{Runs, faulty, learner_fed_once}
 -- ---- more bytes after a fault
 
 -- what stops an intake stops it with more bytes after
-stops_on : (t e : Taking) (more : List ℕ) (fault : Fault) → IsBytes t.unread → Stops t fault e → Stops (fed t more) fault (fed e more)
-stops_on t e more faults.NoNumber good (is_open, u, (rest, at), lacks, is) =
-    (is_open, u, (rest ++ more, read_on t.state.received (messages.Update u) t.unread rest more good at), lacks, ap (λ (x : Taking). fed x more) is)
-stops_on t e more faults.EmptySlot good (is_open, u, (rest, at), has, reads, is) =
-    (is_open, u, (rest ++ more, read_on t.state.received (messages.Update u) t.unread rest more good at), has, reads, ap (λ (x : Taking). fed x more) is)
-stops_on t e more faults.Memory good (is_open, (m, rest, at, resolvable), is) =
-    (is_open, (m, rest ++ more, read_on t.state.received m t.unread rest more good at, resolvable), ap (λ (x : Taking). fed x more) is)
+pub stops_on : (t e : Taking) (more : List ℕ) (fault : Fault) → IsBytes t.unread → Stops t fault e → Stops (fed t more) fault (fed e more)
+stops_on t e more faults.NoNumber good (is_open, m, rest, at, refused, is) =
+    (is_open, m, rest ++ more, read_on t.state.received m t.unread rest more good at, refused, ap (λ (x : Taking). fed x more) is)
+stops_on t e more faults.EmptySlot good (is_open, m, rest, at, refused, is) =
+    (is_open, m, rest ++ more, read_on t.state.received m t.unread rest more good at, refused, ap (λ (x : Taking). fed x more) is)
+stops_on t e more faults.Memory good (is_open, (m, rest, at, unrefused), is) =
+    (is_open, (m, rest ++ more, read_on t.state.received m t.unread rest more good at, unrefused), ap (λ (x : Taking). fed x more) is)
 stops_on t e more faults.Closed good (shut, is) = (shut, ap (λ (x : Taking). fed x more) is)
 stops_on t e more (faults.Breach breach) good (is_open, at, is) =
     (is_open, breach_on t.state.received t.unread more breach good at, ap (λ (x : Taking). fed x more) is)
@@ -55,7 +55,7 @@ regrouped now l e a b fault runs =
 
 -- ---- from feeding to running, and back
 
-is_run : (now : ℕ) (l e : Learning) (piece : List ℕ) (fault : Fault) → l.intake.closed ≡ false → LearnerFeeds now l piece (Err fault) e → fault ≢ faults.Memory → Runs now (with_piece l piece) fault e
+pub is_run : (now : ℕ) (l e : Learning) (piece : List ℕ) (fault : Fault) → l.intake.closed ≡ false → LearnerFeeds now l piece (Err fault) e → fault ≢ faults.Memory → Runs now (with_piece l piece) fault e
 is_run now l e piece fault is_open fed wanted = elim (faulty now l e piece fault fed wanted) [
   | inl shut ↦ absurd (apart (sym shut.0 ∙ is_open))
   | inr runs ↦ runs.1
@@ -148,8 +148,8 @@ never_through now l a b before others last first more count fault good cut stopp
 shut_by : (now : ℕ) (l e : Learning) (piece : List ℕ) (fault : Fault) → LearnerFeeds now l piece (Err fault) e → e.intake.closed ≡ true
 shut_by now l e piece faults.Memory (is_open, left, all, is) = ap (λ (x : Learning). x.intake.closed) is
 shut_by now l e piece faults.Closed (shut, is) = ap (λ (x : Learning). x.intake.closed) is ∙ shut
-shut_by now l e piece faults.NoNumber (is_open, (ms, us, mid, learned, (going, u, next, lacks, is), rows)) = ap (λ (x : Taking). x.closed) is
-shut_by now l e piece faults.EmptySlot (is_open, (ms, us, mid, learned, (going, u, next, has, reads, is), rows)) = ap (λ (x : Taking). x.closed) is
+shut_by now l e piece faults.NoNumber (is_open, (ms, us, mid, learned, (going, m, rest, at, refused, is), rows)) = ap (λ (x : Taking). x.closed) is
+shut_by now l e piece faults.EmptySlot (is_open, (ms, us, mid, learned, (going, m, rest, at, refused, is), rows)) = ap (λ (x : Taking). x.closed) is
 shut_by now l e piece (faults.Breach breach) (is_open, (ms, us, mid, learned, (going, at, is), rows)) = ap (λ (x : Taking). x.closed) is
 
 -- what is closed takes nothing

@@ -32,14 +32,14 @@ learned_rise now l e (m ∷ ms) us rise (one, rest, next, all, begins, later) =
 
 -- a fault leaves the state
 stopped_state : (t e : Taking) (fault : Fault) → Stops t fault e → e.state ≡ t.state
-stopped_state t e faults.NoNumber (is_open, u, next, lacks, is) = ap (λ (x : Taking). x.state) is
-stopped_state t e faults.EmptySlot (is_open, u, next, has, reads, is) = ap (λ (x : Taking). x.state) is
+stopped_state t e faults.NoNumber (is_open, m, rest, at, refused, is) = ap (λ (x : Taking). x.state) is
+stopped_state t e faults.EmptySlot (is_open, m, rest, at, refused, is) = ap (λ (x : Taking). x.state) is
 stopped_state t e faults.Memory (is_open, takable, is) = ap (λ (x : Taking). x.state) is
 stopped_state t e faults.Closed (shut, is) = ap (λ (x : Taking). x.state) is
 stopped_state t e (faults.Breach breach) (is_open, at, is) = ap (λ (x : Taking). x.state) is
 
 cut_rise : (l e : Learning) → AreRising l.intake.state.last_numbers → IsCutShort l e → AreRising e.intake.state.last_numbers
-cut_rise l e rise (takable, rows, behind) = elim behind [
+cut_rise l e rise (takable, rows, left) = elim left [
   | inl same ↦ subst (λ (x : Taking). AreRising x.state.last_numbers) (sym same) rise
   | inr one ↦ rising-step l.intake.state e.intake.state one.0 one.2.3 rise one.2.4
 ]

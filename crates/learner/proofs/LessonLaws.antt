@@ -1,6 +1,6 @@
 -- A learner of a roster that is fed a legal stream.
 use Rattle.std.proofs.Common.{◌≡◌, ◌≢◌, ℕ, Bool, true, false, not, ◌&&◌, ◌||◌, cond, List, [], ◌∷◌, ◌++◌, length, Option, Some, None, Result, Ok, Err, refl, sym, ap, subst, ◌∙◌, inl, inr}
-use Rattle.std.specs.Prelude.{nat_le}
+use Rattle.std.specs.Prelude.{nat_le, option_map}
 use Rattle.std.specs.List.{AllByRecursion}
 use Rattle.std.specs.Option.{option_and_then}
 use Rattle.std.proofs.lemmas.Bool.{cases_eq, cases_Bool, eq-eqb, ne_eqb}
@@ -29,11 +29,14 @@ use Rattle.table_types.proofs.ShapeLaws.{means_shape, shape_means}
 use Rattle.known_state.specs.Known.{AreOwn}
 use Rattle.known_state.proofs.KnownLemmas.{table_at-id, table_at-passes}
 use Rattle.known_state.proofs.InStepLaws.{own_stays}
-use Rattle.known_state.proofs.ResolvingLemmas.{named_so}
+use Rattle.known_state.specs.Effects.{message_refusal}
+use Rattle.known_state.specs.declared.effect.Refusal.{Refusal}
+use Rattle.known_state.proofs.EffectLemmas.{step_unrefused}
 use Rattle.learner.specs.declared.fault.Fault.{Fault}
 use Rattle.learner.specs.declared.fault.Fault.TheVariants as faults
+use Rattle.learner.specs.Faults.{refused_as}
 use Rattle.learner.specs.LocalTables.{local_table, local_id, local_updates}
-use Rattle.learner.specs.Intake.{Taking, Takes, Stops, due_after, lacks_number}
+use Rattle.learner.specs.Intake.{Taking, Takes, Stops, due_after}
 use Rattle.learner.specs.Rows.{put, put_all}
 use Rattle.learner.specs.Learning.{Learning, AreLearned, IsWaiting, LearnerFeeds, AreFed, IsReady, IsTaught, with_piece}
 use Rattle.learner.proofs.PieceLaws.{one_learned, waits_for_more, same, whole}
@@ -174,8 +177,15 @@ never_none m rest e = cc
 never_both : (breach : Breach) → ◌≡◌ {A = Result (Option (Message × List ℕ)) Breach} (Err breach) (Ok None) → ⊥
 never_both breach e = cc
 
-numbered : (s e : State) (u : UpdateFields) (us : List Update) → Step s (messages.Update u) us e → lacks_number s u ≡ false
-numbered s e u us step = rw (step.2, step.4) refl
+never_some : (fault : Fault) → ◌≡◌ {A = Option Fault} None (Some fault) → ⊥
+never_some fault e = cc
+
+-- a message that makes a step isn't refused
+steps_unrefused : (t : Taking) (m n : Message) (us : List Update) (e : State) (rest after : List ℕ) (fault : Fault) → message_at t.state.received t.unread ≡ found m rest → message_at t.state.received t.unread ≡ found n after → Step t.state m us e → option_map refused_as (message_refusal t.state n) ≡ Some fault → ⊥
+steps_unrefused t m n us e rest after fault at next step refused =
+    let same = found_is m n rest after (sym at ∙ next) in
+    let none : message_refusal t.state n ≡ None = subst (λ (k : Message). message_refusal t.state k ≡ None) same.0 (step_unrefused t.state e m us step) in
+    never_some fault (sym (ap (λ (o : Option Refusal). option_map refused_as o) none) ∙ refused)
 
 pub apart : true ≡ false → ⊥
 apart e = cc
@@ -184,23 +194,18 @@ apart e = cc
 pub goes_on : (t e x : Taking) (m : Message) (own : List Update) (fault : Fault) → Takes t m own e → Stops t fault x → fault ≢ faults.Memory → ⊥
 goes_on t e x m own faults.Memory takes stops wanted = wanted refl
 goes_on t e x m own faults.Closed takes stops wanted = apart (sym stops.0 ∙ takes.0)
-goes_on t e x m own faults.NoNumber (going, rest, at, us, step, keeps, is) (is_open', u, next, lacks, shut) wanted =
-    let same = found_is m (messages.Update u) rest next.0 (sym at ∙ next.1) in
-    let again : Step t.state (messages.Update u) us e.state = subst (λ (k : Message). Step t.state k us e.state) same.0 step in
-    apart (sym lacks ∙ numbered t.state e.state u us again)
-goes_on t e x m own faults.EmptySlot (going, rest, at, us, step, keeps, is) (is_open', u, next, lacks, reads, shut) wanted =
-    let same = found_is m (messages.Update u) rest next.0 (sym at ∙ next.1) in
-    let again : Step t.state (messages.Update u) us e.state = subst (λ (k : Message). Step t.state k us e.state) same.0 step in
-    let named = named_so t.state.slots u.name again.5 e.state.slots again.6 in
-    apart (sym reads ∙ named.0)
+goes_on t e x m own faults.NoNumber (going, rest, at, us, step, keeps, is) (is_open', n, after, next, refused, shut) wanted =
+    steps_unrefused t m n us e.state rest after faults.NoNumber at next step refused
+goes_on t e x m own faults.EmptySlot (going, rest, at, us, step, keeps, is) (is_open', n, after, next, refused, shut) wanted =
+    steps_unrefused t m n us e.state rest after faults.EmptySlot at next step refused
 goes_on t e x m own (faults.Breach breach) takes stops wanted = never_err m takes.1 breach (sym takes.2 ∙ stops.1)
 
 -- nor does it stop while it waits
 pub waits_on : (t x : Taking) (fault : Fault) → IsWaiting t → Stops t fault x → fault ≢ faults.Memory → ⊥
 waits_on t x faults.Memory waits stops wanted = wanted refl
 waits_on t x faults.Closed waits stops wanted = apart (sym stops.0 ∙ waits.0)
-waits_on t x faults.NoNumber waits stops wanted = never_none (messages.Update stops.1) stops.2.0 (sym stops.2.1 ∙ waits.1)
-waits_on t x faults.EmptySlot waits stops wanted = never_none (messages.Update stops.1) stops.2.0 (sym stops.2.1 ∙ waits.1)
+waits_on t x faults.NoNumber waits stops wanted = never_none stops.1 stops.2 (sym stops.3 ∙ waits.1)
+waits_on t x faults.EmptySlot waits stops wanted = never_none stops.1 stops.2 (sym stops.3 ∙ waits.1)
 waits_on t x (faults.Breach breach) waits stops wanted = never_both breach (sym stops.1 ∙ waits.1)
 
 -- where messages are learned to an end at which it waits, no fault comes on the way

@@ -10,3 +10,5 @@ pub mod AckLaws
 pub mod OneOutcome
 pub mod FaultLaws
 pub mod StreamLaws
+pub mod CallLaws
+pub mod MomentFaults

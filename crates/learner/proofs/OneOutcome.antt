@@ -1,5 +1,6 @@
--- A learner does one thing, but where memory runs out.
+-- A learner does one thing, but where memory is wanted.
 use Rattle.std.proofs.Common.{◌≡◌, ◌≢◌, ℕ, Bool, true, false, cond, List, [], ◌∷◌, Option, Some, None, Result, Ok, Err, refl, sym, ap, subst, ◌∙◌, inl, inr, ◌⊎◌}
+use Rattle.std.specs.Prelude.{option_map}
 use Rattle.table_types.specs.declared.key.Key.{Key}
 use Rattle.table_types.specs.declared.update.Update.{Update}
 use Rattle.table_types.specs.Rows.{StoredRow}
@@ -9,11 +10,13 @@ use Rattle.peers_msg.specs.declared.message.Message.TheVariants as messages
 use Rattle.peers_msg.specs.Messages.{UpdateFields}
 use Rattle.peers_msg.specs.Reading.{message_at}
 use Rattle.peers_msg.proofs.CuttingIndependence.{found}
+use Rattle.known_state.specs.Effects.{message_refusal}
 use Rattle.learner.specs.declared.fault.Fault.{Fault}
 use Rattle.learner.specs.declared.fault.Fault.TheVariants as faults
 use Rattle.learner.specs.declared.taken.Taken.{Taken}
 use Rattle.learner.specs.declared.taken.Taken.TheVariants as taken
-use Rattle.learner.specs.Intake.{Taking, Takes, Stops, IntakeFeeds, IntakeNext, Answers, lacks_number, rows_of, fed, shut}
+use Rattle.learner.specs.Faults.{refused_as}
+use Rattle.learner.specs.Intake.{Taking, Takes, Stops, IntakeFeeds, IntakeNext, Answers, rows_of, fed, shut}
 use Rattle.learner.specs.Learning.{Learning, AreLearned, LearnerFeeds, with_piece}
 use Rattle.learner.proofs.PieceLaws.{one_learned, one_message, one_taking, same_fed}
 use Rattle.learner.proofs.LessonLaws.{apart, goes_on, no_fault, waits_on}
@@ -24,15 +27,15 @@ parts {X} {Y} p q e = (ap (λ (r : X × Y). r.0) e, ap (λ (r : X × Y). r.1) e)
 -- ---- faults
 
 -- what stops an intake, but want of memory, and what it is then
+abbrev refusing : Taking → Option Fault → Fault × Taking
+refusing t (Some fault) = (fault, shut t)
+refusing t None = (faults.Memory, t)
+
 abbrev stopping : Taking → Bool → Result (Option (Message × List ℕ)) Breach → Fault × Taking
 stopping t true read = (faults.Closed, t)
 stopping t false (Err breach) = (faults.Breach breach, shut t)
 stopping t false (Ok None) = (faults.Memory, t)
-stopping t false (Ok (Some found)) = by_message found.0
-  where
-    by_message : Message → Fault × Taking
-    by_message (messages.Update u) = (cond (lacks_number t.state u) faults.NoNumber faults.EmptySlot, shut t)
-    by_message m = (faults.Memory, t)
+stopping t false (Ok (Some found)) = refusing t (option_map refused_as (message_refusal t.state found.0))
 
 stopping_with : (t : Taking) (closed : Bool) (read : Result (Option (Message × List ℕ)) Breach) → t.closed ≡ closed → message_at t.state.received t.unread ≡ read → stopping t t.closed (message_at t.state.received t.unread) ≡ stopping t closed read
 stopping_with t closed read is at = ap (λ (b : Bool). stopping t b (message_at t.state.received t.unread)) is ∙ ap (stopping t closed) at
@@ -40,13 +43,14 @@ stopping_with t closed read is at = ap (λ (b : Bool). stopping t b (message_at 
 both_are : (f g : Fault) (x y : Taking) → f ≡ g → x ≡ y → ◌≡◌ {A = Fault × Taking} (f, x) (g, y)
 both_are f g x y faults takings = ap (λ (q : Fault). (q, x)) faults ∙ ap (λ (q : Taking). (g, q)) takings
 
+refused_so : (t e : Taking) (fault : Fault) (m : Message) (rest : List ℕ) → t.closed ≡ false → message_at t.state.received t.unread ≡ found m rest → option_map refused_as (message_refusal t.state m) ≡ Some fault → e ≡ shut t
+    → (fault, e) ≡ stopping t t.closed (message_at t.state.received t.unread)
+refused_so t e fault m rest is_open at refused is =
+    both_are fault fault e (shut t) refl is ∙ sym (ap (refusing t) refused) ∙ sym (stopping_with t false (found m rest) is_open at)
+
 stops_so : (t e : Taking) (fault : Fault) → Stops t fault e → fault ≢ faults.Memory → (fault, e) ≡ stopping t t.closed (message_at t.state.received t.unread)
-stops_so t e faults.NoNumber (is_open, u, (rest, at), lacks, is) wanted =
-    both_are faults.NoNumber (cond (lacks_number t.state u) faults.NoNumber faults.EmptySlot) e (shut t) (sym (ap (λ (b : Bool). cond b faults.NoNumber faults.EmptySlot) lacks)) is
-    ∙ sym (stopping_with t false (found (messages.Update u) rest) is_open at)
-stops_so t e faults.EmptySlot (is_open, u, (rest, at), has, reads, is) wanted =
-    both_are faults.EmptySlot (cond (lacks_number t.state u) faults.NoNumber faults.EmptySlot) e (shut t) (sym (ap (λ (b : Bool). cond b faults.NoNumber faults.EmptySlot) has)) is
-    ∙ sym (stopping_with t false (found (messages.Update u) rest) is_open at)
+stops_so t e faults.NoNumber (is_open, m, rest, at, refused, is) wanted = refused_so t e faults.NoNumber m rest is_open at refused is
+stops_so t e faults.EmptySlot (is_open, m, rest, at, refused, is) wanted = refused_so t e faults.EmptySlot m rest is_open at refused is
 stops_so t e faults.Memory stops wanted = absurd (wanted refl)
 stops_so t e faults.Closed (shut, is) wanted =
     both_are faults.Closed faults.Closed e t refl is ∙ sym (ap (λ (b : Bool). stopping t b (message_at t.state.received t.unread)) shut)

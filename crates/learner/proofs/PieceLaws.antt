@@ -14,7 +14,7 @@ use Rattle.learner.specs.Rows.{put_all}
 use Rattle.learner.specs.Learning.{Learning, Learns, AreLearned, IsWaiting, LearnerFeeds, AreFed, with_piece}
 
 -- a message that is taken is taken with more bytes after
-takes_on : (t e : Taking) (m : Message) (own : List Update) (more : List ℕ) → IsBytes t.unread → Takes t m own e → Takes (fed t more) m own (fed e more)
+pub takes_on : (t e : Taking) (m : Message) (own : List Update) (more : List ℕ) → IsBytes t.unread → Takes t m own e → Takes (fed t more) m own (fed e more)
 takes_on t e m own more good (is_open, rest, at, us, step, keeps, is) =
     (is_open, rest ++ more, read_on t.state.received m t.unread rest more good at, us, step, keeps, ap (λ (x : Taking). fed x more) is)
 

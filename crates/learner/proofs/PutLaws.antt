@@ -153,7 +153,7 @@ others_stay_all now roster (u ∷ us) id key tables others = others_stay_all now
     one (inr apart) = other_keys now roster tables u id key (λ e. apart (sym e))
 
 -- the row of an update after which none is of its table and key is what it teaches
-pub last_stands : (now : ℕ) (roster : List Definition) (before behind : List Update) (u : Update) (d : Definition) (tables : List (List (Key × StoredRow))) → length tables ≡ length roster → table_at roster u.table ≡ Some d → AreOfOthers u.table u.key behind
-    → row_at u.key (rows_at roster u.table (put_all now roster (before ++ (u ∷ behind)) tables)) ≡ Some (row_of now d.expire u)
-last_stands now roster [] behind u d tables size at others = others_stay_all now roster behind u.table u.key (put now roster tables u) others ∙ here now roster tables u d size at
-last_stands now roster (x ∷ xs) behind u d tables size at others = last_stands now roster xs behind u d (put now roster tables x) (put_size now roster tables x ∙ size) at others
+pub last_stands : (now : ℕ) (roster : List Definition) (before after : List Update) (u : Update) (d : Definition) (tables : List (List (Key × StoredRow))) → length tables ≡ length roster → table_at roster u.table ≡ Some d → AreOfOthers u.table u.key after
+    → row_at u.key (rows_at roster u.table (put_all now roster (before ++ (u ∷ after)) tables)) ≡ Some (row_of now d.expire u)
+last_stands now roster [] after u d tables size at others = others_stay_all now roster after u.table u.key (put now roster tables u) others ∙ here now roster tables u d size at
+last_stands now roster (x ∷ xs) after u d tables size at others = last_stands now roster xs after u d (put now roster tables x) (put_size now roster tables x ∙ size) at others

@@ -1,20 +1,20 @@
 -- What an intake holds, and what it makes of the bytes that it is fed (profile).
-use Rattle.std.specs.Prelude.{◌≡◌, ◌≤◌, ℕ, Bool, true, false, ◌==◌, ◌&&◌, is_none, is_some, List, [], ◌∷◌, ◌++◌, length, drop, filter, filter_map, Option, Some, None, option_map, Result, Ok, Err, if◌then◌else◌}
+use Rattle.std.specs.Prelude.{◌≡◌, ◌≤◌, ℕ, Bool, true, false, ◌==◌, ◌&&◌, is_some, List, [], ◌∷◌, ◌++◌, length, drop, filter, filter_map, Option, Some, None, option_map, Result, Ok, Err, if◌then◌else◌}
 use Rattle.std.specs.List.{list_any}
 use Rattle.table_types.specs.declared.update.Update.{Update}
 use Rattle.table_types.specs.Tables.{Definition}
 use Rattle.peers_msg.specs.declared.message.Message.{Message}
 use Rattle.peers_msg.specs.declared.message.Message.TheVariants as messages
-use Rattle.peers_msg.specs.Messages.{UpdateFields}
 use Rattle.peers_msg.specs.Reading.{message_at}
 use Rattle.peers_msg.specs.Fitting.{fits}
-use Rattle.known_state.specs.State.{State, Step, fresh, last_numbers_after, reads_empty}
+use Rattle.known_state.specs.State.{State, Step, fresh, last_numbers_after}
 use Rattle.known_state.specs.LastNumbers.{last_of}
-use Rattle.known_state.specs.Effects.{selected_number}
+use Rattle.known_state.specs.Effects.{message_refusal}
 use Rattle.learner.specs.declared.fault.Fault.{Fault}
 use Rattle.learner.specs.declared.fault.Fault.TheVariants as faults
 use Rattle.learner.specs.declared.taken.Taken.{Taken}
 use Rattle.learner.specs.declared.taken.Taken.TheVariants as taken
+use Rattle.learner.specs.Faults.{refused_as}
 use Rattle.learner.specs.LocalTables.{local_table, local_updates}
 
 -- the local tables; the state in which the messages read leave it; the ids of which an update came since the last
@@ -53,74 +53,42 @@ due_after s (messages.Update u) due = with_due s.received.selected due
 due_after s (messages.Define d) due = filter (λ id. is_some (last_of (last_numbers_after s (messages.Define d)) id)) due
 due_after s m due = due
 
--- The message m stands at the front and makes its step, which leads to e; own are those of the updates
--- that it carries which are of local tables.
+-- The message m stands at the front and makes its step, which leads to e; local are those of the updates that it carries
+-- which are of local tables.
 abbrev pub Takes : Taking → Message → List Update → Taking → Type 0
-Takes t m own e =
+Takes t m local e =
     (t.closed ≡ false)
     × (rest : List ℕ)
     × (message_at t.state.received t.unread ≡ Ok (Some (m, rest)))
     × (us : List Update)
     × Step t.state m us e.state
-    × (own ≡ local_updates t.roster t.state.received us)
+    × (local ≡ local_updates t.roster t.state.received us)
     × (e ≡ record { roster = t.roster; state = e.state; due = due_after t.state m t.due; unread = rest; closed = false })
 
--- an update that is incremental, of a table without a last number
-abbrev pub lacks_number : State → UpdateFields → Bool
-lacks_number s u = is_none (selected_number s u.number)
-
--- the update u stands at the front
-abbrev pub IsNext : Taking → UpdateFields → Type 0
-IsNext t u = (rest : List ℕ) × (message_at t.state.received t.unread ≡ Ok (Some (messages.Update u, rest)))
-
--- no number is missing, and no empty slot is read
-abbrev pub IsResolvable : State → Message → Type 0
-IsResolvable s (messages.Update u) = (lacks_number s u ≡ false) × (reads_empty s.slots u.name ≡ false)
-IsResolvable s m = Unit {0}
-
--- a whole message without a fault stands at the front
+-- a message that is whole and isn't refused stands at the front
 abbrev pub IsTakable : Taking → Type 0
-IsTakable t = (m : Message) × (rest : List ℕ) × (message_at t.state.received t.unread ≡ Ok (Some (m, rest))) × IsResolvable t.state m
+IsTakable t = (m : Message) × (rest : List ℕ) × (message_at t.state.received t.unread ≡ Ok (Some (m, rest))) × (message_refusal t.state m ≡ None)
 
--- an update whose number is missing
-abbrev pub IsNumberless : State → Message → Type 0
-IsNumberless s (messages.Update u) = lacks_number s u ≡ true
-IsNumberless s m = ⊥
-
--- an update that reads an empty slot, and whose number isn't missing
-abbrev pub IsEmptied : State → Message → Type 0
-IsEmptied s (messages.Update u) = (lacks_number s u ≡ false) × (reads_empty s.slots u.name ≡ true)
-IsEmptied s m = ⊥
-
--- why a message that is whole isn't taken
+-- why a message that is whole isn't taken: the state refuses it, or memory is wanted for one that it doesn't refuse
 abbrev pub IsRefused : State → Message → Fault → Type 0
-IsRefused s m faults.NoNumber = IsNumberless s m
-IsRefused s m faults.EmptySlot = IsEmptied s m
-IsRefused s m faults.Memory = IsResolvable s m
-IsRefused s m fault = ⊥
+IsRefused s m faults.Memory = message_refusal s m ≡ None
+IsRefused s m fault = option_map refused_as (message_refusal s m) ≡ Some fault
 
--- Why no message is taken. What stands at the front is an update without a number, or else one that reads an empty
--- slot, or no message: it closes. Memory is wanted only for a whole message without a fault, and changes nothing; what is
--- closed stays so.
+-- Why no message is taken. What stands at the front is a message that the state refuses, or no message: it closes. Memory
+-- is wanted only for a whole message that isn't refused, and changes nothing; what is closed stays so.
 abbrev pub Stops : Taking → Fault → Taking → Type 0
-Stops t faults.NoNumber e =
-    (t.closed ≡ false)
-    × (u : UpdateFields)
-    × IsNext t u
-    × (lacks_number t.state u ≡ true)
-    × (e ≡ shut t)
-Stops t faults.EmptySlot e =
-    (t.closed ≡ false)
-    × (u : UpdateFields)
-    × IsNext t u
-    × (lacks_number t.state u ≡ false)
-    × (reads_empty t.state.slots u.name ≡ true)
-    × (e ≡ shut t)
 Stops t faults.Memory e = (t.closed ≡ false) × IsTakable t × (e ≡ t)
 Stops t faults.Closed e = (t.closed ≡ true) × (e ≡ t)
 Stops t (faults.Breach breach) e =
     (t.closed ≡ false)
     × (message_at t.state.received t.unread ≡ Err breach)
+    × (e ≡ shut t)
+Stops t fault e =
+    (t.closed ≡ false)
+    × (m : Message)
+    × (rest : List ℕ)
+    × (message_at t.state.received t.unread ≡ Ok (Some (m, rest)))
+    × IsRefused t.state m fault
     × (e ≡ shut t)
 
 -- ---- what is answered
@@ -138,7 +106,7 @@ answer_of (messages.Ack table number) = taken.Acked table number
 answer_of m = taken.Passed
 
 abbrev pub Answers : Message → Taken → Type 0
-Answers (messages.Update u) (taken.Row own) = Unit {0}
+Answers (messages.Update u) (taken.Row local) = Unit {0}
 Answers m answer = answer ≡ answer_of m
 
 -- what taking the message at the front does

@@ -50,7 +50,7 @@ IsWaiting t = (t.closed ≡ false) × (message_at t.state.received t.unread ≡ 
 
 -- all is as it was, or the message at the front is taken
 abbrev pub IsAtMostOneOn : Taking → Taking → Type 0
-IsAtMostOneOn t e = (e ≡ t) ⊎ ((m : Message) × (own : List Update) × Takes t m own e)
+IsAtMostOneOn t e = (e ≡ t) ⊎ ((m : Message) × (local : List Update) × Takes t m local e)
 
 -- What is left where memory is wanted for the message at the front, which is whole and has no fault: the rows are as they
 -- were, whether that message was taken or not, so that they are those of whole messages, none in part.
@@ -128,7 +128,7 @@ AreFed now l (piece ∷ pieces) count e =
 
 -- ---- what it comes to
 
--- each id received stands for the learner's own definition, there was no fault, and nothing is unread
+-- each id received stands for the definition that a local table of that id has, there was no fault, and nothing is unread
 abbrev pub IsReady : Learning → Type 0
 IsReady l =
     (roster_fault l.intake.roster ≡ None)

@@ -6,5 +6,6 @@ pub mod Learning
 pub mod Moments
 pub mod Acks
 pub mod Cutting
+pub mod Calls
 pub mod Front
 pub mod NewRows

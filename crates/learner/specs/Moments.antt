@@ -1,5 +1,5 @@
 -- Streams that come in pieces at several moments, and what is put of each piece (profile).
-use Rattle.std.specs.Prelude.{◌≡◌, ℕ, ◌+◌, ◌<◌, List, [], ◌∷◌, ◌++◌, length, map, flat_map, Ok}
+use Rattle.std.specs.Prelude.{◌≡◌, ℕ, ◌+◌, ◌<◌, List, [], ◌∷◌, ◌++◌, length, map, flat_map, Ok, Err}
 use Rattle.table_types.specs.declared.key.Key.{Key}
 use Rattle.table_types.specs.declared.update.Update.{Update}
 use Rattle.table_types.specs.Tables.{Definition}
@@ -8,6 +8,7 @@ use Rattle.peers_msg.specs.declared.message.Message.{Message}
 use Rattle.peers_msg.specs.Spelling.{spelled, stream_of}
 use Rattle.known_state.specs.State.{State, Teaches}
 use Rattle.known_state.specs.Known.{KnownState}
+use Rattle.learner.specs.declared.fault.Fault.{Fault}
 use Rattle.learner.specs.Rows.{put_all}
 use Rattle.learner.specs.Learning.{Learning, LearnerFeeds, IsReadyIn}
 
@@ -31,6 +32,14 @@ AreFedInTime l (p ∷ ps) counts e =
     × (counts ≡ one ∷ rest)
     × LearnerFeeds p.moment l p.bytes (Ok one) mid
     × AreFedInTime mid ps rest e
+
+-- the same, and then one more piece, which ends in that fault
+abbrev pub IsStoppedInTime : Learning → List Piece → Piece → Fault → Learning → Type 0
+IsStoppedInTime l pieces last fault e =
+    (counts : List ℕ)
+    × (mid : Learning)
+    × AreFedInTime l pieces counts mid
+    × LearnerFeeds last.moment mid last.bytes (Err fault) e
 
 -- so many bytes are fewer than the next of these messages has, and none where no message is to come
 abbrev pub AreTooFew : ℕ → List Message → Type 0

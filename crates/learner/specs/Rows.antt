@@ -39,4 +39,4 @@ AreOfOthers id key us = AllByRecursion (λ u. (u.table ≢ id) ⊎ (u.key ≢ ke
 -- the index of the table of that id
 abbrev pub index_of : List Definition → ℕ → Option ℕ
 index_of [] id = None
-index_of (d ∷ ds) id = if d.id == id then Some 0 else option_map (λ place. place + 1) (index_of ds id)
+index_of (d ∷ ds) id = if d.id == id then Some 0 else option_map (λ index. index + 1) (index_of ds id)

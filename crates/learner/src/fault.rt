@@ -20,7 +20,7 @@ pub enum Fault {
     #[error("{0}")]
     Breach(Breach),
     /// Memory was wanted, and the growth was refused.
-    #[error("out of memory")]
+    #[error("memory")]
     Memory,
     /// There was a fault before: nothing more is read.
     #[error("nothing more is read after a fault")]

@@ -18,10 +18,11 @@ ghost use Rattle.known_state.specs.Lessons.{IsLessonFor};
 ghost use Rattle.learner.specs.declared.fault.Fault.{Fault};
 ghost use Rattle.learner.specs.declared.fault.Fault.TheVariants as faults;
 ghost use Rattle.learner.specs.declared.taken.Taken.{Taken};
-ghost use Rattle.learner.specs.Intake.{Taking, IntakeFeeds, IntakeNext};
+ghost use Rattle.learner.specs.Intake.{Taking, IntakeFeeds, IntakeNext, fed};
 ghost use Rattle.learner.specs.Cutting.{IsStopped, AreAnswered};
+ghost use Rattle.learner.specs.Calls.{AreCalled, IsEndOf};
 ghost use Rattle.learner.specs.Rows.{put, put_all, row_at, rows_at, AreOfOthers};
-ghost use Rattle.learner.specs.Moments.{Piece, stream_in, AreFedInTime, HasLearnedInTime};
+ghost use Rattle.learner.specs.Moments.{Piece, stream_in, AreFedInTime, IsStoppedInTime, HasLearnedInTime};
 ghost use Rattle.learner.specs.Learning.{Learning, unlearned, with_piece, LearnerFeeds, AreFed, IsReady, IsReadyIn, IsTaught, HasLearned};
 
 /// However a stream is cut into pieces, what is learned of them at one moment is what is learned of the whole: the
@@ -49,11 +50,12 @@ pub fn one_outcome()
         one ≢ Err faults.Memory → other ≢ Err faults.Memory → (one ≡ other) × (a ≡ b) }
 {}
 
-/// However a stream is cut into pieces that are fed at one moment, the same fault comes, but for running out of memory.
+/// However a stream is cut into pieces that are fed at one moment, the same fault comes, but want of memory.
 /// Where two ways to cut it each stop at a fault, it is the same fault, with the same rows and the same state, and the
 /// same bytes are left up to what each was fed: with what was still to come of the stream they are one and the same.
 /// Where a fault stops one way, it stops every other way too at one of its pieces, where all of them are fed. After a
-/// fault every piece is answered `Closed`, and changes nothing.
+/// fault every piece is answered `Closed`, and changes nothing. With pieces at whatever moments it is the same fault too,
+/// with the same state and the same bytes left; the rows have the moments of their pieces.
 pub fn one_fault()
     ensures same { (now : ℕ) (l a b : Learning) (before others : List (List ℕ)) (last end more rest : List ℕ) (fault other : Fault) →
         l.intake.closed ≡ false → IsBytes (l.intake.unread ++ (together before ++ (last ++ more))) →
@@ -68,8 +70,25 @@ pub fn one_fault()
         (begins : List (List ℕ)) × (end : List ℕ) × (rest : List (List ℕ))
         × (first ∷ others ≡ begins ++ (end ∷ rest)) × IsStopped now l begins end fault b
         × (with_piece a more ≡ with_piece b (together rest)) }
+    ensures moments { (l a b : Learning) (before others : List Piece) (last end : Piece) (more rest : List ℕ) (fault other : Fault) →
+        l.intake.closed ≡ false → IsBytes (l.intake.unread ++ (stream_in before ++ (last.bytes ++ more))) →
+        stream_in before ++ (last.bytes ++ more) ≡ stream_in others ++ (end.bytes ++ rest) →
+        IsStoppedInTime l before last fault a → IsStoppedInTime l others end other b → fault ≢ faults.Memory → other ≢ faults.Memory →
+        (fault ≡ other) × (fed a.intake more ≡ fed b.intake rest) }
     ensures closed { (now after : ℕ) (l e x : Learning) (piece bytes : List ℕ) (fault : Fault) (answer : Result ℕ Fault) →
         LearnerFeeds now l piece (Err fault) e → LearnerFeeds after e bytes answer x → (answer ≡ Err faults.Closed) × (x ≡ e) }
+{}
+
+/// However a stream is cut, and in whatever order an intake is fed its pieces and asked for its messages, at whatever
+/// moments: it gives the same rows and the same of other messages, in the same order, up to the same end, a fault or that
+/// no message is whole; and it is then in the same state, with the same bytes left up to what was still to come. Calls that
+/// wanted memory may stand between, and change nothing.
+pub fn any_calls()
+    ensures { (t a b x y : Taking) (one other : List (Option (List ℕ))) (bytes others more rest : List ℕ) (answers given : List Taken) (end last : Result (Option Taken) Fault) →
+        IsBytes (t.unread ++ (bytes ++ more)) → bytes ++ more ≡ others ++ rest →
+        AreCalled t one bytes answers a → AreCalled t other others given b → IntakeNext a end x → IntakeNext b last y →
+        IsEndOf end more → IsEndOf last rest →
+        (answers ≡ given) × (end ≡ last) × (fed x more ≡ fed y rest) }
 {}
 
 /// An update that is put changes the row of its table and key alone: that row becomes what the update teaches at that
@@ -87,9 +106,9 @@ pub fn others_stay()
 /// What putting updates one after another leaves: the row of a table and key is what the last update of that table and
 /// key teaches, where there is one, and else what it was.
 pub fn the_last_stands()
-    ensures last { (now : ℕ) (roster : List Definition) (before behind : List Update) (u : Update) (d : Definition) (tables : List (List (Key × StoredRow))) →
-        length tables ≡ length roster → table_at roster u.table ≡ Some d → AreOfOthers u.table u.key behind →
-        row_at u.key (rows_at roster u.table (put_all now roster (before ++ (u ∷ behind)) tables)) ≡ Some (row_of now d.expire u) }
+    ensures last { (now : ℕ) (roster : List Definition) (before after : List Update) (u : Update) (d : Definition) (tables : List (List (Key × StoredRow))) →
+        length tables ≡ length roster → table_at roster u.table ≡ Some d → AreOfOthers u.table u.key after →
+        row_at u.key (rows_at roster u.table (put_all now roster (before ++ (u ∷ after)) tables)) ≡ Some (row_of now d.expire u) }
     ensures others { (now : ℕ) (roster : List Definition) (us : List Update) (id : ℕ) (key : Key) (tables : List (List (Key × StoredRow))) →
         AreOfOthers id key us →
         row_at key (rows_at roster id (put_all now roster us tables)) ≡ row_at key (rows_at roster id tables) }

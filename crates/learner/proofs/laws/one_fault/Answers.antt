@@ -1,4 +1,5 @@
 use Rattle.learner.proofs.FaultLaws.{same_stop, it_comes, closed_then}
+use Rattle.learner.proofs.MomentFaults.{same_fault_in_time}
 use Rattle.learner.proofs.laws.one_fault.Goals as goal
 
 pub returns-clause-same : goal.returns-clause-same
@@ -9,3 +10,6 @@ returns-clause-comes c = it_comes
 
 pub returns-clause-closed : goal.returns-clause-closed
 returns-clause-closed c = closed_then
+
+pub returns-clause-moments : goal.returns-clause-moments
+returns-clause-moments c = same_fault_in_time

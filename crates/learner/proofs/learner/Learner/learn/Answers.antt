@@ -6,7 +6,8 @@ use Rattle.learner.specs.Intake.{Taking, rows_of}
 use Rattle.learner.specs.Front.{owned}
 use Rattle.learner.specs.NewRows.{AreRowsOf}
 use Rattle.learner.specs.Learning.{Learning}
-use Rattle.learner.proofs.IntakeLemmas.{shown_taken, effect_resolvable, front_takable}
+use Rattle.known_state.proofs.EffectLemmas.{effect_unrefused}
+use Rattle.learner.proofs.IntakeLemmas.{shown_taken, front_takable}
 use Rattle.learner.proofs.RowLemmas.{row_within}
 use Rattle.learner.proofs.LearningLemmas.{gives_rows, gives_cut, cut_here}
 use Rattle.learner.proofs.learner.Learner.learn.Goals as goal
@@ -15,7 +16,7 @@ pub returns-in_err-row-in-Ok-Some-clause-learns : goal.returns-in_err-row-in-Ok-
 returns-in_err-row-in-Ok-Some-clause-learns c =
     let before : Learning = record { intake = c.self.inside.intake; rows = c.self.inside.rows_of_tables.items } in
     let looks = rw c.in-Ok-Some.field-0-is at c.in-Ok-Some.ensures.looks in
-    let takable = front_takable before.intake looks.0 c.in-Ok-Some.advance.used looks.1 (effect_resolvable before.intake.state looks.0 c.in-Ok-Some.advance.effect looks.2) in
+    let takable = front_takable before.intake looks.0 c.in-Ok-Some.advance.used looks.1 (effect_unrefused before.intake.state looks.0 c.in-Ok-Some.advance.effect looks.2) in
     let p = err_from_is_err_and c.from_residual.result c.from_residual.ensures.1 in
     rw (p.1, p.2, ← c.self.view_is) (cut_here c.args.now before takable)
 
@@ -23,7 +24,7 @@ pub returns-in_err-pass-in-Ok-Some-clause-learns : goal.returns-in_err-pass-in-O
 returns-in_err-pass-in-Ok-Some-clause-learns c =
     let before : Learning = record { intake = c.self.inside.intake; rows = c.self.inside.rows_of_tables.items } in
     let looks = rw c.in-Ok-Some.field-0-is at c.in-Ok-Some.ensures.looks in
-    let takable = front_takable before.intake looks.0 c.in-Ok-Some.advance.used looks.1 (effect_resolvable before.intake.state looks.0 c.in-Ok-Some.advance.effect looks.2) in
+    let takable = front_takable before.intake looks.0 c.in-Ok-Some.advance.used looks.1 (effect_unrefused before.intake.state looks.0 c.in-Ok-Some.advance.effect looks.2) in
     let p = err_from_is_err_and c.from_residual-in_err-pass-in-Ok-Some.result c.from_residual-in_err-pass-in-Ok-Some.ensures.1 in
     rw (p.1, p.2, c.in_err-pass-in-Ok-Some.ensures.stays, ← c.self.view_is) (cut_here c.args.now before takable)
 
@@ -36,7 +37,7 @@ pub returns-in_err-put-in-Ok-Some-clause-learns : goal.returns-in_err-put-in-Ok-
 returns-in_err-put-in-Ok-Some-clause-learns c =
     let before : Learning = record { intake = c.self.inside.intake; rows = c.self.inside.rows_of_tables.items } in
     let looks = rw c.in-Ok-Some.field-0-is at c.in-Ok-Some.ensures.looks in
-    let takable = front_takable before.intake looks.0 c.in-Ok-Some.advance.used looks.1 (effect_resolvable before.intake.state looks.0 c.in-Ok-Some.advance.effect looks.2) in
+    let takable = front_takable before.intake looks.0 c.in-Ok-Some.advance.used looks.1 (effect_unrefused before.intake.state looks.0 c.in-Ok-Some.advance.effect looks.2) in
     let gives = shown_taken before.intake c.pass.new.self looks.0 c.in-Ok-Some.advance c.in-Ok-Some.taken looks.1 looks.2 looks.3 c.in_ok-pass-in-Ok-Some.ensures.passed in
     let p = err_from_is_err_and c.from_residual-in_err-put-in-Ok-Some.result c.from_residual-in_err-put-in-Ok-Some.ensures.1 in
     rw (p.1, p.2, c.in_err-put-in-Ok-Some.ensures.stays, ← c.self.view_is) (gives_cut c.args.now before c.pass.new.self (owned c.in-Ok-Some.taken) takable gives)

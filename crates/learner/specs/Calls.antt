@@ -1,0 +1,49 @@
+-- An intake's calls, one after another, in any order of feeding and asking (profile).
+use Rattle.std.specs.Prelude.{◌≡◌, ℕ, List, [], ◌∷◌, ◌++◌, Option, Some, None, Result, Ok, Err}
+use Rattle.learner.specs.declared.fault.Fault.{Fault}
+use Rattle.learner.specs.declared.fault.Fault.TheVariants as faults
+use Rattle.learner.specs.declared.taken.Taken.{Taken}
+use Rattle.learner.specs.Intake.{Taking, IntakeFeeds, IntakeNext}
+
+-- no fault, but want of memory
+abbrev pub IsFaultless : {A : Type 0} → Result A Fault → Type 0
+IsFaultless answer = (fault : Fault) → answer ≡ Err fault → fault ≡ faults.Memory
+
+-- the bytes that were fed, where they were taken
+abbrev pub bytes_of : List ℕ → Result (Unit {0}) Fault → List ℕ
+bytes_of piece (Ok _) = piece
+bytes_of piece (Err fault) = []
+
+-- what a message gave that was asked for, where one was whole
+abbrev pub given_of : Result (Option Taken) Fault → List Taken
+given_of (Ok (Some answer)) = answer ∷ []
+given_of answer = []
+
+-- Calls one after another lead from t to e without a fault but want of memory, where Some feeds that piece and None asks
+-- for a message: these bytes were taken, and these answers given.
+abbrev pub AreCalled : Taking → List (Option (List ℕ)) → List ℕ → List Taken → Taking → Type 0
+AreCalled t [] bytes answers e = (bytes ≡ []) × (answers ≡ []) × (e ≡ t)
+AreCalled t (Some piece ∷ calls) bytes answers e =
+    (answer : Result (Unit {0}) Fault)
+    × (others : List ℕ)
+    × (mid : Taking)
+    × (bytes ≡ bytes_of piece answer ++ others)
+    × IsFaultless answer
+    × IntakeFeeds t piece answer mid
+    × AreCalled mid calls others answers e
+AreCalled t (None ∷ calls) bytes answers e =
+    (answer : Result (Option Taken) Fault)
+    × (others : List Taken)
+    × (mid : Taking)
+    × (answers ≡ given_of answer ++ others)
+    × IsFaultless answer
+    × IntakeNext t answer mid
+    × AreCalled mid calls bytes others e
+
+-- an answer at which a stream ends of which these bytes are still to come: a fault, but not want of memory, or that no
+-- message is whole, where none are
+abbrev pub IsEndOf : Result (Option Taken) Fault → List ℕ → Type 0
+IsEndOf (Ok None) more = more ≡ []
+IsEndOf (Ok (Some answer)) more = ⊥
+IsEndOf (Err faults.Memory) more = ⊥
+IsEndOf (Err fault) more = Unit {0}
