@@ -5,15 +5,15 @@ ghost use Rattle.std.specs.Iterator.{at_most};
 ghost use Rattle.std.specs.Map.Iter.{TakesFirst, deref_pair};
 ghost use Rattle.table_cell.specs.Stock.{HaveRows, rows_of};
 
-use std::collections::btree_map::Range;
 use std::marker::Model;
 use table_rows::Rows;
 use table_types::{Key, Row};
+use update_numbers::Rising;
 
 /// The rows that are left to go over, with their keys, in rising number. Takes no memory.
 #[derive(Drop)]
 pub(crate) struct Above<'a, R: Rows> {
-    pairs: Range<'a, u32, Key>,
+    pairs: Rising<'a>,
     rows: &'a R,
 }
 
@@ -32,7 +32,7 @@ impl<'a, R: Rows> Model for Above<'a, R> {
 
 impl<'a, R: Rows> Above<'a, R> {
     /// The rows of these keys.
-    pub(crate) fn new(pairs: Range<'a, u32, Key>, rows: &'a R) -> Above<'a, R>
+    pub(crate) fn new(pairs: Rising<'a>, rows: &'a R) -> Above<'a, R>
         requires { HaveRows (R.content rows.now) pairs }
         ensures { result ≡ rows_of (R.content rows.now) pairs.entry }
     {

@@ -21,19 +21,20 @@ impl NewRow {
     pub(crate) fn of(alloc: Global, number: u32, key: &Key, row: Row) -> Result<NewRow, Memory>
         ensures { IfOk result (λ new. new ≡ new_row number key.now row) }
     {
-        let kept = Reply {
-            number,
-            row: row.copy(alloc)?,
+        let Ok(kept) = row.copy(alloc) else {
+            return Err(Memory);
         };
-        let reply = Reply {
-            number,
-            row: row.copy(alloc)?,
+        let Ok(told) = row.copy(alloc) else {
+            return Err(Memory);
+        };
+        let Ok(key) = key.copy(alloc) else {
+            return Err(Memory);
         };
         Ok(NewRow {
-            key: key.copy(alloc)?,
+            key,
             row,
-            kept,
-            reply,
+            kept: Reply { number, row: kept },
+            reply: Reply { number, row: told },
         })
     }
 }

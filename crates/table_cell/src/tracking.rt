@@ -21,7 +21,9 @@ impl Table {
         ensures { IfOk result (λ new. new ≡ new_row self.now.next key.now (tracked self.now key.now change.now now)) }
     {
         let number = self.next();
-        let row = self.tracked(number, key, change, now)?;
+        let Ok(row) = self.tracked(number, key, change, now) else {
+            return Err(Memory);
+        };
         NewRow::of(self.alloc, number, key, row)
     }
 
@@ -31,7 +33,9 @@ impl Table {
         ensures { IfOk result (λ new. new ≡ new_row self.now.next update.now.key (learned self.now update.now now)) }
     {
         let number = self.next();
-        let row = self.learned(number, update, now)?;
+        let Ok(row) = self.learned(number, update, now) else {
+            return Err(Memory);
+        };
         NewRow::of(self.alloc, number, &update.key, row)
     }
 }
@@ -112,7 +116,9 @@ fn track(
     ensures stays { OnErr result (table.new ≡ table.old) }
     ensures no_event { OnErr result (history.new.items ≡ history.old.items) }
 {
-    let new = table.new_tracked(&key, &change, now)?;
+    let Ok(new) = table.new_tracked(&key, &change, now) else {
+        return Err(Memory);
+    };
     put_tracked(table, history, seat, key, change, now, new)
 }
 
@@ -131,7 +137,9 @@ fn learn(
     ensures stays { OnErr result (table.new ≡ table.old) }
     ensures no_event { OnErr result (history.new.items ≡ history.old.items) }
 {
-    let new = table.new_learned(&update, now)?;
+    let Ok(new) = table.new_learned(&update, now) else {
+        return Err(Memory);
+    };
     put_learned(table, history, session, update, now, new)
 }
 
@@ -152,7 +160,9 @@ fn track_pair(
     ensures stays { OnErr result (table.new ≡ table.old) }
     ensures no_event { OnErr result (history.new.items ≡ history.old.items) }
 {
-    let new = table.new_tracked(&key, &change, now)?;
+    let Ok(new) = table.new_tracked(&key, &change, now) else {
+        return Err(Memory);
+    };
     let second = new.reply.copy(table.alloc)?;
     let first = put_tracked(table, history, seat, key, change, now, new)?;
     Ok((first, second))
@@ -174,7 +184,9 @@ fn learn_pair(
     ensures stays { OnErr result (table.new ≡ table.old) }
     ensures no_event { OnErr result (history.new.items ≡ history.old.items) }
 {
-    let new = table.new_learned(&update, now)?;
+    let Ok(new) = table.new_learned(&update, now) else {
+        return Err(Memory);
+    };
     let second = new.reply.copy(table.alloc)?;
     let first = put_learned(table, history, session, update, now, new)?;
     Ok((first, second))

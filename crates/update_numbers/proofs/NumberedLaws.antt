@@ -26,14 +26,24 @@ last_number : (T : ℕ → Type 0) (es : List (ℕ × Key)) (e : ℕ × Key) →
 last_number T [] e all = all.0
 last_number T (f ∷ fs) e all = last_number T fs e all.1
 
-last_below : (next : ℕ) (es : List (ℕ × Key)) (e : ℕ × Key) → AllByRecursion (λ f. f.0 < next) (es ++ e ∷ []) → e.0 < next
+pub last_below : (next : ℕ) (es : List (ℕ × Key)) (e : ℕ × Key) → AllByRecursion (λ f. f.0 < next) (es ++ e ∷ []) → e.0 < next
 last_below next [] e all = all.0
 last_below next (f ∷ fs) e all = last_below next fs e all.1
 
-below_last : (es : List (ℕ × Key)) (e : ℕ × Key) → IsStrictlySortedBy nat_cmp (keys_of (es ++ e ∷ [])) → AllByRecursion (λ f. f.0 < e.0) es
+pub below_last : (es : List (ℕ × Key)) (e : ℕ × Key) → IsStrictlySortedBy nat_cmp (keys_of (es ++ e ∷ [])) → AllByRecursion (λ f. f.0 < e.0) es
 unfolding IsStrictlySortedBy
 below_last [] e rising = tt
 below_last (f ∷ fs) e rising = (ranked f.0 e.0 Less (sym (last_number (λ n. nat_cmp f.0 n ≡ Less) fs e rising.0)), below_last fs e rising.1)
+
+-- those before the greatest rise
+pub rising_front : (es : List (ℕ × Key)) (e : ℕ × Key) → IsStrictlySortedBy nat_cmp (keys_of (es ++ e ∷ [])) → IsStrictlySortedBy nat_cmp (keys_of es)
+unfolding IsStrictlySortedBy
+rising_front [] e rising = tt
+rising_front (f ∷ fs) e rising = (all_front fs e (λ n. nat_cmp f.0 n ≡ Less) rising.0, rising_front fs e rising.1)
+  where
+    all_front : (gs : List (ℕ × Key)) (last : ℕ × Key) (T : ℕ → Type 0) → AllByRecursion T (keys_of (gs ++ last ∷ [])) → AllByRecursion T (keys_of gs)
+    all_front [] last T all = tt
+    all_front (g ∷ gs) last T all = (all.0, all_front gs last T all.1)
 
 -- the greatest is taken back
 pub popped : (pairs after : List (ℕ × Key)) (number next : ℕ) (key : Key) → AreNumbered pairs next → pairs ≡ after ++ (number, key) ∷ [] → IsStrictlySortedBy nat_cmp (keys_of after) → AreNumbered after number

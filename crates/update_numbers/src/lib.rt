@@ -3,6 +3,8 @@
 
 mod numbered_keys;
 mod numbers;
+mod rising;
 
 pub use numbered_keys::NumberedKeys;
 pub use numbers::{NumberError, Numbers, Reserved};
+pub use rising::Rising;

@@ -8,9 +8,10 @@ ghost use Rattle.std.specs.Ordering.{nat_cmp};
 ghost use Rattle.update_numbers.specs.Index.{key_at, pairs_without};
 ghost use Rattle.update_numbers.specs.Numbers.{above, pushed};
 
+use crate::rising::Rising;
 use std::alloc::Global;
+use std::cmp::Reverse;
 use std::collections::BTreeMap;
-use std::collections::btree_map::Range;
 use std::marker::Model;
 use std::ops::Bound;
 use table_types::{Key, Memory};
@@ -19,7 +20,9 @@ use table_types::{Key, Memory};
 /// until that is taken out, by whoever knows which it is.
 #[derive(Drop)]
 pub struct NumberedKeys {
-    keys: BTreeMap<u32, Key>,
+    /// The greatest number first: one that is given is above all others, and a search that begins at the front finds its
+    /// place at once.
+    keys: BTreeMap<Reverse<u32>, Key>,
     /// 2^32 where all are spent.
     next: u64,
 }
@@ -27,12 +30,13 @@ pub struct NumberedKeys {
 impl Model for NumberedKeys {
     ghost use Rattle.update_numbers.specs.Index.{AreNumbered};
     ghost use Rattle.update_numbers.specs.Numbers.{Numbering};
+    ghost use Rattle.update_numbers.specs.Rising.{rising};
 
     ghost Value = { Numbering };
 
-    ghost view = { λ a. record { pairs = a.keys.entries; next = a.next } };
+    ghost view = { λ a. record { pairs = rising a.keys.entries; next = a.next } };
 
-    ghost invariant = { λ a. AreNumbered a.keys.entries a.next };
+    ghost invariant = { λ a. AreNumbered (rising a.keys.entries) a.next };
 }
 
 impl NumberedKeys {
@@ -70,7 +74,7 @@ impl NumberedKeys {
         ensures pushed { OnOk result (self.new ≡ pushed key self.old) }
         ensures stays { OnErr result (self.new ≡ self.old) }
     {
-        self.keys.insert(self.next as u32, key)?;
+        self.keys.insert(Reverse(self.next as u32), key)?;
         self.next += 1;
         Ok(())
     }
@@ -82,7 +86,7 @@ impl NumberedKeys {
         ensures none { IfNone result (self.old.pairs ≡ []) }
         ensures stays { IfNone result (self.new ≡ self.old) }
     {
-        let (number, key) = self.keys.pop_last()?;
+        let (Reverse(number), key) = self.keys.pop_first()?;
         self.next = u64::from(number);
         Some((number, key))
     }
@@ -92,13 +96,14 @@ impl NumberedKeys {
         ensures key { result ≡ key_at self.old.pairs number }
         ensures removed { self.new ≡ record { pairs = pairs_without (Some number) self.old.pairs; next = self.old.next } }
     {
-        self.keys.remove(&number)
+        self.keys.remove(&Reverse(number))
     }
 
     /// The pairs above that number, in rising number. Takes no memory.
-    pub fn above(&self, number: u32) -> Range<'_, u32, Key>
+    pub fn above(&self, number: u32) -> Rising<'_>
         ensures { result ≡ above number self.now.pairs }
     {
-        self.keys.range((Bound::Excluded(number), Bound::Unbounded))
+        let above = (Bound::Unbounded, Bound::Excluded(Reverse(number)));
+        Rising::new(self.keys.range(above))
     }
 }
