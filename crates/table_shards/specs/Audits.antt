@@ -17,6 +17,11 @@ pub record UnlockedState : Type 0 where
   pub seats : ℕ
   pub tables : List UnlockedTable
 
+-- tables and seats that were audited
+pub record AuditState : Type 0 where
+  pub unlocked : UnlockedState
+  pub seats : List SeatState
+
 -- the cell that was handed back is that table's, and has all events of the round
 abbrev pub is_its_own : UnlockedTable → Bool
 is_its_own t = id_of t.cell == t.table && nat_le t.cell.dropped t.began

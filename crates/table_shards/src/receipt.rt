@@ -6,15 +6,35 @@ use std::alloc::Global;
 use table_cell::{CellEvent, CellReply, Reply};
 use table_types::Memory;
 
-/// What a seat keeps of an event that it made of a table.
+/// What a seat keeps of an event that it made of a table. Only the calls of the module `held` make one.
 #[derive(Debug, Drop)]
 pub struct Receipt {
+    pub(crate) place: u64,
+    pub(crate) event: CellEvent,
+    pub(crate) reply: CellReply,
+}
+
+impl Receipt {
     /// The event's place among all events of the table, from 1.
-    pub place: u64,
+    pub fn place(&self) -> u64
+        ensures { result ≡ self.now.place }
+    {
+        self.place
+    }
+
     /// The event.
-    pub event: CellEvent,
+    pub fn event(&self) -> &CellEvent
+        ensures { result.now ≡ self.now.event }
+    {
+        &self.event
+    }
+
     /// What the table answered.
-    pub reply: CellReply,
+    pub fn reply(&self) -> &CellReply
+        ensures { result.now ≡ self.now.reply }
+    {
+        &self.reply
+    }
 }
 
 /// Whether both are the same reply, part for part.

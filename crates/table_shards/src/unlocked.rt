@@ -38,18 +38,22 @@ impl Model for Unlocked {
     ghost view = { λ a. record { seats = a.seats; tables = a.tables.items } };
 }
 
-/// Tables of which an audit showed that the seats' receipts are their histories.
+/// Tables and seats of which an audit showed that the seats' receipts are the tables' histories.
 #[derive(Drop)]
 pub struct Audit {
     unlocked: Unlocked,
+    seats: Vec<Seat>,
 }
 
 impl Model for Audit {
-    ghost use Rattle.table_shards.specs.Audits.{UnlockedState};
+    ghost use Rattle.std.specs.Prelude.{None};
+    ghost use Rattle.table_shards.specs.Audits.{AuditState, Audits};
 
-    ghost Value = { UnlockedState };
+    ghost Value = { AuditState };
 
-    ghost view = { λ a. a.unlocked };
+    ghost view = { λ a. record { unlocked = a.unlocked; seats = a.seats.items } };
+
+    ghost invariant = { λ a. Audits a.unlocked a.seats.items None };
 }
 
 /// Whether the cell has all its events after the first `began`.
@@ -159,11 +163,14 @@ impl Unlocked {
     /// Audits the round: the seats are those that were made with the tables, each once, and each event of each table in the
     /// round is the receipt of exactly one seat. A refusal hands back the tables and the seats. Takes no memory.
     pub fn audit(self, seats: Vec<Seat>) -> Result<Audit, (AuditError, Unlocked, Vec<Seat>)>
-        ensures audited { IfOk result (λ audit. (audit ≡ self) × Audits self seats.items None) }
+        ensures audited { IfOk result (λ audit. (audit ≡ record { unlocked = self; seats = seats.items }) × Audits self seats.items None) }
         ensures refused { IfErr result (λ back. Audits self seats.items (Some back.0) × (back.1 ≡ self) × (back.2 ≡ seats)) }
     {
         match self.error(seats.as_slice()) {
-            None => Ok(Audit { unlocked: self }),
+            None => Ok(Audit {
+                unlocked: self,
+                seats,
+            }),
             Some(error) => Err((error, self, seats)),
         }
     }
@@ -172,8 +179,17 @@ impl Unlocked {
 impl Audit {
     /// The tables.
     pub fn tables(&self) -> &[UnlockedTable]
-        ensures { result.now ≡ self.now.tables }
+        ensures tables { result.now ≡ self.now.unlocked.tables }
+        ensures audited { Audits self.now.unlocked self.now.seats None }
     {
         self.unlocked.tables()
+    }
+
+    /// The seats, which were handed in.
+    pub fn seats(&self) -> &[Seat]
+        ensures seats { result.now ≡ self.now.seats }
+        ensures audited { Audits self.now.unlocked self.now.seats None }
+    {
+        self.seats.as_slice()
     }
 }
