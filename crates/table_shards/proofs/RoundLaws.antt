@@ -1,5 +1,5 @@
 -- The seats with which a round begins.
-use Rattle.std.proofs.Common.{◌≡◌, ℕ, zero, suc, ◌+◌, ◌-◌, ◌<◌, ◌≤◌, true, false, nat_lt, nat_le, List, [], ◌∷◌, ◌++◌, length, get_or, map, remove, slice_get, Some, None, refl, sym, ap, ◌∙◌, arith, inl, inr, ltb-true, ltb-false, append-nil, append_assoc}
+use Rattle.std.proofs.Common.{◌≡◌, ℕ, zero, suc, ◌+◌, ◌-◌, ◌<◌, ◌≤◌, true, false, nat_lt, nat_le, List, [], ◌∷◌, ◌++◌, length, map, slice_get, Some, None, refl, sym, ap, ◌∙◌, arith, inl, inr, ltb-true, ltb-false}
 use Rattle.std.proofs.lemmas.Bool.{cases_Bool}
 use Rattle.std.proofs.lemmas.Bool.Decides.{nat_tests}
 use Rattle.table_cell.specs.declared.events.CellEvent.{CellEvent}
@@ -57,41 +57,23 @@ round_dropped c began less is = elim (cases_Bool (nat_lt c.dropped (began + 1)))
 
 -- ---- tables that are moved one by one
 
-pub first_removed : {A : Type 0} (xs : List A) (x : A) → 1 ≤ length xs → x ≡ get_or xs 0 x → xs ≡ x ∷ remove xs 0
-first_removed [] x some is = absurd (omega arith)
-first_removed (y ∷ xs) x some is = ap (λ z. z ∷ xs) (sym is)
-
 rounds_append : {A B : Type 0} (f : A → B) (xs ys : List A) → map f (xs ++ ys) ≡ map f xs ++ map f ys
 rounds_append f [] ys = refl
 rounds_append f (x ∷ xs) ys = ap (λ zs. f x ∷ zs) (rounds_append f xs ys)
 
-none_left : {A : Type 0} (xs : List A) → length xs ≡ 0 → xs ≡ []
-none_left [] none = refl
-none_left (x ∷ xs) none = absurd (omega arith)
+pub one_locked : (shards : List Shard) (s : Shard) (c : CellState) (taken : List CellState) → shard_rounds shards ≡ map begun taken → (s.table, s.began) ≡ begun c
+    → shard_rounds (shards ++ s ∷ []) ≡ map begun (taken ++ c ∷ [])
+one_locked shards s c taken so same =
+    rounds_append (λ (x : Shard). (x.table, x.began)) shards (s ∷ [])
+    ∙ ap (λ (xs : List (ℕ × ℕ)). xs ++ (s.table, s.began) ∷ []) so
+    ∙ ap (λ (x : ℕ × ℕ). map begun taken ++ x ∷ []) same
+    ∙ sym (rounds_append begun taken (c ∷ []))
 
-pub one_locked : (shards : List Shard) (s : Shard) (c : CellState) (cells rest : List CellState) (whole : List (ℕ × ℕ)) → shard_rounds shards ++ map begun cells ≡ whole → cells ≡ c ∷ rest → (s.table, s.began) ≡ begun c
-    → shard_rounds (shards ++ s ∷ []) ++ map begun rest ≡ whole
-one_locked shards s c cells rest whole so is same =
-    ap (λ (xs : List (ℕ × ℕ)). xs ++ map begun rest) (rounds_append (λ (x : Shard). (x.table, x.began)) shards (s ∷ []))
-    ∙ append_assoc (shard_rounds shards) ((s.table, s.began) ∷ []) (map begun rest)
-    ∙ ap (λ (x : ℕ × ℕ). shard_rounds shards ++ x ∷ map begun rest) same
-    ∙ ap (λ (xs : List CellState). shard_rounds shards ++ map begun xs) (sym is)
-    ∙ so
-
-pub all_locked : (shards : List Shard) (rest : List CellState) (whole : List (ℕ × ℕ)) → length rest ≡ 0 → shard_rounds shards ++ map begun rest ≡ whole → shard_rounds shards ≡ whole
-all_locked shards rest whole none so =
-    sym (append-nil (shard_rounds shards)) ∙ ap (λ (xs : List CellState). shard_rounds shards ++ map begun xs) (sym (none_left rest none)) ∙ so
-
-pub one_unlocked : (ts : List UnlockedTable) (t : UnlockedTable) (s : Shard) (shards rest : List Shard) (whole : List (ℕ × ℕ)) → table_rounds ts ++ shard_rounds shards ≡ whole → shards ≡ s ∷ rest → t.table ≡ s.table → t.began ≡ s.began
-    → table_rounds (ts ++ t ∷ []) ++ shard_rounds rest ≡ whole
-one_unlocked ts t s shards rest whole so is table began =
-    ap (λ (xs : List (ℕ × ℕ)). xs ++ shard_rounds rest) (rounds_append (λ (x : UnlockedTable). (x.table, x.began)) ts (t ∷ []))
-    ∙ append_assoc (table_rounds ts) ((t.table, t.began) ∷ []) (shard_rounds rest)
-    ∙ ap (λ (n : ℕ). table_rounds ts ++ (n, t.began) ∷ shard_rounds rest) table
-    ∙ ap (λ (n : ℕ). table_rounds ts ++ (s.table, n) ∷ shard_rounds rest) began
-    ∙ ap (λ (xs : List Shard). table_rounds ts ++ shard_rounds xs) (sym is)
-    ∙ so
-
-pub all_unlocked : (ts : List UnlockedTable) (rest : List Shard) (whole : List (ℕ × ℕ)) → length rest ≡ 0 → table_rounds ts ++ shard_rounds rest ≡ whole → table_rounds ts ≡ whole
-all_unlocked ts rest whole none so =
-    sym (append-nil (table_rounds ts)) ∙ ap (λ (xs : List Shard). table_rounds ts ++ shard_rounds xs) (sym (none_left rest none)) ∙ so
+pub one_unlocked : (ts : List UnlockedTable) (t : UnlockedTable) (s : Shard) (taken : List Shard) → table_rounds ts ≡ shard_rounds taken → t.table ≡ s.table → t.began ≡ s.began
+    → table_rounds (ts ++ t ∷ []) ≡ shard_rounds (taken ++ s ∷ [])
+one_unlocked ts t s taken so table began =
+    rounds_append (λ (x : UnlockedTable). (x.table, x.began)) ts (t ∷ [])
+    ∙ ap (λ (xs : List (ℕ × ℕ)). xs ++ (t.table, t.began) ∷ []) so
+    ∙ ap (λ (n : ℕ). shard_rounds taken ++ (n, t.began) ∷ []) table
+    ∙ ap (λ (n : ℕ). shard_rounds taken ++ (s.table, n) ∷ []) began
+    ∙ sym (rounds_append (λ (x : Shard). (x.table, x.began)) taken (s ∷ []))

@@ -1,6 +1,6 @@
 //! Tables under their locks.
 
-ghost use Rattle.std.specs.Prelude.{◌≡◌, ◌≤◌, ◌==◌, ◌∷◌, [], IfErr, IfOk, is_some, length, map};
+ghost use Rattle.std.specs.Prelude.{◌≡◌, ◌≤◌, ◌==◌, [], IfErr, IfOk, is_some, length, map};
 ghost use Rattle.std.specs.Vec.{vec_capacity};
 ghost use Rattle.std.specs.List.{list_any};
 ghost use Rattle.table_shards.specs.Rounds.{begun, fresh_seats};
@@ -52,24 +52,6 @@ fn lock_of(shards: &[Shard], table: u64) -> Option<&Mutex<Locked>>
     None
 }
 
-/// Takes the first of some tables.
-#[tactic(auto, using(crate::proofs::RoundLaws::first_removed))]
-fn first_cell(cells: &mut Vec<TableCell>) -> TableCell
-    requires { 1 ≤ length cells.old.items }
-    ensures { cells.old.items ≡ result ∷ cells.new.items }
-{
-    cells.remove(0)
-}
-
-/// Takes the first of some tables with their locks.
-#[tactic(auto, using(crate::proofs::RoundLaws::first_removed))]
-fn first_shard(shards: &mut Vec<Shard>) -> Shard
-    requires { 1 ≤ length shards.old.items }
-    ensures { shards.old.items ≡ result ∷ shards.new.items }
-{
-    shards.remove(0)
-}
-
 /// Puts a table under a lock.
 fn put_under_lock(cell: TableCell) -> Shard
     ensures { (result.table, result.began) ≡ begun cell }
@@ -82,15 +64,12 @@ fn put_under_lock(cell: TableCell) -> Shard
 }
 
 /// Puts each table under a lock.
-#[tactic(auto, using(crate::proofs::RoundLaws::all_locked, crate::proofs::RoundLaws::one_locked))]
+#[tactic(auto, using(crate::proofs::RoundLaws::one_locked))]
 fn lock_all(alloc: Global, cells: Vec<TableCell>) -> Result<Vec<Shard>, Memory>
     ensures { IfOk result (λ shards. shard_rounds shards.items ≡ map begun cells.items) }
 {
     let mut shards = Vec::new(alloc);
-    let count = cells.len();
-    let mut rest = cells;
-    for index in 0..count {
-        let cell = first_cell(&mut rest);
+    for cell in cells {
         shards.push(put_under_lock(cell))?;
     }
     Ok(shards)
@@ -120,17 +99,14 @@ fn take_from_lock(shard: Shard) -> UnlockedTable
 }
 
 /// Takes the tables out of their locks, into a list with room for them.
-#[tactic(auto, using(crate::proofs::RoundLaws::all_unlocked, crate::proofs::RoundLaws::one_unlocked))]
+#[tactic(auto, using(crate::proofs::RoundLaws::one_unlocked))]
 fn unlock_all(shards: Vec<Shard>, tables: Vec<UnlockedTable>) -> Vec<UnlockedTable>
     requires none { tables.items ≡ [] }
     requires room { length shards.items ≤ vec_capacity tables }
     ensures { table_rounds result.items ≡ shard_rounds shards.items }
 {
-    let count = shards.len();
     let mut done = tables;
-    let mut rest = shards;
-    for index in 0..count {
-        let shard = first_shard(&mut rest);
+    for shard in shards {
         done.push_reserved(take_from_lock(shard));
     }
     done

@@ -1,11 +1,11 @@
-use Rattle.std.proofs.Common.{◌≡◌, ◌≤◌, ◌+◌, ◌++◌, length, vec_capacity}
+use Rattle.std.proofs.Common.{◌≡◌, ◌≤◌, length, vec_capacity}
 use Rattle.table_shards.specs.Locks.{shard_rounds}
 use Rattle.table_shards.specs.Audits.{table_rounds}
 use Rattle.table_shards.proofs.shards.unlock_all.Given as goal
 
-abbrev pub invariant-loop-index : goal.invariant-loop-index
-invariant-loop-index l = record {
-  moved : table_rounds l.done.items ++ shard_rounds l.rest.items ≡ shard_rounds l.fn.shards.items;
-  left : l.index + length l.rest.items ≡ length l.fn.shards.items;
-  room : length l.done.items + length l.rest.items ≤ vec_capacity l.done;
+abbrev pub invariant-loop-shard : goal.invariant-loop-shard
+invariant-loop-shard l = record {
+  moved : table_rounds l.done.items ≡ shard_rounds l.yielded;
+  as_many : length l.done.items ≡ length l.yielded;
+  room : length l.fn.shards.items ≤ vec_capacity l.done;
 }
