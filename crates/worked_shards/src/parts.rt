@@ -43,6 +43,13 @@ pub fn alone(alloc: Global) -> Option<(Shards, Seat)> {
     Some((shards, seats.pop()?))
 }
 
+/// A list of that seat alone.
+pub fn only(alloc: Global, seat: Seat) -> Option<Vec<Seat>> {
+    let mut seats = Vec::new(alloc);
+    seats.push(seat).ok()?;
+    Some(seats)
+}
+
 /// What a call of `held::track` answers, and the seat.
 pub type Tracked = (Seat, Result<Reply, ShardError<TrackError>>);
 

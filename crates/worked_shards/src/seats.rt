@@ -1,11 +1,11 @@
 //! What a seat has seen, and what an audit finds.
 
-use crate::parts::{alone, cell, track, track_at};
+use crate::parts::{alone, cell, count, only, shards, track, track_at};
 use example_parts::T1;
 use std::alloc::Global;
 use std::sync::Wait;
-use table_cell::TrackError;
-use table_shards::{AuditError, Seat, ShardError, Shards, compare, held};
+use table_cell::{CellEvent, CellReply, TrackError};
+use table_shards::{Audit, AuditError, Seat, ShardError, Shards, compare, held};
 use table_types::{Change, DataType, Items, Key, Moment};
 
 /// `t1` and its seat, after three tracks of key 7.
@@ -33,10 +33,8 @@ fn compares<R: Wait>(rt: &R, alloc: Global) -> Option<bool> {
     let mut changed = cell(alloc, &T1)?;
     let change = Change::Add(DataType::Gpc0, 1);
     changed.track(0, Key::Int(7), change, Moment::least()).ok()?;
-    let mut seats = Vec::new(alloc);
-    seats.push(seat).ok()?;
-    let mut others = Vec::new(alloc);
-    others.push(fresh).ok()?;
+    let seats = only(alloc, seat)?;
+    let others = only(alloc, fresh)?;
     Some(
         compare(&new, 0, seats.as_slice()) == Some(1)
             && compare(&changed, 0, others.as_slice()) == Some(0)
@@ -52,15 +50,30 @@ fn is_ahead<R: Wait>(rt: &R, alloc: Global) -> Option<bool> {
     Some(answer.err()? == ahead && seat.receipts(1).len() == 3)
 }
 
+/// Whether the audit has the one seat, and its receipts of the three tracks, the last of which was answered 3.
+fn has_receipts(audit: &Audit) -> bool {
+    let [seat] = audit.seats() else {
+        return false;
+    };
+    let [first, second, third] = seat.receipts(1) else {
+        return false;
+    };
+    let last = match (third.event(), third.reply()) {
+        (CellEvent::Track { seat: 1, .. }, CellReply::Track(reply)) => count(reply) == Some(3),
+        _ => false,
+    };
+    last && first.place() == 1 && second.place() == 2 && third.place() == 3
+}
+
+/// A seat of other tables, and none, are handed back with the tables; the audit of the right one then finds nothing wrong.
 fn audits<R: Wait>(rt: &R, alloc: Global) -> Option<bool> {
     let (shards, seat) = tracked(rt, alloc)?;
     let (_others, fresh) = alone(alloc)?;
     let unlocked = shards.unlock(alloc).ok()?;
-    let mut seats = Vec::new(alloc);
-    seats.push(fresh).ok()?;
-    let (error, unlocked, mut seats) = unlocked.audit(seats).err()?;
-    let (error_without, unlocked, _none) = unlocked.audit(Vec::new(alloc)).err()?;
-    let _fresh = seats.pop()?;
+    let (error, unlocked, mut seats) = unlocked.audit(only(alloc, fresh)?).err()?;
+    let (error_without, unlocked, none) = unlocked.audit(Vec::new(alloc)).err()?;
+    let fresh = seats.pop()?;
+    let handed_back = none.is_empty() && seats.is_empty() && fresh.receipts(1).is_empty();
     seats.push(seat).ok()?;
     let audit = unlocked.audit(seats).ok()?;
     let [table] = audit.tables() else {
@@ -69,8 +82,27 @@ fn audits<R: Wait>(rt: &R, alloc: Global) -> Option<bool> {
     Some(
         error == AuditError::Mismatch { table: 1, seat: 0 }
             && error_without == AuditError::MissingSeat
-            && table.cell.events() == 3,
+            && handed_back
+            && table.cell.events() == 3
+            && has_receipts(&audit),
     )
+}
+
+/// A seat that is there twice, beside one that lacks, is a missing seat: both are handed back, and with the right ones the audit
+/// finds nothing wrong.
+fn misses_a_seat<R: Wait>(rt: &R, alloc: Global) -> Option<bool> {
+    let (_others, mut strangers) = shards(alloc, &[T1], 2)?;
+    let (shards, mut seats) = shards(alloc, &[T1], 2)?;
+    let (second, first) = (seats.pop()?, seats.pop()?);
+    let (first, _count) = track(rt, &shards, first, 1, 7)?;
+    let _stranger = strangers.pop()?;
+    strangers.push(first).ok()?;
+    let (error, unlocked, mut twice) = shards.unlock(alloc).ok()?.audit(strangers).err()?;
+    let first = twice.pop()?;
+    let handed_back = first.number() == 1 && first.seen(1) == 1 && twice.len() == 1;
+    seats.push(second).ok()?;
+    seats.push(first).ok()?;
+    Some(error == AuditError::MissingSeat && handed_back && unlocked.audit(seats).is_ok())
 }
 
 /// Another table's id, and a purge of a table without rows.
@@ -99,9 +131,7 @@ fn refused_between<R: Wait>(rt: &R, alloc: Global) -> Option<bool> {
     let refused = answer.err()? == ShardError::Cell(TrackError::WrongKey);
     let (seat, second) = track(rt, &shards, seat, 1, 7)?;
     let receipts = seat.receipts(1).len();
-    let mut seats = Vec::new(alloc);
-    seats.push(seat).ok()?;
-    let audited = shards.unlock(alloc).ok()?.audit(seats).is_ok();
+    let audited = shards.unlock(alloc).ok()?.audit(only(alloc, seat)?).is_ok();
     Some(first == 1 && refused && second == 2 && receipts == 2 && audited)
 }
 
@@ -123,6 +153,11 @@ fn a_seat_of_other_tables_is_ahead(rt: HostRuntime) {
 #[test]
 fn an_audit_wants_its_own_seats(rt: HostRuntime) {
     assert!(rt; audits(&rt, rt.alloc()) == Some(true));
+}
+
+#[test]
+fn a_seat_that_is_there_twice_is_missed(rt: HostRuntime) {
+    assert!(rt; misses_a_seat(&rt, rt.alloc()) == Some(true));
 }
 
 #[test]

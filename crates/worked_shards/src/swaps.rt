@@ -1,6 +1,6 @@
 //! Cells that were swapped under their locks: the calls and the audit name it.
 
-use crate::parts::{T2, alone, shards, track, track_at};
+use crate::parts::{T2, alone, only, shards, track, track_at};
 use example_parts::T1;
 use std::alloc::Global;
 use std::mem;
@@ -14,13 +14,6 @@ fn swap<R: Wait>(rt: &R, one: (&Shards, u64), other: (&Shards, u64)) -> Option<(
     let mut second = other.0.cell(other.1)?.lock(rt);
     mem::swap(&mut *first, &mut *second);
     Some(())
-}
-
-/// A list of that seat alone.
-fn only(alloc: Global, seat: Seat) -> Option<Vec<Seat>> {
-    let mut seats = Vec::new(alloc);
-    seats.push(seat).ok()?;
-    Some(seats)
 }
 
 /// `t1` and `t2`, each with a row of key 7, and their seat.
