@@ -7,33 +7,35 @@ use Rattle.session_core.specs.declared.phase.Phase.{Phase}
 use Rattle.session_core.specs.declared.phase.Phase.TheVariants as phases
 use Rattle.session_core.specs.Courses.{state_of_course}
 use Rattle.session_core.specs.Sessions.{SessionState, Goes, GoesIn, ended, state_of}
-use Rattle.peers_engine.specs.Doing.{Acts, Done, Told, ToldIn, asked}
+use Rattle.table_shards.specs.Receipts.{SeatState}
+use Rattle.peers_engine.specs.Doing.{Acts, Done, Told, ToldIn, Worker, asked, stands}
 
-pub acts_on : (s mid e : SessionState) (before after : List Action) (told more : List (Event × List Action)) (out rest : List ℕ)
+pub acts_on : (s mid e : Worker) (before after : List Action) (told more : List (Event × List Action)) (out rest : List ℕ)
     → Acts s before told out mid → Acts mid after more rest e → Acts s (before ++ after) (told ++ more) (out ++ rest) e
 acts_on s mid e [] after told more out rest (none, nothing, same) second =
     subst (λ (t : List (Event × List Action)). Acts s after (t ++ more) (out ++ rest) e) (sym none)
     (subst (λ (o : List ℕ). Acts s after more (o ++ rest) e) (sym nothing)
-    (subst (λ (x : SessionState). Acts x after more rest e) same second))
-acts_on s mid e (act ∷ acts) after told more out rest (bytes, then, answer, first, steps, next, done, tells, acted, is, written) second = (
+    (subst (λ (x : Worker). Acts x after more rest e) same second))
+acts_on s mid e (act ∷ acts) after told more out rest (bytes, then, answer, first, steps, seat, next, done, tells, acted, is, written) second = (
   bytes,
   then ++ rest,
   answer,
   first,
   steps ++ more,
+  seat,
   next,
   done,
   tells,
-  acts_on next mid e acts after steps more then rest acted second,
+  acts_on (stands s next seat) mid e acts after steps more then rest acted second,
   rw is (append_assoc first steps more),
   rw written (append_assoc bytes then rest),
 )
 
 -- one action, and the answer told
-pub one_act : (s e : SessionState) (act : Action) (answer : Option Event) (steps : List (Event × List Action)) (bytes : List ℕ)
-    → Done s.known act bytes answer → Told s answer steps e → Acts s (act ∷ []) steps bytes e
-one_act s e act answer steps bytes done told =
-    (bytes, [], answer, steps, [], e, done, told, (refl, refl, refl), sym (append-nil steps), sym (append-nil bytes))
+pub one_act : (s : Worker) (e : SessionState) (seat : SeatState) (act : Action) (answer : Option Event) (steps : List (Event × List Action)) (bytes : List ℕ)
+    → Done s.number s.now s.session.known s.seat act bytes answer seat → Told s.session answer steps e → Acts s (act ∷ []) steps bytes (stands s e seat)
+one_act s e seat act answer steps bytes done told =
+    (bytes, [], answer, steps, [], seat, e, done, told, (refl, refl, refl), sym (append-nil steps), sym (append-nil bytes))
 
 -- ---- an answer told
 

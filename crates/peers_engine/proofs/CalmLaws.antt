@@ -7,6 +7,7 @@ use Rattle.std.proofs.lemmas.List.{append-nil}
 use Rattle.std.proofs.lemmas.List.Concat.{flat_map-append}
 use Rattle.table_types.specs.declared.copies.Settled.{Settled}
 use Rattle.table_types.specs.declared.copies.Settled.TheVariants as settles
+use Rattle.table_shards.specs.Receipts.{SeatState}
 use Rattle.known_state.specs.Known.{KnownState}
 use Rattle.session_core.specs.declared.share.Share.{Share}
 use Rattle.session_core.specs.declared.action.Action.{Action}
@@ -21,7 +22,7 @@ use Rattle.session_core.specs.Shares.{any_out, all_quiet, out_set, quiet_set}
 use Rattle.session_core.specs.Actions.{reopens}
 use Rattle.session_core.specs.Courses.{Course}
 use Rattle.session_core.specs.Sessions.{SessionState, Goes, GoesIn, GoesOpen, HasNothing, FinishesResync, StartsPendingResync, Settles, state_of}
-use Rattle.peers_engine.specs.Doing.{Acts, Done, Told, ToldIn, asked}
+use Rattle.peers_engine.specs.Doing.{Acts, Done, Told, ToldIn, Worker, asked, stands}
 
 -- an action that a table doesn't answer
 abbrev pub is_calm : Action → Bool
@@ -120,27 +121,27 @@ is_last None = true
 is_last (Some (events.Written known)) = true
 is_last (Some event) = false
 
-done_answered : (k : KnownState) (act : Action) (out : List ℕ) (answer : Option Event) → Done k act out answer → is_answered answer ≡ true
-done_answered k (actions.Send bytes) out answer done = ap is_answered done.1
-done_answered k (actions.Learn u) out answer done = ap is_answered done.1
-done_answered k (actions.Ack table number) out answer (none, inl (settled, is)) = ap is_answered is
-done_answered k (actions.Ack table number) out answer (none, inr is) = ap is_answered is
-done_answered k (actions.Reopen table) out answer done = ap is_answered done.1
-done_answered k (actions.Copy table kind) out answer (none, inl (batch, is)) = ap is_answered is
-done_answered k (actions.Copy table kind) out answer (none, inr is) = ap is_answered is
-done_answered k (actions.Teach batch) out answer (after, lesson, is) = ap is_answered is
-done_answered k (actions.Part kind) out answer done = ap is_answered done.1
-done_answered k actions.Close out answer done = ap is_answered done.1
+done_answered : (n now : ℕ) (k : KnownState) (s t : SeatState) (act : Action) (out : List ℕ) (answer : Option Event) → Done n now k s act out answer t → is_answered answer ≡ true
+done_answered n now k s t (actions.Send bytes) out answer (written, none, same) = ap is_answered none
+done_answered n now k s t (actions.Learn u) out answer (written, none, learned) = ap is_answered none
+done_answered n now k s t (actions.Ack table number) out answer (none, inl (settled, is, call)) = ap is_answered is
+done_answered n now k s t (actions.Ack table number) out answer (none, inr (is, call)) = ap is_answered is
+done_answered n now k s t (actions.Reopen table) out answer (written, none, reopened) = ap is_answered none
+done_answered n now k s t (actions.Copy table kind) out answer (none, inl (batch, is, call)) = ap is_answered is
+done_answered n now k s t (actions.Copy table kind) out answer (none, inr (is, call)) = ap is_answered is
+done_answered n now k s t (actions.Teach batch) out answer (after, lesson, is, settled, same) = ap is_answered is
+done_answered n now k s t (actions.Part kind) out answer (written, none, same) = ap is_answered none
+done_answered n now k s t actions.Close out answer (written, none, same) = ap is_answered none
 
-done_last : (k : KnownState) (act : Action) (out : List ℕ) (answer : Option Event) → is_calm act ≡ true → Done k act out answer → is_last answer ≡ true
-done_last k (actions.Send bytes) out answer calm done = ap is_last done.1
-done_last k (actions.Learn u) out answer calm done = ap is_last done.1
-done_last k (actions.Ack table number) out answer calm done = absurd (false≢true calm)
-done_last k (actions.Reopen table) out answer calm done = ap is_last done.1
-done_last k (actions.Copy table kind) out answer calm done = absurd (false≢true calm)
-done_last k (actions.Teach batch) out answer calm (after, lesson, is) = ap is_last is
-done_last k (actions.Part kind) out answer calm done = ap is_last done.1
-done_last k actions.Close out answer calm done = ap is_last done.1
+done_last : (n now : ℕ) (k : KnownState) (s t : SeatState) (act : Action) (out : List ℕ) (answer : Option Event) → is_calm act ≡ true → Done n now k s act out answer t → is_last answer ≡ true
+done_last n now k s t (actions.Send bytes) out answer calm (written, none, same) = ap is_last none
+done_last n now k s t (actions.Learn u) out answer calm (written, none, learned) = ap is_last none
+done_last n now k s t (actions.Ack table number) out answer calm done = absurd (false≢true calm)
+done_last n now k s t (actions.Reopen table) out answer calm (written, none, reopened) = ap is_last none
+done_last n now k s t (actions.Copy table kind) out answer calm done = absurd (false≢true calm)
+done_last n now k s t (actions.Teach batch) out answer calm (after, lesson, is, settled, same) = ap is_last is
+done_last n now k s t (actions.Part kind) out answer calm (written, none, same) = ap is_last none
+done_last n now k s t actions.Close out answer calm (written, none, same) = ap is_last none
 
 -- ---- what is asked for when they are told
 
@@ -164,13 +165,14 @@ told_calm s e None steps is told = none_calm steps told.0
 told_calm s e (Some event) steps is told = told_in_calm (state_of s.phase) s e event steps is told
 
 -- what the answers of actions ask for, no table answers
-pub acts_calm : (s e : SessionState) (acts : List Action) (told : List (Event × List Action)) (out : List ℕ) → Acts s acts told out e → are_calm (asked told) ≡ true
+pub acts_calm : (s e : Worker) (acts : List Action) (told : List (Event × List Action)) (out : List ℕ) → Acts s acts told out e → are_calm (asked told) ≡ true
 acts_calm s e [] told out (none, nothing, same) = none_calm told none
-acts_calm s e (act ∷ acts) told out (bytes, more, answer, first, rest, mid, done, tells, after, is, written) =
+acts_calm s e (act ∷ acts) told out (bytes, more, answer, first, rest, seat, mid, done, tells, after, is, written) =
     ap (λ (x : List (Event × List Action)). are_calm (asked x)) is
     ∙ (ap are_calm (flat_map-append (λ (step : Event × List Action). step.1) first rest)
     ∙ (list_all-append is_calm (asked first) (asked rest)
-    ∙ and_from _ _ (told_calm s mid answer first (done_answered s.known act bytes answer done) tells) (acts_calm mid e acts rest more after)))
+    ∙ and_from _ _ (told_calm s.session mid answer first (done_answered s.number s.now s.session.known s.seat seat act bytes answer done) tells)
+    (acts_calm (stands s mid seat) e acts rest more after)))
 
 one_last : (s e : SessionState) (known : KnownState) (steps : List (Event × List Action)) → ((acts : List Action) × Goes s (events.Written known) acts e × (steps ≡ (events.Written known, acts) ∷ [])) → asked steps ≡ []
 one_last s e known steps (acts, goes, one) = ap asked one ∙ (append-nil acts ∙ written_in s.phase s known acts e goes)
@@ -197,11 +199,11 @@ told_last s e (Some events.WriteFault) steps is told = absurd (false≢true is)
 told_last s e (Some events.Opened) steps is told = absurd (false≢true is)
 
 -- and what their answers ask for is nothing
-pub acts_last : (s e : SessionState) (acts : List Action) (told : List (Event × List Action)) (out : List ℕ) → are_calm acts ≡ true → Acts s acts told out e → asked told ≡ []
+pub acts_last : (s e : Worker) (acts : List Action) (told : List (Event × List Action)) (out : List ℕ) → are_calm acts ≡ true → Acts s acts told out e → asked told ≡ []
 acts_last s e [] told out calm (none, nothing, same) = ap asked none
-acts_last s e (act ∷ acts) told out calm (bytes, more, answer, first, rest, mid, done, tells, after, is, written) =
+acts_last s e (act ∷ acts) told out calm (bytes, more, answer, first, rest, seat, mid, done, tells, after, is, written) =
     let both = and_parts (is_calm act) (are_calm acts) calm in
     ap asked is
     ∙ (flat_map-append (λ (step : Event × List Action). step.1) first rest
-    ∙ (ap (λ (x : List Action). x ++ asked rest) (told_last s mid answer first (done_last s.known act bytes answer both.0 done) tells)
-    ∙ acts_last mid e acts rest more both.1 after))
+    ∙ (ap (λ (x : List Action). x ++ asked rest) (told_last s.session mid answer first (done_last s.number s.now s.session.known s.seat seat act bytes answer both.0 done) tells)
+    ∙ acts_last (stands s mid seat) e acts rest more both.1 after))

@@ -62,12 +62,3 @@ pub nothing_consumed : (old new : Option (List ℕ)) → Keeps old new → Consu
 nothing_consumed None new keeps = tt
 nothing_consumed (Some xs) None keeps = absurd keeps
 nothing_consumed (Some xs) (Some ys) keeps = sym keeps
-
--- known bytes that stay are appended to by none, and none is consumed
-pub unchanged : (known : Option (List ℕ)) → Appends known known []
-unchanged None = tt
-unchanged (Some xs) = sym (append-nil xs)
-
-pub unconsumed : (known : Option (List ℕ)) → Consumes known known []
-unconsumed None = tt
-unconsumed (Some xs) = refl

@@ -1,11 +1,13 @@
 -- Where an error ends what a session asked for.
 use Rattle.std.proofs.Common.{◌≡◌, ◌⊎◌, ℕ, Bool, true, false, List, [], ◌∷◌, ◌++◌, Option, Some, None, refl, sym, ap, ◌∙◌, subst, inl, inr, append_assoc}
+use Rattle.std.proofs.KnownBytes.{Appends-nil}
 use Rattle.std.proofs.lemmas.List.{append-nil}
 use Rattle.std.proofs.lemmas.List.Concat.{flat_map-append}
 use Rattle.std.proofs.lemmas.Bool.{false≢true, and_parts}
 use Rattle.std.specs.Prelude.{◌≢◌, take}
 use Rattle.std.specs.List.{list_all}
 use Rattle.std.specs.Io.KnownBytes.{Appends}
+use Rattle.table_shards.specs.Receipts.{SeatState}
 use Rattle.known_state.specs.Known.{KnownState}
 use Rattle.table_types.specs.declared.copies.CopyKind.TheVariants as copies
 use Rattle.session_core.specs.declared.action.Action.{Action}
@@ -16,10 +18,9 @@ use Rattle.session_core.specs.Sessions.{SessionState, Goes, ended, state_of}
 use Rattle.session_core.specs.Runs.{Runs}
 use Rattle.peers_engine.specs.declared.errors.EngineError.{EngineError}
 use Rattle.peers_engine.specs.declared.errors.EngineError.TheVariants as errors
-use Rattle.peers_engine.specs.Doing.{Acts, Done, Fails, Falls, IsAtTable, IsCut, IsLost, IsRefusal, IsUnheard, Stops, Told, asked}
+use Rattle.peers_engine.specs.Doing.{Acts, Done, Fails, Falls, IsAtTable, IsCut, IsLost, IsRefusal, IsUnheard, Stops, Told, Worker, asked, stands}
 use Rattle.peers_engine.specs.Turns.{Breaks, Halts, HaltsAt, Hears, Idles, Reacts, StopsTurn, TakesTurn, Turns, first_event, is_push}
 use Rattle.peers_engine.proofs.ActLaws.{acts_on, one_act, told_some}
-use Rattle.peers_engine.proofs.EndLaws.{unchanged}
 use Rattle.peers_engine.proofs.CalmLaws.{acts_calm, acts_last}
 use Rattle.peers_engine.proofs.RunLaws.{acts_run, runs_on}
 
@@ -31,31 +32,34 @@ asked_on first rest = flat_map-append (λ (step : Event × List Action). step.1)
 -- ---- one action
 
 -- one action more is done
-pub act_more : (s mid e : SessionState) (acts : List Action) (act : Action) (answer : Option Event) (told steps : List (Event × List Action)) (out bytes : List ℕ)
-    → Acts s acts told out mid → Done mid.known act bytes answer → Told mid answer steps e → Acts s (acts ++ (act ∷ [])) (told ++ steps) (out ++ bytes) e
-act_more s mid e acts act answer told steps out bytes acted done tells =
-    acts_on s mid e acts (act ∷ []) told steps out bytes acted (one_act mid e act answer steps bytes done tells)
+pub act_more : (s mid : Worker) (e : SessionState) (seat : SeatState) (acts : List Action) (act : Action) (answer : Option Event) (told steps : List (Event × List Action)) (out bytes : List ℕ)
+    → Acts s acts told out mid → Done mid.number mid.now mid.session.known mid.seat act bytes answer seat → Told mid.session answer steps e
+    → Acts s (acts ++ (act ∷ [])) (told ++ steps) (out ++ bytes) (stands mid e seat)
+act_more s mid e seat acts act answer told steps out bytes acted done tells =
+    acts_on s mid (stands mid e seat) acts (act ∷ []) told steps out bytes acted (one_act mid e seat act answer steps bytes done tells)
 
 -- a write failed
-pub falls_short : (error : EngineError) (k : KnownState) (act : Action) (bytes : List ℕ) (answer : Option Event) (old new : Option (List ℕ))
-    → Done k act bytes answer → Falls bytes error old new → (out : List ℕ) × Fails k act error out × Appends old new out
-falls_short (errors.Write sent) k act bytes answer old new done (within, appended) = (take sent bytes, (bytes, answer, done, within, refl), appended)
-falls_short errors.Read k act bytes answer old new done falls = absurd falls
-falls_short errors.Memory k act bytes answer old new done falls = absurd falls
-falls_short errors.Strange k act bytes answer old new done falls = absurd falls
-falls_short (errors.Session refused) k act bytes answer old new done falls = absurd falls
+pub falls_short : (error : EngineError) (n now : ℕ) (k : KnownState) (s : SeatState) (act : Action) (bytes : List ℕ) (answer : Option Event) (old new : Option (List ℕ))
+    → Done n now k s act bytes answer s → Falls bytes error old new → (out : List ℕ) × Fails n now k s act error out × Appends old new out
+falls_short (errors.Write sent) n now k s act bytes answer old new done (within, appended) = (take sent bytes, (bytes, answer, done, within, refl), appended)
+falls_short errors.Read n now k s act bytes answer old new done falls = absurd falls
+falls_short errors.Memory n now k s act bytes answer old new done falls = absurd falls
+falls_short errors.Strange n now k s act bytes answer old new done falls = absurd falls
+falls_short (errors.Session refused) n now k s act bytes answer old new done falls = absurd falls
 
 -- a table refused, and nothing was written
-pub nothing_done : (error : EngineError) (k : KnownState) (act : Action) (known : Option (List ℕ)) → IsRefusal error → IsAtTable act → (out : List ℕ) × Fails k act error out × Appends known known out
-nothing_done errors.Memory k act known refusal here = ([], (refusal, here, refl), unchanged known)
-nothing_done errors.Strange k act known refusal here = ([], (refusal, here, refl), unchanged known)
-nothing_done errors.Read k act known refusal here = absurd refusal
-nothing_done (errors.Write sent) k act known refusal here = absurd refusal
-nothing_done (errors.Session refused) k act known refusal here = absurd refusal
+pub nothing_done : (error : EngineError) (n now : ℕ) (k : KnownState) (s : SeatState) (act : Action) (known : Option (List ℕ)) → IsRefusal error → IsAtTable act
+    → (out : List ℕ) × Fails n now k s act error out × Appends known known out
+nothing_done errors.Memory n now k s act known refusal here = ([], (refusal, here, refl), Appends-nil known)
+nothing_done errors.Strange n now k s act known refusal here = ([], (refusal, here, refl), Appends-nil known)
+nothing_done errors.Read n now k s act known refusal here = absurd refusal
+nothing_done (errors.Write sent) n now k s act known refusal here = absurd refusal
+nothing_done (errors.Session refused) n now k s act known refusal here = absurd refusal
 
 -- an action failed
-pub act_stops : (s mid : SessionState) (all before rest : List Action) (act : Action) (error : EngineError) (told : List (Event × List Action)) (first last : List ℕ)
-    → all ≡ before ++ (act ∷ rest) → Acts s before told first mid → Fails mid.known act error last → Stops s all error told (first ++ last) mid
+pub act_stops : (s mid : Worker) (all before rest : List Action) (act : Action) (error : EngineError) (told : List (Event × List Action)) (first last : List ℕ)
+    → all ≡ before ++ (act ∷ rest) → Acts s before told first mid → Fails mid.number mid.now mid.session.known mid.seat act error last
+    → Stops s all error told (first ++ last) mid.session
 act_stops s mid all before rest act error told first last is acted fails =
     (before, act ∷ rest, first, last, mid, is, acted, inl (inl fails), refl, refl)
 
@@ -64,34 +68,35 @@ more_told [] step is = cc is
 more_told (one ∷ told) step is = cc is
 
 -- an action was done, and its answer was refused, or what it asks for couldn't be kept
-pub tell_stops : (s mid e : SessionState) (all before rest : List Action) (act : Action) (answer : Option Event) (event : Event) (error : EngineError) (told : List (Event × List Action)) (first bytes : List ℕ)
-    → all ≡ before ++ (act ∷ rest) → Acts s before told first mid → Done mid.known act bytes answer → answer ≡ Some event → state_of mid.phase ≢ states.Ended → IsUnheard mid event error e
+pub tell_stops : (s mid : Worker) (e : SessionState) (seat : SeatState) (all before rest : List Action) (act : Action) (answer : Option Event) (event : Event) (error : EngineError) (told : List (Event × List Action)) (first bytes : List ℕ)
+    → all ≡ before ++ (act ∷ rest) → Acts s before told first mid → Done mid.number mid.now mid.session.known mid.seat act bytes answer seat → answer ≡ Some event
+    → state_of mid.session.phase ≢ states.Ended → IsUnheard mid.session event error e
     → (told' : List (Event × List Action)) × Stops s all error told' (first ++ bytes) e
-tell_stops s mid e all before rest act answer event error told first bytes is acted done some going (inl (refused, over)) =
-    let answered = subst (λ (x : Option Event). Done mid.known act bytes x) some done in
-    (told, (before, act ∷ rest, first, bytes, mid, is, acted, inl (inr (event, answered, going, refused)), refl, ap ended over))
-tell_stops s mid e all before rest act answer event error told first bytes is acted done some going (inr (acts, goes, memory)) =
+tell_stops s mid e seat all before rest act answer event error told first bytes is acted done some going (inl (refused, over)) =
+    let answered = subst (λ (x : Option Event). Done mid.number mid.now mid.session.known mid.seat act bytes x seat) some done in
+    (told, (before, act ∷ rest, first, bytes, mid, is, acted, inl (inr (event, seat, answered, going, refused)), refl, ap ended over))
+tell_stops s mid e seat all before rest act answer event error told first bytes is acted done some going (inr (acts, goes, memory)) =
     let rejoined : all ≡ (before ++ (act ∷ [])) ++ rest = is ∙ sym (append_assoc before (act ∷ []) rest) in
-    let more = act_more s mid e before act answer told ((event, acts) ∷ []) first bytes acted done (told_some mid e answer event acts some goes) in
-    (told ++ ((event, acts) ∷ []), (before ++ (act ∷ []), rest, first ++ bytes, [], e, rejoined, more, inr (more_told told (event, acts), memory, refl), sym (append-nil (first ++ bytes)), refl))
+    let more = act_more s mid e seat before act answer told ((event, acts) ∷ []) first bytes acted done (told_some mid.session e answer event acts some goes) in
+    (told ++ ((event, acts) ∷ []), (before ++ (act ∷ []), rest, first ++ bytes, [], stands mid e seat, rejoined, more, inr (more_told told (event, acts), memory, refl), sym (append-nil (first ++ bytes)), refl))
 
 -- ---- one event
 
 -- what the answers asked for is done, and nothing more is asked for
-pub react_done : (s mid next e : SessionState) (event : Event) (acts : List Action) (told more : List (Event × List Action)) (out rest : List ℕ)
-    → Goes s event acts mid → Acts mid acts told out next → Acts next (asked told) more rest e → Reacts s event (out ++ rest) e
-react_done s mid next e event acts told more out rest goes first second =
-    let none : asked more ≡ [] = acts_last next e (asked told) more rest (acts_calm mid next acts told out first) second in
+pub react_done : (s next e : Worker) (mid : SessionState) (event : Event) (acts : List Action) (told more : List (Event × List Action)) (out rest : List ℕ)
+    → Goes s.session event acts mid → Acts (stands s mid s.seat) acts told out next → Acts next (asked told) more rest e → Reacts s event (out ++ rest) e
+react_done s next e mid event acts told more out rest goes first second =
+    let none : asked more ≡ [] = acts_last next e (asked told) more rest (acts_calm (stands s mid s.seat) next acts told out first) second in
     let all : asked told ≡ asked (told ++ more) = sym (asked_on told more ∙ (ap (λ (x : List Action). asked told ++ x) none ∙ append-nil (asked told))) in (
       acts,
       told ++ more,
       mid,
       goes,
-      subst (λ (x : List Action). Acts mid (acts ++ x) (told ++ more) (out ++ rest) e) all
-          (acts_on mid next e acts (asked told) told more out rest first second),
+      subst (λ (x : List Action). Acts (stands s mid s.seat) (acts ++ x) (told ++ more) (out ++ rest) e) all
+          (acts_on (stands s mid s.seat) next e acts (asked told) told more out rest first second),
     )
 
-cut_more : (s : SessionState) (rest more : List Action) (told : List (Event × List Action)) (error : EngineError) (out : List ℕ) → (IsCut s rest error out ⊎ IsLost told error out) → (IsCut s (rest ++ more) error out ⊎ IsLost told error out)
+cut_more : (s : Worker) (rest more : List Action) (told : List (Event × List Action)) (error : EngineError) (out : List ℕ) → (IsCut s rest error out ⊎ IsLost told error out) → (IsCut s (rest ++ more) error out ⊎ IsLost told error out)
 cut_more s [] more told error out (inl cut) = absurd cut
 cut_more s (act ∷ rest) more told error out (inl cut) = inl cut
 cut_more s rest more told error out (inr lost) = inr lost
@@ -100,129 +105,130 @@ after_nothing : (first rest : List (Event × List Action)) → rest ≢ [] → (
 after_nothing [] rest some is = some is
 after_nothing (step ∷ first) rest some is = cc is
 
-lost_later : (s : SessionState) (rest : List Action) (first told : List (Event × List Action)) (error : EngineError) (out : List ℕ) → (IsCut s rest error out ⊎ IsLost told error out) → (IsCut s rest error out ⊎ IsLost (first ++ told) error out)
+lost_later : (s : Worker) (rest : List Action) (first told : List (Event × List Action)) (error : EngineError) (out : List ℕ) → (IsCut s rest error out ⊎ IsLost told error out) → (IsCut s rest error out ⊎ IsLost (first ++ told) error out)
 lost_later s rest first told error out (inl cut) = inl cut
 lost_later s rest first told error out (inr (some, memory, nothing)) = inr (after_nothing first told some, memory, nothing)
 
 -- an error among what the event asked for
-pub react_stops : (s mid e : SessionState) (event : Event) (acts : List Action) (error : EngineError) (told : List (Event × List Action)) (out : List ℕ)
-    → Goes s event acts mid → Stops mid acts error told out e → Halts s event error out e
+pub react_stops : (s : Worker) (mid e : SessionState) (event : Event) (acts : List Action) (error : EngineError) (told : List (Event × List Action)) (out : List ℕ)
+    → Goes s.session event acts mid → Stops (stands s mid s.seat) acts error told out e → Halts s event error out e
 react_stops s mid e event acts error told out goes (before, rest, first, last, next, is, acted, cut, written, same) =
     let all : acts ++ asked told ≡ before ++ (rest ++ asked told) = ap (λ (x : List Action). x ++ asked told) is ∙ append_assoc before rest (asked told) in
     inr (acts, told, mid, goes, (before, rest ++ asked told, first, last, next, all, acted, cut_more next rest (asked told) told error last cut, written, same))
 
 -- an error among what the answers asked for
-pub react_stops_later : (s mid next e : SessionState) (event : Event) (acts : List Action) (error : EngineError) (told more : List (Event × List Action)) (out rest : List ℕ)
-    → Goes s event acts mid → Acts mid acts told out next → Stops next (asked told) error more rest e → Halts s event error (out ++ rest) e
-react_stops_later s mid next e event acts error told more out rest goes done (before, left, first, last, then, is, acted, cut, written, same) =
+pub react_stops_later : (s next : Worker) (mid e : SessionState) (event : Event) (acts : List Action) (error : EngineError) (told more : List (Event × List Action)) (out rest : List ℕ)
+    → Goes s.session event acts mid → Acts (stands s mid s.seat) acts told out next → Stops next (asked told) error more rest e → Halts s event error (out ++ rest) e
+react_stops_later s next mid e event acts error told more out rest goes done (before, left, first, last, then, is, acted, cut, written, same) =
     let all : acts ++ asked (told ++ more) ≡ (acts ++ before) ++ (left ++ asked more) =
     ap (λ (x : List Action). acts ++ x) (asked_on told more)
     ∙ (ap (λ (x : List Action). acts ++ (x ++ asked more)) is
     ∙ (ap (λ (x : List Action). acts ++ x) (append_assoc before left (asked more))
     ∙ sym (append_assoc acts before (left ++ asked more)))) in
-    let done_on = acts_on mid next then acts before told more out first done acted in
+    let done_on = acts_on (stands s mid s.seat) next then acts before told more out first done acted in
     let rejoined : out ++ rest ≡ (out ++ first) ++ last = ap (λ (x : List ℕ). out ++ x) written ∙ sym (append_assoc out first last) in
     inr (acts, told ++ more, mid, goes, (acts ++ before, left ++ asked more, out ++ first, last, then, all, done_on, lost_later then (left ++ asked more) told more error last (cut_more then left (asked more) more error last cut), rejoined, same))
 
 -- ---- runs
 
-run_of : (s e : SessionState) (event : Event) (out : List ℕ) → Reacts s event out e → (acts : List Action) × (steps : List (Event × List Action)) × Runs s ((event, acts) ∷ steps) e
-run_of s e event out (acts, told, mid, goes, done) = (acts, told, (mid, goes, acts_run mid e (acts ++ asked told) told out done))
+run_of : (s e : Worker) (event : Event) (out : List ℕ) → Reacts s event out e → (acts : List Action) × (steps : List (Event × List Action)) × Runs s.session ((event, acts) ∷ steps) e.session
+run_of s e event out (acts, told, mid, goes, done) = (acts, told, (mid, goes, acts_run (stands s mid s.seat) e (acts ++ asked told) told out done))
 
-idles_run : (s e : SessionState) (event : Event) → Idles s event e → (acts : List Action) × (steps : List (Event × List Action)) × Runs s ((event, acts) ∷ steps) e
-idles_run s e event (acts, told, mid, goes, pushes, done, nothing) = (acts, told, (mid, goes, acts_run mid e acts told [] done))
+idles_run : (s e : Worker) (event : Event) → Idles s event e → (acts : List Action) × (steps : List (Event × List Action)) × Runs s.session ((event, acts) ∷ steps) e.session
+idles_run s e event (acts, told, mid, goes, pushes, done, nothing) = (acts, told, (mid, goes, acts_run (stands s mid s.seat) e acts told [] done))
 
-hears_run : (s e : SessionState) (heard : Option Event) (out : List ℕ) → Hears s heard out e → (steps : List (Event × List Action)) × Runs s steps e
-hears_run s e None out (nothing, same) = ([], same)
+hears_run : (s e : Worker) (heard : Option Event) (out : List ℕ) → Hears s heard out e → (steps : List (Event × List Action)) × Runs s.session steps e.session
+hears_run s e None out (nothing, same) = ([], ap (λ (x : Worker). x.session) same)
 hears_run s e (Some event) out reacts = let one = run_of s e event out reacts in ((event, one.0) ∷ one.1, one.2)
 
 -- the session moved by a run
-pub turns_of : (s e : SessionState) (heard : Option Event) (out : List ℕ) → TakesTurn s heard out e → Turns s e
-turns_of s e heard out (inl (none, reacts)) = run_of s e (first_event (state_of s.phase)) out reacts
+pub turns_of : (s e : Worker) (heard : Option Event) (out : List ℕ) → TakesTurn s heard out e → Turns s.session e.session
+turns_of s e heard out (inl (none, reacts)) = run_of s e (first_event (state_of s.session.phase)) out reacts
 turns_of s e heard out (inr (mid, idles, hears)) =
-    let one = idles_run s mid (first_event (state_of s.phase)) idles in
+    let one = idles_run s mid (first_event (state_of s.session.phase)) idles in
     let more = hears_run mid e heard out hears in
-    (one.0, one.1 ++ more.0, runs_on s mid e ((first_event (state_of s.phase), one.0) ∷ one.1) more.0 one.2 more.1)
+    (one.0, one.1 ++ more.0, runs_on s.session mid.session e.session ((first_event (state_of s.session.phase), one.0) ∷ one.1) more.0 one.2 more.1)
 
 -- how far a run went
 abbrev Ran : SessionState → Event → SessionState → Type 0
 Ran s event e =
     (acts : List Action) × (steps : List (Event × List Action)) × (mid : SessionState) × Runs s ((event, acts) ∷ steps) mid × (ended e ≡ ended mid)
 
-halts_ran : (s e : SessionState) (event : Event) (error : EngineError) (out : List ℕ) → Halts s event error out e → (ended e ≡ ended s) ⊎ Ran s event e
+halts_ran : (s : Worker) (e : SessionState) (event : Event) (error : EngineError) (out : List ℕ) → Halts s event error out e → (ended e ≡ ended s.session) ⊎ Ran s.session event e
 halts_ran s e event error out (inl (refused, none, same)) = inl same
 halts_ran s e event error out (inr (acts, told, mid, goes, (before, rest, first, last, next, is, acted, cut, written, same))) =
-    inr (acts, told, next, (mid, goes, acts_run mid next before told first acted), same)
+    inr (acts, told, next.session, (mid, goes, acts_run (stands s mid s.seat) next before told first acted), same)
 
-halted_ran : (s e : SessionState) (heard : Option Event) (error : EngineError) (out : List ℕ) → HaltsAt s heard error out e
-    → (steps : List (Event × List Action)) × (mid : SessionState) × Runs s steps mid × (ended e ≡ ended mid)
-halted_ran s e None error out (unread, nothing, same) = ([], s, refl, same)
+halted_ran : (s : Worker) (e : SessionState) (heard : Option Event) (error : EngineError) (out : List ℕ) → HaltsAt s heard error out e
+    → (steps : List (Event × List Action)) × (mid : SessionState) × Runs s.session steps mid × (ended e ≡ ended mid)
+halted_ran s e None error out (unread, nothing, same) = ([], s.session, refl, same)
 halted_ran s e (Some event) error out halts = elim (halts_ran s e event error out halts) [
-  | inl same ↦ ([], s, refl, same)
+  | inl same ↦ ([], s.session, refl, same)
   | inr ran ↦ ((event, ran.0) ∷ ran.1, ran.2, ran.3, ran.4)
 ]
 
 -- the session moved by a run or none, and was then ended
-pub breaks_of : (s e new : SessionState) (heard : Option Event) (error : EngineError) (out : List ℕ) → StopsTurn s heard error out e → new ≡ ended e → Breaks s new
-breaks_of s e new heard error out (inl (none, halts)) is = elim (halts_ran s e (first_event (state_of s.phase)) error out halts) [
+pub breaks_of : (s : Worker) (e new : SessionState) (heard : Option Event) (error : EngineError) (out : List ℕ) → StopsTurn s heard error out e → new ≡ ended e → Breaks s.session new
+breaks_of s e new heard error out (inl (none, halts)) is = elim (halts_ran s e (first_event (state_of s.session.phase)) error out halts) [
   | inl same ↦ inl (is ∙ same)
   | inr ran ↦ inr (ran.2, (ran.0, ran.1, ran.3), is ∙ ran.4)
 ]
 breaks_of s e new heard error out (inr (mid, idles, halts)) is =
-    let one = idles_run s mid (first_event (state_of s.phase)) idles in
+    let one = idles_run s mid (first_event (state_of s.session.phase)) idles in
     let more = halted_ran mid e heard error out halts in
-    inr (more.1, (one.0, one.1 ++ more.0, runs_on s mid more.1 ((first_event (state_of s.phase), one.0) ∷ one.1) more.0 one.2 more.2), is ∙ more.3)
+    inr (more.1, (one.0, one.1 ++ more.0, runs_on s.session mid.session more.1 ((first_event (state_of s.session.phase), one.0) ∷ one.1) more.0 one.2 more.2), is ∙ more.3)
 
 -- ---- the end
 
-halt_ended : (s e : SessionState) (event : Event) (error : EngineError) (out : List ℕ) → Halts s event error out e → Halts s event error out (ended e)
+halt_ended : (s : Worker) (e : SessionState) (event : Event) (error : EngineError) (out : List ℕ) → Halts s event error out e → Halts s event error out (ended e)
 halt_ended s e event error out (inl halts) = inl halts
 halt_ended s e event error out (inr halts) = inr halts
 
-halts_ended : (s e : SessionState) (heard : Option Event) (error : EngineError) (out : List ℕ) → HaltsAt s heard error out e → HaltsAt s heard error out (ended e)
+halts_ended : (s : Worker) (e : SessionState) (heard : Option Event) (error : EngineError) (out : List ℕ) → HaltsAt s heard error out e → HaltsAt s heard error out (ended e)
 halts_ended s e None error out halts = halts
 halts_ended s e (Some event) error out halts = halt_ended s e event error out halts
 
-stops_ended : (s e : SessionState) (heard : Option Event) (error : EngineError) (out : List ℕ) → StopsTurn s heard error out e → StopsTurn s heard error out (ended e)
-stops_ended s e heard error out (inl (none, halts)) = inl (none, halt_ended s e (first_event (state_of s.phase)) error out halts)
+stops_ended : (s : Worker) (e : SessionState) (heard : Option Event) (error : EngineError) (out : List ℕ) → StopsTurn s heard error out e → StopsTurn s heard error out (ended e)
+stops_ended s e heard error out (inl (none, halts)) = inl (none, halt_ended s e (first_event (state_of s.session.phase)) error out halts)
 stops_ended s e heard error out (inr (mid, idles, halts)) = inr (mid, idles, halts_ended mid e heard error out halts)
 
 -- what was written stays written when the session is ended
-pub halted : (s e new : SessionState) (heard : Option Event) (error : EngineError) (out : List ℕ) → StopsTurn s heard error out e → new ≡ ended e → StopsTurn s heard error out new
+pub halted : (s : Worker) (e new : SessionState) (heard : Option Event) (error : EngineError) (out : List ℕ) → StopsTurn s heard error out e → new ≡ ended e → StopsTurn s heard error out new
 halted s e new heard error out halts is = subst (λ (x : SessionState). StopsTurn s heard error out x) (sym is) (stops_ended s e heard error out halts)
 
 -- ---- nothing to do
 
 -- pushes write nothing
-push_silent : (k : KnownState) (act : Action) (out : List ℕ) (answer : Option Event) → is_push act ≡ true → Done k act out answer → out ≡ []
-push_silent k (actions.Copy table copies.Push) out answer is done = done.0
-push_silent k (actions.Copy table copies.Resync) out answer is done = done.0
-push_silent k (actions.Send bytes) out answer is done = absurd (false≢true is)
-push_silent k (actions.Learn u) out answer is done = absurd (false≢true is)
-push_silent k (actions.Ack table number) out answer is done = absurd (false≢true is)
-push_silent k (actions.Reopen table) out answer is done = absurd (false≢true is)
-push_silent k (actions.Teach batch) out answer is done = absurd (false≢true is)
-push_silent k (actions.Part kind) out answer is done = absurd (false≢true is)
-push_silent k actions.Close out answer is done = absurd (false≢true is)
+push_silent : (n now : ℕ) (k : KnownState) (s t : SeatState) (act : Action) (out : List ℕ) (answer : Option Event) → is_push act ≡ true → Done n now k s act out answer t → out ≡ []
+push_silent n now k s t (actions.Copy table copies.Push) out answer is done = done.0
+push_silent n now k s t (actions.Copy table copies.Resync) out answer is done = done.0
+push_silent n now k s t (actions.Send bytes) out answer is done = absurd (false≢true is)
+push_silent n now k s t (actions.Learn u) out answer is done = absurd (false≢true is)
+push_silent n now k s t (actions.Ack table number) out answer is done = absurd (false≢true is)
+push_silent n now k s t (actions.Reopen table) out answer is done = absurd (false≢true is)
+push_silent n now k s t (actions.Teach batch) out answer is done = absurd (false≢true is)
+push_silent n now k s t (actions.Part kind) out answer is done = absurd (false≢true is)
+push_silent n now k s t actions.Close out answer is done = absurd (false≢true is)
 
-pushes_silent : (s e : SessionState) (acts : List Action) (told : List (Event × List Action)) (out : List ℕ) → list_all is_push acts ≡ true → Acts s acts told out e → out ≡ []
+pushes_silent : (s e : Worker) (acts : List Action) (told : List (Event × List Action)) (out : List ℕ) → list_all is_push acts ≡ true → Acts s acts told out e → out ≡ []
 pushes_silent s e [] told out are (none, nothing, same) = nothing
-pushes_silent s e (act ∷ acts) told out are (bytes, more, answer, first, rest, mid, done, tells, after, is, written) =
+pushes_silent s e (act ∷ acts) told out are (bytes, more, answer, first, rest, seat, mid, done, tells, after, is, written) =
     let both = and_parts (is_push act) (list_all is_push acts) are in
     written
-    ∙ (ap (λ (x : List ℕ). x ++ more) (push_silent s.known act bytes answer both.0 done)
-    ∙ pushes_silent mid e acts rest more both.1 after)
+    ∙ (ap (λ (x : List ℕ). x ++ more) (push_silent s.number s.now s.session.known s.seat seat act bytes answer both.0 done)
+    ∙ pushes_silent (stands s mid seat) e acts rest more both.1 after)
 
-none_done : (s e : SessionState) (acts : List Action) (told : List (Event × List Action)) (out : List ℕ) → acts ≡ [] → Acts s acts told out e → (out ≡ []) × (e ≡ s)
+none_done : (s e : Worker) (acts : List Action) (told : List (Event × List Action)) (out : List ℕ) → acts ≡ [] → Acts s acts told out e → (out ≡ []) × (e ≡ s)
 none_done s e acts told out none done =
     let nothing = subst (λ (x : List Action). Acts s x told out e) none done in
     (nothing.1, nothing.2)
 
 -- only pushes were asked for, and nothing came of them
-pub idle_done : (s mid next e : SessionState) (event : Event) (acts : List Action) (told more : List (Event × List Action)) (out rest : List ℕ)
-    → Goes s event acts mid → Acts mid acts told out next → Acts next (asked told) more rest e → list_all is_push acts ≡ true → asked told ≡ [] → Idles s event e × (out ++ rest ≡ [])
-idle_done s mid next e event acts told more out rest goes first second pushes none =
-    let silent = pushes_silent mid next acts told out pushes first in
+pub idle_done : (s next e : Worker) (mid : SessionState) (event : Event) (acts : List Action) (told more : List (Event × List Action)) (out rest : List ℕ)
+    → Goes s.session event acts mid → Acts (stands s mid s.seat) acts told out next → Acts next (asked told) more rest e → list_all is_push acts ≡ true → asked told ≡ []
+    → Idles s event e × (out ++ rest ≡ [])
+idle_done s next e mid event acts told more out rest goes first second pushes none =
+    let silent = pushes_silent (stands s mid s.seat) next acts told out pushes first in
     let last = none_done next e (asked told) more rest none second in (
       (
         acts,
@@ -230,7 +236,7 @@ idle_done s mid next e event acts told more out rest goes first second pushes no
         mid,
         goes,
         pushes,
-        subst (λ (x : SessionState). Acts mid acts told [] x) (sym last.1) (subst (λ (x : List ℕ). Acts mid acts told x next) silent first),
+        subst (λ (x : Worker). Acts (stands s mid s.seat) acts told [] x) (sym last.1) (subst (λ (x : List ℕ). Acts (stands s mid s.seat) acts told x next) silent first),
         none,
       ),
       ap (λ (x : List ℕ). x ++ rest) silent ∙ last.0,

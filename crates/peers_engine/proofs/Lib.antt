@@ -6,3 +6,4 @@ mod HaltLaws
 mod RunLaws
 mod TakenLaws
 mod TurnLaws
+mod CallLaws

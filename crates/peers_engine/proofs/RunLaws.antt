@@ -6,7 +6,7 @@ use Rattle.session_core.specs.declared.state.State.{State}
 use Rattle.session_core.specs.declared.state.State.TheVariants as states
 use Rattle.session_core.specs.Sessions.{SessionState, Goes, state_of}
 use Rattle.session_core.specs.Runs.{Runs}
-use Rattle.peers_engine.specs.Doing.{Acts, Told, ToldIn}
+use Rattle.peers_engine.specs.Doing.{Acts, Told, ToldIn, Worker, stands}
 
 pub runs_on : (s mid e : SessionState) (before after : List (Event × List Action)) → Runs s before mid → Runs mid after e → Runs s (before ++ after) e
 runs_on s mid e [] after first second = subst (λ (x : SessionState). Runs x after e) first second
@@ -29,8 +29,8 @@ pub told_runs : (s e : SessionState) (answer : Option Event) (steps : List (Even
 told_runs s e None steps told = no_step s e steps told
 told_runs s e (Some event) steps told = told_in (state_of s.phase) s e event steps told
 
-pub acts_run : (s e : SessionState) (acts : List Action) (told : List (Event × List Action)) (out : List ℕ) → Acts s acts told out e → Runs s told e
-acts_run s e [] told out (none, nothing, same) = no_step s e told (none, same)
-acts_run s e (act ∷ acts) told out (bytes, more, answer, first, rest, mid, done, tells, after, is, written) =
-    subst (λ (x : List (Event × List Action)). Runs s x e) (sym is)
-    (runs_on s mid e first rest (told_runs s mid answer first tells) (acts_run mid e acts rest more after))
+pub acts_run : (s e : Worker) (acts : List Action) (told : List (Event × List Action)) (out : List ℕ) → Acts s acts told out e → Runs s.session told e.session
+acts_run s e [] told out (none, nothing, same) = no_step s.session e.session told (none, ap (λ (x : Worker). x.session) same)
+acts_run s e (act ∷ acts) told out (bytes, more, answer, first, rest, seat, mid, done, tells, after, is, written) =
+    subst (λ (x : List (Event × List Action)). Runs s.session x e.session) (sym is)
+    (runs_on s.session mid e.session first rest (told_runs s.session mid answer first tells) (acts_run (stands s mid seat) e acts rest more after))

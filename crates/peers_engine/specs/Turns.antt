@@ -12,7 +12,7 @@ use Rattle.session_core.specs.Sessions.{SessionState, Goes, ended, state_of}
 use Rattle.session_core.specs.Runs.{Runs}
 use Rattle.peers_engine.specs.declared.errors.EngineError.{EngineError}
 use Rattle.peers_engine.specs.declared.errors.EngineError.TheVariants as errors
-use Rattle.peers_engine.specs.Doing.{Acts, IsRefused, Stops, asked}
+use Rattle.peers_engine.specs.Doing.{Acts, IsRefused, Stops, Worker, asked, stands}
 
 -- the event with which a turn begins: a new session is opened, and any other may teach
 abbrev pub first_event : State → Event
@@ -29,26 +29,26 @@ Turns s e = (acts : List Action) × (steps : List (Event × List Action)) × Run
 abbrev pub Breaks : SessionState → SessionState → Type 0
 Breaks s e = (e ≡ ended s) ⊎ ((mid : SessionState) × Turns s mid × (e ≡ ended mid))
 
--- ---- what was written
+-- ---- what was done
 
 -- An event is heard, and all that was asked for is done in order: what the event asked for, and then what the answers did.
-abbrev pub Reacts : SessionState → Event → List ℕ → SessionState → Type 0
-Reacts s event out e =
+abbrev pub Reacts : Worker → Event → List ℕ → Worker → Type 0
+Reacts w event out e =
     (acts : List Action)
     × (told : List (Event × List Action))
     × (mid : SessionState)
-    × Goes s event acts mid
-    × Acts mid (acts ++ asked told) told out e
+    × Goes w.session event acts mid
+    × Acts (stands w mid w.seat) (acts ++ asked told) told out e
 
 -- an event is refused; or it is heard, and what was asked for is done up to where an error ended it
-abbrev pub Halts : SessionState → Event → EngineError → List ℕ → SessionState → Type 0
-Halts s event error out e =
-    (IsRefused s event error × (out ≡ []) × (ended e ≡ ended s))
+abbrev pub Halts : Worker → Event → EngineError → List ℕ → SessionState → Type 0
+Halts w event error out e =
+    (IsRefused w.session event error × (out ≡ []) × (ended e ≡ ended w.session))
     ⊎ ((acts : List Action)
     × (told : List (Event × List Action))
     × (mid : SessionState)
-    × Goes s event acts mid
-    × Stops mid (acts ++ asked told) error told out e)
+    × Goes w.session event acts mid
+    × Stops (stands w mid w.seat) (acts ++ asked told) error told out e)
 
 -- ---- a whole turn
 
@@ -58,14 +58,14 @@ is_push (actions.Copy table copies.Push) = true
 is_push act = false
 
 -- an event leaves nothing to do: it asks for nothing, or for pushes alone, and nothing comes of them
-abbrev pub Idles : SessionState → Event → SessionState → Type 0
-Idles s event e =
+abbrev pub Idles : Worker → Event → Worker → Type 0
+Idles w event e =
     (acts : List Action)
     × (told : List (Event × List Action))
     × (mid : SessionState)
-    × Goes s event acts mid
+    × Goes w.session event acts mid
     × (list_all is_push acts ≡ true)
-    × Acts mid acts told [] e
+    × Acts (stands w mid w.seat) acts told [] e
     × (asked told ≡ [])
 
 -- what a read gives, and the event that comes of it: none, 1 to 4,096 bytes, or the end
@@ -80,22 +80,22 @@ abbrev pub IsUnread : EngineError → Type 0
 IsUnread error = (error ≡ errors.Read) ⊎ (error ≡ errors.Memory)
 
 -- An event is heard, if there is one; and up to an error, which may come before there is one.
-abbrev pub Hears : SessionState → Option Event → List ℕ → SessionState → Type 0
-Hears s None out e = (out ≡ []) × (e ≡ s)
-Hears s (Some event) out e = Reacts s event out e
+abbrev pub Hears : Worker → Option Event → List ℕ → Worker → Type 0
+Hears w None out e = (out ≡ []) × (e ≡ w)
+Hears w (Some event) out e = Reacts w event out e
 
-abbrev pub HaltsAt : SessionState → Option Event → EngineError → List ℕ → SessionState → Type 0
-HaltsAt s None error out e = IsUnread error × (out ≡ []) × (ended e ≡ ended s)
-HaltsAt s (Some event) error out e = Halts s event error out e
+abbrev pub HaltsAt : Worker → Option Event → EngineError → List ℕ → SessionState → Type 0
+HaltsAt w None error out e = IsUnread error × (out ≡ []) × (ended e ≡ ended w.session)
+HaltsAt w (Some event) error out e = Halts w event error out e
 
 -- A turn hears its first event; and where that leaves nothing to do it reads, and hears the event that comes of it, if any.
-abbrev pub TakesTurn : SessionState → Option Event → List ℕ → SessionState → Type 0
-TakesTurn s heard out e =
-    ((heard ≡ None) × Reacts s (first_event (state_of s.phase)) out e)
-    ⊎ ((mid : SessionState) × Idles s (first_event (state_of s.phase)) mid × Hears mid heard out e)
+abbrev pub TakesTurn : Worker → Option Event → List ℕ → Worker → Type 0
+TakesTurn w heard out e =
+    ((heard ≡ None) × Reacts w (first_event (state_of w.session.phase)) out e)
+    ⊎ ((mid : Worker) × Idles w (first_event (state_of w.session.phase)) mid × Hears mid heard out e)
 
 -- the same up to an error
-abbrev pub StopsTurn : SessionState → Option Event → EngineError → List ℕ → SessionState → Type 0
-StopsTurn s heard error out e =
-    ((heard ≡ None) × Halts s (first_event (state_of s.phase)) error out e)
-    ⊎ ((mid : SessionState) × Idles s (first_event (state_of s.phase)) mid × HaltsAt mid heard error out e)
+abbrev pub StopsTurn : Worker → Option Event → EngineError → List ℕ → SessionState → Type 0
+StopsTurn w heard error out e =
+    ((heard ≡ None) × Halts w (first_event (state_of w.session.phase)) error out e)
+    ⊎ ((mid : Worker) × Idles w (first_event (state_of w.session.phase)) mid × HaltsAt mid heard error out e)

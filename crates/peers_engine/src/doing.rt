@@ -5,12 +5,14 @@ ghost use Rattle.std.specs.Io.KnownBytes.{Appends};
 ghost use Rattle.table_types.specs.declared.update.Update.{Update};
 ghost use Rattle.table_types.specs.Batches.{IsBatchFor};
 ghost use Rattle.known_state.specs.Known.{KnownState};
-ghost use Rattle.known_state.specs.Lessons.{IsLessonFor};
 ghost use Rattle.session_core.specs.declared.action.Action.TheVariants as actions;
 ghost use Rattle.session_core.specs.declared.event.Event.{Event};
 ghost use Rattle.session_core.specs.declared.event.Event.TheVariants as events;
 ghost use Rattle.peers_engine.specs.declared.errors.EngineError.TheVariants as errors;
-ghost use Rattle.peers_engine.specs.Doing.{Done, Fails, Falls, IsRefusal, error_text};
+ghost use Rattle.table_cell.specs.declared.errors.CopyError.TheVariants as copies;
+ghost use Rattle.table_shards.specs.declared.errors.ShardError.TheVariants as shards;
+ghost use Rattle.peers_engine.specs.Calls.{CallsCopy, IsSettled};
+ghost use Rattle.peers_engine.specs.Doing.{Done, Fails, Falls, IsRefusal, IsShortestLesson, error_text};
 
 use crate::context::Context;
 use crate::errors::EngineError;
@@ -57,7 +59,8 @@ fn copy_batch<H: Wait, G: Gate>(
     kind: CopyKind,
 ) -> (Seat, Result<Event, EngineError>)
     ensures seat { result.0.number ≡ seat.number }
-    ensures answer { IfOk result.1 (λ event. ((batch : List Update) × (event ≡ events.Copied table batch)) ⊎ (event ≡ events.Nothing table)) }
+    ensures answer { IfOk result.1 (λ event. ((batch : List Update) × (event ≡ events.Copied table batch) × CallsCopy context.now.number context.now.moment seat table kind (Ok batch) result.0)
+        ⊎ ((event ≡ events.Nothing table) × CallsCopy context.now.number context.now.moment seat table kind (Err (shards.Cell copies.Nothing)) result.0)) }
     ensures refused { IfErr result.1 IsRefusal }
 {
     let (seat, copied) = copy(context, seat, table, kind);
@@ -69,13 +72,16 @@ fn copy_batch<H: Wait, G: Gate>(
 
 /// Makes the lesson of a batch. No table's lock is held.
 fn plan<H, G>(context: &Context<H, G>, known: &Known, batch: &Batch) -> Result<Lesson, EngineError>
-    ensures lesson { IfOk result (λ lesson. IsLessonFor known.now batch.now lesson.bytes lesson.known) }
+    ensures lesson { IfOk result (λ lesson. IsShortestLesson known.now batch.now lesson.bytes lesson.known) }
     ensures refused { IfErr result IsRefusal }
 {
     if !batch.is_for(known.roster()) {
         return Err(EngineError::Strange);
     }
-    teach(context.alloc, known, batch).map_err(|_| EngineError::Memory)
+    match teach(context.alloc, known, batch) {
+        Ok(lesson) => Ok(lesson),
+        Err(_) => Err(EngineError::Memory),
+    }
 }
 
 /// Writes the lesson of a batch from that known state. The batch must be the session's latest one when the writing begins.
@@ -86,10 +92,10 @@ fn teach_batch<H: Wait, G: Gate, W: Write + Faults>(
     seat: Seat,
     batch: &Batch,
 ) -> (Seat, Result<Event, EngineError>)
-    ensures seat { result.0.number ≡ seat.number }
-    ensures taught { IfOk result.1 (λ event. (out : List ℕ) × (after : KnownState) × IsLessonFor known.now batch.now out after
-        × (event ≡ events.Written after) × Appends (W.contents output.old) (W.contents output.new) out) }
-    ensures failed { IfErr result.1 (λ e. (out : List ℕ) × Fails known.now (actions.Teach batch.now) e out
+    ensures seat { result.0 ≡ seat }
+    ensures taught { IfOk result.1 (λ event. (out : List ℕ) × (after : KnownState) × IsShortestLesson known.now batch.now out after
+        × (event ≡ events.Written after) × IsSettled context.now.number seat batch.now × Appends (W.contents output.old) (W.contents output.new) out) }
+    ensures failed { IfErr result.1 (λ e. (out : List ℕ) × Fails context.now.number context.now.moment known.now seat (actions.Teach batch.now) e out
         × Appends (W.contents output.old) (W.contents output.new) out) }
     ensures unread { IfErr result.1 (λ e. e ≢ errors.Read) }
 {
@@ -144,9 +150,9 @@ pub(crate) fn do_action<H: Wait, G: Gate, W: Write + Faults>(
     action: Action,
 ) -> (Seat, Result<Option<Event>, EngineError>)
     ensures seat { result.0.number ≡ seat.number }
-    ensures done { IfOk result.1 (λ answer. (out : List ℕ) × Done known.now action out answer
+    ensures done { IfOk result.1 (λ answer. (out : List ℕ) × Done context.now.number context.now.moment known.now seat action out answer result.0
         × Appends (W.contents output.old) (W.contents output.new) out) }
-    ensures failed { IfErr result.1 (λ e. (out : List ℕ) × Fails known.now action e out
+    ensures failed { IfErr result.1 (λ e. (out : List ℕ) × Fails context.now.number context.now.moment known.now seat action e out
         × Appends (W.contents output.old) (W.contents output.new) out) }
     ensures unread { IfErr result.1 (λ e. e ≢ errors.Read) }
 {

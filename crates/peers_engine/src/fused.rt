@@ -39,6 +39,8 @@ impl<T: Read> Read for Fused<T> {
         ensures bound { ReadsAtMost result buf.new }
         ensures bytes { ReadConsumes (T.remaining self.old.inner) (T.remaining self.new.inner) result buf.new }
         ensures passed { OnOk result (self.new.left + 1 ≡ self.old.left) }
+        ensures fails { self.old.left ≡ 0 → OnOk result ⊥ }
+        ensures stays { OnErr result (self.new.left ≡ self.old.left) }
     {
         if self.left == 0 {
             return Err(io::ErrorKind::Other.into());
@@ -56,6 +58,8 @@ impl<T: Write> Write for Fused<T> {
         ensures bound { WritesAtMost result buf.now }
         ensures bytes { WriteAppends (T.contents self.old.inner) (T.contents self.new.inner) result buf.now }
         ensures passed { IfOk result (λ count. self.new.left + count ≡ self.old.left) }
+        ensures fails { self.old.left ≡ 0 → OnOk result ⊥ }
+        ensures stays { OnErr result (self.new.left ≡ self.old.left) }
     {
         if self.left == 0 {
             return Err(io::ErrorKind::Other.into());
@@ -68,7 +72,11 @@ impl<T: Write> Write for Fused<T> {
     fn flush(&mut self) -> io::Result<()>
         ensures bytes { Keeps (T.contents self.old.inner) (T.contents self.new.inner) }
         ensures passed { self.new.left ≡ self.old.left }
+        ensures fails { self.old.left ≡ 0 → OnOk result ⊥ }
     {
+        if self.left == 0 {
+            return Err(io::ErrorKind::Other.into());
+        }
         self.inner.flush()
     }
 }

@@ -1,9 +1,13 @@
 //! The calls on tables that a session asks for. Each takes the table's lock for itself alone.
 
-ghost use Rattle.std.specs.Prelude.{◌≡◌, ◌⊎◌, IfErr, IfOk, List};
+ghost use Rattle.std.specs.Prelude.{◌≡◌, ◌⊎◌, IfErr, IfOk, OnOk, Ok, Err, List};
 ghost use Rattle.table_types.specs.declared.update.Update.{Update};
 ghost use Rattle.table_types.specs.declared.copies.Settled.{Settled};
 ghost use Rattle.session_core.specs.declared.event.Event.TheVariants as events;
+ghost use Rattle.table_cell.specs.declared.errors.AckError.TheVariants as acks;
+ghost use Rattle.table_cell.specs.declared.errors.CopyError.TheVariants as copies;
+ghost use Rattle.table_shards.specs.declared.errors.ShardError.TheVariants as errors;
+ghost use Rattle.peers_engine.specs.Calls.{CallsAck, CallsClose, CallsCopy, CallsOpen, IsLearned, IsReopened, IsSettled};
 ghost use Rattle.peers_engine.specs.Doing.{IsRefusal};
 
 use crate::context::Context;
@@ -32,25 +36,24 @@ pub(crate) fn learn<H: Wait, G>(
     update: Update,
 ) -> (Seat, Result<(), EngineError>)
     ensures seat { result.0.number ≡ seat.number }
+    ensures learned { OnOk result.1 (IsLearned context.now.number context.now.moment seat update result.0) }
     ensures refused { IfErr result.1 IsRefusal }
 {
     let table = update.table;
-    let Some(cell) = context.shards.cell(table) else {
+    let Some(mut locked) = context.lock(table) else {
         return (seat, Err(EngineError::Strange));
     };
-    let (seat, learned) = {
-        let mut locked = cell.lock(context.rt);
-        held::learn(
-            &mut locked,
-            seat,
-            table,
-            context.number,
-            update,
-            context.now,
-        )
-    };
+    let (seat, learned) = held::learn(
+        &mut locked,
+        seat,
+        table,
+        context.number,
+        update,
+        context.moment,
+    );
     match learned {
-        Ok(_) | Err(ShardError::Cell(LearnError::TableFull)) => (seat, Ok(())),
+        Ok(_) => (seat, Ok(())),
+        Err(ShardError::Cell(LearnError::TableFull)) => (seat, Ok(())),
         Err(error) => (seat, Err(refused(error, LearnError::Memory))),
     }
 }
@@ -63,16 +66,14 @@ pub(crate) fn acknowledge<H: Wait, G>(
     number: u32,
 ) -> (Seat, Result<Event, EngineError>)
     ensures seat { result.0.number ≡ seat.number }
-    ensures answer { IfOk result.1 (λ event. ((settled : Settled) × (event ≡ events.Settled table settled)) ⊎ (event ≡ events.Refused table)) }
+    ensures answer { IfOk result.1 (λ event. ((settled : Settled) × (event ≡ events.Settled table settled) × CallsAck context.now.number seat table number (Ok settled) result.0)
+        ⊎ ((event ≡ events.Refused table) × CallsAck context.now.number seat table number (Err (errors.Cell acks.AckAhead)) result.0)) }
     ensures refused { IfErr result.1 IsRefusal }
 {
-    let Some(cell) = context.shards.cell(table) else {
+    let Some(mut locked) = context.lock(table) else {
         return (seat, Err(EngineError::Strange));
     };
-    let (seat, taken) = {
-        let mut locked = cell.lock(context.rt);
-        held::ack(&mut locked, seat, table, context.number, number)
-    };
+    let (seat, taken) = held::ack(&mut locked, seat, table, context.number, number);
     match taken {
         Ok(settled) => (seat, Ok(Event::Settled(table, settled))),
         Err(ShardError::Cell(AckError::AckAhead)) => (seat, Ok(Event::Refused(table))),
@@ -88,24 +89,22 @@ pub(crate) fn copy<H: Wait, G>(
     kind: CopyKind,
 ) -> (Seat, Result<Event, EngineError>)
     ensures seat { result.0.number ≡ seat.number }
-    ensures answer { IfOk result.1 (λ event. ((batch : List Update) × (event ≡ events.Copied table batch)) ⊎ (event ≡ events.Nothing table)) }
+    ensures answer { IfOk result.1 (λ event. ((batch : List Update) × (event ≡ events.Copied table batch) × CallsCopy context.now.number context.now.moment seat table kind (Ok batch) result.0)
+        ⊎ ((event ≡ events.Nothing table) × CallsCopy context.now.number context.now.moment seat table kind (Err (errors.Cell copies.Nothing)) result.0)) }
     ensures refused { IfErr result.1 IsRefusal }
 {
-    let Some(cell) = context.shards.cell(table) else {
+    let Some(mut locked) = context.lock(table) else {
         return (seat, Err(EngineError::Strange));
     };
-    let (seat, copied) = {
-        let mut locked = cell.lock(context.rt);
-        held::copy(
-            &mut locked,
-            seat,
-            table,
-            context.number,
-            kind,
-            Batch::MOST,
-            context.now,
-        )
-    };
+    let (seat, copied) = held::copy(
+        &mut locked,
+        seat,
+        table,
+        context.number,
+        kind,
+        Batch::MOST,
+        context.moment,
+    );
     match copied {
         Ok(batch) => (seat, Ok(Event::Copied(table, batch))),
         Err(ShardError::Cell(CopyError::Nothing)) => (seat, Ok(Event::Nothing(table))),
@@ -119,21 +118,22 @@ pub(crate) fn settle<H: Wait, G>(
     seat: Seat,
     batch: &Batch,
 ) -> (Seat, Result<(), EngineError>)
-    ensures seat { result.0.number ≡ seat.number }
+    ensures seat { result.0 ≡ seat }
+    ensures settled { OnOk result.1 (IsSettled context.now.number seat batch.now) }
     ensures refused { IfErr result.1 IsRefusal }
 {
     let Some(first) = batch.updates().first() else {
         return (seat, Err(EngineError::Strange));
     };
     let table = first.table;
-    let Some(cell) = context.shards.cell(table) else {
+    let Some(mut locked) = context.lock(table) else {
         return (seat, Err(EngineError::Strange));
     };
-    let (seat, settled) = {
-        let mut locked = cell.lock(context.rt);
-        held::settle(&mut locked, seat, table, context.number, batch)
-    };
-    (seat, settled.map_err(|_| EngineError::Strange))
+    let (seat, settled) = held::settle(&mut locked, seat, table, context.number, batch);
+    match settled {
+        Ok(()) => (seat, Ok(())),
+        Err(_) => (seat, Err(EngineError::Strange)),
+    }
 }
 
 /// Closes the session in a table.
@@ -143,15 +143,13 @@ fn close<H: Wait, G>(
     table: u64,
 ) -> (Seat, Result<(), EngineError>)
     ensures seat { result.0.number ≡ seat.number }
+    ensures closed { OnOk result.1 (CallsClose context.now.number seat table (Ok tt) result.0) }
     ensures refused { IfErr result.1 IsRefusal }
 {
-    let Some(cell) = context.shards.cell(table) else {
+    let Some(mut locked) = context.lock(table) else {
         return (seat, Err(EngineError::Strange));
     };
-    let (seat, closed) = {
-        let mut locked = cell.lock(context.rt);
-        held::close_session(&mut locked, seat, table, context.number)
-    };
+    let (seat, closed) = held::close_session(&mut locked, seat, table, context.number);
     match closed {
         Ok(()) => (seat, Ok(())),
         Err(error) => (seat, Err(refused(error, CloseError::Memory))),
@@ -165,15 +163,13 @@ fn open<H: Wait, G>(
     table: u64,
 ) -> (Seat, Result<(), EngineError>)
     ensures seat { result.0.number ≡ seat.number }
+    ensures opened { OnOk result.1 (CallsOpen context.now.number seat table (Ok tt) result.0) }
     ensures refused { IfErr result.1 IsRefusal }
 {
-    let Some(cell) = context.shards.cell(table) else {
+    let Some(mut locked) = context.lock(table) else {
         return (seat, Err(EngineError::Strange));
     };
-    let (seat, opened) = {
-        let mut locked = cell.lock(context.rt);
-        held::open_session(&mut locked, seat, table, context.number)
-    };
+    let (seat, opened) = held::open_session(&mut locked, seat, table, context.number);
     match opened {
         Ok(()) => (seat, Ok(())),
         Err(error) => (seat, Err(refused(error, OpenError::Memory))),
@@ -187,6 +183,7 @@ pub(crate) fn reopen<H: Wait, G>(
     table: u64,
 ) -> (Seat, Result<(), EngineError>)
     ensures seat { result.0.number ≡ seat.number }
+    ensures reopened { OnOk result.1 (IsReopened context.now.number seat table result.0) }
     ensures refused { IfErr result.1 IsRefusal }
 {
     let (seat, closed) = close(context, seat, table);

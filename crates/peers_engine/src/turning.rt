@@ -9,10 +9,10 @@ ghost use Rattle.session_core.specs.declared.error.SessionError.{SessionError};
 ghost use Rattle.session_core.specs.declared.error.SessionError.TheVariants as refusals;
 ghost use Rattle.session_core.specs.declared.event.Event.{Event};
 ghost use Rattle.session_core.specs.declared.state.State.TheVariants as states;
-ghost use Rattle.session_core.specs.Sessions.{Goes, Refuses, SessionState, ended, state_of};
+ghost use Rattle.session_core.specs.Sessions.{Goes, Refuses, ended, state_of};
 ghost use Rattle.peers_engine.specs.declared.errors.EngineError.TheVariants as errors;
 ghost use Rattle.peers_engine.specs.declared.errors.Turned.TheVariants as turns;
-ghost use Rattle.peers_engine.specs.Doing.{Acts, IsUnheard, Stops, Told, asked};
+ghost use Rattle.peers_engine.specs.Doing.{Acts, IsUnheard, Stops, Told, Worker, asked, worker};
 ghost use Rattle.peers_engine.specs.Turns.{Breaks, Halts, HaltsAt, Hears, Idles, IsRead, Reacts, StopsTurn, TakesTurn, Turns, first_event, is_push};
 
 use crate::context::Context;
@@ -75,10 +75,10 @@ fn do_all<H: Wait, G: Gate, W: Write + Faults>(
 ) -> (Seat, Result<Vec<Action>, EngineError>)
     ensures seat { result.0.number ≡ seat.number }
     ensures done { IfOk result.1 (λ given. (told : List (Event × List Action)) × (out : List ℕ)
-        × Acts session.old actions.items told out session.new × (given.items ≡ asked told)
+        × Acts (worker session.old seat context.now.number context.now.moment) actions.items told out (worker session.new result.0 context.now.number context.now.moment) × (given.items ≡ asked told)
         × Appends (W.contents output.old) (W.contents output.new) out) }
     ensures failed { IfErr result.1 (λ e. (told : List (Event × List Action)) × (out : List ℕ)
-        × Stops session.old actions.items e told out session.new
+        × Stops (worker session.old seat context.now.number context.now.moment) actions.items e told out session.new
         × Appends (W.contents output.old) (W.contents output.new) out) }
     ensures unread { IfErr result.1 (λ e. e ≢ errors.Read) }
 {
@@ -91,7 +91,7 @@ fn do_all<H: Wait, G: Gate, W: Write + Faults>(
             Ok(answer) => answer,
             Err(error) => return (seat, Err(error)),
         };
-        if let Err(error) = tell(session, context.now, answer, &mut given) {
+        if let Err(error) = tell(session, context.moment, answer, &mut given) {
             return (seat, Err(error));
         }
     }
@@ -121,16 +121,16 @@ fn react<H: Wait, G: Gate, W: Write + Faults>(
     event: Event,
 ) -> (Seat, Result<bool, EngineError>)
     ensures seat { result.0.number ≡ seat.number }
-    ensures done { OnOk result.1 ((out : List ℕ) × Reacts session.old event out session.new
+    ensures done { OnOk result.1 ((out : List ℕ) × Reacts (worker session.old seat context.now.number context.now.moment) event out (worker session.new result.0 context.now.number context.now.moment)
         × Appends (W.contents output.old) (W.contents output.new) out) }
-    ensures failed { IfErr result.1 (λ e. (out : List ℕ) × Halts session.old event e out session.new
+    ensures failed { IfErr result.1 (λ e. (out : List ℕ) × Halts (worker session.old seat context.now.number context.now.moment) event e out session.new
         × Appends (W.contents output.old) (W.contents output.new) out) }
     ensures unread { IfErr result.1 (λ e. e ≢ errors.Read) }
-    ensures idle { result.1 ≡ Ok true → Idles session.old event session.new × Appends (W.contents output.old) (W.contents output.new) [] }
+    ensures idle { result.1 ≡ Ok true → Idles (worker session.old seat context.now.number context.now.moment) event (worker session.new result.0 context.now.number context.now.moment) × Appends (W.contents output.old) (W.contents output.new) [] }
     ensures refused { (e : SessionError) → e ≢ refusals.Memory → Refuses session.old.phase event e
         → (result.1 ≡ Err (errors.Session e)) × (output.new ≡ output.old) }
 {
-    let actions = match session.on(event, context.now) {
+    let actions = match session.on(event, context.moment) {
         Ok(actions) => actions,
         Err(error) => return (seat, Err(EngineError::Session(error))),
     };
@@ -158,11 +158,11 @@ fn receive<H: Wait, G: Gate, R: Read + Faults, W: Write + Faults>(
 ) -> (Seat, Result<bool, EngineError>)
     ensures seat { result.0.number ≡ seat.number }
     ensures done { OnOk result.1 ((heard : Option Event) × (read out : List ℕ) × IsRead heard read
-        × Hears session.old heard out session.new
+        × Hears (worker session.old seat context.now.number context.now.moment) heard out (worker session.new result.0 context.now.number context.now.moment)
         × Consumes (R.remaining input.old) (R.remaining input.new) read
         × Appends (W.contents output.old) (W.contents output.new) out) }
     ensures failed { IfErr result.1 (λ e. (heard : Option Event) × (read out : List ℕ) × IsRead heard read
-        × HaltsAt session.old heard e out session.new
+        × HaltsAt (worker session.old seat context.now.number context.now.moment) heard e out session.new
         × Consumes (R.remaining input.old) (R.remaining input.new) read
         × Appends (W.contents output.old) (W.contents output.new) out) }
     ensures read { result.1 ≡ Err errors.Read → Rose (R.failed input.old) (R.failed input.new) }
@@ -184,15 +184,15 @@ fn take_turn<H: Wait, G: Gate, R: Read + Faults, W: Write + Faults>(
 ) -> (Seat, Result<bool, EngineError>)
     ensures seat { result.0.number ≡ seat.number }
     ensures done { OnOk result.1 ((heard : Option Event) × (read out : List ℕ) × IsRead heard read
-        × TakesTurn session.old heard out session.new
+        × TakesTurn (worker session.old seat context.now.number context.now.moment) heard out (worker session.new result.0 context.now.number context.now.moment)
         × Consumes (R.remaining input.old) (R.remaining input.new) read
         × Appends (W.contents output.old) (W.contents output.new) out) }
     ensures failed { IfErr result.1 (λ e. (heard : Option Event) × (read out : List ℕ) × IsRead heard read
-        × StopsTurn session.old heard e out session.new
+        × StopsTurn (worker session.old seat context.now.number context.now.moment) heard e out session.new
         × Consumes (R.remaining input.old) (R.remaining input.new) read
         × Appends (W.contents output.old) (W.contents output.new) out) }
     ensures read { result.1 ≡ Err errors.Read → Rose (R.failed input.old) (R.failed input.new) }
-    ensures reads { (input.new ≡ input.old) ⊎ ((mid : SessionState) × Idles session.old (first_event (state_of session.old.phase)) mid) }
+    ensures reads { (input.new ≡ input.old) ⊎ ((mid : Worker) × Idles (worker session.old seat context.now.number context.now.moment) (first_event (state_of session.old.phase)) mid) }
     ensures refused { (e : SessionError) → e ≢ refusals.Memory → Refuses session.old.phase (first_event (state_of session.old.phase)) e
         → (result.1 ≡ Err (errors.Session e)) × (input.new ≡ input.old) × (output.new ≡ output.old) }
 {
@@ -217,7 +217,8 @@ fn end(session: &mut Session, error: EngineError, now: Moment)
     let _closing = session.on(event, now);
 }
 
-/// One turn of a session, which has that number in the tables and works from that seat.
+/// One turn of a session, which has that number in the tables and works from that seat. The caller has opened it in each table
+/// of its roster; a turn that calls a table in which it isn't open ends with `Strange`.
 ///
 /// A new session is opened; any other may copy a batch, whose lesson is then written. Where there is none to copy, the turn
 /// reads once, at most 4,096 bytes. All that the session asks for is done in order, what an answer asks for after what was
@@ -248,15 +249,15 @@ pub fn turn<H: Wait, R: Read + Faults, W: Write + Faults, G: Gate>(
     ensures ended { OnErr result.1 (state_of session.new.phase ≡ states.Ended) }
     ensures seat { result.0.number ≡ seat.number }
     ensures written { OnOk result.1 ((heard : Option Event) × (read out : List ℕ) × IsRead heard read
-        × TakesTurn session.old heard out session.new
+        × TakesTurn (worker session.old seat number now) heard out (worker session.new result.0 number now)
         × Consumes (R.remaining input.old) (R.remaining input.new) read
         × Appends (W.contents output.old) (W.contents output.new) out) }
     ensures stopped { IfErr result.1 (λ e. (heard : Option Event) × (read out : List ℕ) × IsRead heard read
-        × StopsTurn session.old heard e out session.new
+        × StopsTurn (worker session.old seat number now) heard e out session.new
         × Consumes (R.remaining input.old) (R.remaining input.new) read
         × Appends (W.contents output.old) (W.contents output.new) out) }
     ensures read { result.1 ≡ Err errors.Read → Rose (R.failed input.old) (R.failed input.new) }
-    ensures reads { (input.new ≡ input.old) ⊎ ((mid : SessionState) × Idles session.old (first_event (state_of session.old.phase)) mid) }
+    ensures reads { (input.new ≡ input.old) ⊎ ((mid : Worker) × Idles (worker session.old seat number now) (first_event (state_of session.old.phase)) mid) }
     ensures refused { (e : SessionError) → e ≢ refusals.Memory → Refuses session.old.phase (first_event (state_of session.old.phase)) e
         → (result.1 ≡ Err (errors.Session e)) × (input.new ≡ input.old) × (output.new ≡ output.old) }
     ensures over { state_of session.old.phase ≡ states.Ended
@@ -268,7 +269,7 @@ pub fn turn<H: Wait, R: Read + Faults, W: Write + Faults, G: Gate>(
         gate,
         shards,
         number,
-        now,
+        moment: now,
     };
     let (seat, done) = take_turn(&context, session, input, output, seat);
     if let Err(error) = done {
