@@ -1,10 +1,13 @@
 -- By which endings rows are printed.
-use Rattle.std.proofs.Common.{◌≡◌, ◌≢◌, ◌⊎◌, inl, inr, subst}
+use Rattle.std.proofs.Common.{◌≡◌, ◌≢◌, ◌⊎◌, ◌<◌, ◌∙◌, ℕ, List, Option, true, arith, inl, inr, length, refl, subst, sym, take}
+use Rattle.std.proofs.Math.Seq.{take-length}
+use Rattle.std.proofs.lemmas.Bool.{false≢true}
 use Rattle.std.specs.Prelude.{Err, IfOk, Ok, Result}
+use Rattle.std.specs.Io.KnownBytes.{Appends}
 use Rattle.scene_commands.specs.Endings.{IsEarly}
 use Rattle.scene_commands.specs.declared.ending.Ending.{Ending}
 use Rattle.scene_commands.specs.declared.ending.Ending.TheVariants as endings
-use Rattle.link_commands.specs.Nodes.{HasRows}
+use Rattle.link_commands.specs.Nodes.{AppendsSome, HasRows, has_rows}
 
 -- not where a device failed
 pub rows_no_device : (e : Ending) → HasRows e → e ≢ endings.Device
@@ -27,6 +30,29 @@ pub said_no_rows : (e after : Ending) → IsEarly e → (after ≡ e) ⊎ ((afte
 said_no_rows e after early (inl same) rows = early_no_rows e early (subst HasRows same rows)
 said_no_rows e after early (inr (inl memory)) rows = subst HasRows memory rows
 said_no_rows e after early (inr (inr device)) rows = subst HasRows device rows
+
+-- where rows are printed by the test, they are
+pub rows_of : (e : Ending) → has_rows e ≡ true → HasRows e
+rows_of endings.Done rows = tt
+rows_of (endings.Stream fault) rows = tt
+rows_of endings.Strange rows = tt
+rows_of endings.Unasked rows = tt
+rows_of endings.Device rows = absurd (false≢true rows)
+rows_of endings.NotShortest rows = absurd (false≢true rows)
+rows_of (endings.Line n) rows = absurd (false≢true rows)
+rows_of endings.Scene rows = absurd (false≢true rows)
+rows_of endings.Memory rows = absurd (false≢true rows)
+
+pub rows_told : (e after : Ending) → has_rows e ≡ true → after ≡ e → (HasRows after → ⊥) → ⊥
+rows_told e after rows same none = none (subst HasRows (sym same) (rows_of e rows))
+
+-- ---- how much is written
+
+pub whole : (old new : Option (List ℕ)) (text : List ℕ) → Appends old new text → AppendsSome old new text
+whole old new text appended = (length text, omega arith, subst (λ (x : List ℕ). Appends old new x) (sym (take-length text)) appended)
+
+pub some_of : (old new : Option (List ℕ)) (text : List ℕ) (sent : ℕ) → sent < length text → Appends old new (take sent text) → AppendsSome old new text
+some_of old new text sent within appended = (sent, omega arith, appended)
 
 -- what is so of an answer, of what was answered
 pub of_ok : {A E : Type 0} (P : A → Type 0) (r : Result A E) (x : A) → r ≡ Ok x → IfOk r P → P x

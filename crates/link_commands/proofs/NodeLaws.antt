@@ -1,11 +1,13 @@
 -- What a node has and prints.
-use Rattle.std.proofs.Common.{◌≡◌, ◌≤◌, ℕ, Bool, true, false, List, [], ◌∷◌, map, subst, sym}
+use Rattle.std.proofs.Common.{◌≡◌, ◌≤◌, ℕ, true, false, List, [], ◌∷◌, Option, map, subst, sym}
 use Rattle.std.specs.Prelude.{Err, IfOk, Ok, Result}
+use Rattle.std.specs.Io.KnownBytes.{Appends, Consumes}
 use Rattle.table_types.specs.Tables.{Definition}
 use Rattle.table_types.specs.declared.update.Update.{Update}
 use Rattle.table_cell.specs.Histories.{CellState}
 use Rattle.table_shards.specs.Receipts.{SeatState, fresh_seat}
 use Rattle.table_shards.specs.Rounds.{ShardsState, begun}
+use Rattle.table_shards.specs.Audits.{table_rounds}
 use Rattle.table_shards.specs.declared.unlocked.UnlockedTable.{UnlockedTable}
 use Rattle.session_core.specs.Sessions.{SessionState, accepting, connecting}
 use Rattle.scene_text.specs.declared.scene.Scene.{Scene}
@@ -17,17 +19,12 @@ use Rattle.link_commands.specs.Loading.{AreLoaded}
 use Rattle.link_commands.specs.Nodes.{AreOpened, IsJoining, IsPrinted, IsServing}
 use Rattle.link_commands.specs.Printing.{IsText}
 use Rattle.link_commands.specs.Turning.{Plays}
+use Rattle.link_commands.proofs.TurningLaws.{IsPlayed}
 
 -- the tables under their locks, with the seat that was made with them
 pub opened_with : (ds : List Definition) (us : List Update) (cells : List CellState) (shards : ShardsState) (seat : SeatState) → AreLoaded ds us cells
     → shards ≡ record { seats = 1; tables = map begun cells } → seat ≡ fresh_seat 1 → AreOpened ds us shards seat
 opened_with ds us cells shards seat loaded locked first = (cells, loaded, locked, first)
-
--- what is printed of a session
-pub printed_of : (leaves : Bool) (s e : SessionState) (turns made : ℕ) (ending : Ending) (tables : List UnlockedTable) (text : List ℕ)
-    → Plays leaves s turns made ending e → made ≤ turns → IsText made tables text → IsPrinted leaves s turns ending text
-unfolding IsPrinted
-printed_of leaves s e turns made ending tables text plays within is = (made, e, tables, plays, within, is)
 
 -- the node that serves a scene
 pub serving_with : (scene : Scene) (name peer : List ℕ) (n : Node) (roster : List Definition) → AreInRisingId scene.tables.items roster
@@ -42,10 +39,35 @@ pub joining_with : (scene : Scene) (name peer : List ℕ) (n : Node) (roster : L
 unfolding IsJoining
 joining_with scene name peer n roster rising opened session leaves = (roster, rising, opened, session, leaves)
 
--- what is printed where there is something to print
-pub report_printed : (leaves : Bool) (s e : SessionState) (turns made : ℕ) (ending : Ending) (r : Result Report Ending) → Plays leaves s turns made ending e → made ≤ turns
-    → IfOk r (λ report. (tables : List UnlockedTable) × IsText made tables report.text.items) → IfOk r (λ report. report.ending ≡ ending)
-    → IfOk r (λ report. IsPrinted leaves s turns report.ending report.text.items)
-report_printed leaves s e turns made ending (Ok report) plays within (tables, text) same =
-    subst (λ (x : Ending). IsPrinted leaves s turns x report.text.items) (sym same) (printed_of leaves s e turns made ending tables report.text.items plays within text)
-report_printed leaves s e turns made ending (Err error) plays within text same = tt
+-- ---- what is printed
+
+printed_of : (n : Node) (e : SessionState) (turns made : ℕ) (ending : Ending) (received sent : List ℕ) (tables : List UnlockedTable) (text : List ℕ)
+    → Plays n.leaves 0 n.session n.seat turns made ending received sent e → made ≤ turns → table_rounds tables ≡ n.shards.tables → IsText made tables text
+    → IsPrinted n turns ending received sent text
+unfolding IsPrinted
+printed_of n e turns made ending received sent tables text plays within own is = (made, e, tables, plays, within, own, is)
+
+-- what was received and sent in the turns that were made, and what is printed then
+abbrev IsReported : Node → ℕ → Option (List ℕ) → Option (List ℕ) → Option (List ℕ) → Option (List ℕ) → Report → Type 0
+IsReported n turns from to a b report =
+    (received sent : List ℕ) × IsPrinted n turns report.ending received sent report.text.items × Consumes from to received × Appends a b sent
+
+reported_of : (n : Node) (e : SessionState) (turns made : ℕ) (ending : Ending) (report : Report) (from to a b : Option (List ℕ))
+    → IsPlayed n.leaves n.session n.seat turns made ending e from to a b → made ≤ turns
+    → (tables : List UnlockedTable) × (table_rounds tables ≡ n.shards.tables) × IsText made tables report.text.items → report.ending ≡ ending
+    → IsReported n turns from to a b report
+reported_of n e turns made ending report from to a b (received, sent, plays, consumed, appended) within (tables, own, text) same = (
+  received,
+  sent,
+  subst (λ (x : Ending). IsPrinted n turns x received sent report.text.items) (sym same) (printed_of n e turns made ending received sent tables report.text.items plays within own text),
+  consumed,
+  appended,
+)
+
+-- where there is something to print
+pub report_printed : (n : Node) (e : SessionState) (turns made : ℕ) (ending : Ending) (r : Result Report Ending) (from to a b : Option (List ℕ))
+    → IsPlayed n.leaves n.session n.seat turns made ending e from to a b → made ≤ turns
+    → IfOk r (λ report. (tables : List UnlockedTable) × (table_rounds tables ≡ n.shards.tables) × IsText made tables report.text.items) → IfOk r (λ report. report.ending ≡ ending)
+    → IfOk r (λ report. (received sent : List ℕ) × IsPrinted n turns report.ending received sent report.text.items × Consumes from to received × Appends a b sent)
+report_printed n e turns made ending (Ok report) from to a b played within text same = reported_of n e turns made ending report from to a b played within text same
+report_printed n e turns made ending (Err error) from to a b played within text same = tt

@@ -1,51 +1,165 @@
 -- Turns one after another.
-use Rattle.std.proofs.Common.{arith, ◌≡◌, ◌≤◌, ◌<◌, ◌+◌, ◌-◌, ℕ, suc, Bool, Option, Some, None, Result, refl, subst, sym}
-use Rattle.session_core.specs.Sessions.{SessionState}
+use Rattle.std.proofs.Common.{arith, ◌≡◌, ◌≤◌, ◌<◌, ◌+◌, ◌-◌, ◌++◌, ℕ, suc, Bool, List, [], Option, Some, None, Result, Ok, Err, IfErr, IfOk, append_assoc, refl, subst, sym}
+use Rattle.std.specs.Prelude.{◌↔◌, OnErr, OnOk}
+use Rattle.std.proofs.lemmas.List.{append-nil}
+use Rattle.std.proofs.KnownBytes.{Appends-nil, Appends-trans, Consumes-nil, Consumes-trans}
+use Rattle.std.specs.Io.KnownBytes.{Appends, Consumes}
+use Rattle.session_core.specs.declared.event.Event.{Event}
+use Rattle.session_core.specs.declared.state.State.TheVariants as states
+use Rattle.table_shards.specs.Receipts.{SeatState}
+use Rattle.session_core.specs.Sessions.{SessionState, state_of}
 use Rattle.peers_engine.specs.declared.errors.EngineError.{EngineError}
 use Rattle.peers_engine.specs.declared.errors.Turned.{Turned}
+use Rattle.peers_engine.specs.declared.errors.Turned.TheVariants as turned
+use Rattle.peers_engine.specs.Doing.{Worker}
+use Rattle.peers_engine.specs.Turns.{IsRead, StopsTurn, TakesTurn}
 use Rattle.scene_commands.specs.declared.ending.Ending.{Ending}
 use Rattle.scene_commands.specs.declared.ending.Ending.TheVariants as endings
-use Rattle.link_commands.specs.Turning.{GoesOn, Plays, Takes, ending_after}
+use Rattle.link_commands.specs.Turning.{GoesOn, Plays, Rests, Takes, ending_after, turn_after}
 
--- so many of the turns were made, and the session goes on
-abbrev pub SoFar : Bool → SessionState → ℕ → ℕ → SessionState → Type 0
-SoFar leaves start turns before s =
-    (made : ℕ) (ending : Ending) (e : SessionState) → Plays leaves s (turns - before) made ending e → Plays leaves start turns (before + made) ending e
+-- so many of the turns were made, in which that was received and sent, and the session goes on
+abbrev pub SoFar : Bool → SessionState → SeatState → ℕ → ℕ → List ℕ → List ℕ → SessionState → SeatState → Type 0
+SoFar leaves start place turns before received sent s seat =
+    (made : ℕ) (ending : Ending) (more out : List ℕ) (e : SessionState)
+    → Plays leaves before s seat (turns - before) made ending more out e → Plays leaves 0 start place turns (before + made) ending (received ++ more) (sent ++ out) e
 
-pub begins : (leaves : Bool) (s : SessionState) (turns : ℕ) → SoFar leaves s turns 0 s
-begins leaves s turns made ending e plays =
+pub begins : (leaves : Bool) (s : SessionState) (seat : SeatState) (turns : ℕ) → SoFar leaves s seat turns 0 [] [] s seat
+begins leaves s seat turns made ending more out e plays =
     let left : turns - 0 ≡ turns = omega arith in
     let none : 0 + made ≡ made = omega arith in
-    subst (λ (m : ℕ). Plays leaves s turns m ending e) (sym none) (subst (λ (n : ℕ). Plays leaves s n made ending e) left plays)
+    subst (λ (m : ℕ). Plays leaves 0 s seat turns m ending more out e) (sym none) (subst (λ (n : ℕ). Plays leaves 0 s seat n made ending more out e) left plays)
 
-pub one_more : (leaves : Bool) (start s mid : SessionState) (turns before : ℕ) (gave : Result Turned EngineError) → before < turns
-    → SoFar leaves start turns before s → Takes s gave mid → ending_after leaves mid gave ≡ None → SoFar leaves start turns (before + 1) mid
-one_more leaves start s mid turns before gave room so_far takes none made ending e plays =
+-- a turn after which it goes on
+goes_first : (leaves : Bool) (before : ℕ) (s mid e : SessionState) (seat back : SeatState) (left made : ℕ) (gave : Result Turned EngineError) (ending : Ending) (first out more others : List ℕ)
+    → Takes (turn_after before s seat) gave first out (turn_after before mid back) → ending_after leaves mid gave ≡ None → Plays leaves (before + 1) mid back left made ending more others e
+    → Plays leaves before s seat (suc left) (made + 1) ending (first ++ more) (out ++ others) e
+goes_first leaves before s mid e seat back left made gave ending first out more others takes none plays = (
+  gave,
+  mid,
+  back,
+  first,
+  out,
+  more,
+  others,
+  takes,
+  refl,
+  refl,
+  subst (λ (o : Option Ending). GoesOn o (made + 1) ending (Rests mid more others e) ((later : ℕ) × (made + 1 ≡ later + 1) × Plays leaves (before + 1) mid back left later ending more others e)) (sym none)
+      (made, refl, plays),
+)
+
+-- the turn by which it ends
+ends_first : (leaves : Bool) (before : ℕ) (s mid : SessionState) (seat back : SeatState) (left : ℕ) (gave : Result Turned EngineError) (ending : Ending) (first out : List ℕ)
+    → Takes (turn_after before s seat) gave first out (turn_after before mid back) → ending_after leaves mid gave ≡ Some ending → Plays leaves before s seat (suc left) 1 ending first out mid
+ends_first leaves before s mid seat back left gave ending first out takes some = (
+  gave,
+  mid,
+  back,
+  first,
+  out,
+  [],
+  [],
+  takes,
+  sym (append-nil first),
+  sym (append-nil out),
+  subst (λ (o : Option Ending). GoesOn o 1 ending (Rests mid [] [] mid) ((later : ℕ) × (1 ≡ later + 1) × Plays leaves (before + 1) mid back left later ending [] [] mid)) (sym some)
+      (refl, refl, (refl, refl, refl)),
+)
+
+pub one_more : (leaves : Bool) (start s mid : SessionState) (place seat back : SeatState) (turns before : ℕ) (gave : Result Turned EngineError) (received sent first out : List ℕ) → before < turns
+    → SoFar leaves start place turns before received sent s seat → Takes (turn_after before s seat) gave first out (turn_after before mid back) → ending_after leaves mid gave ≡ None
+    → SoFar leaves start place turns (before + 1) (received ++ first) (sent ++ out) mid back
+one_more leaves start s mid place seat back turns before gave received sent first out room so_far takes none made ending more others e plays =
     let left : turns - before ≡ suc (turns - (before + 1)) = omega arith in
     let counted : before + (made + 1) ≡ (before + 1) + made = omega arith in
-    let here : Plays leaves s (suc (turns - (before + 1))) (made + 1) ending e = (
-      gave,
-      mid,
-      takes,
-      subst (λ (o : Option Ending). GoesOn o (made + 1) ending mid e ((later : ℕ) × (made + 1 ≡ later + 1) × Plays leaves mid (turns - (before + 1)) later ending e)) (sym none) (made, refl, plays),
-    ) in
-    subst (λ (m : ℕ). Plays leaves start turns m ending e) counted (so_far (made + 1) ending e (subst (λ (n : ℕ). Plays leaves s n (made + 1) ending e) (sym left) here))
+    let here = goes_first leaves before s mid e seat back (turns - (before + 1)) made gave ending first out more others takes none plays in
+    let there = so_far (made + 1) ending (first ++ more) (out ++ others) e (subst (λ (n : ℕ). Plays leaves before s seat n (made + 1) ending (first ++ more) (out ++ others) e) (sym left) here) in
+    subst (λ (m : ℕ). Plays leaves 0 start place turns m ending ((received ++ first) ++ more) ((sent ++ out) ++ others) e) counted
+    (subst (λ (r : List ℕ). Plays leaves 0 start place turns (before + (made + 1)) ending r ((sent ++ out) ++ others) e) (sym (append_assoc received first more))
+    (subst (λ (o : List ℕ). Plays leaves 0 start place turns (before + (made + 1)) ending (received ++ (first ++ more)) o e) (sym (append_assoc sent out others)) there))
 
-pub stops : (leaves : Bool) (start s mid : SessionState) (turns before : ℕ) (gave : Result Turned EngineError) (ending : Ending) → before < turns
-    → SoFar leaves start turns before s → Takes s gave mid → ending_after leaves mid gave ≡ Some ending → Plays leaves start turns (before + 1) ending mid
-stops leaves start s mid turns before gave ending room so_far takes some =
+pub stops : (leaves : Bool) (start s mid : SessionState) (place seat back : SeatState) (turns before : ℕ) (gave : Result Turned EngineError) (ending : Ending) (received sent first out : List ℕ) → before < turns
+    → SoFar leaves start place turns before received sent s seat → Takes (turn_after before s seat) gave first out (turn_after before mid back) → ending_after leaves mid gave ≡ Some ending
+    → Plays leaves 0 start place turns (before + 1) ending (received ++ first) (sent ++ out) mid
+stops leaves start s mid place seat back turns before gave ending received sent first out room so_far takes some =
     let left : turns - before ≡ suc (turns - (before + 1)) = omega arith in
-    let here : Plays leaves s (suc (turns - (before + 1))) 1 ending mid = (
-      gave,
-      mid,
-      takes,
-      subst (λ (o : Option Ending). GoesOn o 1 ending mid mid ((later : ℕ) × (1 ≡ later + 1) × Plays leaves mid (turns - (before + 1)) later ending mid)) (sym some) (refl, refl, refl),
-    ) in
-    so_far 1 ending mid (subst (λ (n : ℕ). Plays leaves s n 1 ending mid) (sym left) here)
+    so_far 1 ending first out mid
+    (subst (λ (n : ℕ). Plays leaves before s seat n 1 ending first out mid) (sym left) (ends_first leaves before s mid seat back (turns - (before + 1)) gave ending first out takes some))
 
-pub all_made : (leaves : Bool) (start s : SessionState) (turns before : ℕ) → turns ≤ before → before ≤ turns → SoFar leaves start turns before s → Plays leaves start turns turns endings.Done s
-all_made leaves start s turns before enough most so_far =
+pub all_made : (leaves : Bool) (start s : SessionState) (place seat : SeatState) (turns before : ℕ) (received sent : List ℕ) → turns ≤ before → before ≤ turns
+    → SoFar leaves start place turns before received sent s seat → Plays leaves 0 start place turns turns endings.Done received sent s
+all_made leaves start s place seat turns before received sent enough most so_far =
     let none : turns - before ≡ 0 = omega arith in
     let counted : before + 0 ≡ turns = omega arith in
-    let here : Plays leaves s 0 0 endings.Done s = (refl, refl, refl) in
-    subst (λ (m : ℕ). Plays leaves start turns m endings.Done s) counted (so_far 0 endings.Done s (subst (λ (n : ℕ). Plays leaves s n 0 endings.Done s) (sym none) here))
+    let here : Plays leaves before s seat 0 0 endings.Done [] [] s = (refl, refl, (refl, refl, refl)) in
+    let there = so_far 0 endings.Done [] [] s (subst (λ (n : ℕ). Plays leaves before s seat n 0 endings.Done [] [] s) (sym none) here) in
+    subst (λ (m : ℕ). Plays leaves 0 start place turns m endings.Done received sent s) counted
+    (subst (λ (r : List ℕ). Plays leaves 0 start place turns (before + 0) endings.Done r sent s) (append-nil received)
+    (subst (λ (o : List ℕ). Plays leaves 0 start place turns (before + 0) endings.Done (received ++ []) o s) (append-nil sent) there))
+
+-- ---- what the other node sent, and what was sent to it
+
+-- the turns so far, with what they took from the reader and what they gave the writer
+abbrev pub HasPlayed : Bool → SessionState → SeatState → ℕ → ℕ → SessionState → SeatState → Option (List ℕ) → Option (List ℕ) → Option (List ℕ) → Option (List ℕ) → Type 0
+HasPlayed leaves start place turns before s seat from to a b =
+    (received sent : List ℕ) × SoFar leaves start place turns before received sent s seat × Consumes from to received × Appends a b sent
+
+-- a turn, with the same
+abbrev pub HasTaken : Worker → Result Turned EngineError → Worker → Option (List ℕ) → Option (List ℕ) → Option (List ℕ) → Option (List ℕ) → Type 0
+HasTaken w gave e from to a b = (received sent : List ℕ) × Takes w gave received sent e × Consumes from to received × Appends a b sent
+
+-- all that was played
+abbrev pub IsPlayed : Bool → SessionState → SeatState → ℕ → ℕ → Ending → SessionState → Option (List ℕ) → Option (List ℕ) → Option (List ℕ) → Option (List ℕ) → Type 0
+IsPlayed leaves start place turns made ending e from to a b =
+    (received sent : List ℕ) × Plays leaves 0 start place turns made ending received sent e × Consumes from to received × Appends a b sent
+
+pub begins_there : (leaves : Bool) (s : SessionState) (seat : SeatState) (turns : ℕ) (from a : Option (List ℕ)) → HasPlayed leaves s seat turns 0 s seat from from a a
+begins_there leaves s seat turns from a = ([], [], begins leaves s seat turns, Consumes-nil from, Appends-nil a)
+
+pub one_more_there : (leaves : Bool) (start s mid : SessionState) (place seat back : SeatState) (turns before : ℕ) (gave : Result Turned EngineError) (from then to a b d : Option (List ℕ)) → before < turns
+    → HasPlayed leaves start place turns before s seat from then a b → HasTaken (turn_after before s seat) gave (turn_after before mid back) then to b d → ending_after leaves mid gave ≡ None
+    → HasPlayed leaves start place turns (before + 1) mid back from to a d
+one_more_there leaves start s mid place seat back turns before gave from then to a b d room (received, sent, so_far, consumed, appended) (first, out, takes, more, further) none = (
+  received ++ first,
+  sent ++ out,
+  one_more leaves start s mid place seat back turns before gave received sent first out room so_far takes none,
+  Consumes-trans from then to received first consumed more,
+  Appends-trans a b d sent out appended further,
+)
+
+pub stops_there : (leaves : Bool) (start s mid : SessionState) (place seat back : SeatState) (turns before : ℕ) (gave : Result Turned EngineError) (ending : Ending) (from then to a b d : Option (List ℕ)) → before < turns
+    → HasPlayed leaves start place turns before s seat from then a b → HasTaken (turn_after before s seat) gave (turn_after before mid back) then to b d → ending_after leaves mid gave ≡ Some ending
+    → IsPlayed leaves start place turns (before + 1) ending mid from to a d
+stops_there leaves start s mid place seat back turns before gave ending from then to a b d room (received, sent, so_far, consumed, appended) (first, out, takes, more, further) some = (
+  received ++ first,
+  sent ++ out,
+  stops leaves start s mid place seat back turns before gave ending received sent first out room so_far takes some,
+  Consumes-trans from then to received first consumed more,
+  Appends-trans a b d sent out appended further,
+)
+
+pub all_made_there : (leaves : Bool) (start s : SessionState) (place seat : SeatState) (turns before : ℕ) (from to a b : Option (List ℕ)) → turns ≤ before → before ≤ turns
+    → HasPlayed leaves start place turns before s seat from to a b → IsPlayed leaves start place turns turns endings.Done s from to a b
+all_made_there leaves start s place seat turns before from to a b enough most (received, sent, so_far, consumed, appended) =
+    (received, sent, all_made leaves start s place seat turns before received sent enough most so_far, consumed, appended)
+
+-- ---- one turn
+
+ok_way : (w e : Worker) (gave : Turned) (from to a b : Option (List ℕ))
+    → (event : Option Event) × (received sent : List ℕ) × IsRead event received × TakesTurn w event sent e × Consumes from to received × Appends a b sent
+    → ((gave ≡ turned.Closed) ↔ (state_of e.session.phase ≡ states.Ended)) → HasTaken w (Ok gave) e from to a b
+ok_way w e gave from to a b (event, received, sent, reads, takes, consumed, appended) closed = (received, sent, ((event, reads, takes), closed), consumed, appended)
+
+err_way : (w e : Worker) (error : EngineError) (from to a b : Option (List ℕ))
+    → (event : Option Event) × (received sent : List ℕ) × IsRead event received × StopsTurn w event error sent e.session × Consumes from to received × Appends a b sent
+    → state_of e.session.phase ≡ states.Ended → HasTaken w (Err error) e from to a b
+err_way w e error from to a b (event, received, sent, reads, stops, consumed, appended) over = (received, sent, ((event, reads, stops), over), consumed, appended)
+
+-- by what the turn says where it ends well, and where it doesn't
+pub both_ways : (w e : Worker) (gave : Result Turned EngineError) (from to a b : Option (List ℕ))
+    → OnOk gave ((event : Option Event) × (received sent : List ℕ) × IsRead event received × TakesTurn w event sent e × Consumes from to received × Appends a b sent)
+    → IfOk gave (λ t. (t ≡ turned.Closed) ↔ (state_of e.session.phase ≡ states.Ended))
+    → IfErr gave (λ error. (event : Option Event) × (received sent : List ℕ) × IsRead event received × StopsTurn w event error sent e.session × Consumes from to received × Appends a b sent)
+    → OnErr gave (state_of e.session.phase ≡ states.Ended) → HasTaken w gave e from to a b
+both_ways w e (Ok gave) from to a b written closed stopped over = ok_way w e gave from to a b written closed
+both_ways w e (Err error) from to a b written closed stopped over = err_way w e error from to a b stopped over

@@ -1,16 +1,19 @@
 -- Nodes that meet (profile).
-use Rattle.std.specs.Prelude.{◌≡◌, ◌≤◌, ℕ, Bool, true, false, List, [], ◌∷◌, map}
+use Rattle.std.specs.Prelude.{◌≡◌, ◌≤◌, ℕ, Bool, true, false, List, [], ◌∷◌, length, map, take, Option}
+use Rattle.std.specs.Io.KnownBytes.{Appends}
 use Rattle.table_types.specs.Tables.{Definition}
 use Rattle.table_types.specs.declared.update.Update.{Update}
 use Rattle.table_cell.specs.Histories.{CellState}
 use Rattle.table_shards.specs.Receipts.{SeatState, fresh_seat}
 use Rattle.table_shards.specs.Rounds.{ShardsState, begun}
+use Rattle.table_shards.specs.Audits.{table_rounds}
 use Rattle.table_shards.specs.declared.unlocked.UnlockedTable.{UnlockedTable}
 use Rattle.session_core.specs.Sessions.{SessionState, accepting, connecting}
 use Rattle.scene_text.specs.declared.scene.Scene.{Scene}
 use Rattle.scene_commands.specs.Learning.{AreInRisingId}
 use Rattle.scene_commands.specs.declared.ending.Ending.{Ending}
 use Rattle.scene_commands.specs.declared.ending.Ending.TheVariants as endings
+use Rattle.link_commands.specs.declared.link.Link.{Link}
 use Rattle.link_commands.specs.declared.node.Node.{Node}
 use Rattle.link_commands.specs.Loading.{AreLoaded}
 use Rattle.link_commands.specs.Printing.{IsText}
@@ -44,15 +47,30 @@ IsJoining scene name peer n =
     × (n.session ≡ connecting (record { remote = peer; local = name; pid = 1; relative = 1 }) roster false)
     × (n.leaves ≡ true)
 
--- What is printed of a session of at most so many turns: those that were made, and the rows of the tables then.
-unfoldable pub IsPrinted : Bool → SessionState → ℕ → Ending → List ℕ → Type 0
-IsPrinted leaves s turns ending text =
+-- What is printed after a node's session of at most so many turns, in which the first bytes were received and the others sent:
+-- how many turns were made, and the rows that the node's tables have then.
+unfoldable pub IsPrinted : Node → ℕ → Ending → List ℕ → List ℕ → List ℕ → Type 0
+IsPrinted n turns ending received sent text =
     (made : ℕ)
     × (e : SessionState)
     × (tables : List UnlockedTable)
-    × Plays leaves s turns made ending e
+    × Plays n.leaves 0 n.session n.seat turns made ending received sent e
     × (made ≤ turns)
+    × (table_rounds tables ≡ n.shards.tables)
     × IsText made tables text
+
+-- what a node prints that serves a scene, and one that joins with it
+abbrev pub IsServed : Scene → Link → Ending → List ℕ → Type 0
+IsServed scene link ending text =
+    (n : Node) × (received sent : List ℕ) × IsServing scene link.name link.peer n × IsPrinted n link.turns ending received sent text
+
+abbrev pub IsJoined : Scene → Link → Ending → List ℕ → Type 0
+IsJoined scene link ending text =
+    (n : Node) × (received sent : List ℕ) × IsJoining scene link.name link.peer n × IsPrinted n link.turns ending received sent text
+
+-- the text is written up to some byte, or whole
+abbrev pub AppendsSome : Option (List ℕ) → Option (List ℕ) → List ℕ → Type 0
+AppendsSome old new text = (count : ℕ) × (count ≤ length text) × Appends old new (take count text)
 
 -- rows are printed
 abbrev pub HasRows : Ending → Type 0
@@ -61,3 +79,10 @@ HasRows (endings.Stream fault) = Unit {0}
 HasRows endings.Strange = Unit {0}
 HasRows endings.Unasked = Unit {0}
 HasRows ending = ⊥
+
+abbrev pub has_rows : Ending → Bool
+has_rows endings.Done = true
+has_rows (endings.Stream fault) = true
+has_rows endings.Strange = true
+has_rows endings.Unasked = true
+has_rows ending = false

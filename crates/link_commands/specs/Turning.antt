@@ -1,16 +1,21 @@
 -- The turns of a node's session (profile).
-use Rattle.std.specs.Prelude.{◌≡◌, ◌↔◌, ◌+◌, ℕ, zero, suc, Bool, ◌&&◌, Option, Some, None, Result, Ok, Err, if◌then◌else◌}
+use Rattle.std.specs.Prelude.{◌≡◌, ◌↔◌, ◌+◌, ℕ, zero, suc, Bool, ◌&&◌, List, [], ◌++◌, Option, Some, None, Result, Ok, Err, if◌then◌else◌}
+use Rattle.table_types.specs.Rows.{later_by}
 use Rattle.learner.specs.declared.fault.Fault.{Fault}
 use Rattle.session_core.specs.declared.error.SessionError.TheVariants as refusals
+use Rattle.table_shards.specs.Receipts.{SeatState}
+use Rattle.session_core.specs.declared.event.Event.{Event}
 use Rattle.session_core.specs.declared.state.State.TheVariants as states
 use Rattle.session_core.specs.Sessions.{SessionState, state_of}
 use Rattle.peers_engine.specs.declared.errors.EngineError.{EngineError}
 use Rattle.peers_engine.specs.declared.errors.EngineError.TheVariants as errors
 use Rattle.peers_engine.specs.declared.errors.Turned.{Turned}
 use Rattle.peers_engine.specs.declared.errors.Turned.TheVariants as turned
-use Rattle.peers_engine.specs.Turns.{Turns, Breaks}
+use Rattle.peers_engine.specs.Doing.{Worker, worker}
+use Rattle.peers_engine.specs.Turns.{IsRead, StopsTurn, TakesTurn}
 use Rattle.scene_commands.specs.declared.ending.Ending.{Ending}
 use Rattle.scene_commands.specs.declared.ending.Ending.TheVariants as endings
+use Rattle.link_commands.specs.Loading.{loaded_at}
 
 -- how a session ends that closed the connection: by the fault of the other node's messages, if that was why
 abbrev pub closed_by : Option Fault → Ending
@@ -33,22 +38,39 @@ ending_after leaves s (Ok turned.Going) = if leaves && s.confirmed then Some end
 ending_after leaves s (Ok turned.Closed) = Some (closed_by s.fault)
 ending_after leaves s (Err error) = Some (broken_by s.fault error)
 
--- a turn takes the session there, and gives that
-abbrev pub Takes : SessionState → Result Turned EngineError → SessionState → Type 0
-Takes s (Ok gave) e = Turns s e × ((gave ≡ turned.Closed) ↔ (state_of e.phase ≡ states.Ended))
-Takes s (Err error) e = Breaks s e
+-- the node's session at work, which has number 1 in the tables, in the turn that comes after so many; the first comes a millisecond
+-- after the rows were loaded, and each other a millisecond after the one before
+abbrev pub turn_after : ℕ → SessionState → SeatState → Worker
+turn_after before s seat = worker s seat 1 (later_by (before + 1) loaded_at)
+
+-- A turn takes the session there and gives that; the first bytes were received in it, and the others sent. After an error
+-- the session is over.
+abbrev pub Takes : Worker → Result Turned EngineError → List ℕ → List ℕ → Worker → Type 0
+Takes w (Ok gave) received sent e =
+    ((event : Option Event) × IsRead event received × TakesTurn w event sent e) × ((gave ≡ turned.Closed) ↔ (state_of e.session.phase ≡ states.Ended))
+Takes w (Err error) received sent e =
+    ((event : Option Event) × IsRead event received × StopsTurn w event error sent e.session) × (state_of e.session.phase ≡ states.Ended)
+
+-- nothing more is received or sent, and the session stands there
+abbrev pub Rests : SessionState → List ℕ → List ℕ → SessionState → Type 0
+Rests s received sent e = (received ≡ []) × (sent ≡ []) × (e ≡ s)
 
 -- the session ends there by that turn, or goes on
-abbrev pub GoesOn : Option Ending → ℕ → Ending → SessionState → SessionState → Type 0 → Type 0
-GoesOn None made ending s e on = on
-GoesOn (Some by) made ending s e on = (made ≡ 1) × (ending ≡ by) × (e ≡ s)
+abbrev pub GoesOn : Option Ending → ℕ → Ending → Type 0 → Type 0 → Type 0
+GoesOn None made ending rests on = on
+GoesOn (Some by) made ending rests on = (made ≡ 1) × (ending ≡ by) × rests
 
--- Of at most so many turns these are made, one after another, up to the one by which the session ends; where none of them
--- ends it, all is done.
-abbrev pub Plays : Bool → SessionState → ℕ → ℕ → Ending → SessionState → Type 0
-Plays leaves s zero made ending e = (made ≡ 0) × (ending ≡ endings.Done) × (e ≡ s)
-Plays leaves s (suc left) made ending e =
+-- After so many turns, of at most so many more these are made, one after another, up to the one by which the session ends; where
+-- none of them ends it, all is done. The first bytes were received in them, one turn's after another's, and the others sent.
+abbrev pub Plays : Bool → ℕ → SessionState → SeatState → ℕ → ℕ → Ending → List ℕ → List ℕ → SessionState → Type 0
+Plays leaves before s seat zero made ending received sent e = (made ≡ 0) × (ending ≡ endings.Done) × Rests s received sent e
+Plays leaves before s seat (suc left) made ending received sent e =
     (gave : Result Turned EngineError)
     × (mid : SessionState)
-    × Takes s gave mid
-    × GoesOn (ending_after leaves mid gave) made ending mid e ((later : ℕ) × (made ≡ later + 1) × Plays leaves mid left later ending e)
+    × (back : SeatState)
+    × (first out later_received later_sent : List ℕ)
+    × Takes (turn_after before s seat) gave first out (turn_after before mid back)
+    × (received ≡ first ++ later_received)
+    × (sent ≡ out ++ later_sent)
+    × GoesOn (ending_after leaves mid gave) made ending (Rests mid later_received later_sent e)
+    ((later : ℕ) × (made ≡ later + 1) × Plays leaves (before + 1) mid back left later ending later_received later_sent e)

@@ -1,12 +1,13 @@
 //! A node that meets another.
 
-ghost use Rattle.std.specs.Prelude.{◌≡◌, ◌≢◌, ℕ, List, IfErr, IfOk, string_bytes};
-ghost use Rattle.std.specs.Io.KnownBytes.{Appends};
+ghost use Rattle.std.specs.Prelude.{◌≡◌, ◌≢◌, ℕ, List, true, IfErr, IfOk, string_bytes};
+ghost use Rattle.std.specs.Io.KnownBytes.{Appends, Consumes};
 ghost use Rattle.scene_text.specs.declared.scene.Scene.{Scene};
 ghost use Rattle.scene_commands.specs.Endings.{IsEarly, line_of};
 ghost use Rattle.scene_commands.specs.declared.ending.Ending.TheVariants as endings;
+ghost use Rattle.table_shards.specs.Audits.{table_rounds};
 ghost use Rattle.table_shards.specs.declared.unlocked.UnlockedTable.{UnlockedTable};
-ghost use Rattle.link_commands.specs.Nodes.{AreOpened, IsJoining, IsPrinted, IsServing};
+ghost use Rattle.link_commands.specs.Nodes.{AppendsSome, AreOpened, IsJoining, IsPrinted, IsServing, has_rows};
 ghost use Rattle.link_commands.specs.Printing.{IsText};
 
 use crate::loading::loaded;
@@ -40,6 +41,7 @@ pub struct Report {
     pub(crate) ending: Ending,
     pub(crate) line: String,
     ghost says: { string_bytes line ≡ line_of ending },
+    ghost reported: { has_rows ending ≡ true },
 }
 
 /// The scene of an input.
@@ -114,9 +116,31 @@ fn joining_of(alloc: Global, name: Name, peer: Name, scene: Scene) -> Result<Nod
     })
 }
 
+/// Whether rows are printed after a session that ended so.
+fn has_rows(ending: Ending) -> bool
+    ensures { result ≡ has_rows ending }
+{
+    match ending {
+        Ending::Done | Ending::Stream(_) | Ending::Strange | Ending::Unasked => true,
+        Ending::Line(_) | Ending::Scene | Ending::NotShortest | Ending::Memory | Ending::Device =>
+            false,
+    }
+}
+
+/// How a session ended of which no rows are printed: a device failed, or else memory was wanted.
+fn early(ending: Ending) -> Ending
+    ensures { IsEarly result }
+{
+    match ending {
+        Ending::Device => Ending::Device,
+        _ => Ending::Memory,
+    }
+}
+
 /// What is to be printed after a session: how many turns were made, and the rows that the tables have then.
 fn report_of(alloc: Global, shards: Shards, played: Played) -> Result<Report, Ending>
-    ensures text { IfOk result (λ report. (tables : List UnlockedTable) × IsText played.turns tables report.text.items) }
+    requires { has_rows played.ending ≡ true }
+    ensures text { IfOk result (λ report. (tables : List UnlockedTable) × (table_rounds tables ≡ shards.tables) × IsText played.turns tables report.text.items) }
     ensures ending { IfOk result (λ report. report.ending ≡ played.ending) }
     ensures early { IfErr result (λ ending. ending ≡ endings.Memory) }
 {
@@ -163,7 +187,7 @@ impl Node {
     }
 
     /// Runs the session with the other node, which is read and written there, for at most so many turns, and tells what is to
-    /// be printed then. After `Memory` nothing is.
+    /// be printed then. Refuses with `Device` where a read or a write failed, and with `Memory`; nothing is printed then.
     pub fn meet<H: Wait, R: Read + Faults, W: Write + Faults>(
         self,
         rt: &H,
@@ -172,8 +196,10 @@ impl Node {
         from: &mut R,
         to: &mut W,
     ) -> Result<Report, Ending>
-        ensures printed { IfOk result (λ report. IsPrinted self.leaves self.session turns report.ending report.text.items) }
-        ensures early { IfErr result (λ ending. ending ≡ endings.Memory) }
+        ensures printed { IfOk result (λ report. (received sent : List ℕ) × IsPrinted self turns report.ending received sent report.text.items
+            × Consumes (R.remaining from.old) (R.remaining from.new) received
+            × Appends (W.contents to.old) (W.contents to.new) sent) }
+        ensures early { IfErr result IsEarly }
     {
         let Node {
             mut session,
@@ -192,8 +218,8 @@ impl Node {
             from,
             to,
         );
-        if played.ending == Ending::Memory {
-            return Err(Ending::Memory);
+        if !has_rows(played.ending) {
+            return Err(early(played.ending));
         }
         report_of(alloc, shards, played)
     }
@@ -209,6 +235,7 @@ impl Report {
         ensures ends { result ≢ Ending.Device → result ≡ self.ending }
         ensures printed { result ≢ Ending.Device → Appends (O.contents output.old) (O.contents output.new) self.text.items }
         ensures said { result ≢ Ending.Device → Appends (E.contents errors.old) (E.contents errors.new) (line_of result) }
+        ensures device { result ≡ Ending.Device → AppendsSome (O.contents output.old) (O.contents output.new) self.text.items }
     {
         match write_all(output, self.text.as_slice()) {
             Ok(()) => self.ending.written(errors, self.line.as_str()),

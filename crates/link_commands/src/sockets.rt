@@ -1,12 +1,12 @@
 //! Nodes that meet over TCP.
 
-ghost use Rattle.std.specs.Prelude.{◌≡◌, ◌≢◌, ℕ, List, Ok, IfErr, IfOk};
+ghost use Rattle.std.specs.Prelude.{◌≡◌, ◌≢◌, ◌⊎◌, ℕ, List, Ok, IfErr, IfOk};
 ghost use Rattle.std.specs.Io.KnownBytes.{Appends};
 ghost use Rattle.scene_text.specs.declared.scene.Scene.{Scene};
 ghost use Rattle.scene_commands.specs.Endings.{IsEarly, line_of};
-ghost use Rattle.link_commands.specs.declared.node.Node.{Node};
+ghost use Rattle.scene_commands.specs.declared.ending.Ending.{Ending};
 ghost use Rattle.link_commands.specs.declared.node.Report.{Report};
-ghost use Rattle.link_commands.specs.Nodes.{HasRows, IsJoining, IsPrinted, IsServing};
+ghost use Rattle.link_commands.specs.Nodes.{AppendsSome, HasRows, IsJoined, IsPrinted, IsServed};
 
 use crate::link::Link;
 use crate::node::{Node, Report};
@@ -47,7 +47,7 @@ fn met<H: Wait>(
     turns: u32,
     stream: io::Result<TcpStream>,
 ) -> Result<Report, Ending>
-    ensures printed { IfOk result (λ report. IsPrinted node.leaves node.session turns report.ending report.text.items) }
+    ensures printed { IfOk result (λ report. (received sent : List ℕ) × IsPrinted node turns report.ending received sent report.text.items) }
     ensures early { IfErr result IsEarly }
 {
     match stream {
@@ -69,8 +69,7 @@ fn served<N: Net<Listener = TcpListener, Stream = TcpStream> + Wait, I: Read + F
     link: Link,
     input: &mut I,
 ) -> Result<Report, Ending>
-    ensures printed { IfOk result (λ report. (scene : Scene) × (node : Node) × IsServing scene link.name link.peer node
-        × IsPrinted node.leaves node.session link.turns report.ending report.text.items) }
+    ensures printed { IfOk result (λ report. (scene : Scene) × IsServed scene link report.ending report.text.items) }
     ensures early { IfErr result IsEarly }
 {
     let Link {
@@ -90,8 +89,7 @@ fn joined<N: Net<Listener = TcpListener, Stream = TcpStream> + Wait, I: Read + F
     link: Link,
     input: &mut I,
 ) -> Result<Report, Ending>
-    ensures printed { IfOk result (λ report. (scene : Scene) × (node : Node) × IsJoining scene link.name link.peer node
-        × IsPrinted node.leaves node.session link.turns report.ending report.text.items) }
+    ensures printed { IfOk result (λ report. (scene : Scene) × IsJoined scene link report.ending report.text.items) }
     ensures early { IfErr result IsEarly }
 {
     let Link {
@@ -114,6 +112,9 @@ fn reported<O: Write + Faults, E: Write + Faults>(
     requires { IfErr met IsEarly }
     ensures printed { HasRows result → (report : Report) × (met ≡ Ok report) × (report.ending ≡ result) × Appends (O.contents output.old) (O.contents output.new) report.text.items }
     ensures said { result ≢ Ending.Device → Appends (E.contents errors.old) (E.contents errors.new) (line_of result) }
+    ensures silent { (HasRows result → ⊥) → result ≢ Ending.Device → output.new ≡ output.old }
+    ensures device { result ≡ Ending.Device → (output.new ≡ output.old)
+        ⊎ ((report : Report) × (met ≡ Ok report) × AppendsSome (O.contents output.old) (O.contents output.new) report.text.items) }
 {
     match met {
         Ok(report) => report.print(output, errors),
@@ -125,16 +126,20 @@ fn reported<O: Write + Faults, E: Write + Faults>(
 /// the rows of the scene. Then it writes how many turns were made, and the rows.
 ///
 /// It ends after the link's turns, where the other node closes the connection, and where the session has a fault. Where the
-/// scene is refused or memory is wanted, nothing is written on the output. Waits for the other node.
+/// scene is refused, memory is wanted or the connection fails, nothing is written on the output. Waits for the other node.
 pub fn serve<
     N: Net<Listener = TcpListener, Stream = TcpStream> + Wait,
     I: Read + Faults,
     O: Write + Faults,
     E: Write + Faults,
 >(rt: &N, alloc: Global, link: Link, input: &mut I, output: &mut O, errors: &mut E) -> Ending
-    ensures printed { HasRows result → (scene : Scene) × (node : Node) × (text : List ℕ) × IsServing scene link.name link.peer node
-        × IsPrinted node.leaves node.session link.turns result text × Appends (O.contents output.old) (O.contents output.new) text }
+    ensures printed { HasRows result → (scene : Scene) × (text : List ℕ) × IsServed scene link result text
+        × Appends (O.contents output.old) (O.contents output.new) text }
     ensures said { result ≢ Ending.Device → Appends (E.contents errors.old) (E.contents errors.new) (line_of result) }
+    ensures silent { (HasRows result → ⊥) → result ≢ Ending.Device → output.new ≡ output.old }
+    ensures device { result ≡ Ending.Device → (output.new ≡ output.old)
+        ⊎ ((scene : Scene) × (ending : Ending) × (text : List ℕ) × IsServed scene link ending text
+        × AppendsSome (O.contents output.old) (O.contents output.new) text) }
 {
     let met = served(rt, alloc, link, input);
     reported(alloc, met, output, errors)
@@ -150,9 +155,13 @@ pub fn join<
     O: Write + Faults,
     E: Write + Faults,
 >(rt: &N, alloc: Global, link: Link, input: &mut I, output: &mut O, errors: &mut E) -> Ending
-    ensures printed { HasRows result → (scene : Scene) × (node : Node) × (text : List ℕ) × IsJoining scene link.name link.peer node
-        × IsPrinted node.leaves node.session link.turns result text × Appends (O.contents output.old) (O.contents output.new) text }
+    ensures printed { HasRows result → (scene : Scene) × (text : List ℕ) × IsJoined scene link result text
+        × Appends (O.contents output.old) (O.contents output.new) text }
     ensures said { result ≢ Ending.Device → Appends (E.contents errors.old) (E.contents errors.new) (line_of result) }
+    ensures silent { (HasRows result → ⊥) → result ≢ Ending.Device → output.new ≡ output.old }
+    ensures device { result ≡ Ending.Device → (output.new ≡ output.old)
+        ⊎ ((scene : Scene) × (ending : Ending) × (text : List ℕ) × IsJoined scene link ending text
+        × AppendsSome (O.contents output.old) (O.contents output.new) text) }
 {
     let met = joined(rt, alloc, link, input);
     reported(alloc, met, output, errors)

@@ -1,8 +1,8 @@
 //! The turns of a node's session.
 
-ghost use Rattle.std.specs.Prelude.{◌≡◌, ◌≤◌};
-ghost use Rattle.session_core.specs.Sessions.{SessionState};
-ghost use Rattle.link_commands.specs.Turning.{Plays, Takes, broken_by, closed_by, ending_after};
+ghost use Rattle.std.specs.Prelude.{◌≡◌, ◌≤◌, ◌<◌, ◌+◌, ◌^◌, List, ℕ};
+ghost use Rattle.std.specs.Io.KnownBytes.{Appends, Consumes};
+ghost use Rattle.link_commands.specs.Turning.{Plays, Takes, broken_by, closed_by, ending_after, turn_after};
 
 use crate::loading::SESSION;
 use peers_devices::Faults;
@@ -66,20 +66,23 @@ fn ending_after(
     }
 }
 
-/// One turn of a session, so many milliseconds after the rows were loaded.
+/// The turn of a session that comes after so many.
 fn take_turn<H: Wait, R: Read + Faults, W: Write + Faults>(
     rt: &H,
     alloc: Global,
     session: &mut Session,
     shards: &Shards,
     seat: Seat,
-    later: u32,
+    before: u32,
     from: &mut R,
     to: &mut W,
 ) -> (Seat, Result<Turned, EngineError>)
-    ensures { Takes session.old result.1 session.new }
+    requires { before + 1 < 2 ^ 32 }
+    ensures { (received sent : List ℕ) × Takes (turn_after before session.old seat) result.1 received sent (turn_after before session.new result.0)
+        × Consumes (R.remaining from.old) (R.remaining from.new) received
+        × Appends (W.contents to.old) (W.contents to.new) sent }
 {
-    let now = Moment::least().later_by(later);
+    let now = Moment::least().later_by(before + 1);
     turn(
         rt, alloc, session, from, to, &Open, shards, seat, SESSION, now,
     )
@@ -98,12 +101,14 @@ pub(crate) fn play<H: Wait, R: Read + Faults, W: Write + Faults>(
     from: &mut R,
     to: &mut W,
 ) -> Played
-    ensures plays { Plays leaves session.old turns result.turns result.ending session.new }
+    ensures plays { (received sent : List ℕ) × Plays leaves 0 session.old seat turns result.turns result.ending received sent session.new
+        × Consumes (R.remaining from.old) (R.remaining from.new) received
+        × Appends (W.contents to.old) (W.contents to.new) sent }
     ensures within { result.turns ≤ turns }
 {
     let mut seat = seat;
     for before in 0..turns {
-        let (back, turned) = take_turn(rt, alloc, session, shards, seat, before + 1, from, to);
+        let (back, turned) = take_turn(rt, alloc, session, shards, seat, before, from, to);
         seat = back;
         if let Some(ending) = ending_after(session, leaves, turned) {
             return Played {

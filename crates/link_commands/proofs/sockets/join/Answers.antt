@@ -1,17 +1,20 @@
-use Rattle.std.proofs.Common.{subst}
+use Rattle.std.proofs.Common.{inl, inr, subst}
 use Rattle.scene_commands.specs.declared.ending.Ending.{Ending}
-use Rattle.link_commands.specs.Nodes.{IsPrinted}
+use Rattle.link_commands.specs.Nodes.{IsJoined}
 use Rattle.link_commands.proofs.EndingLaws.{of_ok}
 use Rattle.link_commands.proofs.sockets.join.Goals as goal
 
 pub returns-clause-printed : goal.returns-clause-printed
 returns-clause-printed g c = λ rows.
     let told = c.reported.ensures.printed rows in
-    let found = of_ok _ c.joined-met.result told.0 told.1 c.joined-met.ensures.printed in (
-      found.0,
-      found.1,
-      told.0.text.items,
-      found.2,
-      subst (λ (e : Ending). IsPrinted found.1.leaves found.1.session c.args.link.turns e told.0.text.items) told.2 found.3,
-      told.3,
-    )
+    let found = of_ok _ c.joined-met.result told.0 told.1 c.joined-met.ensures.printed in
+    (found.0, told.0.text.items, subst (λ (e : Ending). IsJoined found.0 c.args.link e told.0.text.items) told.2 found.1, told.3)
+
+pub returns-clause-device : goal.returns-clause-device
+returns-clause-device g c = λ device.
+    elim (c.reported.ensures.device device) [
+      | inl same ↦ inl same
+      | inr told ↦
+          let found = of_ok _ c.joined-met.result told.0 told.1 c.joined-met.ensures.printed in
+          inr (found.0, told.0.ending, told.0.text.items, found.1, told.2)
+    ]
