@@ -3,12 +3,12 @@
 ghost use Rattle.std.specs.Prelude.{◌≡◌, ◌≢◌, ◌≤◌, ◌⊎◌, ℕ, List, IfOk};
 ghost use Rattle.std.specs.Io.KnownBytes.{Appends};
 ghost use Rattle.scene_commands.specs.Endings.{line_of};
-ghost use Rattle.round_command.specs.Rounds.{IsAudited, IsCutShort, IsTextOf};
+ghost use Rattle.round_command.specs.Rounds.{IsCutShort, IsSound, IsTextOf};
 
 use crate::failure::{RoundFailure, failure_of};
 use crate::printing::printed;
 use crate::table::{SESSION, TABLE, new_table, roster};
-use crate::tracking::track_all;
+use crate::tracking::{have_tracked, track_all};
 use crate::worker::{Worker, work};
 use known_state::Known;
 use peers_devices::{Faults, write_all};
@@ -45,9 +45,9 @@ pub fn round<R: Threads + Wait + Sync, W: Write + Faults, E: Write + Faults>(
     errors: &mut E,
 ) -> Ending
     requires { asked.threads ≤ 8 }
-    ensures done { result ≡ Ending.Done → (text : List ℕ) × IsTextOf asked.threads text × Appends (W.contents output.old) (W.contents output.new) text }
+    ensures done { result ≡ Ending.Done → (text : List ℕ) × IsTextOf asked.threads asked.tracks text × Appends (W.contents output.old) (W.contents output.new) text }
     ensures silent { result ≢ Ending.Done → (output.new ≡ output.old)
-        ⊎ ((result ≡ Ending.Device) × IsCutShort asked.threads (W.contents output.old) (W.contents output.new)) }
+        ⊎ ((result ≡ Ending.Device) × IsCutShort asked.threads asked.tracks (W.contents output.old) (W.contents output.new)) }
     ensures ends { (result ≡ Ending.Done) ⊎ ((result ≡ Ending.Memory) ⊎ (result ≡ Ending.Device)) }
     ensures said { result ≢ Ending.Device → Appends (E.contents errors.old) (E.contents errors.new) (line_of result) }
 {
@@ -62,17 +62,22 @@ pub fn round<R: Threads + Wait + Sync, W: Write + Faults, E: Write + Faults>(
     }
 }
 
-/// Runs a round and audits it: what is printed of it.
+/// Runs a round and audits it: what is printed of it, where each thread has tracked as often as it was asked for. That the clause
+/// of `track_all` holds of what a thread hands back, its join doesn't say: the receipts do.
 fn audited_text<R: Threads + Wait + Sync>(
     rt: &R,
     alloc: Global,
     asked: RoundSize,
 ) -> Result<Vec<u8>, RoundFailure>
     requires { asked.threads ≤ 8 }
-    ensures { IfOk result (λ text. IsTextOf asked.threads text.items) }
+    ensures { IfOk result (λ text. IsTextOf asked.threads asked.tracks text.items) }
 {
     let audit = run(rt, alloc, asked)?;
-    printed(alloc, &audit)
+    if have_tracked(asked.threads, asked.tracks, audit.seats()) {
+        printed(alloc, &audit)
+    } else {
+        Err(RoundFailure::Refused)
+    }
 }
 
 /// Runs a round, and audits it.
@@ -82,7 +87,7 @@ fn run<R: Threads + Wait + Sync>(
     asked: RoundSize,
 ) -> Result<Audit, RoundFailure>
     requires { asked.threads ≤ 8 }
-    ensures { IfOk result (λ audit. IsAudited asked.threads audit) }
+    ensures { IfOk result (λ audit. IsSound asked.threads audit) }
 {
     let mut cells = Vec::new(alloc);
     cells.push(new_table(alloc)?)?;
