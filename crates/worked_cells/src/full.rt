@@ -1,6 +1,6 @@
 //! Tables that are full, and numbers that are spent.
 
-use crate::parts::{added, cell, has, refusal};
+use example_cells::{added, cell, has, refusal};
 use std::alloc::Global;
 use table_cell::{TableCell, TrackError};
 

@@ -1,6 +1,6 @@
 //! Calls that a table refuses: each leaves it as it was.
 
-use crate::parts::{at, cell, told};
+use example_cells::{at, cell, told};
 use example_parts::{KeyParts, key};
 use std::alloc::Global;
 use table_cell::{AckError, CloseError, CopyError, LearnError, OpenError, TableCell, TrackError};

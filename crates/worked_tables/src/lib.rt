@@ -6,6 +6,8 @@
 mod holders;
 mod list_rows;
 #[cfg(test)]
+mod numbered;
+#[cfg(test)]
 mod numbers;
 #[cfg(test)]
 mod rows;

@@ -1,4 +1,6 @@
-//! What the examples have in common: table `t1`, integer keys with gpc0, whose rows expire after 30 s.
+//! What the worked examples of tables begin with: table `t1`, integer keys with gpc0, whose rows expire after 30 s. A call
+//! that wants memory and gets none answers `None`, so that a test of what comes of it fails.
+#![tactic(auto)]
 
 ghost use Rattle.std.specs.Prelude.{◌≤◌};
 

@@ -1,6 +1,6 @@
 //! Batches that a table hands out, and their acknowledgements.
 
-use crate::parts::{added, at, cell, only};
+use example_cells::{added, at, cell, only};
 use std::alloc::Global;
 use table_cell::{AckError, CopyError, StrangeBatch, TableCell};
 use table_types::{Batch, CopyKind, Settled};

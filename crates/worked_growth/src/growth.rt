@@ -3,7 +3,7 @@
 
 ghost use Rattle.std.specs.Prelude.{◌≤◌};
 
-use crate::parts::{add, added, cell, copied, count, has, told};
+use example_cells::{add, added, cell, copied, count, has, told};
 use std::alloc::Global;
 use table_cell::{LearnError, Reply, TableCell, TrackError};
 use table_types::{CopyKind, Moment, Settled};

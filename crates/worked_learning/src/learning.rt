@@ -1,6 +1,6 @@
 //! Rows that are learned, sessions that close, and rows that are purged.
 
-use crate::parts::{at, cell, count, has, only};
+use example_cells::{at, cell, count, has, only};
 use example_parts::{KeyParts, UpdateParts, update};
 use std::alloc::Global;
 use table_cell::{CellEvent, CellReply, CopyError, LearnError, TableCell};

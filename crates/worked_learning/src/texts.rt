@@ -1,6 +1,6 @@
 //! Rows of texts that are learned, with the server's name.
 
-use crate::parts::at;
+use example_cells::at;
 use example_parts::{KeyParts, ST, UpdateParts, definition, is_called, key, update};
 use std::alloc::Global;
 use table_cell::{Reply, TableCell, TrackError};

@@ -1,6 +1,6 @@
 //! Rows that are learned and then this node's own, pushes that pass over learned rows, and rows that are purged.
 
-use crate::parts::{added, at, cell, copied, has, not_copied, taught};
+use example_cells::{added, at, cell, copied, has, not_copied, taught};
 use std::alloc::Global;
 use table_cell::{CopyError, PurgeError, TableCell};
 use table_types::{CopyKind, Settled};

@@ -1,6 +1,6 @@
 //! Sessions that close and open again, and batches that come twice.
 
-use crate::parts::{added, at, cell, copied, not_copied, only};
+use example_cells::{added, at, cell, copied, not_copied, only};
 use std::alloc::Global;
 use table_cell::{AckError, CopyError, StrangeBatch, TableCell};
 use table_types::{Batch, CopyKind};

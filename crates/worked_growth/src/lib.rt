@@ -1,0 +1,5 @@
+//! Worked examples of a table that wants memory.
+#![tactic(auto)]
+
+#[cfg(test)]
+mod growth;
