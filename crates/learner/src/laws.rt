@@ -38,7 +38,7 @@ pub fn any_pieces()
         LearnerFeeds now l piece (Ok one) a → LearnerFeeds now l piece (Ok other) b → (one ≡ other) × (a ≡ b) }
 {}
 
-/// A learner does one thing: where two outcomes of feeding it a piece are both allowed, and neither is running out of
+/// A learner does one thing: where two outcomes of feeding it a piece are both allowed, and neither is want of
 /// memory, the answer is the same and so is what it holds then. The same of what takes its messages: of feeding it, and
 /// of asking it for one.
 pub fn one_outcome()
@@ -55,7 +55,7 @@ pub fn one_outcome()
 /// same bytes are left up to what each was fed: with what was still to come of the stream they are one and the same.
 /// Where a fault stops one way, it stops every other way too at one of its pieces, where all of them are fed. After a
 /// fault every piece is answered `Closed`, and changes nothing. With pieces at whatever moments it is the same fault too,
-/// with the same state and the same bytes left; the rows have the moments of their pieces.
+/// with the same state and the same bytes left.
 pub fn one_fault()
     ensures same { (now : ℕ) (l a b : Learning) (before others : List (List ℕ)) (last end more rest : List ℕ) (fault other : Fault) →
         l.intake.closed ≡ false → IsBytes (l.intake.unread ++ (together before ++ (last ++ more))) →
@@ -79,8 +79,8 @@ pub fn one_fault()
         LearnerFeeds now l piece (Err fault) e → LearnerFeeds after e bytes answer x → (answer ≡ Err faults.Closed) × (x ≡ e) }
 {}
 
-/// However a stream is cut, and in whatever order an intake is fed its pieces and asked for its messages, at whatever
-/// moments: it gives the same rows and the same of other messages, in the same order, up to the same end, a fault or that
+/// However a stream is cut, and in whatever order an intake is fed its pieces and asked for its messages, it gives the same
+/// rows and the same of other messages, in the same order, up to the same end, a fault or that
 /// no message is whole; and it is then in the same state, with the same bytes left up to what was still to come. Calls that
 /// wanted memory may stand between, and change nothing.
 pub fn any_calls()

@@ -26,8 +26,8 @@ pub use encoding::{append, encode};
 pub use fault::{Breach, Fault};
 pub use framing::split_message;
 pub use laws::{
-    any_cutting, data_is_small, lists_are_read, no_prefix, one_list, one_message, one_outcome,
-    read_is_spelled, reading_stays, spelled_is_read, tables_stay_distinct,
+    any_calls, any_cutting, data_is_small, lists_are_read, no_prefix, one_list, one_message,
+    one_outcome, read_is_spelled, reading_stays, spelled_is_read, tables_stay_distinct,
 };
 pub use message::{Message, Other, UpdateMsg};
 pub use name_field::NameField;
