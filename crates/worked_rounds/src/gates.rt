@@ -2,7 +2,7 @@
 
 use example_parts::T1;
 use known_state::Known;
-use peers_engine::{Gate, Stage};
+use peers_engine::Stage;
 use round_command::{Worker, work};
 use std::alloc::Global;
 use std::sync::Wait;
@@ -12,26 +12,7 @@ use std::thread::Threads;
 use std::time::Clock;
 use table_shards::{Seat, Shards, held};
 use worked_shards::parts::{comes, shards, track};
-
-/// A gate that holds a worker at Copied until a track of the same table was answered, at most 10 s.
-#[derive(Drop)]
-struct Held<'a, C> {
-    clock: &'a C,
-    came: &'a AtomicBool,
-    answered: &'a AtomicBool,
-    gave_up: &'a AtomicBool,
-}
-
-impl<C: Clock> Gate for Held<'_, C> {
-    fn at<R: Wait>(&self, _: &R, stage: Stage) {
-        if stage == Stage::Copied {
-            self.came.store(true, Ordering::SeqCst);
-            if !comes(self.clock, self.answered) {
-                self.gave_up.store(true, Ordering::SeqCst);
-            }
-        }
-    }
-}
+use worked_turns::parts::Held;
 
 /// Opens session 1 of `t1`.
 fn opened<R: Wait>(rt: &R, shards: &Shards, seat: Seat) -> Option<Seat> {
@@ -55,9 +36,13 @@ fn changed<R: Wait + Clock>(
     if ready { Some(seat) } else { None }
 }
 
-/// The worker waits at the gate while another thread changes the table; then it goes on until there is nothing to copy, and
+/// The worker waits at that stage while another thread changes the table; then it goes on until there is nothing to copy, and
 /// all seats are audited. Answers whether the change was answered before the gate gave up, and whether the audit is Ok.
-fn held_at_the_gate<R: Threads + Wait + Clock + Sync>(rt: &R, alloc: Global) -> Option<bool> {
+fn held_at_the_gate<R: Threads + Wait + Clock + Sync>(
+    rt: &R,
+    alloc: Global,
+    stage: Stage,
+) -> Option<bool> {
     let (shards, mut seats) = shards(alloc, &[T1], 2)?;
     let (second, first) = (seats.pop()?, seats.pop()?);
     let first = opened(rt, &shards, first)?;
@@ -74,8 +59,9 @@ fn held_at_the_gate<R: Threads + Wait + Clock + Sync>(rt: &R, alloc: Global) -> 
     );
     let gate = Held {
         clock: rt,
+        stage,
         came: &came,
-        answered: &answered,
+        let_go: &answered,
         gave_up: &gave_up,
     };
     let ((worker, ended), first) = thread::join(
@@ -90,6 +76,11 @@ fn held_at_the_gate<R: Threads + Wait + Clock + Sync>(rt: &R, alloc: Global) -> 
 }
 
 #[test]
-fn a_table_is_changed_while_its_worker_is_at_the_gate(rt: HostRuntime) {
-    assert!(rt; held_at_the_gate(&rt, rt.alloc()) == Some(true));
+fn a_table_is_changed_before_its_worker_plans(rt: HostRuntime) {
+    assert!(rt; held_at_the_gate(&rt, rt.alloc(), Stage::Copied) == Some(true));
+}
+
+#[test]
+fn a_table_is_changed_once_its_worker_has_planned(rt: HostRuntime) {
+    assert!(rt; held_at_the_gate(&rt, rt.alloc(), Stage::Planned) == Some(true));
 }

@@ -1,8 +1,7 @@
 //! Sessions at the gate.
 
-use crate::parts::{Held, SESSION, Side, Tables, Waiting, take_turn};
-use crate::turns::{HELLO_AND_REQUEST, ROWS};
-use example_parts::T1;
+use crate::parts::{Held, Role, SESSION, Side, Waiting};
+use crate::turns::{FILLED, HELLO_AND_REQUEST};
 use peers_devices::Counting;
 use peers_engine::{EngineError, Gate, Open, Stage, Turned, turn};
 use session_core::Session;
@@ -49,14 +48,13 @@ impl Gate for Noting<'_> {
     }
 }
 
-/// The side `b` with two rows, which the next turn teaches.
-fn about_to_teach<H: Wait>(rt: &H, alloc: Global) -> Option<Side> {
-    let side = Tables::with_rows(&[T1], &ROWS).accepting(alloc)?;
-    let mut output = Counting::new(Vec::new(alloc));
+/// Has the side `b` accept a hello, and be asked for its rows, which its next turn teaches.
+fn is_asked<H: Wait>(rt: &H, alloc: Global, side: &mut Side) -> Option<()> {
     let mut input = Waiting::new(HELLO_AND_REQUEST);
-    let (side, turned) = take_turn(rt, alloc, side, &mut input, &mut output, &Open);
+    let mut output = Counting::new(Vec::new(alloc));
+    let turned = side.take_turn(rt, alloc, &mut input, &mut output, &Open)?;
     if turned == Ok(Turned::Going) {
-        Some(side)
+        Some(())
     } else {
         None
     }
@@ -99,27 +97,29 @@ fn teaches<H: Wait, G: Gate>(
 }
 
 /// A lesson is copied, planned and written, in that order, and no lock is held at the gate.
-fn notes_stages<H: Wait>(rt: &H, alloc: Global) -> Option<bool> {
-    let Side {
-        mut session,
-        shards,
-        seat,
-        other: _,
-    } = about_to_teach(rt, alloc)?;
+fn notes_stages<H: Wait>(rt: &H, alloc: Global, side: &mut Side) -> Option<bool> {
+    is_asked(rt, alloc, side)?;
+    let seat = side.seat.take()?;
     let gate = Noting {
-        shards: &shards,
+        shards: &side.shards,
         stages: AtomicU32::new(0),
         was_locked: AtomicBool::new(false),
     };
-    let outcome = teaches(rt, alloc, &mut session, &shards, seat, &gate);
+    let outcome = teaches(rt, alloc, &mut side.session, &side.shards, seat, &gate);
     let stages = gate.stages.load(Ordering::SeqCst);
     let was_locked = gate.was_locked.load(Ordering::SeqCst);
     Some(outcome.turned == Ok(Turned::Going) && stages == 123 && !was_locked)
 }
 
+/// The same of a new side.
+fn comes_to_stages<H: Wait>(rt: &H, alloc: Global) -> Option<bool> {
+    let mut side = FILLED.side(alloc, Role::Accepts)?;
+    notes_stages(rt, alloc, &mut side)
+}
+
 #[test]
 fn stages_of_a_lesson(rt: HostRuntime) {
-    assert!(rt; notes_stages(&rt, rt.alloc()) == Some(true));
+    assert!(rt; comes_to_stages(&rt, rt.alloc()) == Some(true));
 }
 
 /// What another thread does while a session is held at the gate.
@@ -177,19 +177,22 @@ fn lets_go<R: Wait + Clock>(
     has_come && answered
 }
 
-/// A turn that is held at the gate at that stage until another thread has done that: how it ended, if it was let go.
-fn held_at<H: Threads + Wait + Clock + Sync>(
-    rt: &H,
-    alloc: Global,
+/// What happens at the gate: at which stage the session is held there, and what another thread does until it is let go.
+#[derive(Clone, Copy)]
+struct Scene {
     stage: Stage,
     meanwhile: Meanwhile,
+}
+
+/// A turn that is held so, which two threads have seats for: how it ended, if it was let go.
+fn held_over<H: Threads + Wait + Clock + Sync>(
+    rt: &H,
+    alloc: Global,
+    session: &mut Session,
+    shards: &Shards,
+    seats: (Seat, Seat),
+    scene: Scene,
 ) -> Option<Outcome> {
-    let Side {
-        mut session,
-        shards,
-        seat,
-        other,
-    } = about_to_teach(rt, alloc)?;
     let (came, let_go, gave_up) = (
         AtomicBool::new(false),
         AtomicBool::new(false),
@@ -197,15 +200,16 @@ fn held_at<H: Threads + Wait + Clock + Sync>(
     );
     let gate = Held {
         clock: rt,
-        stage,
+        stage: scene.stage,
         came: &came,
         let_go: &let_go,
         gave_up: &gave_up,
     };
+    let (seat, other) = seats;
     let (outcome, was_answered) = thread::join(
         rt,
-        || teaches(rt, alloc, &mut session, &shards, seat, &gate),
-        || lets_go(rt, &shards, other, meanwhile, &came, &let_go),
+        || teaches(rt, alloc, session, shards, seat, &gate),
+        || lets_go(rt, shards, other, scene.meanwhile, &came, &let_go),
     );
     if was_answered && !gave_up.load(Ordering::SeqCst) {
         Some(outcome)
@@ -214,9 +218,35 @@ fn held_at<H: Threads + Wait + Clock + Sync>(
     }
 }
 
+/// The same of a side that is about to teach.
+fn held_at<H: Threads + Wait + Clock + Sync>(
+    rt: &H,
+    alloc: Global,
+    side: &mut Side,
+    scene: Scene,
+) -> Option<Outcome> {
+    is_asked(rt, alloc, side)?;
+    let seats = (side.seat.take()?, side.other.take()?);
+    held_over(rt, alloc, &mut side.session, &side.shards, seats, scene)
+}
+
+/// The same of a new side.
+fn held_up<H: Threads + Wait + Clock + Sync>(
+    rt: &H,
+    alloc: Global,
+    scene: Scene,
+) -> Option<Outcome> {
+    let mut side = FILLED.side(alloc, Role::Accepts)?;
+    held_at(rt, alloc, &mut side, scene)
+}
+
 /// The lesson of 42 bytes is written, although the table was changed meanwhile.
 fn is_changed<H: Threads + Wait + Clock + Sync>(rt: &H, alloc: Global) -> Option<bool> {
-    let outcome = held_at(rt, alloc, Stage::Copied, Meanwhile::Tracks)?;
+    let scene = Scene {
+        stage: Stage::Copied,
+        meanwhile: Meanwhile::Tracks,
+    };
+    let outcome = held_up(rt, alloc, scene)?;
     Some(outcome.turned == Ok(Turned::Going) && outcome.sent == 42)
 }
 
@@ -227,7 +257,11 @@ fn a_table_is_changed_while_its_session_is_at_the_gate(rt: HostRuntime) {
 
 /// Nothing is written of the lesson of a batch that isn't the session's latest one any more.
 fn is_outdated<H: Threads + Wait + Clock + Sync>(rt: &H, alloc: Global) -> Option<bool> {
-    let outcome = held_at(rt, alloc, Stage::Planned, Meanwhile::Reopens)?;
+    let scene = Scene {
+        stage: Stage::Planned,
+        meanwhile: Meanwhile::Reopens,
+    };
+    let outcome = held_up(rt, alloc, scene)?;
     Some(outcome.turned == Err(EngineError::Strange) && outcome.sent == 0)
 }
 
