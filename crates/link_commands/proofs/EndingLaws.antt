@@ -62,3 +62,8 @@ of_ok P r x is holds = subst (λ m. IfOk m P) is holds
 pub told_of : {A E : Type 0} (P Q : A → Type 0) (r : Result A E) → ((x : A) → P x → Q x) → IfOk r P → IfOk r Q
 told_of P Q (Ok x) then holds = then x holds
 told_of P Q (Err e) then holds = tt
+
+-- want of memory and a device that failed come early
+pub early_of : (e : Ending) → (e ≡ endings.Memory) ⊎ (e ≡ endings.Device) → IsEarly e
+early_of e (inl memory) = subst IsEarly (sym memory) tt
+early_of e (inr device) = subst IsEarly (sym device) tt

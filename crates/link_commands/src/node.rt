@@ -1,6 +1,6 @@
 //! A node that meets another.
 
-ghost use Rattle.std.specs.Prelude.{◌≡◌, ◌≢◌, ℕ, List, true, IfErr, IfOk, string_bytes};
+ghost use Rattle.std.specs.Prelude.{◌≡◌, ◌≢◌, ◌⊎◌, ℕ, List, true, IfErr, IfOk, string_bytes};
 ghost use Rattle.std.specs.Io.KnownBytes.{Appends, Consumes};
 ghost use Rattle.scene_text.specs.declared.scene.Scene.{Scene};
 ghost use Rattle.scene_commands.specs.Endings.{IsEarly, line_of};
@@ -129,7 +129,7 @@ fn has_rows(ending: Ending) -> bool
 
 /// How a session ended of which no rows are printed: a device failed, or else memory was wanted.
 fn early(ending: Ending) -> Ending
-    ensures { IsEarly result }
+    ensures { (result ≡ Ending.Memory) ⊎ (result ≡ Ending.Device) }
 {
     match ending {
         Ending::Device => Ending::Device,
@@ -199,7 +199,7 @@ impl Node {
         ensures printed { IfOk result (λ report. (received sent : List ℕ) × IsPrinted self turns report.ending received sent report.text.items
             × Consumes (R.remaining from.old) (R.remaining from.new) received
             × Appends (W.contents to.old) (W.contents to.new) sent) }
-        ensures early { IfErr result IsEarly }
+        ensures early { IfErr result (λ ending. (ending ≡ endings.Memory) ⊎ (ending ≡ endings.Device)) }
     {
         let Node {
             mut session,
