@@ -13,25 +13,25 @@ use Rattle.table_shards.specs.declared.errors.ShardError.{ShardError}
 use Rattle.table_shards.specs.Holding.{Holds, receipted}
 use Rattle.table_shards.proofs.PageLaws.{one_more}
 use Rattle.table_shards.proofs.AllLaws.{all_both}
-use Rattle.round_command.specs.Tracks.{IsTrack, Tracks}
+use Rattle.round_command.specs.Tracks.{GainsTracks, IsTrack}
 
-pub none_tracked : (key : ℕ) (s : SeatState) → Tracks key 0 s s
+pub none_tracked : (key : ℕ) (s : SeatState) → GainsTracks key 0 s s
 none_tracked key s = (refl, [], sym (append-nil (receipts_of 1 s)), refl, tt)
 
 tracked_once : (key : ℕ) (s : SeatState) (c : CellState) (reply : CellReply)
-    → Tracks key 1 s (receipted 1 c s (events.Track s.number (keys.Int key) (changes.Add types.Gpc0 1) 4294967296) reply)
+    → GainsTracks key 1 s (receipted 1 c s (events.Track s.number (keys.Int key) (changes.Add types.Gpc0 1) 4294967296) reply)
 tracked_once key s c reply =
     let r : Receipt = record { place = events_of c + 1; event = events.Track s.number (keys.Int key) (changes.Add types.Gpc0 1) 4294967296; reply = reply } in
     (refl, r ∷ [], one_more s 1 r, refl, (refl, tt))
 
 pub one_tracked : (key now : ℕ) (s e : SeatState) (c : CellState) (reply : CellReply) → now ≡ 4294967296
-    → e ≡ receipted 1 c s (events.Track s.number (keys.Int key) (changes.Add types.Gpc0 1) now) reply → Tracks key 1 s e
+    → e ≡ receipted 1 c s (events.Track s.number (keys.Int key) (changes.Add types.Gpc0 1) now) reply → GainsTracks key 1 s e
 one_tracked key now s e c reply least is =
-    subst (λ (x : SeatState). Tracks key 1 s x)
+    subst (λ (x : SeatState). GainsTracks key 1 s x)
     (sym (is ∙ ap (λ (m : ℕ). receipted 1 c s (events.Track s.number (keys.Int key) (changes.Add types.Gpc0 1) m) reply) least))
     (tracked_once key s c reply)
 
-pub one_more_tracked : (key n : ℕ) (s m e : SeatState) → Tracks key n s m → Tracks key 1 m e → Tracks key (n + 1) s e
+pub one_more_tracked : (key n : ℕ) (s m e : SeatState) → GainsTracks key n s m → GainsTracks key 1 m e → GainsTracks key (n + 1) s e
 one_more_tracked key n s m e (same, made, before, count, all) (again, more, after, one, last) = (
   again ∙ same,
   made ++ more,

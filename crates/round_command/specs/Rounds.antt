@@ -7,18 +7,17 @@ use Rattle.table_types.specs.Rows.{StoredRow}
 use Rattle.table_cell.specs.Histories.{AreInRisingKey}
 use Rattle.table_shards.specs.declared.unlocked.UnlockedTable.{UnlockedTable}
 use Rattle.table_shards.specs.Audits.{AuditState, Audits, rounds_of}
-use Rattle.table_shards.specs.Receipts.{SeatState}
 use Rattle.round_command.specs.Tracks.{HasTracked}
 use Rattle.scene_text.specs.Rows.{row_line}
 
--- A round was audited, and nothing was found wrong. Its seats are those of so many threads, the worker's and one more, and its
+-- The audit of a round found nothing wrong. Its seats are those of so many threads, the worker's and one more, and its
 -- only table is that with the id 1, of which the round has all events.
-abbrev pub IsSound : ℕ → AuditState → Type 0
-IsSound threads a = Audits a.unlocked a.seats None × (rounds_of a.unlocked ≡ record { seats = threads + 2; tables = (1, 0) ∷ [] })
+abbrev pub IsCleanAudit : ℕ → AuditState → Type 0
+IsCleanAudit threads a = Audits a.unlocked a.seats None × (rounds_of a.unlocked ≡ record { seats = threads + 2; tables = (1, 0) ∷ [] })
 
 -- and each thread has tracked as often as it was asked for
 abbrev pub IsAudited : ℕ → ℕ → AuditState → Type 0
-IsAudited threads tracks a = IsSound threads a × AllByRecursion (λ s. s.number ≤ threads → HasTracked tracks s) a.seats
+IsAudited threads tracks a = IsCleanAudit threads a × AllByRecursion (λ s. s.number ≤ threads → HasTracked tracks s) a.seats
 
 -- there is one table; the text says that the audit found nothing, and then has the table's rows in rising key
 abbrev pub IsPrinted : AuditState → List ℕ → Type 0

@@ -17,7 +17,7 @@ abbrev pub HasTracked : ℕ → SeatState → Type 0
 HasTracked tracks s = (length (receipts_of 1 s) ≡ tracks) × AllByRecursion (IsTrack s.number s.number) (receipts_of 1 s)
 
 -- the seat has so many receipts of table 1 more, and each is of a track of the key
-abbrev pub Tracks : ℕ → ℕ → SeatState → SeatState → Type 0
-Tracks key tracks s s' =
+abbrev pub GainsTracks : ℕ → ℕ → SeatState → SeatState → Type 0
+GainsTracks key tracks s s' =
     (s'.number ≡ s.number) × (made : List Receipt) × (receipts_of 1 s' ≡ receipts_of 1 s ++ made) × (length made ≡ tracks)
     × AllByRecursion (IsTrack s.number key) made

@@ -3,7 +3,7 @@
 ghost use Rattle.std.specs.Prelude.{◌≡◌, ◌≢◌, ◌≤◌, ◌⊎◌, ℕ, List, IfOk};
 ghost use Rattle.std.specs.Io.KnownBytes.{Appends};
 ghost use Rattle.scene_commands.specs.Endings.{line_of};
-ghost use Rattle.round_command.specs.Rounds.{IsCutShort, IsSound, IsTextOf};
+ghost use Rattle.round_command.specs.Rounds.{IsCleanAudit, IsCutShort, IsTextOf};
 
 use crate::failure::{RoundFailure, failure_of};
 use crate::printing::printed;
@@ -87,7 +87,7 @@ fn run<R: Threads + Wait + Sync>(
     asked: RoundSize,
 ) -> Result<Audit, RoundFailure>
     requires { asked.threads ≤ 8 }
-    ensures { IfOk result (λ audit. IsSound asked.threads audit) }
+    ensures { IfOk result (λ audit. IsCleanAudit asked.threads audit) }
 {
     let mut cells = Vec::new(alloc);
     cells.push(new_table(alloc)?)?;

@@ -2,7 +2,7 @@
 
 ghost use Rattle.std.specs.Prelude.{◌≡◌, ◌≤◌, IfOk, IsTrue};
 ghost use Rattle.std.specs.List.{AllByRecursion};
-ghost use Rattle.round_command.specs.Tracks.{HasTracked, IsTrack, Tracks};
+ghost use Rattle.round_command.specs.Tracks.{GainsTracks, HasTracked, IsTrack};
 
 use crate::failure::{RoundFailure, failure_of};
 use crate::table::TABLE;
@@ -19,7 +19,7 @@ fn track_once<R: Wait>(
     seat: Seat,
     key: u32,
 ) -> (Seat, Result<Reply, RoundFailure>)
-    ensures { IfOk result.1 (λ reply. Tracks key 1 seat result.0) }
+    ensures { IfOk result.1 (λ reply. GainsTracks key 1 seat result.0) }
 {
     let Some(lock) = shards.cell(TABLE) else {
         return (seat, Err(RoundFailure::Refused));
@@ -50,7 +50,7 @@ pub fn track_all<R: Wait>(
     key: u32,
     tracks: u32,
 ) -> (Seat, Result<Option<Reply>, RoundFailure>)
-    ensures { IfOk result.1 (λ last. Tracks key tracks seat result.0) }
+    ensures { IfOk result.1 (λ last. GainsTracks key tracks seat result.0) }
 {
     let mut seat = seat;
     let mut last = None;
