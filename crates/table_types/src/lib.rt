@@ -4,6 +4,7 @@
 
 mod batch;
 mod byte_order;
+mod cell_list;
 mod change;
 mod copies;
 mod data_type;

@@ -3,7 +3,7 @@
 ghost use Rattle.std.specs.Prelude.{◌≡◌, ◌↔◌, IfOk, IsTrue, map, option_copied, true, false};
 ghost use Rattle.table_types.specs.Rows.{cell_of, end_of, row_of};
 
-use crate::items::Items;
+use crate::cell_list::CellList;
 use crate::key::Key;
 use crate::memory::Memory;
 use crate::moment::Moment;
@@ -35,7 +35,7 @@ pub struct Row {
     // Beside the number, where it takes no room of its own: fields lie in this order.
     learned: bool,
     ends: Option<Moment>,
-    cells: Items<Cell>,
+    cells: CellList,
     name: Option<Name>,
 }
 
@@ -68,12 +68,12 @@ impl Cell {
     }
 }
 
-fn cells_of(alloc: Global, values: &[Value], moment: Moment) -> Result<Vec<Cell>, Memory>
-    ensures { IfOk result (λ cells. cells.items ≡ map (cell_of moment) values.now) }
+fn cells_of(alloc: Global, values: &[Value], moment: Moment) -> Result<CellList, Memory>
+    ensures { IfOk result (λ cells. cells ≡ map (cell_of moment) values.now) }
 {
-    let mut cells = Vec::with_capacity(alloc, values.len())?;
+    let mut cells = CellList::with_room(alloc, values.len())?;
     for value in values {
-        cells.push(Cell::of(*value, moment))?;
+        cells = cells.with(alloc, Cell::of(*value, moment))?;
     }
     Ok(cells)
 }
@@ -109,7 +109,7 @@ impl Row {
             ..
         } = update;
         let ends = Row::end(life, expire, moment);
-        Ok((key, Row::learned_with(number, ends, cells, name)))
+        Ok((key, Row::learned_of(number, ends, cells, name)))
     }
 
     /// The row that an update teaches at a moment, as `Row::learned` makes it, under a number of this node's own.
@@ -125,7 +125,7 @@ impl Row {
         let cells = cells_of(alloc, update.values.as_slice(), moment)?;
         let name = Name::copy_of(alloc, &update.name)?;
         let ends = Row::end(update.life, expire, moment);
-        Ok(Row::learned_with(number, ends, cells, name))
+        Ok(Row::learned_of(number, ends, cells, name))
     }
 
     /// When a row ends that an update of that life, in milliseconds, teaches at a moment, in a table whose rows expire
@@ -151,30 +151,36 @@ impl Row {
     ) -> Row
         ensures { result ≡ record { number = number; ends = ends; cells = cells.items; name = name; learned = true } }
     {
+        Row::learned_of(number, ends, CellList::of(cells), name)
+    }
+
+    fn learned_of(number: u32, ends: Option<Moment>, cells: CellList, name: Option<Name>) -> Row
+        ensures { result ≡ record { number = number; ends = ends; cells = cells; name = name; learned = true } }
+    {
         Row {
             number,
-            ends,
-            cells: Items::new(cells),
-            name,
             learned: true,
+            ends,
+            cells,
+            name,
         }
     }
 
     /// A row of this node's own, of these parts.
-    pub fn local_with(
+    pub(crate) fn local_with(
         number: u32,
         ends: Option<Moment>,
-        cells: Vec<Cell>,
+        cells: CellList,
         name: Option<Name>,
     ) -> Row
-        ensures { result ≡ record { number = number; ends = ends; cells = cells.items; name = name; learned = false } }
+        ensures { result ≡ record { number = number; ends = ends; cells = cells; name = name; learned = false } }
     {
         Row {
             number,
-            ends,
-            cells: Items::new(cells),
-            name,
             learned: false,
+            ends,
+            cells,
+            name,
         }
     }
 

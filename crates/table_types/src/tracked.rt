@@ -6,6 +6,7 @@ ghost use Rattle.table_types.specs.Rows.{smaller};
 ghost use Rattle.table_types.specs.Rotation.{turned};
 ghost use Rattle.table_types.specs.Changes.{most, changed_count, raised, changed_rate, changed_cell, changed_cells, changed_name, begun_cell, begun_cells, cells_before, name_before, tracked};
 
+use crate::cell_list::CellList;
 use crate::change::Change;
 use crate::data_type::{DataType, Shape};
 use crate::memory::Memory;
@@ -113,11 +114,11 @@ fn changed_cells(
     types: &[(DataType, Option<u32>)],
     cells: &[Cell],
     moment: Moment,
-) -> Result<Vec<Cell>, Memory>
-    ensures { IfOk result (λ changed. changed.items ≡ changed_cells moment change.now types.now cells.now) }
+) -> Result<CellList, Memory>
+    ensures { IfOk result (λ changed. changed ≡ changed_cells moment change.now types.now cells.now) }
 {
     let mut rest = cells;
-    let mut changed = Vec::with_capacity(alloc, cells.len())?;
+    let mut changed = CellList::with_room(alloc, cells.len())?;
     for entry in types {
         if entry.0.shape() == Shape::Name {
             continue;
@@ -125,7 +126,7 @@ fn changed_cells(
         let Some((cell, others)) = rest.split_first() else {
             return Ok(changed);
         };
-        changed.push(changed_cell(change, entry, *cell, moment))?;
+        changed = changed.with(alloc, changed_cell(change, entry, *cell, moment))?;
         rest = others;
     }
     Ok(changed)
@@ -148,16 +149,16 @@ fn begun_cells(
     alloc: Global,
     types: &[(DataType, Option<u32>)],
     moment: Moment,
-) -> Result<Vec<Cell>, Memory>
-    ensures { IfOk result (λ begun. begun.items ≡ begun_cells moment types.now) }
+) -> Result<CellList, Memory>
+    ensures { IfOk result (λ begun. begun ≡ begun_cells moment types.now) }
 {
-    let mut begun = Vec::with_capacity(alloc, types.len())?;
+    let mut begun = CellList::with_room(alloc, types.len())?;
     for entry in types {
         let shape = entry.0.shape();
         if shape == Shape::Name {
             continue;
         }
-        begun.push(begun_cell(shape, moment))?;
+        begun = begun.with(alloc, begun_cell(shape, moment))?;
     }
     Ok(begun)
 }
@@ -168,8 +169,8 @@ fn cells_after(
     live: Option<&Row>,
     change: &Change,
     moment: Moment,
-) -> Result<Vec<Cell>, Memory>
-    ensures { IfOk result (λ changed. changed.items ≡ changed_cells moment change.now table.now.types (cells_before moment table.now (option_copied live.entry))) }
+) -> Result<CellList, Memory>
+    ensures { IfOk result (λ changed. changed ≡ changed_cells moment change.now table.now.types (cells_before moment table.now (option_copied live.entry))) }
 {
     let types = table.types();
     match live {

@@ -4,4 +4,4 @@ use Rattle.table_types.proofs.row.cells_of.Given as goal
 
 abbrev pub invariant-loop-value : goal.invariant-loop-value
 invariant-loop-value l =
-    l.cells.items ++ map (cell_of l.fn.moment) (drop l.value-index l.values) ≡ map (cell_of l.fn.moment) l.values
+    l.cells ++ map (cell_of l.fn.moment) (drop l.value-index l.values) ≡ map (cell_of l.fn.moment) l.values

@@ -4,4 +4,4 @@ use Rattle.table_types.proofs.tracked.changed_cells.Given as goal
 
 abbrev pub invariant-loop-entry : goal.invariant-loop-entry
 invariant-loop-entry l =
-    l.changed.items ++ changed_cells l.fn.moment l.fn.change (drop l.entry-index l.types) l.rest ≡ changed_cells l.fn.moment l.fn.change l.types l.cells
+    l.changed ++ changed_cells l.fn.moment l.fn.change (drop l.entry-index l.types) l.rest ≡ changed_cells l.fn.moment l.fn.change l.types l.cells
