@@ -46,9 +46,9 @@ incremental_shorter n u =
     framed_longer 10 (update_type (record u { number = None })) 10 (update_type (record u { number = Some n })) rest (word n ++ rest) (omega (arith, length-append (word n) rest))
 
 -- an update in its shortest number form is no longer than with its number
-pub told_shorter : (last : Option ℕ) (field : NameField) (u : Update) → size_of (messages.Update (sent_as last field u)) ≤ size_of (messages.Update (sent_as None field u))
-told_shorter None field u = omega arith
-told_shorter (Some last) field u = at (follows (Some last) u.number) refl
+pub sent_shorter : (last : Option ℕ) (field : NameField) (u : Update) → size_of (messages.Update (sent_as last field u)) ≤ size_of (messages.Update (sent_as None field u))
+sent_shorter None field u = omega arith
+sent_shorter (Some last) field u = at (follows (Some last) u.number) refl
   where
     at : (b : Bool) → follows (Some last) u.number ≡ b → size_of (messages.Update (sent_as (Some last) field u)) ≤ size_of (messages.Update (sent_as None field u))
     at true e = rw e (incremental_shorter u.number (sent_as None field u))
@@ -76,7 +76,7 @@ written_falls roster less more u knows =
     let field = written_field (is_named_table (table_at roster u.table)) u.name in
     elim (knows.last u.table) [
       | inl same ↦ rw same (omega arith)
-      | inr none ↦ rw none (told_shorter (more.last u.table) field u)
+      | inr none ↦ rw none (sent_shorter (more.last u.table) field u)
     ]
 
 -- after an update, too, less is known where less was
@@ -240,14 +240,14 @@ and-right true b h = h
 and-right false b h = cc
 
 -- an update in its shortest number form is no longer than in any that means its number
-pub told_least : (number last : Option ℕ) (field : NameField) (u : Update) → resolved_number number last ≡ Some u.number → size_of (messages.Update (sent_as last field u)) ≤ size_of (messages.Update (record { number = number; life = u.life; key = u.key; values = u.values; name = field }))
-told_least (Some n) last field u is =
+pub sent_least : (number last : Option ℕ) (field : NameField) (u : Update) → resolved_number number last ≡ Some u.number → size_of (messages.Update (sent_as last field u)) ≤ size_of (messages.Update (record { number = number; life = u.life; key = u.key; values = u.values; name = field }))
+sent_least (Some n) last field u is =
     let same : n ≡ u.number = cc in
     let numbered : size_of (messages.Update (sent_as None field u)) ≡ size_of (messages.Update (record { number = Some n; life = u.life; key = u.key; values = u.values; name = field })) = rw same refl in
-    let le = told_shorter last field u in
+    let le = sent_shorter last field u in
     omega arith
-told_least None None field u is = cc
-told_least None (Some last) field u is =
+sent_least None None field u is = cc
+sent_least None (Some last) field u is =
     let same : (last + 1) % 2 ^ 32 ≡ u.number = cc in
     rw (eq-eqb ((last + 1) % 2 ^ 32) u.number same) (omega arith)
 
@@ -295,7 +295,7 @@ update_pays roster k d m u slots after listed fit named life key values number =
   where
     as_meant : (field : NameField) → m.name ≡ field → size_of (messages.Update (sent_as (k.last u.table) field u)) ≤ size_of (messages.Update m)
     as_meant field e =
-        let least = told_least m.number (k.last u.table) field u number in
+        let least = sent_least m.number (k.last u.table) field u number in
         let same : record { number = m.number; life = u.life; key = u.key; values = u.values; name = field } ≡ m = rw (← life, ← key, ← values, ← e) refl in
         subst (λ (f : UpdateFields). size_of (messages.Update (sent_as (k.last u.table) field u)) ≤ size_of (messages.Update f)) same least
 

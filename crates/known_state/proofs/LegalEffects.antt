@@ -23,7 +23,7 @@ use Rattle.known_state.specs.declared.effect.Refusal.{Refusal}
 use Rattle.known_state.specs.declared.effect.Refusal.TheVariants as refusals
 use Rattle.known_state.specs.declared.known.StepError.{StepError}
 use Rattle.known_state.specs.declared.known.StepError.TheVariants as step_errors
-use Rattle.known_state.proofs.EffectLemmas.{effect_steps, resolved_unrefused}
+use Rattle.known_state.proofs.EffectLemmas.{effect_steps}
 use Rattle.known_state.proofs.StepPays.{own_stays}
 
 -- the effect of a legal message makes its step, in a known state of these parts
@@ -48,47 +48,34 @@ refused_so k u d sel fit =
     let here : update_refusal k u (selected_table k.state.received) ≡ update_refusal k u (Some d) = ap (λ (o : Option Definition). update_refusal k u o) sel in
     here ∙ rw fit refl
 
--- whether its state refuses it, and why, is told
+-- whether its state refuses it, and why, is passed on
 pub refusal_here : (k : KnownState) (s : State) (u : UpdateFields) (d : Definition) (number : Option ℕ) (field : NameField) (refusal : Option Refusal) → s ≡ k.state → number ≡ u.number → field ≡ u.name → selected_table k.state.received ≡ Some d → fits k.state.received (messages.Update u) ≡ true
     → refusal ≡ refusal_of s number field → update_refusal k u (selected_table k.state.received) ≡ option_map refused_as refusal
 refusal_here k s u d number field refusal is_s is_number is_field sel fit is =
     let here : refusal_of k.state u.number u.name ≡ refusal = rw (← is_s, ← is_number, ← is_field) (sym is) in
     refused_so k u d sel fit ∙ ap (λ (o : Option Refusal). option_map refused_as o) here
 
--- where its state refuses it, that is told
-pub refusal_told : (k : KnownState) (s : State) (u : UpdateFields) (d : Definition) (number : Option ℕ) (field : NameField) (refusal : Refusal) → s ≡ k.state → number ≡ u.number → field ≡ u.name → selected_table k.state.received ≡ Some d → fits k.state.received (messages.Update u) ≡ true
-    → (refusal ≢ refusals.Memory → refusal_of s number field ≡ Some refusal) → refused_as refusal ≢ step_errors.Memory → update_refusal k u (selected_table k.state.received) ≡ Some (refused_as refusal)
-refusal_told k s u d number field refusal is_s is_number is_field sel fit refused other =
-    let told : refusal_of s number field ≡ Some refusal = refused (λ same. other (ap refused_as same)) in
-    let here : refusal_of k.state u.number u.name ≡ Some refusal = rw (← is_s, ← is_number, ← is_field) told in
-    refused_so k u d sel fit ∙ ap (λ (o : Option Refusal). option_map refused_as o) here
-
--- and what is refused is refused there for that cause
-pub same_refusal : (k : KnownState) (s : State) (u : UpdateFields) (d : Definition) (number : Option ℕ) (field : NameField) (refusal : Refusal) (e : StepError) → s ≡ k.state → number ≡ u.number → field ≡ u.name → selected_table k.state.received ≡ Some d → fits k.state.received (messages.Update u) ≡ true
-    → ((r : Refusal) → refusal_of s number field ≡ Some r → refusal ≡ r) → update_refusal k u (selected_table k.state.received) ≡ Some e → refused_as refusal ≡ e
-same_refusal k s u d number field refusal e is_s is_number is_field sel fit exactly refuses =
-    at (refusal_of s number field) refl (sym (refused_so k u d sel fit ∙ ap (λ (o : Option Refusal). option_map refused_as o) (sym same)) ∙ refuses)
-  where
-    same : refusal_of s number field ≡ refusal_of k.state u.number u.name
-    same = ap (λ (x : State). refusal_of x number field) is_s ∙ ap (λ (n : Option ℕ). refusal_of k.state n field) is_number ∙ ap (λ (f : NameField). refusal_of k.state u.number f) is_field
-
-    at : (o : Option Refusal) → refusal_of s number field ≡ o → option_map refused_as o ≡ Some e → refused_as refusal ≡ e
-    at None is h = cc
-    at (Some r) is h = let told : refused_as r ≡ e = cc in ap refused_as (exactly r is) ∙ told
+-- where nothing refuses it in the known state, its state refuses it for want of memory alone
+pub only_memory : (k : KnownState) (s : State) (u : UpdateFields) (number : Option ℕ) (field : NameField) (refusal : Refusal) → s ≡ k.state → number ≡ u.number → field ≡ u.name → refusal_of k.state u.number u.name ≡ None
+    → (refusal ≢ refusals.Memory → refusal_of s number field ≡ Some refusal) → refused_as refusal ≢ step_errors.Memory → ⊥
+only_memory k s u number field refusal is_s is_number is_field none refused other =
+    let found : refusal_of s number field ≡ Some refusal = refused (λ same. other (ap refused_as same)) in
+    let here : refusal_of k.state u.number u.name ≡ Some refusal = rw (← is_s, ← is_number, ← is_field) found in
+    let bad : None ≡ Some refusal = sym none ∙ here in
+    cc
 
 -- what is resolved in a state is resolved in the known state
 pub resolves_here : (k : KnownState) (s : State) (u : UpdateFields) (number : Option ℕ) (field : NameField) (r : ResolvedUpdate) → s ≡ k.state → number ≡ u.number → field ≡ u.name → Resolves s number field r → Resolves k.state u.number u.name r
 resolves_here k s u number field r is_s is_number is_field resolves =
     subst (λ (f : NameField). Resolves k.state u.number f r) is_field (subst (λ (n : Option ℕ). Resolves k.state n field r) is_number (subst (λ (x : State). Resolves x number field r) is_s resolves))
 
--- and isn't refused
-pub unrefused : (k : KnownState) (u : UpdateFields) (d : Definition) (r : ResolvedUpdate) (e : StepError) → selected_table k.state.received ≡ Some d → fits k.state.received (messages.Update u) ≡ true → Resolves k.state u.number u.name r → update_refusal k u (selected_table k.state.received) ≡ Some e → ⊥
-unrefused k u d r e sel fit resolves refuses =
-    let none : update_refusal k u (selected_table k.state.received) ≡ None = refused_so k u d sel fit ∙ ap (λ (o : Option Refusal). option_map refused_as o) (resolved_unrefused k.state u.number u.name r resolves) in
-    let bad : None ≡ Some e = sym none ∙ refuses in
-    cc
-
 -- ---- messages that are refused for no cause but want of memory
+
+-- what is found to be refused for none is among them
+pub none_refuses : (found refusal : Option StepError) → found ≡ refusal → found ≡ None → (e : StepError) → refusal ≡ Some e → ⊥
+none_refuses found refusal is none e refuses =
+    let bad : None ≡ Some e = sym none ∙ is ∙ refuses in
+    cc
 
 -- an update among them fits, and its state doesn't refuse it
 pub taken_update : (k : KnownState) (u : UpdateFields) → IsTakenBy k (messages.Update u) → (d : Definition) × (selected_table k.state.received ≡ Some d) × (fits k.state.received (messages.Update u) ≡ true) × (refusal_of k.state u.number u.name ≡ None)

@@ -7,7 +7,7 @@ use Rattle.table_types.specs.Tables.{Definition}
 use Rattle.table_types.specs.Rosters.{table_at}
 use Rattle.peers_msg.specs.declared.message.Message.{Message}
 use Rattle.peers_msg.specs.declared.message.Message.TheVariants as messages
-use Rattle.peers_msg.specs.Messages.{UpdateFields}
+use Rattle.peers_msg.specs.Messages.{UpdateFields, most_data}
 use Rattle.peers_msg.specs.Received.{Received, selected_table}
 use Rattle.peers_msg.specs.Fitting.{fits}
 use Rattle.known_state.specs.State.{State, Step, IsOwn}
@@ -20,7 +20,7 @@ use Rattle.known_state.proofs.StepLemmas.{has_id-table_at}
 
 pub switch_found : (h : Received) (id : ℕ) → fits h (messages.Switch id) ≡ true → (d : Definition) × (table_at h.tables id ≡ Some d)
 unfolding fits
-switch_found h id fit = at (table_at h.tables id) refl (middle (nat_lt id (2 ^ 64)) (is_some (table_at h.tables id)) (nat_le (length (data_of (messages.Switch id))) 16384) fit)
+switch_found h id fit = at (table_at h.tables id) refl (middle (nat_lt id (2 ^ 64)) (is_some (table_at h.tables id)) (nat_le (length (data_of (messages.Switch id))) most_data) fit)
   where
     middle : (a b c : Bool) → ((a && b) && c) ≡ true → b ≡ true
     middle true true c h = refl

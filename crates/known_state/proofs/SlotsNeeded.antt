@@ -91,13 +91,13 @@ after_more asking r name true is before = (asking.place + 1, rw is refl)
 after_more asking r name false is before = let earlier = before refl in (earlier.0, rw is earlier.1)
 
 pub met_linked : (asking : Asking) (slots : List (Option (List ℕ))) (rs : List Asked) (keep : List Bool) → HaveBeenRequested asking slots → AreMet slots rs keep → AreLinked asking rs keep
-met_linked asking slots [] [] told met = tt
-met_linked asking slots [] (k ∷ keep) told met = tt
-met_linked asking slots (r ∷ rs) [] told met = tt
-met_linked asking slots (r ∷ rs) (true ∷ keep) told met =
-    (told r.name met.0, met_linked (after_request asking r) slots rs keep (λ name h. after_more asking r name (is_same_name r.name name) refl (λ apart. told name h)) met.1)
-met_linked asking slots (r ∷ rs) (false ∷ keep) told met =
-    met_linked (after_request asking r) (slice_set slots met.0 (Some r.name)) rs keep (λ name h. after_more asking r name (is_same_name r.name name) refl (λ apart. told name (among_before slots met.0 name r.name (turned name r.name ∙ apart) h))) met.2
+met_linked asking slots [] [] requested met = tt
+met_linked asking slots [] (k ∷ keep) requested met = tt
+met_linked asking slots (r ∷ rs) [] requested met = tt
+met_linked asking slots (r ∷ rs) (true ∷ keep) requested met =
+    (requested r.name met.0, met_linked (after_request asking r) slots rs keep (λ name h. after_more asking r name (is_same_name r.name name) refl (λ apart. requested name h)) met.1)
+met_linked asking slots (r ∷ rs) (false ∷ keep) requested met =
+    met_linked (after_request asking r) (slice_set slots met.0 (Some r.name)) rs keep (λ name h. after_more asking r name (is_same_name r.name name) refl (λ apart. requested name (among_before slots met.0 name r.name (turned name r.name ∙ apart) h))) met.2
 
 -- ---- the names that are kept over a place
 

@@ -12,7 +12,7 @@ use Rattle.table_types.specs.Rosters.{table_at, has_id}
 use Rattle.peers_msg.specs.declared.message.Message.TheVariants as messages
 use Rattle.peers_msg.specs.declared.name_field.NameField.{NameField}
 use Rattle.peers_msg.specs.declared.name_field.NameField.TheVariants as names
-use Rattle.peers_msg.specs.Messages.{UpdateFields}
+use Rattle.peers_msg.specs.Messages.{UpdateFields, most_data}
 use Rattle.peers_msg.specs.Received.{Received, selected_table}
 use Rattle.peers_msg.specs.Spelling.{data_of, update_text, definition_text}
 use Rattle.peers_msg.specs.Fitting.{fits, update_fits, name_fits}
@@ -31,17 +31,17 @@ has_id-table_at (x ∷ xs) id = elim (cases_eq x.id id) [
 
 pub define_fits : (h : Received) (d : Definition) → is_definition d ≡ true → fits h (messages.Define d) ≡ true
 unfolding fits data_of
-define_fits h d is = rw (is, le-leb (length (definition_text d)) 16384 (definition_small d is)) refl
+define_fits h d is = rw (is, le-leb (length (definition_text d)) most_data (definition_small d is)) refl
 
 pub switch_fits : (h : Received) (id : ℕ) → id < 2 ^ 64 → is_some (table_at h.tables id) ≡ true → fits h (messages.Switch id) ≡ true
 unfolding fits data_of
 switch_fits h id small found =
-    let short : length (spelling id) ≤ 16384 = omega (arith, (integers.within id).1) in
-    rw (lt-ltb id (2 ^ 64) small, found, le-leb (length (spelling id)) 16384 short) refl
+    let short : length (spelling id) ≤ most_data = omega (arith, (integers.within id).1) in
+    rw (lt-ltb id (2 ^ 64) small, found, le-leb (length (spelling id)) most_data short) refl
 
 pub update_fits_received : (h : Received) (u : UpdateFields) (d : Definition) → selected_table h ≡ Some d → update_fits d u ≡ true → is_definition d ≡ true → fits h (messages.Update u) ≡ true
 unfolding fits data_of
-update_fits_received h u d sel fit is = rw (sel, fit, le-leb (length (update_text u)) 16384 (update_small d u is fit)) refl
+update_fits_received h u d sel fit is = rw (sel, fit, le-leb (length (update_text u)) most_data (update_small d u is fit)) refl
 
 -- the table selected is that of the id selected
 pub selected-id : (h : Received) (d : Definition) → selected_table h ≡ Some d → h.selected ≡ Some d.id

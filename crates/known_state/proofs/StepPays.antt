@@ -12,7 +12,7 @@ use Rattle.table_types.specs.Tables.{Definition}
 use Rattle.table_types.specs.Rosters.{table_at}
 use Rattle.peers_msg.specs.declared.message.Message.{Message}
 use Rattle.peers_msg.specs.declared.message.Message.TheVariants as messages
-use Rattle.peers_msg.specs.Messages.{UpdateFields}
+use Rattle.peers_msg.specs.Messages.{UpdateFields, most_data}
 use Rattle.peers_msg.specs.Received.{Received, received_after, defined, selected_table}
 use Rattle.peers_msg.specs.Spelling.{size_of, size_of_all, data_of}
 use Rattle.peers_msg.specs.Fitting.{fits, name_fits, update_fits}
@@ -98,7 +98,7 @@ name_fitting h m d fit sel = last-part (sym (rw sel refl) ∙ fit)
     and-right true b h = h
     and-right false b h = cc
 
-    last-part : (update_fits d m && nat_le (length (data_of (messages.Update m))) 16384) ≡ true → name_fits d m.name ≡ true
+    last-part : (update_fits d m && nat_le (length (data_of (messages.Update m))) most_data) ≡ true → name_fits d m.name ≡ true
     last-part e = and-right _ (name_fits d m.name) (and-left (update_fits d m) _ e)
 
 pub moved_last : (b c : Bool) (l : Option ℕ) (n : ℕ) → (c ≡ true → b ≡ true) → cond b (cond c (Some n) l) None ≡ cond c (Some n) (cond b l None)

@@ -1,9 +1,8 @@
 -- What makes a step is refused for no cause.
-use Rattle.std.proofs.Common.{◌≡◌, ℕ, true, Option, Some, None, refl, sym, ◌∙◌}
+use Rattle.std.proofs.Common.{◌≡◌, ℕ, true, Option, Some, None, refl}
 use Rattle.std.specs.Prelude.{is_some}
 use Rattle.table_types.specs.Tables.{Definition}
 use Rattle.table_types.specs.Rosters.{table_at}
-use Rattle.known_state.specs.declared.known.StepError.{StepError}
 use Rattle.known_state.specs.Known.{KnownState, switch_refusal}
 use Rattle.known_state.proofs.StepLemmas.{has_id-table_at}
 
@@ -14,13 +13,3 @@ switch_taken k id own found = at (table_at k.state.received.tables id) refl foun
     at : (o : Option Definition) → table_at k.state.received.tables id ≡ o → is_some (table_at k.state.received.tables id) ≡ true → switch_refusal k id ≡ None
     at None is found = cc
     at (Some d) is found = rw (has_id-table_at k.roster id, own, is) refl
-
-pub switch_unrefused : (k : KnownState) (id : ℕ) (e : StepError) → is_some (table_at k.roster id) ≡ true → is_some (table_at k.state.received.tables id) ≡ true → switch_refusal k id ≡ Some e → ⊥
-switch_unrefused k id e own found refuses = at (table_at k.state.received.tables id) refl found
-  where
-    at : (o : Option Definition) → table_at k.state.received.tables id ≡ o → is_some (table_at k.state.received.tables id) ≡ true → ⊥
-    at None is found = cc
-    at (Some d) is found =
-        let none : switch_refusal k id ≡ None = rw (has_id-table_at k.roster id, own, is) refl in
-        let bad : None ≡ Some e = sym none ∙ refuses in
-        cc

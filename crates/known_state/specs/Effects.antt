@@ -18,8 +18,9 @@ use Rattle.known_state.specs.declared.effect.ResolvedUpdate.{ResolvedUpdate}
 abbrev pub selected_number : State → Option ℕ → Option ℕ
 selected_number s number = option_and_then (λ table. resolved_number number (last_of s.last_numbers table)) s.received.selected
 
--- why an update of that number and name field is refused: it is incremental and its table has no last number, or else it
--- reads an empty slot
+-- Why an update of that number and name field is refused, the first of two causes that applies. NoNumber: no table is
+-- selected, or the update is incremental and the table that is selected has no last number. EmptySlot: its name field
+-- reads a slot that holds no name.
 abbrev pub refusal_of : State → Option ℕ → NameField → Option Refusal
 refusal_of s number field =
     if is_none (selected_number s number) then Some refusals.NoNumber

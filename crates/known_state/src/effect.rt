@@ -16,7 +16,7 @@ use thiserror::Error;
 /// Why an update makes no step: the first that applies, in this order.
 #[derive(Clone, Copy, Debug, PartialEq, Eq, Error)]
 pub enum Refusal {
-    /// It is incremental, and its table has no last number.
+    /// No table is selected, or it is incremental, and the selected table has no last number.
     #[error("an incremental update of a table without a number")]
     NoNumber,
     /// It reads its name from a slot that holds none.

@@ -375,13 +375,10 @@ impl Known {
         ensures refused { IfErr result (λ e. Refuses self.now (messages.Switch id) e) }
         ensures exactly { (e : StepError) → Refuses self.now (messages.Switch id) e → result ≡ Err e }
     {
-        let Some(_) = self.roster.table(id) else {
-            return Err(StepError::Foreign);
-        };
-        let Some(_) = self.state.received().table(id) else {
-            return Err(StepError::NotDefined);
-        };
-        Ok(Effect::Select(id))
+        match self.refusal_of_switch(id) {
+            Some(error) => Err(error),
+            None => Ok(self.effect_of_switch(id)),
+        }
     }
 
     fn update(&self, update: &UpdateMsg) -> Result<Effect, StepError>
@@ -389,15 +386,13 @@ impl Known {
         ensures refused { IfErr result (λ e. e ≢ step_errors.Memory → Refuses self.now (messages.Update update.now) e) }
         ensures exactly { (e : StepError) → Refuses self.now (messages.Update update.now) e → result ≡ Err e }
     {
-        let Some(table) = self.state.received().selected_table() else {
-            return Err(StepError::NoTable);
-        };
-        let _id = table.id();
-        if !update.fits(table) {
-            return Err(StepError::Foreign);
+        match self.refusal_of_update(update) {
+            Some(error) => Err(error),
+            None => {
+                let resolved = self.state.resolve(update.number(), update.name().lend())?;
+                Ok(Effect::Update(resolved))
+            }
         }
-        let resolved = self.state.resolve(update.number(), update.name().lend())?;
-        Ok(Effect::Update(resolved))
     }
 
     /// What a message does of which it is known that it is legal.

@@ -1,9 +1,10 @@
 //! The state of one direction of a session.
 
-ghost use Rattle.std.specs.Prelude.{◌≡◌, ◌≢◌, ◌-◌, true, Some, Err, IfOk, IfErr, IfSome, OnOk, OnErr, option_copied, option_map, slice_set};
+ghost use Rattle.std.specs.Prelude.{◌≡◌, ◌≢◌, ◌-◌, true, false, Some, Err, IfOk, IfErr, IfSome, OnOk, OnErr, option_copied, option_map, slice_set};
 ghost use Rattle.table_types.specs.Names.{is_name};
 ghost use Rattle.dict_slots.specs.Slots.{slot_at};
 ghost use Rattle.peers_msg.specs.Borrowed.{owned_name, is_named};
+ghost use Rattle.known_state.specs.LastNumbers.{last_of};
 ghost use Rattle.known_state.specs.State.{fresh, resolved_number, reads_empty, name_of};
 ghost use Rattle.known_state.specs.Effects.{Resolves, made, refusal_of, selected_number, slots_with, written_by};
 ghost use Rattle.known_state.specs.declared.effect.Effect.TheVariants as effects;
@@ -169,14 +170,28 @@ impl State {
         }
     }
 
+    /// The id that is selected, and the number of an update of this number and name field; or why it is refused, in the
+    /// order `NoNumber`, `EmptySlot`.
+    fn numbered(&self, number: Option<u32>, field: NameFieldRef<'_>) -> Result<(u64, u32), Refusal>
+        ensures table { IfOk result (λ found. self.now.received.selected ≡ Some found.0) }
+        ensures number { IfOk result (λ found. resolved_number number (last_of self.now.last_numbers found.0) ≡ Some found.1) }
+        ensures reads { IfOk result (λ _. reads_empty self.now.slots (owned_name field.entry) ≡ false) }
+        ensures refused { IfErr result (λ e. refusal_of self.now number (owned_name field.entry) ≡ Some e) }
+    {
+        match self.number(number) {
+            None => Err(Refusal::NoNumber),
+            Some(_) if self.reads_empty(field) => Err(Refusal::EmptySlot),
+            Some(found) => Ok(found),
+        }
+    }
+
     /// Why an update of this number and name field is refused, if it is. Takes no memory.
     pub fn refusal(&self, number: Option<u32>, field: NameFieldRef<'_>) -> Option<Refusal>
         ensures { result ≡ refusal_of self.now number (owned_name field.entry) }
     {
-        match self.number(number) {
-            None => Some(Refusal::NoNumber),
-            Some(_) if self.reads_empty(field) => Some(Refusal::EmptySlot),
-            Some(_) => None,
+        match self.numbered(number, field) {
+            Ok(_) => None,
+            Err(refusal) => Some(refusal),
         }
     }
 
@@ -194,18 +209,17 @@ impl State {
         ensures refused { IfErr result (λ e. e ≢ refusals.Memory → refusal_of self.now number (owned_name field.entry) ≡ Some e) }
         ensures exactly { (e : Refusal) → refusal_of self.now number (owned_name field.entry) ≡ Some e → result ≡ Err e }
     {
-        let Some((table, number)) = self.number(number) else {
-            return Err(Refusal::NoNumber);
-        };
-        if self.reads_empty(field) {
-            return Err(Refusal::EmptySlot);
+        match self.numbered(number, field) {
+            Ok((table, number)) => {
+                let written = written_by(self.alloc, field)?;
+                Ok(ResolvedUpdate {
+                    table,
+                    number,
+                    written,
+                })
+            }
+            Err(refusal) => Err(refusal),
         }
-        let written = written_by(self.alloc, field)?;
-        Ok(ResolvedUpdate {
-            table,
-            number,
-            written,
-        })
     }
 
     /// Makes an effect. After `Memory` nothing has changed.

@@ -6,9 +6,10 @@ use Rattle.table_types.specs.Tables.{Definition}
 use Rattle.peers_msg.specs.declared.message.Message.{Message}
 use Rattle.peers_msg.specs.declared.message.Message.TheVariants as messages
 use Rattle.peers_msg.specs.Received.{IsBelow, AreDistinct}
+use Rattle.known_state.specs.Known.{holds}
 use Rattle.known_state.specs.LastNumbers.{last_of}
 use Rattle.learner.specs.LocalTables.{local_table}
-use Rattle.learner.specs.Intake.{Taking, holds, ack_of}
+use Rattle.learner.specs.Intake.{Taking, ack_of}
 use Rattle.learner.specs.Acks.{IsAckAbove, AreRisingAcks}
 
 -- each table gives an acknowledgement of its id, or none

@@ -17,8 +17,8 @@ use Rattle.learner.specs.declared.fault.Fault.{Fault}
 use Rattle.learner.specs.declared.fault.Fault.TheVariants as faults
 use Rattle.learner.specs.declared.advance.Advance.{Advance}
 use Rattle.learner.specs.declared.taken.TakenRef.{TakenRef}
-use Rattle.learner.specs.Intake.{Taking, IsFront, IsTakable, IsRefused, Takes, Stops, Gives, due_after}
-use Rattle.learner.specs.Front.{Shows, due_made, owned, passed, stopped}
+use Rattle.learner.specs.Intake.{Taking, IsTakable, IsRefused, Takes, Stops, Gives, due_after}
+use Rattle.learner.specs.Front.{IsFront, Shows, due_made, owned, passed, stopped}
 
 -- what is left of t after a message of so many bytes, with that state and these ids due
 abbrev pub after_message : Taking → ℕ → State → List ℕ → Taking

@@ -35,7 +35,7 @@ roster_stays now l e [] us (none, here) = ap (λ (x : Learning). x.intake.roster
 roster_stays now l e (m ∷ ms) us (first, rest, next, all, begins, later) =
     roster_stays now next e ms rest later ∙ ap (λ (x : Taking). x.roster) begins.0.6
 
--- a fault at the front, told as learning one message does
+-- a fault at the front, as learning one message answers it
 pub stops_one : (now : ℕ) (l e : Learning) (fault : Fault) → Stops l.intake fault e.intake → e.rows ≡ l.rows → LearnsOne now l (Err fault) e
 stops_one now l e faults.Memory stops rows = (stops.1, rows, inl stops.2)
 stops_one now l e faults.Closed stops rows = (stops, rows)
@@ -71,7 +71,7 @@ cut_here now l takable = (takable, refl, inl refl)
 pub gives_cut : (now : ℕ) (l : Learning) (e : Taking) (answer : Taken) → IsTakable l.intake → Gives l.intake (Ok answer) e → LearnsOne now l (Err faults.Memory) (record { intake = e; rows = l.rows })
 gives_cut now l e answer takable (m, takes, tells) = (takable, refl, inr (m, rows_of answer, takes))
 
--- what is open isn't told to be closed
+-- what is open doesn't answer that it is closed
 pub not_closed : (now : ℕ) (l e : Learning) (fault : Fault) → l.intake.closed ≡ false → LearnsOne now l (Err fault) e → fault ≢ faults.Closed
 not_closed now l e fault is_open learns same =
     let stops : Stops l.intake faults.Closed e.intake × (e.rows ≡ l.rows) = subst (λ (f : Fault). LearnsOne now l (Err f) e) same learns in

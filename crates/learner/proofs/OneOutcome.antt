@@ -96,7 +96,7 @@ gives_row (taken.Said c) own is = absurd (no_row own [] (sym is))
 gives_row (taken.Failed e) own is = absurd (no_row own [] (sym is))
 gives_row (taken.Acked table number) own is = absurd (no_row own [] (sym is))
 
--- a message is told in one way
+-- a message gives one answer
 one_answer : (m : Message) (a b : Taken) → rows_of a ≡ rows_of b → Answers m a → Answers m b → a ≡ b
 one_answer (messages.Update u) (taken.Row own) b rows p q = sym (gives_row b own (sym rows))
 one_answer (messages.Update u) taken.Passed b rows p q = p ∙ sym (passed u b (sym rows) q)

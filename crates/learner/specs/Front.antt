@@ -1,7 +1,8 @@
 -- The message at the front of the unread bytes: what it gives, and how an intake moves past it.
-use Rattle.std.specs.Prelude.{◌≡◌, ℕ, false, is_some, List, drop, filter, Option, Some, None, Result, Ok, Err}
+use Rattle.std.specs.Prelude.{◌≡◌, ◌≤◌, ℕ, false, true, is_some, List, length, drop, filter, Option, Some, None, Result, Ok, Err}
 use Rattle.peers_msg.specs.declared.message.Message.{Message}
 use Rattle.peers_msg.specs.Reading.{message_at}
+use Rattle.peers_msg.specs.Fitting.{fits}
 use Rattle.known_state.specs.State.{State}
 use Rattle.known_state.specs.LastNumbers.{last_of}
 use Rattle.known_state.specs.Effects.{IsEffect, carried_by, made}
@@ -15,7 +16,7 @@ use Rattle.learner.specs.declared.taken.Taken.TheVariants as taken
 use Rattle.learner.specs.declared.taken.TakenRef.{TakenRef}
 use Rattle.learner.specs.declared.taken.TakenRef.TheVariants as borrowed
 use Rattle.learner.specs.LocalTables.{local_updates}
-use Rattle.learner.specs.Intake.{Taking, IsFront, Stops, Answers, rows_of, shut, with_due}
+use Rattle.learner.specs.Intake.{Taking, Stops, Answers, rows_of, shut, with_due}
 
 -- what is borrowed, as its own
 abbrev pub owned : TakenRef → Taken
@@ -34,6 +35,15 @@ abbrev pub stopped : Taking → Fault → Taking
 stopped t faults.Memory = t
 stopped t faults.Closed = t
 stopped t fault = shut t
+
+-- a message of so many bytes stands at the front
+abbrev pub IsFront : Taking → Message → ℕ → Type 0
+IsFront t m used =
+    (t.closed ≡ false)
+    × (message_at t.state.received t.unread ≡ Ok (Some (m, drop used t.unread)))
+    × (fits t.state.received m ≡ true)
+    × (1 ≤ used)
+    × (used ≤ length t.unread)
 
 -- what stands at the front
 abbrev pub Looks : Taking → Result (Option (TakenRef × Advance)) Fault → Type 0

@@ -1,15 +1,14 @@
 -- What an intake holds, and what it makes of the bytes that it is fed (profile).
-use Rattle.std.specs.Prelude.{◌≡◌, ◌≤◌, ℕ, Bool, true, false, ◌==◌, ◌&&◌, is_some, List, [], ◌∷◌, ◌++◌, length, drop, filter, filter_map, Option, Some, None, option_map, Result, Ok, Err, if◌then◌else◌}
-use Rattle.std.specs.List.{list_any}
+use Rattle.std.specs.Prelude.{◌≡◌, ℕ, Bool, true, false, ◌&&◌, is_some, List, [], ◌∷◌, ◌++◌, filter, filter_map, Option, Some, None, option_map, Result, Ok, Err, if◌then◌else◌}
 use Rattle.table_types.specs.declared.update.Update.{Update}
 use Rattle.table_types.specs.Tables.{Definition}
 use Rattle.peers_msg.specs.declared.message.Message.{Message}
 use Rattle.peers_msg.specs.declared.message.Message.TheVariants as messages
 use Rattle.peers_msg.specs.Reading.{message_at}
-use Rattle.peers_msg.specs.Fitting.{fits}
 use Rattle.known_state.specs.State.{State, Step, fresh, last_numbers_after}
 use Rattle.known_state.specs.LastNumbers.{last_of}
 use Rattle.known_state.specs.Effects.{message_refusal}
+use Rattle.known_state.specs.Known.{holds}
 use Rattle.learner.specs.declared.fault.Fault.{Fault}
 use Rattle.learner.specs.declared.fault.Fault.TheVariants as faults
 use Rattle.learner.specs.declared.taken.Taken.{Taken}
@@ -39,9 +38,6 @@ abbrev pub shut : Taking → Taking
 shut t = record t { closed = true }
 
 -- ---- one message
-
-abbrev pub holds : ℕ → List ℕ → Bool
-holds id ids = list_any (λ other. other == id) ids
 
 abbrev pub with_due : Option ℕ → List ℕ → List ℕ
 with_due None due = due
@@ -126,15 +122,6 @@ IntakeFeeds t piece (Ok _) e = (t.closed ≡ false) × (e ≡ fed t piece)
 IntakeFeeds t piece (Err faults.Memory) e = (t.closed ≡ false) × (e ≡ t)
 IntakeFeeds t piece (Err faults.Closed) e = (t.closed ≡ true) × (e ≡ t)
 IntakeFeeds t piece (Err fault) e = ⊥
-
--- a message of so many bytes stands at the front
-abbrev pub IsFront : Taking → Message → ℕ → Type 0
-IsFront t m used =
-    (t.closed ≡ false)
-    × (message_at t.state.received t.unread ≡ Ok (Some (m, drop used t.unread)))
-    × (fits t.state.received m ≡ true)
-    × (1 ≤ used)
-    × (used ≤ length t.unread)
 
 -- ---- acknowledgements
 

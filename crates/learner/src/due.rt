@@ -1,8 +1,9 @@
 //! Which tables are due for an acknowledgement.
 
 ghost use Rattle.std.specs.Prelude.{◌≡◌, ◌<◌, Some, filter, is_some, vec_len, vec_capacity};
+ghost use Rattle.known_state.specs.Known.{holds};
 ghost use Rattle.known_state.specs.LastNumbers.{last_of};
-ghost use Rattle.learner.specs.Intake.{holds, with_due};
+ghost use Rattle.learner.specs.Intake.{with_due};
 
 use known_state::LastNumbers;
 

@@ -99,7 +99,7 @@ impl Intake {
     }
 
     /// Takes no more: every later call that takes bytes answers `Closed`.
-    pub fn close(&mut self)
+    pub(crate) fn close(&mut self)
         ensures { self.new ≡ shut self.old }
     {
         self.closed = true;

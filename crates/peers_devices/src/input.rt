@@ -24,7 +24,7 @@ pub enum ReadError {
     #[error("the input takes more than a million reads")]
     Endless,
     /// Memory ran out.
-    #[error("out of memory")]
+    #[error("memory")]
     Memory,
 }
 

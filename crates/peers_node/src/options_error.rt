@@ -9,6 +9,6 @@ pub enum OptionsError {
     #[error("not a command line of this program")]
     Words,
     /// Memory ran out while they were read.
-    #[error("out of memory")]
+    #[error("memory")]
     Memory,
 }

@@ -16,7 +16,7 @@ pub enum RoundFailure {
     /// No thread was to be had.
     #[error("no thread to be had")]
     NoThread,
-    /// A call is refused that isn't refused in a round, the audit finds a fault, or a thread has tracked less than it was told to.
+    /// A call is refused that isn't refused in a round, the audit finds a fault, or a thread has tracked less than it was asked to.
     #[error("a call of the round is refused")]
     Refused,
 }

@@ -28,7 +28,7 @@ pub enum Ending {
     NotShortest,
     /// A session met what it has no answer to: a table refused a call for a cause that no session meets: `fault Strange`.
     Strange,
-    /// A session was told what it hadn't asked for: `fault Unasked`.
+    /// A session was given what it hadn't asked for: `fault Unasked`.
     Unasked,
     /// Memory ran out: `memory`.
     Memory,

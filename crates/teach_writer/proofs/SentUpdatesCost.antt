@@ -33,7 +33,7 @@ use Rattle.known_state.proofs.FullLaws.{full_is_cost}
 use Rattle.known_state.proofs.LinkLaws.{reads_save}
 use Rattle.known_state.proofs.PlanLaws.{accepted_shortest}
 use Rattle.known_state.proofs.ShortestLaws.{size_of_stream}
-use Rattle.known_state.proofs.CostLaws.{framed_longer, told_shorter, selection_falls, last-put, name_alike, read_alike, read_shorter}
+use Rattle.known_state.proofs.CostLaws.{framed_longer, sent_shorter, selection_falls, last-put, name_alike, read_alike, read_shorter}
 use Rattle.known_state.proofs.KnownLemmas.{table_at-id}
 use Rattle.known_state.proofs.StepPays.{name_fitting, moved_last, is_there, own_stays}
 use Rattle.price_checker.specs.Verdicts.{Says}
@@ -146,11 +146,11 @@ sent_knows mid e d u field k knows here (fit, table, on, number, numbered, name,
 -- an update costs no more than with its name written, by what may be less known, and less what is read
 field_within : (roster : List Definition) (k : Knowledge) (d : Definition) (u : Update) (starts : List ℕ → Option ℕ) (us : List Update) (marks : List Bool) (last : Option ℕ) (field : NameField) (name : Option (List ℕ)) (rs : List Asked) → u.name ≡ name → table_at roster u.table ≡ Some d → fits d u ≡ true → name_fits d field ≡ true → (k.last u.table ≡ last) ⊎ (k.last u.table ≡ None) → IsNamed starts us marks (is_stored roster u) name field
     → size_of (messages.Update (sent_as last field u)) + read_savings (asked roster k u name ++ rs) marks ≤ written_cost roster k u + read_savings rs (marks_after name marks)
-field_within roster k d u starts us marks last field name rs is listed fit field_fits less named = by name is marks field field_fits (told field less) named
+field_within roster k d u starts us marks last field name rs is listed fit field_fits less named = by name is marks field field_fits (sent field less) named
   where
-    told : (field : NameField) → (k.last u.table ≡ last) ⊎ (k.last u.table ≡ None) → size_of (messages.Update (sent_as last field u)) ≤ size_of (messages.Update (sent_as (k.last u.table) field u))
-    told field (inl same) = rw same (omega arith)
-    told field (inr none) = rw none (told_shorter last field u)
+    sent : (field : NameField) → (k.last u.table ≡ last) ⊎ (k.last u.table ≡ None) → size_of (messages.Update (sent_as last field u)) ≤ size_of (messages.Update (sent_as (k.last u.table) field u))
+    sent field (inl same) = rw same (omega arith)
+    sent field (inr none) = rw none (sent_shorter last field u)
 
     and-left : (a b : Bool) → (a && b) ≡ true → a ≡ true
     and-left true b h = refl

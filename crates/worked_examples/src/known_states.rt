@@ -62,7 +62,7 @@ const LONGER: TableParts = TableParts {
 };
 
 /// A message, written in short.
-enum Told {
+enum Sent {
     Define(TableParts),
     Switch(u64),
     /// An update of an integer with that number.
@@ -97,20 +97,20 @@ fn naming(alloc: Global, number: Option<u32>, name: NameField) -> Message {
     Message::Update(UpdateMsg::new(number, Some(30_000), key, values, name))
 }
 
-fn message(alloc: Global, told: &Told) -> Option<Message> {
-    match told {
-        Told::Define(table) => Some(Message::Define(definition(alloc, table)?)),
-        Told::Switch(id) => Some(Message::Switch(*id)),
-        Told::Count(number) => count(alloc, *number),
-        Told::Address => address(alloc),
-        Told::Reads(number) => Some(naming(alloc, *number, NameField::Held(2))),
-        Told::Writes(number) => Some(naming(
+fn message(alloc: Global, sent: &Sent) -> Option<Message> {
+    match sent {
+        Sent::Define(table) => Some(Message::Define(definition(alloc, table)?)),
+        Sent::Switch(id) => Some(Message::Switch(*id)),
+        Sent::Count(number) => count(alloc, *number),
+        Sent::Address => address(alloc),
+        Sent::Reads(number) => Some(naming(alloc, *number, NameField::Held(2))),
+        Sent::Writes(number) => Some(naming(
             alloc,
             *number,
             NameField::Written(2, named(alloc, b"s1")?),
         )),
-        Told::Heartbeat => Some(Message::Control(Control::Heartbeat)),
-        Told::Ack => Some(Message::Ack {
+        Sent::Heartbeat => Some(Message::Control(Control::Heartbeat)),
+        Sent::Ack => Some(Message::Ack {
             table: 1,
             number: 9,
         }),
@@ -118,7 +118,7 @@ fn message(alloc: Global, told: &Told) -> Option<Message> {
 }
 
 /// A message, why it is refused if it is, and after it the selected table and the last number of the roster's.
-type Step = (Told, Option<StepError>, Option<u64>, Option<u32>);
+type Step = (Sent, Option<StepError>, Option<u64>, Option<u32>);
 
 /// The parts of a state, messages that come to it one after another, and the slots that hold `s1` in the end.
 static STEPS: [(KnownParts, &[Step], &[u8]); 5] = [
@@ -131,15 +131,15 @@ static STEPS: [(KnownParts, &[Step], &[u8]); 5] = [
             held: &[],
         },
         &[
-            (Told::Count(Some(1)), Some(StepError::NoTable), None, None),
-            (Told::Switch(1), Some(StepError::NotDefined), None, None),
-            (Told::Switch(9), Some(StepError::Foreign), None, None),
-            (Told::Define(T2), Some(StepError::Foreign), None, None),
-            (Told::Define(LONGER), Some(StepError::Foreign), None, None),
-            (Told::Define(T1), None, Some(1), None),
-            (Told::Count(Some(u32::MAX)), None, Some(1), Some(u32::MAX)),
-            (Told::Count(None), None, Some(1), Some(0)),
-            (Told::Switch(1), None, Some(1), Some(0)),
+            (Sent::Count(Some(1)), Some(StepError::NoTable), None, None),
+            (Sent::Switch(1), Some(StepError::NotDefined), None, None),
+            (Sent::Switch(9), Some(StepError::Foreign), None, None),
+            (Sent::Define(T2), Some(StepError::Foreign), None, None),
+            (Sent::Define(LONGER), Some(StepError::Foreign), None, None),
+            (Sent::Define(T1), None, Some(1), None),
+            (Sent::Count(Some(u32::MAX)), None, Some(1), Some(u32::MAX)),
+            (Sent::Count(None), None, Some(1), Some(0)),
+            (Sent::Switch(1), None, Some(1), Some(0)),
         ],
         &[],
     ),
@@ -152,8 +152,8 @@ static STEPS: [(KnownParts, &[Step], &[u8]); 5] = [
             held: &[],
         },
         &[
-            (Told::Count(None), Some(StepError::NoNumber), Some(1), None),
-            (Told::Address, Some(StepError::Foreign), Some(1), None),
+            (Sent::Count(None), Some(StepError::NoNumber), Some(1), None),
+            (Sent::Address, Some(StepError::Foreign), Some(1), None),
         ],
         &[],
     ),
@@ -166,8 +166,8 @@ static STEPS: [(KnownParts, &[Step], &[u8]); 5] = [
             held: &[],
         },
         &[
-            (Told::Heartbeat, None, Some(1), Some(5)),
-            (Told::Ack, None, Some(1), Some(5)),
+            (Sent::Heartbeat, None, Some(1), Some(5)),
+            (Sent::Ack, None, Some(1), Some(5)),
         ],
         &[],
     ),
@@ -180,15 +180,15 @@ static STEPS: [(KnownParts, &[Step], &[u8]); 5] = [
             held: &[],
         },
         &[
-            (Told::Reads(None), Some(StepError::NoNumber), Some(3), None),
+            (Sent::Reads(None), Some(StepError::NoNumber), Some(3), None),
             (
-                Told::Reads(Some(1)),
+                Sent::Reads(Some(1)),
                 Some(StepError::EmptySlot),
                 Some(3),
                 None,
             ),
-            (Told::Writes(Some(1)), None, Some(3), Some(1)),
-            (Told::Reads(None), None, Some(3), Some(2)),
+            (Sent::Writes(Some(1)), None, Some(3), Some(1)),
+            (Sent::Reads(None), None, Some(3), Some(2)),
         ],
         &[2],
     ),
@@ -200,7 +200,7 @@ static STEPS: [(KnownParts, &[Step], &[u8]); 5] = [
             last: &[(3, 5)],
             held: &[1, 2],
         },
-        &[(Told::Reads(None), None, Some(3), Some(6))],
+        &[(Sent::Reads(None), None, Some(3), Some(6))],
         &[1, 2],
     ),
 ];
