@@ -19,7 +19,7 @@ use Rattle.table_types.specs.Tables.{Definition, is_definition}
 use Rattle.table_types.specs.Updates.{values_fit, row_fits}
 use Rattle.peers_msg.specs.declared.name_field.NameField.{NameField}
 use Rattle.peers_msg.specs.declared.name_field.NameField.TheVariants as names
-use Rattle.peers_msg.specs.Messages.{UpdateFields, key_bytes, is_small}
+use Rattle.peers_msg.specs.Messages.{UpdateFields, key_bytes, is_small, most_data}
 use Rattle.peers_msg.specs.Spelling.{optional_word, counted, key_text, value_text, name_text, update_text, period_text, bits_of, definition_text}
 use Rattle.peers_msg.specs.Fitting.{name_fits, update_fits}
 use Rattle.peers_msg.proofs.SizeLaws.{types_short}
@@ -95,7 +95,7 @@ periods_most (t ∷ ts) =
     let one = ap (λ (b : List ℕ). length b) (flat_map-cons period_text t ts) ∙ length-append (period_text t) (flat_map period_text ts) in
     omega (arith, one, period_most t, periods_most ts)
 
-pub update_small : (d : Definition) (u : UpdateFields) → is_definition d ≡ true → update_fits d u ≡ true → length (update_text u) ≤ 16384
+pub update_small : (d : Definition) (u : UpdateFields) → is_definition d ≡ true → update_fits d u ≡ true → length (update_text u) ≤ most_data
 update_small d u defined fits =
     let row : row_fits d u.key u.values ≡ true = grind (arith, nat_tests) in
     let named : name_fits d u.name ≡ true = grind (arith, nat_tests) in
@@ -115,7 +115,7 @@ update_small d u defined fits =
       name_most d u.name named,
     )
 
-pub definition_small : (d : Definition) → is_definition d ≡ true → length (definition_text d) ≤ 16384
+pub definition_small : (d : Definition) → is_definition d ≡ true → length (definition_text d) ≤ most_data
 definition_small d defined =
     let few = types_short d defined in
     let short : length d.name ≤ 255 = grind (arith, nat_tests) in

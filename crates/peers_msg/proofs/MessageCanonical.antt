@@ -25,7 +25,7 @@ use Rattle.peers_msg.specs.declared.meaning.Meaning.{Meaning}
 use Rattle.peers_msg.specs.declared.meaning.Meaning.TheVariants as meanings
 use Rattle.peers_msg.specs.declared.fault.Breach.{Breach}
 use Rattle.peers_msg.specs.declared.fault.Breach.TheVariants.{BadInteger, BadDefinition, NoTable, UnknownDataType, SizeLimit, Trailing}
-use Rattle.peers_msg.specs.Messages.{UpdateFields, OtherFields, is_known_pair}
+use Rattle.peers_msg.specs.Messages.{UpdateFields, OtherFields, is_known_pair, most_data}
 use Rattle.peers_msg.specs.Received.{Received, selected_table}
 use Rattle.peers_msg.specs.Spelling.{word, optional_word, counted, key_text, value_text, name_text, update_text, update_type, bits_of, period_text, definition_text, control_type, error_type, data_of, spelled}
 use Rattle.peers_msg.specs.Fitting.{update_fits, has_shape, fits}
@@ -327,15 +327,15 @@ data_text message_type body = cond (ltb message_type 128) [] (counted body)
 
 -- the data that a type has: none below 128
 abbrev pub has_size : ℕ → List ℕ → Bool
-has_size message_type body = cond (ltb message_type 128) (eqb (length body) 0) (leb (length body) 16384)
+has_size message_type body = cond (ltb message_type 128) (eqb (length body) 0) (leb (length body) most_data)
 
 abbrev IsData : ℕ → List ℕ → List ℕ × List ℕ → Type 0
-IsData message_type bytes y = (bytes ≡ data_text message_type y.0 ++ y.1) × IsBytes y.0 × (has_size message_type y.0 ≡ true) × (length y.0 ≤ 16384)
+IsData message_type bytes y = (bytes ≡ data_text message_type y.0 ++ y.1) × IsBytes y.0 × (has_size message_type y.0 ≡ true) × (length y.0 ≤ most_data)
 
 whole_takes : (message_type n used : ℕ) (bytes : List ℕ) (y : List ℕ × List ℕ) → ltb message_type 128 ≡ false → IsBytes bytes → bytes ≡ spelling n ++ drop used bytes → whole_data n (drop used bytes) ≡ Ok (Some y) → IsData message_type bytes y
 whole_takes message_type n used bytes y high good parts e =
     let rest : List ℕ = drop used bytes in
-    elim (chosen (ltb 16384 n) (Err SizeLimit) _ (Ok (Some y)) e) [
+    elim (chosen (ltb most_data n) (Err SizeLimit) _ (Ok (Some y)) e) [
       | inl c ↦ let wrong = c.1 in absurd cc
       | inr small ↦ elim (chosen (ltb (length rest) n) (Ok None) _ (Ok (Some y)) small.1) [
         | inl c ↦ let wrong = c.1 in absurd cc
@@ -343,7 +343,7 @@ whole_takes message_type n used bytes y high good parts e =
             let found : List ℕ × List ℕ = (take n rest, drop n rest) in
             let is : found ≡ y = some_is found y long.1 in
             let size : length (take n rest) ≡ n = length-take-le n rest (ltb-false _ _ long.0) in
-            let short : length (take n rest) ≤ 16384 = omega (arith, ltb-false 16384 n small.0) in
+            let short : length (take n rest) ≤ most_data = omega (arith, ltb-false most_data n small.0) in
             let split : bytes ≡ counted (take n rest) ++ drop n rest =
             parts
             ∙ ap (λ (x : List ℕ). spelling n ++ x) (sym (take-append-drop n rest))
@@ -380,7 +380,7 @@ IsFrame bytes x =
     (bytes ≡ frame_text x.0 ++ x.1)
     × IsBytes x.0.body
     × (has_size x.0.message_type x.0.body ≡ true)
-    × (length x.0.body ≤ 16384)
+    × (length x.0.body ≤ most_data)
     × (x.0.class < 256)
     × (x.0.message_type < 256)
 
@@ -480,7 +480,7 @@ data_of_frame (messages.Ack table number) = refl
 data_of_frame (messages.Update u) = refl
 data_of_frame (messages.Other o) = refl
 
-pub fits_from : (h : Received) (m : Message) (f : Frame) → IsMessage h f m → length f.body ≤ 16384 → fits h m ≡ true
+pub fits_from : (h : Received) (m : Message) (f : Frame) → IsMessage h f m → length f.body ≤ most_data → fits h m ≡ true
 unfolding fits
 fits_from h m f is short =
     let size : length (data_of m) ≡ length f.body = ap length (data_of_frame m) ∙ ap (λ (g : Frame). length g.body) is.0 in

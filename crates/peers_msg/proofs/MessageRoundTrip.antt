@@ -27,7 +27,7 @@ use Rattle.peers_msg.specs.declared.message.Message.TheVariants as messages
 use Rattle.peers_msg.specs.declared.meaning.Meaning.{Meaning}
 use Rattle.peers_msg.specs.declared.meaning.Meaning.TheVariants as meanings
 use Rattle.peers_msg.specs.declared.fault.Breach.TheVariants.{BadInteger, BadDefinition}
-use Rattle.peers_msg.specs.Messages.{UpdateFields, OtherFields, is_known_pair, is_other}
+use Rattle.peers_msg.specs.Messages.{UpdateFields, OtherFields, is_known_pair, is_other, most_data}
 use Rattle.peers_msg.specs.Received.{Received, selected_table}
 use Rattle.peers_msg.specs.Spelling.{word, optional_word, counted, framed, key_text, value_text, name_text, update_text, update_type, bits_of, period_text, definition_text, control_type, error_type, data_of, spelled}
 use Rattle.table_types.specs.SlotIds.{is_slot}
@@ -49,7 +49,7 @@ name_again d (names.Written slot name) rest h =
     let a = and_parts (stores_name d) (is_slot slot) ab.0 in
     rw a.0 (written_field_again slot name rest a.1 ab.1)
 
-pub update_again : (d : Definition) (u : UpdateFields) → length (update_text u) ≤ 16384 → update_fits d u ≡ true → update_at d (is_there u.number) (is_there u.life) (update_text u) ≡ Ok u
+pub update_again : (d : Definition) (u : UpdateFields) → length (update_text u) ≤ most_data → update_fits d u ≡ true → update_at d (is_there u.number) (is_there u.life) (update_text u) ≡ Ok u
 unfolding update_at
 update_again d u short h =
     let abc = and_parts (is_optional_word u.number && is_optional_word u.life && row_fits d u.key u.values) (name_fits d u.name) h in
@@ -241,9 +241,9 @@ other_means class message_type h =
       ]
     ]
 
-other_parts : (o : OtherFields) → is_other o ≡ true → (is_known_pair o.class o.message_type ≡ false) × (cond (ltb o.message_type 128) (eqb (length o.body) 0) (leb (length o.body) 16384) ≡ true)
+other_parts : (o : OtherFields) → is_other o ≡ true → (is_known_pair o.class o.message_type ≡ false) × (cond (ltb o.message_type 128) (eqb (length o.body) 0) (leb (length o.body) most_data) ≡ true)
 other_parts o h =
-    let a = and_parts (ltb o.class 256 && ltb o.message_type 256 && not (is_known_pair o.class o.message_type)) (cond (ltb o.message_type 128) (eqb (length o.body) 0) (leb (length o.body) 16384)) h in
+    let a = and_parts (ltb o.class 256 && ltb o.message_type 256 && not (is_known_pair o.class o.message_type)) (cond (ltb o.message_type 128) (eqb (length o.body) 0) (leb (length o.body) most_data)) h in
     (not-true (is_known_pair o.class o.message_type) (and_parts (ltb o.class 256 && ltb o.message_type 256) (not (is_known_pair o.class o.message_type)) a.0).1, a.1)
 
 pub meaning_again : (h : Received) (m : Message) → has_shape h m ≡ true → meant (frame_of m).class (frame_of m).message_type ≡ meaning_of m
@@ -262,11 +262,11 @@ pub short_frame_again : (class message_type : ℕ) (rest : List ℕ) → message
 unfolding frame_at data_at
 short_frame_again class message_type rest less = rw (lt-ltb message_type 128 less) refl
 
-pub long_frame_again : (class message_type : ℕ) (body rest : List ℕ) → ltb message_type 128 ≡ false → length body ≤ 16384 → frame_at (framed class message_type body ++ rest) ≡ Ok (Some (record { class = class; message_type = message_type; body = body }, rest))
+pub long_frame_again : (class message_type : ℕ) (body rest : List ℕ) → ltb message_type 128 ≡ false → length body ≤ most_data → frame_at (framed class message_type body ++ rest) ≡ Ok (Some (record { class = class; message_type = message_type; body = body }, rest))
 unfolding frame_at data_at
 long_frame_again class message_type body rest has_data short =
     let read : read_of (spelling (length body) ++ (body ++ rest)) ≡ Value (length body) (length (spelling (length body))) = again (length body) (body ++ rest) (omega arith) in
-    let within : ltb 16384 (length body) ≡ false = le-ltb _ _ short in
+    let within : ltb most_data (length body) ≡ false = le-ltb _ _ short in
     let whole : ltb (length (body ++ rest)) (length body) ≡ false = le-ltb _ _ (omega (arith, length-append body rest)) in
     ap (λ (x : List ℕ). frame_at (class ∷ (message_type ∷ x))) (append_assoc (spelling (length body)) body rest)
     ∙ rw (has_data, read, drop_at (spelling (length body)) (body ++ rest) (length (spelling (length body))) refl, within, whole, take_at body rest (length body) refl, drop_at body rest (length body) refl) refl
@@ -283,10 +283,10 @@ error_below errors.Protocol = omega arith
 error_below errors.SizeLimit = omega arith
 
 -- a message without meaning here, whose data are empty below type 128
-other_frame_again : (o : OtherFields) (rest : List ℕ) → length o.body ≤ 16384 → is_other o ≡ true → frame_at (spelled (messages.Other o) ++ rest) ≡ Ok (Some (frame_of (messages.Other o), rest))
+other_frame_again : (o : OtherFields) (rest : List ℕ) → length o.body ≤ most_data → is_other o ≡ true → frame_at (spelled (messages.Other o) ++ rest) ≡ Ok (Some (frame_of (messages.Other o), rest))
 unfolding spelled
 other_frame_again o rest short is =
-    let sizes : cond (ltb o.message_type 128) (eqb (length o.body) 0) (leb (length o.body) 16384) ≡ true = (other_parts o is).1 in
+    let sizes : cond (ltb o.message_type 128) (eqb (length o.body) 0) (leb (length o.body) most_data) ≡ true = (other_parts o is).1 in
     elim (cases_Bool (ltb o.message_type 128)) [
       | inl low ↦
           let no_data : eqb (length o.body) 0 ≡ true = rw low at sizes in
@@ -307,7 +307,7 @@ frame_again h (messages.Other o) rest is = other_frame_again o rest (leb-true _ 
 
 -- ---- messages
 
-update_of_again : (table : Option Definition) (u : UpdateFields) → length (update_text u) ≤ 16384 → fits_table table u ≡ true → update_of table (is_there u.number) (is_there u.life) (update_text u) ≡ Ok (messages.Update u)
+update_of_again : (table : Option Definition) (u : UpdateFields) → length (update_text u) ≤ most_data → fits_table table u ≡ true → update_of table (is_there u.number) (is_there u.life) (update_text u) ≡ Ok (messages.Update u)
 update_of_again None u short is = absurd cc
 update_of_again (Some d) u short is = then _ _ _ (update_again d u short is)
 

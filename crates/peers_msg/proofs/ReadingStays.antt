@@ -8,6 +8,7 @@ use Rattle.peers_encint.specs.Integers.{IsBytes, read_of}
 use Rattle.peers_encint.proofs.ReadingLaws.{takes, stays}
 use Rattle.peers_msg.specs.declared.fault.Breach.{Breach}
 use Rattle.peers_msg.specs.declared.message.Message.{Message}
+use Rattle.peers_msg.specs.Messages.{most_data}
 use Rattle.peers_msg.specs.Received.{Received}
 use Rattle.peers_msg.specs.Spelling.{spelled}
 use Rattle.peers_msg.specs.Fitting.{fits}
@@ -16,13 +17,13 @@ use Rattle.peers_msg.proofs.MessageRoundTrip.{message_again}
 
 whole_stays : (n : ℕ) (bytes more : List ℕ) → whole_data n bytes ≢ Ok None → whole_data n (bytes ++ more) ≡ with_more more (whole_data n bytes)
 whole_stays n bytes more some =
-    elim (cases_lt 16384 n) [
-      | inl over ↦ rw (lt-ltb 16384 n over) refl
+    elim (cases_lt most_data n) [
+      | inl over ↦ rw (lt-ltb most_data n over) refl
       | inr within ↦ elim (cases_lt (length bytes) n) [
-        | inl short ↦ absurd (some (rw (le-ltb 16384 n within, lt-ltb (length bytes) n short) refl))
+        | inl short ↦ absurd (some (rw (le-ltb most_data n within, lt-ltb (length bytes) n short) refl))
         | inr long ↦
             let longer : n ≤ length (bytes ++ more) = omega (arith, length-append bytes more) in
-            rw (le-ltb 16384 n within, le-ltb (length bytes) n long, le-ltb (length (bytes ++ more)) n longer, take-append-le n bytes more long, drop-append-le n bytes more long) refl
+            rw (le-ltb most_data n within, le-ltb (length bytes) n long, le-ltb (length (bytes ++ more)) n longer, take-append-le n bytes more long, drop-append-le n bytes more long) refl
       ]
     ]
 

@@ -13,8 +13,8 @@ pub enum Breach {
     /// An encoded integer is 2^64 or more, or the data of a switch or an acknowledgement end inside a field.
     #[error("an encoded integer is too large or cut short")]
     BadInteger,
-    /// The length of the data is above 16,384.
-    #[error("a message has more than 16384 bytes of data")]
+    /// The length of the data is above the most that a message may have.
+    #[error("a message has more data than a message may have")]
     SizeLimit,
     /// A definition ends inside a field, or a field of it is out of its range.
     #[error("a table's definition is malformed")]

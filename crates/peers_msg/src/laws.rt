@@ -9,7 +9,7 @@ ghost use Rattle.peers_msg.specs.Stream.{AllFit};
 ghost use Rattle.peers_msg.specs.Received.{Received, AreDistinct, nothing_received, received_after, resumed};
 ghost use Rattle.peers_msg.specs.OwnTables.{own_part};
 ghost use Rattle.peers_msg.specs.Fitting.{update_fits, fits};
-ghost use Rattle.peers_msg.specs.Messages.{UpdateFields, is_small};
+ghost use Rattle.peers_msg.specs.Messages.{UpdateFields, is_small, most_data};
 ghost use Rattle.peers_msg.specs.Spelling.{update_text, definition_text, spelled, stream_of};
 ghost use Rattle.peers_msg.specs.declared.fault.Breach.{Breach};
 ghost use Rattle.peers_msg.specs.declared.fault.Fault.{Fault};
@@ -109,7 +109,7 @@ pub fn tables_stay_distinct()
 /// The data of an update that fits a table, and of a definition, have at most 16,384 bytes; and key and values that
 /// fit a table are those of an update.
 pub fn data_is_small()
-    ensures updates { (d : Definition) (u : UpdateFields) → is_definition d ≡ true → update_fits d u ≡ true → length (update_text u) ≤ 16384 }
-    ensures definitions { (d : Definition) → is_definition d ≡ true → length (definition_text d) ≤ 16384 }
+    ensures updates { (d : Definition) (u : UpdateFields) → is_definition d ≡ true → update_fits d u ≡ true → length (update_text u) ≤ most_data }
+    ensures definitions { (d : Definition) → is_definition d ≡ true → length (definition_text d) ≤ most_data }
     ensures rows { (d : Definition) (key : Key) (values : List Value) → is_definition d ≡ true → row_fits d key values ≡ true → is_small key values ≡ true }
 {}

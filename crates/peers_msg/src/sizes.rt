@@ -5,7 +5,7 @@ ghost use Rattle.peers_encint.specs.Integers.{spelling};
 ghost use Rattle.table_types.specs.Tables.{rise_from, is_definition};
 ghost use Rattle.peers_msg.specs.declared.name_field.NameField.TheVariants as names;
 ghost use Rattle.peers_msg.specs.declared.message.Message.TheVariants as messages;
-ghost use Rattle.peers_msg.specs.Messages.{key_bytes, is_small};
+ghost use Rattle.peers_msg.specs.Messages.{key_bytes, is_small, most_data};
 ghost use Rattle.peers_msg.specs.Spelling.{counted, key_text, value_text, name_text, update_text, optional_word, period_text, bits_of, definition_text, size_of};
 
 use crate::message::{Message, UpdateMsg};
@@ -96,7 +96,7 @@ fn name_size(name: &NameField) -> usize
 /// How many bytes of data an update has.
 pub fn update_size(update: &UpdateMsg) -> usize
     ensures exact { result ≡ length (update_text update.now) }
-    ensures within { result ≤ 16384 }
+    ensures within { result ≤ most_data }
 {
     let words = optional_size(update.number()) + optional_size(update.life());
     let row = key_size(update.key()) + values_size(update.values());
@@ -141,7 +141,7 @@ fn periods_size(types: &[(DataType, Option<u32>)]) -> usize
 #[tactic(auto, using(crate::proofs::SizeLaws::types_short))]
 pub fn definition_size(table: &TableDef) -> usize
     ensures exact { result ≡ length (definition_text table.now) }
-    ensures within { result ≤ 16384 }
+    ensures within { result ≤ most_data }
     ensures defined { is_definition table.now ≡ true }
 {
     let named = len(table.id()) + counted_size(table.name().len());
