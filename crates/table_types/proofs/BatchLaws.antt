@@ -21,33 +21,33 @@ second-none None b h = h
 second-none (Some e) b h = cc
 
 -- an update without a fault is one for the roster
-faultless : (place : ℕ) (roster : List Definition) (u : Update) → fault_in place (table_at roster u.table) u ≡ None → IsUpdateFor roster u
-faultless place roster u h = at (table_at roster u.table) refl
+faultless : (index : ℕ) (roster : List Definition) (u : Update) → fault_in index (table_at roster u.table) u ≡ None → IsUpdateFor roster u
+faultless index roster u h = at (table_at roster u.table) refl
   where
-    parts : (d : Definition) (b : Bool) → fits d u ≡ b → (life : Option ℕ) → u.life ≡ life → fault_in place (Some d) u ≡ None → (fits d u ≡ true) × ((life : ℕ) × (u.life ≡ Some life))
+    parts : (d : Definition) (b : Bool) → fits d u ≡ b → (life : Option ℕ) → u.life ≡ life → fault_in index (Some d) u ≡ None → (fits d u ≡ true) × ((life : ℕ) × (u.life ≡ Some life))
     parts d true e (Some life) f none = (e, (life, f))
-    parts d true e None f none = let bad : Some (errors.Untimed place) ≡ None = sym (rw (e, f) refl) ∙ none in absurd (cc)
-    parts d false e life f none = let bad : Some (errors.Misfit place) ≡ None = sym (rw e refl) ∙ none in absurd (cc)
+    parts d true e None f none = let bad : Some (errors.Untimed index) ≡ None = sym (rw (e, f) refl) ∙ none in absurd (cc)
+    parts d false e life f none = let bad : Some (errors.Misfit index) ≡ None = sym (rw e refl) ∙ none in absurd (cc)
 
     at : (o : Option Definition) → table_at roster u.table ≡ o → IsUpdateFor roster u
-    at None e = let bad : Some (errors.NoTable place) ≡ None = sym (rw e refl) ∙ h in absurd (cc)
+    at None e = let bad : Some (errors.NoTable index) ≡ None = sym (rw e refl) ∙ h in absurd (cc)
     at (Some d) e =
-        let none : fault_in place (Some d) u ≡ None = ap (λ (o : Option Definition). fault_in place o u) (sym e) ∙ h in
+        let none : fault_in index (Some d) u ≡ None = ap (λ (o : Option Definition). fault_in index o u) (sym e) ∙ h in
         let both = parts d (fits d u) refl u.life refl none in
         (d, e, both.0, both.1)
 
-all_faultless : (place : ℕ) (roster : List Definition) (us : List Update) → faults_from place roster us ≡ None → AllByRecursion (IsUpdateFor roster) us
-all_faultless place roster [] h = tt
-all_faultless place roster (u ∷ us) h =
-    (faultless place roster u (first-none (fault_in place (table_at roster u.table) u) (faults_from (place + 1) roster us) h), all_faultless (place + 1) roster us (second-none (fault_in place (table_at roster u.table) u) (faults_from (place + 1) roster us) h))
+all_faultless : (index : ℕ) (roster : List Definition) (us : List Update) → faults_from index roster us ≡ None → AllByRecursion (IsUpdateFor roster) us
+all_faultless index roster [] h = tt
+all_faultless index roster (u ∷ us) h =
+    (faultless index roster u (first-none (fault_in index (table_at roster u.table) u) (faults_from (index + 1) roster us) h), all_faultless (index + 1) roster us (second-none (fault_in index (table_at roster u.table) u) (faults_from (index + 1) roster us) h))
 
 -- and one for the roster has none
-no_fault : (place : ℕ) (roster : List Definition) (u : Update) → IsUpdateFor roster u → fault_in place (table_at roster u.table) u ≡ None
-no_fault place roster u (d, listed, fit, (life, timed)) = rw (listed, fit, timed) refl
+no_fault : (index : ℕ) (roster : List Definition) (u : Update) → IsUpdateFor roster u → fault_in index (table_at roster u.table) u ≡ None
+no_fault index roster u (d, listed, fit, (life, timed)) = rw (listed, fit, timed) refl
 
-no_faults : (place : ℕ) (roster : List Definition) (us : List Update) → AllByRecursion (IsUpdateFor roster) us → faults_from place roster us ≡ None
-no_faults place roster [] all = refl
-no_faults place roster (u ∷ us) all = rw (no_fault place roster u all.0) (no_faults (place + 1) roster us all.1)
+no_faults : (index : ℕ) (roster : List Definition) (us : List Update) → AllByRecursion (IsUpdateFor roster) us → faults_from index roster us ≡ None
+no_faults index roster [] all = refl
+no_faults index roster (u ∷ us) all = rw (no_fault index roster u all.0) (no_faults (index + 1) roster us all.1)
 
 -- at most so many, and no fault from the first on
 pub batch_of_parts : (roster : List Definition) (us : List Update) → length us ≤ 512 → faults_from 0 roster us ≡ None → IsBatchFor roster us

@@ -21,7 +21,7 @@ value (suc n) a [] = a
 value (suc n) a (u ∷ us) = value n (a * 256 + u) us
 
 -- x and y were read from the first n bytes of us and vs
-record Told (n : ℕ) (us vs : List ℕ) (x y : ℕ) : Type 0 where
+record ReadFrom (n : ℕ) (us vs : List ℕ) (x y : ℕ) : Type 0 where
   pub apart : (x ≡ y → ⊥) → compared us vs ≡ nat_cmp x y
   pub alike : x ≡ y → compared us vs ≡ compared (drop n us) (drop n vs)
 
@@ -55,8 +55,8 @@ module _ (n a u v : ℕ) (us vs : List ℕ) (p : n ≤ length us) (q : n ≤ len
   first : (r : Ordering) → nat_cmp u v ≡ r → compared (u ∷ us) (v ∷ vs) ≡ ordering_then r (compared us vs)
   first r e = ap (λ o. ordering_then o (compared us vs)) e
 
-  one_more : Told n us vs (value n (a * 256 + u) us) (value n (a * 256 + u) vs) → (r : Ordering) → nat_cmp u v ≡ r → MatchOrdering r (u < v) (u ≡ v) (v < u)
-      → Told (suc n) (u ∷ us) (v ∷ vs) (value n (a * 256 + u) us) (value n (a * 256 + v) vs)
+  one_more : ReadFrom n us vs (value n (a * 256 + u) us) (value n (a * 256 + u) vs) → (r : Ordering) → nat_cmp u v ≡ r → MatchOrdering r (u < v) (u ≡ v) (v < u)
+      → ReadFrom (suc n) (u ∷ us) (v ∷ vs) (value n (a * 256 + u) us) (value n (a * 256 + v) vs)
   one_more t Less e m =
       let under : u < v = m in
       let l = rises n (a * 256 + u) (a * 256 + v) us vs p q (λ i. g (suc i)) (omega arith) in
@@ -67,17 +67,17 @@ module _ (n a u v : ℕ) (us vs : List ℕ) (p : n ≤ length us) (q : n ≤ len
       record { apart = λ f. first Greater e ∙ sym (greater _ _ l); alike = λ s. absurd (omega arith) }
   one_more t Equal e m =
       let level : u ≡ v = m in
-      let l = subst (λ z. Told n us vs (value n (a * 256 + u) us) (value n (a * 256 + z) vs)) level t in
+      let l = subst (λ z. ReadFrom n us vs (value n (a * 256 + u) us) (value n (a * 256 + z) vs)) level t in
       record { apart = λ f. first Equal e ∙ l.apart f; alike = λ s. first Equal e ∙ l.alike s }
 
-told : (n a : ℕ) (us vs : List ℕ) → n ≤ length us → n ≤ length vs → AreBytes us → AreBytes vs → Told n us vs (value n a us) (value n a vs)
-told zero a us vs p q g h = record { apart = λ f. absurd (f refl); alike = λ e. refl }
-told (suc n) a [] vs p q g h = absurd (omega arith)
-told (suc n) a (u ∷ us) [] p q g h = absurd (omega arith)
-told (suc n) a (u ∷ us) (v ∷ vs) p q g h =
+read_from : (n a : ℕ) (us vs : List ℕ) → n ≤ length us → n ≤ length vs → AreBytes us → AreBytes vs → ReadFrom n us vs (value n a us) (value n a vs)
+read_from zero a us vs p q g h = record { apart = λ f. absurd (f refl); alike = λ e. refl }
+read_from (suc n) a [] vs p q g h = absurd (omega arith)
+read_from (suc n) a (u ∷ us) [] p q g h = absurd (omega arith)
+read_from (suc n) a (u ∷ us) (v ∷ vs) p q g h =
     let fewer : n ≤ length us = omega arith in
     let few : n ≤ length vs = omega arith in
-    one_more n a u v us vs fewer few g h (told n (a * 256 + u) us vs fewer few (λ i. g (suc i)) (λ i. h (suc i))) (nat_cmp u v) refl (ranks u v)
+    one_more n a u v us vs fewer few g h (read_from n (a * 256 + u) us vs fewer few (λ i. g (suc i)) (λ i. h (suc i))) (nat_cmp u v) refl (ranks u v)
 
 -- what `u64::from_be_bytes` makes of the first eight bytes
 eight : (us : List ℕ) → 8 ≤ length us → from_be_bytes w64 us ≡ value 8 0 us
@@ -97,7 +97,7 @@ module _ (us vs : List ℕ) (g : AreBytes us) (h : AreBytes vs) (at : ℕ) where
       let other : 8 ≤ length (drop at vs) = omega (arith, length-drop at vs) in
       let x = eight (drop at us) one in
       let y = eight (drop at vs) other in
-      let t = told 8 0 (drop at us) (drop at vs) one other (rest us g) (rest vs h) in (
+      let t = read_from 8 0 (drop at us) (drop at vs) one other (rest us g) (rest vs h) in (
         (λ f. (λ i. nat_cmp (x i) (y i)) ∙ sym (so_far ∙ t.apart (λ e. f (x ∙ e ∙ sym y)))),
         (λ e. so_far ∙ t.alike (sym x ∙ e ∙ y) ∙ (λ i. compared (further us i) (further vs i))),
       )

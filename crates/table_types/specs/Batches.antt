@@ -21,22 +21,22 @@ IsBatchFor roster us = (length us ≤ 512) × AllByRecursion (IsUpdateFor roster
 
 -- ---- what is first wrong
 
--- what is wrong with the update at a place, given the table of the roster that its id stands for
+-- what is wrong with the update at an index, given the table of the roster that its id stands for
 abbrev pub fault_in : ℕ → Option Definition → Update → Option BatchError
-fault_in place None u = Some (errors.NoTable place)
-fault_in place (Some d) u =
-    if not (fits d u) then Some (errors.Misfit place)
-    else (if is_none u.life then Some (errors.Untimed place) else None)
+fault_in index None u = Some (errors.NoTable index)
+fault_in index (Some d) u =
+    if not (fits d u) then Some (errors.Misfit index)
+    else (if is_none u.life then Some (errors.Untimed index) else None)
 
 -- the first of two faults
 abbrev pub or_else : Option BatchError → Option BatchError → Option BatchError
 or_else (Some e) next = Some e
 or_else None next = next
 
--- the first fault of updates that stand from a place on
+-- the first fault of updates of which the first has that index; those of a batch count from 0
 abbrev pub faults_from : ℕ → List Definition → List Update → Option BatchError
-faults_from place roster [] = None
-faults_from place roster (u ∷ us) = or_else (fault_in place (table_at roster u.table) u) (faults_from (place + 1) roster us)
+faults_from index roster [] = None
+faults_from index roster (u ∷ us) = or_else (fault_in index (table_at roster u.table) u) (faults_from (index + 1) roster us)
 
 -- what is first wrong with updates that are to be a batch for a roster: they are at most 512,
 -- and each has a table in the roster, fits it, and has a life

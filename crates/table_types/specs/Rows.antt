@@ -24,7 +24,7 @@ later_by milliseconds now = if nat_lt (now + milliseconds) (2 ^ 63) then now + m
 abbrev pub smaller : ℕ → ℕ → ℕ
 smaller a b = if nat_lt a b then a else b
 
--- how long a row lives: no longer than the table's rows do, whatever is told
+-- how long a row lives: no longer than the table's rows do, whatever life is sent
 abbrev pub life_within : ℕ → Option ℕ → ℕ
 life_within expire None = expire
 life_within expire (Some life) = smaller life expire

@@ -51,13 +51,13 @@ impl Model for Batch {
     ghost invariant = { λ a. length a.updates ≤ 512 };
 }
 
-fn fault_in(table: Option<&TableDef>, place: usize, update: &Update) -> Option<BatchError>
-    ensures { result ≡ fault_in place (option_copied table.entry) update.now }
+fn fault_in(table: Option<&TableDef>, index: usize, update: &Update) -> Option<BatchError>
+    ensures { result ≡ fault_in index (option_copied table.entry) update.now }
 {
     match table {
-        None => Some(BatchError::NoTable(place)),
-        Some(table) if !table.fits(update) => Some(BatchError::Misfit(place)),
-        Some(_) if update.life.is_none() => Some(BatchError::Untimed(place)),
+        None => Some(BatchError::NoTable(index)),
+        Some(table) if !table.fits(update) => Some(BatchError::Misfit(index)),
+        Some(_) if update.life.is_none() => Some(BatchError::Untimed(index)),
         Some(_) => None,
     }
 }
@@ -65,8 +65,8 @@ fn fault_in(table: Option<&TableDef>, place: usize, update: &Update) -> Option<B
 fn fault_of(roster: &Roster, updates: &[Update]) -> Option<BatchError>
     ensures { result ≡ faults_from 0 roster.now updates.now }
 {
-    for (place, update) in updates.iter().enumerate() {
-        let fault = fault_in(roster.table(update.table), place, update);
+    for (index, update) in updates.iter().enumerate() {
+        let fault = fault_in(roster.table(update.table), index, update);
         if fault.is_some() {
             return fault;
         }
@@ -84,8 +84,8 @@ fn only_table(table: &TableDef, id: u64) -> Option<&TableDef>
 fn fault_of_table(table: &TableDef, updates: &[Update]) -> Option<BatchError>
     ensures { result ≡ faults_from 0 (table.now ∷ []) updates.now }
 {
-    for (place, update) in updates.iter().enumerate() {
-        let fault = fault_in(only_table(table, update.table), place, update);
+    for (index, update) in updates.iter().enumerate() {
+        let fault = fault_in(only_table(table, update.table), index, update);
         if fault.is_some() {
             return fault;
         }

@@ -191,7 +191,7 @@ impl Ord for Key {
     }
 }
 
-/// How any two keys compare. It isn't inlined, so that integers are told by one test before it.
+/// How any two keys compare. It isn't inlined, so that integers are compared by one test before it.
 #[inline(never)]
 fn compare(left: &Key, right: &Key) -> Ordering
     ensures { result ≡ key_cmp left.now right.now }

@@ -2,5 +2,5 @@ use Rattle.std.proofs.Common.{◌≡◌, drop}
 use Rattle.table_types.specs.Batches.{faults_from}
 use Rattle.table_types.proofs.batch.fault_of.Given as goal
 
-abbrev pub invariant-loop-place : goal.invariant-loop-place
-invariant-loop-place l = faults_from l.place l.roster (drop l.place l.updates) ≡ faults_from 0 l.roster l.updates
+abbrev pub invariant-loop-index : goal.invariant-loop-index
+invariant-loop-index l = faults_from l.index l.roster (drop l.index l.updates) ≡ faults_from 0 l.roster l.updates
