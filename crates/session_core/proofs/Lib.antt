@@ -8,3 +8,7 @@ mod AskedLaws
 mod ConfirmedLaws
 mod FaultLaws
 mod StepIsUnique
+mod IntakeGoesOn
+mod HearingGoesOn
+mod BytesStay
+mod SomeStep

@@ -53,7 +53,7 @@ abbrev Shows : Course → Option (Result (Unit {0}) Halt) → Taking → Result 
 Shows c end e answer = IntakeNext c.intake answer e × (answer ≢ Err faults.Memory) × (ending answer ≡ end)
 
 -- what halts, but want of memory
-abbrev Ends : Course → Result (Unit {0}) Halt → Type 0
+abbrev pub Ends : Course → Result (Unit {0}) Halt → Type 0
 Ends c (Ok _) = IntakeNext c.intake (Ok None) c.intake
 Ends c (Err halts.Memory) = ⊥
 Ends c (Err halt) = IsHalted c halt

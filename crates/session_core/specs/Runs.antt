@@ -3,6 +3,7 @@ use Rattle.std.specs.Prelude.{◌≡◌, ◌⊎◌, ℕ, Bool, false, ◌==◌, 
 use Rattle.std.specs.List.{list_any, AllByRecursion}
 use Rattle.table_types.specs.Tables.{Definition}
 use Rattle.table_types.specs.declared.copies.CopyKind.TheVariants as kinds
+use Rattle.peers_msg.specs.Integers.{IsBytes}
 use Rattle.peers_msg.specs.declared.control.Control.TheVariants as controls
 use Rattle.peers_hello.specs.declared.hello.Hello.{Hello}
 use Rattle.peers_hello.specs.Lines.{is_same}
@@ -10,6 +11,7 @@ use Rattle.session_core.specs.declared.action.Action.{Action}
 use Rattle.session_core.specs.declared.action.Action.TheVariants as actions
 use Rattle.session_core.specs.declared.event.Event.{Event}
 use Rattle.session_core.specs.declared.event.Event.TheVariants as events
+use Rattle.session_core.specs.declared.phase.Phase.{Phase}
 use Rattle.session_core.specs.declared.phase.Phase.TheVariants as phases
 use Rattle.session_core.specs.Actions.{control_text, confirms}
 use Rattle.session_core.specs.Shares.{any_out}
@@ -69,6 +71,22 @@ HasNothingLeft steps table =
 -- no batch is out
 abbrev pub HasNothingOut : SessionState → Type 0
 HasNothingOut s = (c : Course) × (s.phase ≡ phases.Open c) × (any_out c.shares ≡ false)
+
+-- ---- bytes
+
+-- what the session holds of what came, and hasn't read, are bytes
+abbrev pub HoldsBytes : Phase → Type 0
+HoldsBytes (phases.New hello c) = IsBytes c.intake.unread
+HoldsBytes (phases.Hello greeter bytes c) = IsBytes bytes × IsBytes c.intake.unread
+HoldsBytes (phases.Open c) = IsBytes c.intake.unread
+HoldsBytes phases.Ended = Unit {0}
+
+-- what comes with an event are bytes
+abbrev pub BringsBytes : Event → Type 0
+BringsBytes (events.Bytes bytes) = IsBytes bytes
+BringsBytes event = Unit {0}
+
+-- ---- confirmations
 
 -- somewhere in a run it was sent that a resync is confirmed
 abbrev pub was_confirmed : List (Event × List Action) → Bool

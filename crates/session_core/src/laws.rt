@@ -7,7 +7,7 @@ ghost use Rattle.session_core.specs.declared.action.Action.{Action};
 ghost use Rattle.session_core.specs.declared.event.Event.{Event};
 ghost use Rattle.session_core.specs.declared.phase.Phase.TheVariants as phases;
 ghost use Rattle.session_core.specs.Sessions.{SessionState, Goes, is_asked};
-ghost use Rattle.session_core.specs.Runs.{Runs, IsBegun, ends_resync, HasNothingLeft, HasNothingOut, was_confirmed};
+ghost use Rattle.session_core.specs.Runs.{Runs, IsBegun, ends_resync, HasNothingLeft, HasNothingOut, HoldsBytes, BringsBytes, was_confirmed};
 
 /// A resync ends only where all is taught: in every run from the beginning, where an event has the session send resync
 /// finished or resync partial, no batch is out, and the last copy from each table was one of that resync, which was
@@ -42,4 +42,16 @@ pub fn a_fault_ends_the_session()
 pub fn a_step_is_unique()
     ensures { (s e end : SessionState) (event : Event) (acts others : List Action) →
         Goes s event acts e → Goes s event others end → (acts ≡ others) × (e ≡ end) }
+{}
+
+/// Each event that may come has a step: something is asked for, and the session stands somewhere then. So it is in every
+/// run from the beginning, where what comes are bytes; and wherever a session holds bytes, which each step keeps.
+pub fn a_step_exists()
+    ensures run { (roster : List Definition) (begun s : SessionState) (steps : List (Event × List Action)) (event : Event) →
+        IsBegun roster begun → Runs begun steps s → AllByRecursion (λ step. BringsBytes step.0) steps → BringsBytes event →
+        is_asked s.phase event ≡ true → (acts : List Action) × (e : SessionState) × Goes s event acts e }
+    ensures step { (s : SessionState) (event : Event) → HoldsBytes s.phase → BringsBytes event →
+        is_asked s.phase event ≡ true → (acts : List Action) × (e : SessionState) × Goes s event acts e }
+    ensures kept { (s e : SessionState) (event : Event) (acts : List Action) → HoldsBytes s.phase → BringsBytes event →
+        Goes s event acts e → HoldsBytes e.phase }
 {}

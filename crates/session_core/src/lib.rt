@@ -20,8 +20,8 @@ pub use action::Action;
 pub use error::SessionError;
 pub use event::Event;
 pub use laws::{
-    a_fault_ends_the_session, a_step_is_unique, confirmed_is_sent, resyncs_end_taught,
-    unasked_is_no_step,
+    a_fault_ends_the_session, a_step_exists, a_step_is_unique, confirmed_is_sent,
+    resyncs_end_taught, unasked_is_no_step,
 };
 pub use session::Session;
 pub use state::State;
