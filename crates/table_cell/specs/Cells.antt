@@ -7,7 +7,7 @@ use Rattle.std.specs.BTreeMap.{is_at}
 use Rattle.table_types.specs.declared.key.Key.{Key}
 use Rattle.table_types.specs.declared.update.Update.{Update}
 use Rattle.table_types.specs.Rows.{StoredRow}
-use Rattle.table_cell.specs.declared.new_row.NewRow.{NewRow}
+use Rattle.table_cell.specs.declared.events.Reply.{Reply}
 use Rattle.table_cell.specs.declared.events.CellEvent.{CellEvent}
 use Rattle.table_cell.specs.declared.events.CellReply.{CellReply}
 use Rattle.table_cell.specs.declared.progress.Progress.{Progress}
@@ -39,9 +39,9 @@ abbrev pub index_of : ℕ → List (ℕ × Progress) → Option ℕ
 index_of session [] = None
 index_of session (e ∷ es) = if e.0 == session then Some 0 else option_map (λ index. index + 1) (index_of session es)
 
--- a row to be stored, with both replies that tell of it
-abbrev pub new_row : ℕ → Key → StoredRow → NewRow
-new_row number key row = record { key = key; row = row; kept = record { number = number; row = row }; reply = record { number = number; row = row } }
+-- what is answered of a row
+abbrev pub reply_of : StoredRow → Reply
+reply_of row = record { number = row.number; row = row }
 
 -- ---- learned rows that a push need not go over
 

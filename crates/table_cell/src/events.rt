@@ -1,6 +1,7 @@
 //! What happens to a table, and what it answers.
 
 ghost use Rattle.std.specs.Prelude.{◌≡◌, IfOk};
+ghost use Rattle.table_cell.specs.Cells.{reply_of};
 
 use std::alloc::Global;
 use table_types::{Batch, Change, CopyKind, Key, Memory, Moment, Row, Settled, Update};
@@ -15,6 +16,25 @@ pub struct Reply {
 }
 
 impl Reply {
+    /// The reply that tells of a row, whose number it is.
+    pub(crate) fn of(alloc: Global, row: &Row) -> Result<Reply, Memory>
+        ensures { IfOk result (λ reply. reply ≡ reply_of row.now) }
+    {
+        Ok(Reply {
+            number: row.number(),
+            row: row.copy(alloc)?,
+        })
+    }
+
+    /// That reply twice.
+    pub(crate) fn pair_of(alloc: Global, row: &Row) -> Result<(Reply, Reply), Memory>
+        ensures { IfOk result (λ pair. (pair.0 ≡ reply_of row.now) × (pair.1 ≡ reply_of row.now)) }
+    {
+        let first = Reply::of(alloc, row)?;
+        let second = Reply::of(alloc, row)?;
+        Ok((first, second))
+    }
+
     /// An equal reply.
     pub fn copy(&self, alloc: Global) -> Result<Reply, Memory>
         ensures { IfOk result (λ copy. copy ≡ self.now) }

@@ -10,7 +10,6 @@ mod errors;
 mod events;
 mod laws;
 mod learned_run;
-mod new_row;
 mod progress;
 mod refusals;
 mod sessions;

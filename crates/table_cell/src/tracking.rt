@@ -1,7 +1,7 @@
 //! Rows that are changed, and rows that are learned.
 
-ghost use Rattle.std.specs.Prelude.{◌≡◌, ◌≤◌, ◌<◌, ◌^◌, ◌∷◌, ◌++◌, [], IfOk, None, OnErr, false};
-ghost use Rattle.table_cell.specs.Cells.{new_row};
+ghost use Rattle.std.specs.Prelude.{◌≡◌, ◌≤◌, ◌<◌, ◌^◌, ◌∷◌, ◌++◌, [], IfOk, None, OnErr, OnOk, false};
+ghost use Rattle.table_cell.specs.Cells.{reply_of};
 ghost use Rattle.table_cell.specs.declared.events.CellEvent.TheVariants as events;
 ghost use Rattle.table_cell.specs.declared.events.CellReply.TheVariants as replies;
 ghost use Rattle.table_cell.specs.Histories.{Learns, Tracks, first_of};
@@ -10,37 +10,28 @@ ghost use Rattle.table_cell.specs.Machine.{Step, learn_refusal, learned, track_r
 use crate::cell::TableCell;
 use crate::errors::{LearnError, TrackError};
 use crate::events::{CellEvent, CellReply, Reply};
-use crate::new_row::NewRow;
 use crate::table::Table;
-use table_types::{Change, Key, Memory, Moment, Update};
+use table_types::{Change, Key, Memory, Moment, Row, Update};
 
 impl Table {
-    /// The row that a change makes, with the replies that tell of it.
-    fn new_tracked(&self, key: &Key, change: &Change, now: Moment) -> Result<NewRow, Memory>
+    /// The row that a change makes, under the next number.
+    fn new_tracked(&self, key: &Key, change: &Change, now: Moment) -> Result<Row, Memory>
         requires { self.now.next < 2 ^ 32 }
-        ensures { IfOk result (λ new. new ≡ new_row self.now.next key.now (tracked self.now key.now change.now now)) }
+        ensures { IfOk result (λ row. row ≡ tracked self.now key.now change.now now) }
     {
-        let number = self.next();
-        let Ok(row) = self.tracked(number, key, change, now) else {
-            return Err(Memory);
-        };
-        NewRow::of(self.alloc, number, key, row)
+        self.tracked(self.next(), key, change, now)
     }
 
-    /// The row that an update teaches, with the replies that tell of it.
-    fn new_learned(&self, update: &Update, now: Moment) -> Result<NewRow, Memory>
+    /// The row that an update teaches, under the next number.
+    fn new_learned(&self, update: &Update, now: Moment) -> Result<Row, Memory>
         requires { self.now.next < 2 ^ 32 }
-        ensures { IfOk result (λ new. new ≡ new_row self.now.next update.now.key (learned self.now update.now now)) }
+        ensures { IfOk result (λ row. row ≡ learned self.now update.now now) }
     {
-        let number = self.next();
-        let Ok(row) = self.learned(number, update, now) else {
-            return Err(Memory);
-        };
-        NewRow::of(self.alloc, number, &update.key, row)
+        self.learned(self.next(), update, now)
     }
 }
 
-/// Stores the row that a change made, and puts the event into the history. After `Memory` nothing has changed.
+/// Stores the row that a change made, and puts the event into the history with the reply. After `Memory` nothing has changed.
 fn put_tracked(
     table: &mut Table,
     history: &mut Vec<(CellEvent, CellReply)>,
@@ -48,56 +39,59 @@ fn put_tracked(
     key: Key,
     change: Change,
     now: Moment,
-    new: NewRow,
-) -> Result<Reply, Memory>
+    row: Row,
+    reply: Reply,
+) -> Result<(), Memory>
     requires some { 1 ≤ table.old.size }
     requires granted { track_refusal false table.old key change now ≡ None }
-    requires new { new ≡ new_row table.old.next key (tracked table.old key change now) }
-    ensures step { IfOk result (λ reply. Step table.old (events.Track seat key change now) (replies.Track reply) table.new) }
-    ensures event { IfOk result (λ reply. history.new.items ≡ history.old.items ++ (events.Track seat key change now, replies.Track reply) ∷ []) }
-    ensures answer { IfOk result (λ reply. reply ≡ new.reply) }
+    requires row { row ≡ tracked table.old key change now }
+    requires reply { reply ≡ reply_of row }
+    ensures step { OnOk result (Step table.old (events.Track seat key change now) (replies.Track reply) table.new) }
+    ensures event { OnOk result (history.new.items ≡ history.old.items ++ (events.Track seat key change now, replies.Track reply) ∷ []) }
     ensures stays { OnErr result (table.new ≡ table.old) }
     ensures no_event { OnErr result (history.new.items ≡ history.old.items) }
 {
     history.reserve(1)?;
-    table.store(new.key, new.row, now)?;
+    table.store(key.copy(table.alloc)?, row, now)?;
     let event = CellEvent::Track {
         seat,
         key,
         change,
         moment: now,
     };
-    history.push_reserved((event, CellReply::Track(new.kept)));
-    Ok(new.reply)
+    history.push_reserved((event, CellReply::Track(reply)));
+    Ok(())
 }
 
-/// Stores the row that an update taught, and puts the event into the history. After `Memory` nothing has changed.
+/// Stores the row that an update taught, and puts the event into the history with the reply. After `Memory` nothing has
+/// changed.
 fn put_learned(
     table: &mut Table,
     history: &mut Vec<(CellEvent, CellReply)>,
     session: u32,
     update: Update,
     now: Moment,
-    new: NewRow,
-) -> Result<Reply, Memory>
+    row: Row,
+    reply: Reply,
+) -> Result<(), Memory>
     requires some { 1 ≤ table.old.size }
     requires granted { learn_refusal false table.old session update now ≡ None }
-    requires new { new ≡ new_row table.old.next update.key (learned table.old update now) }
-    ensures step { IfOk result (λ reply. Step table.old (events.Learn session update now) (replies.Learn reply) table.new) }
-    ensures event { IfOk result (λ reply. history.new.items ≡ history.old.items ++ (events.Learn session update now, replies.Learn reply) ∷ []) }
-    ensures answer { IfOk result (λ reply. reply ≡ new.reply) }
+    requires row { row ≡ learned table.old update now }
+    requires reply { reply ≡ reply_of row }
+    ensures step { OnOk result (Step table.old (events.Learn session update now) (replies.Learn reply) table.new) }
+    ensures event { OnOk result (history.new.items ≡ history.old.items ++ (events.Learn session update now, replies.Learn reply) ∷ []) }
     ensures stays { OnErr result (table.new ≡ table.old) }
     ensures no_event { OnErr result (history.new.items ≡ history.old.items) }
 {
     history.reserve(1)?;
-    table.store(new.key, new.row, now)?;
+    table.store(update.key.copy(table.alloc)?, row, now)?;
     let event = CellEvent::Learn {
         session,
         update,
         moment: now,
     };
-    history.push_reserved((event, CellReply::Learn(new.kept)));
-    Ok(new.reply)
+    history.push_reserved((event, CellReply::Learn(reply)));
+    Ok(())
 }
 
 /// Tracks: the row is stored, and the event is in the history. After `Memory` nothing has changed.
@@ -116,10 +110,11 @@ fn track(
     ensures stays { OnErr result (table.new ≡ table.old) }
     ensures no_event { OnErr result (history.new.items ≡ history.old.items) }
 {
-    let Ok(new) = table.new_tracked(&key, &change, now) else {
-        return Err(Memory);
-    };
-    put_tracked(table, history, seat, key, change, now, new)
+    let row = table.new_tracked(&key, &change, now)?;
+    let kept = Reply::of(table.alloc, &row)?;
+    let reply = Reply::of(table.alloc, &row)?;
+    put_tracked(table, history, seat, key, change, now, row, kept)?;
+    Ok(reply)
 }
 
 /// Learns: the row is stored, and the event is in the history. After `Memory` nothing has changed.
@@ -137,10 +132,11 @@ fn learn(
     ensures stays { OnErr result (table.new ≡ table.old) }
     ensures no_event { OnErr result (history.new.items ≡ history.old.items) }
 {
-    let Ok(new) = table.new_learned(&update, now) else {
-        return Err(Memory);
-    };
-    put_learned(table, history, session, update, now, new)
+    let row = table.new_learned(&update, now)?;
+    let kept = Reply::of(table.alloc, &row)?;
+    let reply = Reply::of(table.alloc, &row)?;
+    put_learned(table, history, session, update, now, row, kept)?;
+    Ok(reply)
 }
 
 /// Tracks: the row is stored, and the event is in the history, and the reply is given twice. After `Memory` nothing has changed.
@@ -160,12 +156,11 @@ fn track_pair(
     ensures stays { OnErr result (table.new ≡ table.old) }
     ensures no_event { OnErr result (history.new.items ≡ history.old.items) }
 {
-    let Ok(new) = table.new_tracked(&key, &change, now) else {
-        return Err(Memory);
-    };
-    let second = new.reply.copy(table.alloc)?;
-    let first = put_tracked(table, history, seat, key, change, now, new)?;
-    Ok((first, second))
+    let row = table.new_tracked(&key, &change, now)?;
+    let kept = Reply::of(table.alloc, &row)?;
+    let pair = Reply::pair_of(table.alloc, &row)?;
+    put_tracked(table, history, seat, key, change, now, row, kept)?;
+    Ok(pair)
 }
 
 /// Learns: the row is stored, and the event is in the history, and the reply is given twice. After `Memory` nothing has changed.
@@ -184,12 +179,11 @@ fn learn_pair(
     ensures stays { OnErr result (table.new ≡ table.old) }
     ensures no_event { OnErr result (history.new.items ≡ history.old.items) }
 {
-    let Ok(new) = table.new_learned(&update, now) else {
-        return Err(Memory);
-    };
-    let second = new.reply.copy(table.alloc)?;
-    let first = put_learned(table, history, session, update, now, new)?;
-    Ok((first, second))
+    let row = table.new_learned(&update, now)?;
+    let kept = Reply::of(table.alloc, &row)?;
+    let pair = Reply::pair_of(table.alloc, &row)?;
+    put_learned(table, history, session, update, now, row, kept)?;
+    Ok(pair)
 }
 
 impl TableCell {
