@@ -5,3 +5,5 @@
 mod gates;
 #[cfg(test)]
 mod rounds;
+#[cfg(test)]
+mod seats;

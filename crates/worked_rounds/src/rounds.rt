@@ -1,30 +1,48 @@
 //! Rounds of threads.
 
-use example_parts::T1;
+use crate::seats::of_two_seats;
 use peers_devices::Counting;
 use round_command::{RoundSize, round, track_all};
 use scene_commands::Ending;
 use std::alloc::Global;
+use std::process::Abort;
 use std::sync::Wait;
 use std::thread;
 use std::thread::Threads;
-use table_shards::AuditError;
-use worked_shards::parts::{count, shards};
+use table_shards::{AuditError, Seat, Shards, Unlocked};
+use worked_shards::parts::count;
 
-/// Two threads track three times each: the third track of each answers 3. The audit misses a seat, and then doesn't.
-fn two_threads<R: Threads + Wait + Sync>(rt: &R, alloc: Global) -> Option<bool> {
-    let (shards, mut seats) = shards(alloc, &[T1], 2)?;
-    let (second, first) = (seats.pop()?, seats.pop()?);
+/// Tracks a key three times. Answers whether the third track counts 3, and hands back the seat.
+fn tracks_thrice<R: Wait>(rt: &R, shards: &Shards, seat: Seat, key: u32) -> (Seat, bool) {
+    let (seat, answer) = track_all(rt, shards, seat, key, 3);
+    let third = match answer {
+        Ok(Some(reply)) => count(&reply) == Some(3),
+        _ => false,
+    };
+    (seat, third)
+}
+
+/// Two threads track a key of their own three times each. Answers whether the third track of each counts 3, and hands back
+/// both seats.
+fn both_track<R: Threads + Wait + Sync>(
+    rt: &R,
+    shards: &Shards,
+    first: Seat,
+    second: Seat,
+) -> (Seat, Seat, bool) {
     let ((first, one), (second, other)) = thread::join(
         rt,
-        || track_all(rt, &shards, first, 1, 3),
-        || track_all(rt, &shards, second, 2, 3),
+        || tracks_thrice(rt, shards, first, 1),
+        || tracks_thrice(rt, shards, second, 2),
     );
-    let thirds = count(&one.ok()??)? == 3 && count(&other.ok()??)? == 3;
-    seats.push(first).ok()?;
-    let (error, unlocked, mut seats) = shards.unlock(alloc).ok()?.audit(seats).err()?;
-    seats.push(second).ok()?;
-    Some(thirds && error == AuditError::MissingSeat && unlocked.audit(seats).is_ok())
+    (first, second, one && other)
+}
+
+/// An audit with one of the two seats misses the other: it hands back all.
+fn misses_a_seat<R: Abort>(rt: &R, tables: Unlocked, seats: Vec<Seat>) -> (Unlocked, Vec<Seat>) {
+    let (error, tables, seats) = tables.audit(seats).err().expect(rt, "a refusal");
+    assert!(rt; error == AuditError::MissingSeat && seats.len() == 1);
+    (tables, seats)
 }
 
 /// What is printed of a round.
@@ -45,7 +63,15 @@ fn is_printed<R: Threads + Wait + Sync>(rt: &R, alloc: Global) -> bool {
 
 #[test]
 fn each_thread_counts_for_itself(rt: HostRuntime) {
-    assert!(rt; two_threads(&rt, rt.alloc()) == Some(true));
+    let alloc = rt.alloc();
+    let (shards, first, second) = of_two_seats(&rt, alloc);
+    let (first, second, thirds) = both_track(&rt, &shards, first, second);
+    assert!(rt; thirds);
+    let seats = vec![in alloc; first].expect(&rt, "memory");
+    let tables = shards.unlock(alloc).ok().expect(&rt, "memory");
+    let (tables, mut seats) = misses_a_seat(&rt, tables, seats);
+    seats.push(second).ok().expect(&rt, "memory");
+    assert!(rt; tables.audit(seats).is_ok());
 }
 
 #[test]

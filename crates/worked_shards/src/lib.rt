@@ -6,6 +6,8 @@
 mod locks;
 pub mod parts;
 #[cfg(test)]
+mod round;
+#[cfg(test)]
 mod seats;
 #[cfg(test)]
 mod swaps;

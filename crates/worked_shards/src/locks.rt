@@ -1,14 +1,15 @@
 //! Tables under locks of their own.
 
-use crate::parts::{T2, comes, shards, track};
+use crate::parts::{comes, track};
+use crate::round::Round;
+use crate::swaps::T2;
 use example_parts::T1;
-use std::alloc::Global;
 use std::sync::Wait;
 use std::sync::atomic::{AtomicBool, Ordering};
 use std::thread;
 use std::thread::Threads;
 use std::time::Clock;
-use table_shards::Shards;
+use table_shards::{Seat, Shards};
 
 /// Holds the lock of `t1` until another thread says that it was answered. Answers whether it was.
 fn held_meanwhile<R: Wait + Clock>(
@@ -26,26 +27,37 @@ fn held_meanwhile<R: Wait + Clock>(
     came && locked.cell().events() == 0
 }
 
+/// Tracks key 7 of `t2` once the lock of `t1` is held. Answers whether the count is 1.
+fn tracked_meanwhile<R: Wait + Clock>(
+    rt: &R,
+    shards: &Shards,
+    seat: &mut Option<Seat>,
+    is_held: &AtomicBool,
+    is_answered: &AtomicBool,
+) -> bool {
+    let ready = comes(rt, is_held);
+    let counted = track(rt, shards, seat, 2, 7);
+    is_answered.store(true, Ordering::SeqCst);
+    ready && counted == Some(1)
+}
+
 /// While one thread holds the lock of `t1`, another's track of `t2` is answered.
-fn answered_meanwhile<R: Threads + Wait + Clock + Sync>(rt: &R, alloc: Global) -> Option<bool> {
-    let (shards, mut seats) = shards(alloc, &[T1, T2], 1)?;
-    let seat = seats.pop()?;
-    let is_held = AtomicBool::new(false);
-    let is_answered = AtomicBool::new(false);
+fn answered_meanwhile<R: Threads + Wait + Clock + Sync>(
+    rt: &R,
+    shards: &Shards,
+    seat: &mut Option<Seat>,
+) -> bool {
+    let (is_held, is_answered) = (AtomicBool::new(false), AtomicBool::new(false));
     let (came, counted) = thread::join(
         rt,
-        || held_meanwhile(rt, &shards, &is_held, &is_answered),
-        || {
-            let ready = comes(rt, &is_held);
-            let (_seat, counted) = track(rt, &shards, seat, 2, 7)?;
-            is_answered.store(true, Ordering::SeqCst);
-            if ready { Some(counted) } else { None }
-        },
+        || held_meanwhile(rt, shards, &is_held, &is_answered),
+        || tracked_meanwhile(rt, shards, seat, &is_held, &is_answered),
     );
-    Some(came && counted == Some(1))
+    came && counted
 }
 
 #[test]
 fn a_table_is_changed_while_another_is_locked(rt: HostRuntime) {
-    assert!(rt; answered_meanwhile(&rt, rt.alloc()) == Some(true));
+    let mut round = Round::new(&rt, rt.alloc(), &[T1, T2]);
+    assert!(rt; answered_meanwhile(&rt, &round.shards, &mut round.seat));
 }

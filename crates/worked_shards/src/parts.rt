@@ -1,6 +1,7 @@
-//! What the examples have in common: tables `t1` and `t2`, integer keys with gpc0, whose rows expire after 30 s.
+//! What these examples and others have in common: tables with integer keys and gpc0 under their locks, a track that takes the
+//! seat from where it is kept and puts it back, and threads that wait for each other.
 
-use example_parts::{T1, TableParts, definition};
+use example_parts::{TableParts, definition};
 use std::alloc::Global;
 use std::sync::Wait;
 use std::sync::atomic::{AtomicBool, Ordering};
@@ -8,17 +9,7 @@ use std::thread;
 use std::time::{Clock, Duration};
 use table_cell::{Reply, TableCell, TrackError};
 use table_shards::{Seat, ShardError, Shards, held};
-use table_types::{Cell, Change, DataType, Key, KeyKind, Moment};
-
-/// Table `t2`, as `t1`.
-pub const T2: TableParts = TableParts {
-    id: 2,
-    name: b"t2",
-    kind: KeyKind::Integer,
-    key_length: 4,
-    expire: 30_000,
-    types: &[(DataType::Gpc0, None)],
-};
+use table_types::{Cell, Change, DataType, Key, Moment};
 
 /// How often a thread looks whether another has come so far, a millisecond apart.
 const TURNS: u32 = 10_000;
@@ -37,46 +28,38 @@ pub fn shards(alloc: Global, tables: &[TableParts], seats: u32) -> Option<(Shard
     Shards::new(alloc, cells, seats).ok()
 }
 
-/// `t1` alone under its lock, and its only seat.
-pub fn alone(alloc: Global) -> Option<(Shards, Seat)> {
-    let (shards, mut seats) = shards(alloc, &[T1], 1)?;
-    Some((shards, seats.pop()?))
-}
+/// What a call of `held::track` answers.
+pub type Tracked = Result<Reply, ShardError<TrackError>>;
 
-/// A list of that seat alone.
-pub fn only(alloc: Global, seat: Seat) -> Option<Vec<Seat>> {
-    let mut seats = Vec::new(alloc);
-    seats.push(seat).ok()?;
-    Some(seats)
-}
-
-/// What a call of `held::track` answers, and the seat.
-pub type Tracked = (Seat, Result<Reply, ShardError<TrackError>>);
-
-/// Adds 1 to gpc0 of the key of a table, which the locked cell may be or not, at the least moment.
+/// Adds 1 to gpc0 of the key of a table, which the locked cell may be or not, at the least moment. `None` where there is no
+/// such lock, or the seat isn't there.
 pub fn track_at<R: Wait>(
     rt: &R,
     shards: &Shards,
     lock: u64,
-    seat: Seat,
+    seat: &mut Option<Seat>,
     table: u64,
     key: Key,
 ) -> Option<Tracked> {
+    let lock = shards.cell(lock)?;
+    let taken = seat.take()?;
     let change = Change::Add(DataType::Gpc0, 1);
-    let mut locked = shards.cell(lock)?.lock(rt);
-    Some(held::track(&mut locked, seat, table, key, change, Moment::least()))
+    let mut locked = lock.lock(rt);
+    let (back, answer) = held::track(&mut locked, taken, table, key, change, Moment::least());
+    *seat = Some(back);
+    Some(answer)
 }
 
-/// Adds 1 to gpc0 of the key of a table, at the least moment, and hands back the seat with the count.
+/// Adds 1 to gpc0 of the key of a table, at the least moment, and answers the count.
 pub fn track<R: Wait>(
     rt: &R,
     shards: &Shards,
-    seat: Seat,
+    seat: &mut Option<Seat>,
     table: u64,
     key: u32,
-) -> Option<(Seat, u64)> {
-    let (seat, answer) = track_at(rt, shards, table, seat, table, Key::Int(key))?;
-    Some((seat, count(&answer.ok()?)?))
+) -> Option<u64> {
+    let answer = track_at(rt, shards, table, seat, table, Key::Int(key))?;
+    count(&answer.ok()?)
 }
 
 /// The count of the row that a call answers.

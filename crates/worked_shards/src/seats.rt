@@ -1,58 +1,81 @@
 //! What a seat has seen, and what an audit finds.
 
-use crate::parts::{alone, cell, count, only, shards, track, track_at};
+use crate::parts::{cell, count, shards, track};
+use crate::round::Round;
 use example_parts::T1;
 use std::alloc::Global;
+use std::process::Abort;
 use std::sync::Wait;
-use table_cell::{CellEvent, CellReply, TrackError};
-use table_shards::{Audit, AuditError, Seat, ShardError, Shards, compare, held};
+use table_cell::{CellEvent, CellReply, TableCell, TrackError};
+use table_shards::{Audit, AuditError, Seat, ShardError, Shards, Unlocked, compare, held};
 use table_types::{Change, DataType, Items, Key, Moment};
 
-/// `t1` and its seat, after three tracks of key 7.
-fn tracked<R: Wait>(rt: &R, alloc: Global) -> Option<(Shards, Seat)> {
-    let (shards, mut seat) = alone(alloc)?;
+/// A round of `t1`, in which nothing was done.
+fn fresh<R: Abort>(rt: &R, alloc: Global) -> Round {
+    Round::new(rt, alloc, &[T1])
+}
+
+/// A round of `t1`, after three tracks of key 7.
+fn tracked<R: Abort + Wait>(rt: &R, alloc: Global) -> Round {
+    let mut round = fresh(rt, alloc);
     for counted in 1..=3u64 {
-        let (back, answered) = track(rt, &shards, seat, 1, 7)?;
-        seat = back;
-        if answered != counted {
-            return None;
-        }
+        let answered = round.track(rt, 1, 7);
+        assert!(rt; answered == Some(counted));
     }
-    Some((shards, seat))
+    round
 }
 
-fn looks_ahead<R: Wait>(rt: &R, alloc: Global) -> Option<bool> {
-    let (_shards, seat) = tracked(rt, alloc)?;
-    Some(seat.ahead(1, 3) == None && seat.ahead(1, 0) == Some((3, 0)))
+/// Whether the seat isn't ahead of three events, and is ahead of none.
+fn looks_ahead(seat: &Seat) -> bool {
+    seat.ahead(1, 3) == None && seat.ahead(1, 0) == Some((3, 0))
 }
 
-fn compares<R: Wait>(rt: &R, alloc: Global) -> Option<bool> {
-    let (_shards, seat) = tracked(rt, alloc)?;
-    let (_others, fresh) = alone(alloc)?;
-    let new = cell(alloc, &T1)?;
-    let mut changed = cell(alloc, &T1)?;
+#[test]
+fn a_seat_looks_ahead(rt: HostRuntime) {
+    let round = tracked(&rt, rt.alloc());
+    assert!(rt; round.seat.as_ref().is_some_and(|seat| looks_ahead(seat)));
+}
+
+/// `t1` after one track of key 7.
+fn changed<R: Abort>(rt: &R, alloc: Global) -> TableCell {
+    let mut cell = cell(alloc, &T1).expect(rt, "a table");
     let change = Change::Add(DataType::Gpc0, 1);
-    changed.track(0, Key::Int(7), change, Moment::least()).ok()?;
-    let seats = only(alloc, seat)?;
-    let others = only(alloc, fresh)?;
-    Some(
-        compare(&new, 0, seats.as_slice()) == Some(1)
-            && compare(&changed, 0, others.as_slice()) == Some(0)
-            && compare(&new, 0, others.as_slice()) == None,
-    )
+    let tracked = cell.track(0, Key::Int(7), change, Moment::least());
+    assert!(rt; tracked.is_ok());
+    cell
 }
 
-fn is_ahead<R: Wait>(rt: &R, alloc: Global) -> Option<bool> {
-    let (_shards, seat) = tracked(rt, alloc)?;
-    let (others, _fresh) = alone(alloc)?;
-    let (seat, answer) = track_at(rt, &others, 1, seat, 1, Key::Int(7))?;
+#[test]
+fn receipts_are_compared(rt: HostRuntime) {
+    let alloc = rt.alloc();
+    let (_tables, seats) = tracked(&rt, alloc).unlock(&rt, alloc);
+    let (_others, strangers) = fresh(&rt, alloc).unlock(&rt, alloc);
+    let new = cell(alloc, &T1).expect(&rt, "a table");
+    let changed = changed(&rt, alloc);
+    assert!(rt; compare(&new, 0, seats.as_slice()) == Some(1));
+    assert!(rt; compare(&changed, 0, strangers.as_slice()) == Some(0));
+    assert!(rt; compare(&new, 0, strangers.as_slice()) == None);
+}
+
+/// Whether a track of the seat's, of which these tables have less events, is refused, and leaves no receipt.
+fn is_ahead<R: Wait>(rt: &R, mine: &mut Round, others: &mut Round) -> Option<bool> {
+    others.seat = mine.seat.take();
+    let refusal = others.refusal(rt, 1, 1, Key::Int(7))?;
     let ahead = ShardError::SeatAhead { seen: 3, found: 0 };
-    Some(answer.err()? == ahead && seat.receipts(1).len() == 3)
+    Some(refusal == ahead && others.receipts(1)?.len() == 3)
 }
 
-/// Whether the audit has the one seat, and its receipts of the three tracks, the last of which was answered 3.
+#[test]
+fn a_seat_of_other_tables_is_ahead(rt: HostRuntime) {
+    let mut mine = tracked(&rt, rt.alloc());
+    let mut others = fresh(&rt, rt.alloc());
+    assert!(rt; is_ahead(&rt, &mut mine, &mut others) == Some(true));
+}
+
+/// Whether the audit has `t1` with three events, the one seat, and its receipts of the three tracks, the last of which was
+/// answered 3.
 fn has_receipts(audit: &Audit) -> bool {
-    let [seat] = audit.seats() else {
+    let ([table], [seat]) = (audit.tables(), audit.seats()) else {
         return false;
     };
     let [first, second, third] = seat.receipts(1) else {
@@ -62,110 +85,113 @@ fn has_receipts(audit: &Audit) -> bool {
         (CellEvent::Track { seat: 1, .. }, CellReply::Track(reply)) => count(reply) == Some(3),
         _ => false,
     };
-    last && first.place() == 1 && second.place() == 2 && third.place() == 3
+    let places = first.place() == 1 && second.place() == 2 && third.place() == 3;
+    last && places && table.cell.events() == 3
 }
 
-/// A seat of other tables, and none, are handed back with the tables; the audit of the right one then finds nothing wrong.
-fn audits<R: Wait>(rt: &R, alloc: Global) -> Option<bool> {
-    let (shards, seat) = tracked(rt, alloc)?;
-    let (_others, fresh) = alone(alloc)?;
-    let unlocked = shards.unlock(alloc).ok()?;
-    let (error, unlocked, mut seats) = unlocked.audit(only(alloc, fresh)?).err()?;
-    let (error_without, unlocked, none) = unlocked.audit(Vec::new(alloc)).err()?;
-    let fresh = seats.pop()?;
-    let handed_back = none.is_empty() && seats.is_empty() && fresh.receipts(1).is_empty();
-    seats.push(seat).ok()?;
-    let audit = unlocked.audit(seats).ok()?;
-    let [table] = audit.tables() else {
-        return None;
-    };
-    Some(
-        error == AuditError::Mismatch { table: 1, seat: 0 }
-            && error_without == AuditError::MissingSeat
-            && handed_back
-            && table.cell.events() == 3
-            && has_receipts(&audit),
-    )
+/// A seat of other tables is handed back with the tables.
+fn refuses_strangers<R: Abort>(rt: &R, unlocked: Unlocked, strangers: Vec<Seat>) -> Unlocked {
+    let (error, unlocked, back) = unlocked.audit(strangers).err().expect(rt, "a refusal");
+    assert!(rt; error == AuditError::Mismatch { table: 1, seat: 0 });
+    assert!(rt; matches!(back.as_slice(), [seat] if seat.receipts(1).is_empty()));
+    unlocked
 }
 
-/// A seat that is there twice, beside one that lacks, is a missing seat: both are handed back, and with the right ones the audit
-/// finds nothing wrong.
-fn misses_a_seat<R: Wait>(rt: &R, alloc: Global) -> Option<bool> {
-    let (_others, mut strangers) = shards(alloc, &[T1], 2)?;
-    let (shards, mut seats) = shards(alloc, &[T1], 2)?;
-    let (second, first) = (seats.pop()?, seats.pop()?);
-    let (first, _count) = track(rt, &shards, first, 1, 7)?;
-    let _stranger = strangers.pop()?;
-    strangers.push(first).ok()?;
-    let (error, unlocked, mut twice) = shards.unlock(alloc).ok()?.audit(strangers).err()?;
-    let first = twice.pop()?;
-    let handed_back = first.number() == 1 && first.seen(1) == 1 && twice.len() == 1;
-    seats.push(second).ok()?;
-    seats.push(first).ok()?;
-    Some(error == AuditError::MissingSeat && handed_back && unlocked.audit(seats).is_ok())
-}
-
-/// Another table's id, and a purge of a table without rows.
-fn other_calls<R: Wait>(rt: &R, alloc: Global) -> Option<bool> {
-    let (shards, seat) = alone(alloc)?;
-    let (seat, answer) = track_at(rt, &shards, 1, seat, 9, Key::Int(7))?;
-    let stranger = answer.err()? == ShardError::NoTable && seat.receipts(9).is_empty();
-    let lock = shards.cell(1)?;
-    let mut locked = lock.lock(rt);
-    let (seat, purged) = held::purge(&mut locked, seat, 1, Moment::least());
-    Some(
-        shards.cell(9).is_none()
-            && stranger
-            && purged.ok()? == 0
-            && seat.receipts(1).len() == 1
-            && seat.seen(1) == 1,
-    )
-}
-
-/// A refused call between two that are answered.
-fn refused_between<R: Wait>(rt: &R, alloc: Global) -> Option<bool> {
-    let (shards, seat) = alone(alloc)?;
-    let (seat, first) = track(rt, &shards, seat, 1, 7)?;
-    let text = Key::Str(Items::new(Vec::from_slice(alloc, b"a").ok()?));
-    let (seat, answer) = track_at(rt, &shards, 1, seat, 1, text)?;
-    let refused = answer.err()? == ShardError::Cell(TrackError::WrongKey);
-    let (seat, second) = track(rt, &shards, seat, 1, 7)?;
-    let receipts = seat.receipts(1).len();
-    let audited = shards.unlock(alloc).ok()?.audit(only(alloc, seat)?).is_ok();
-    Some(first == 1 && refused && second == 2 && receipts == 2 && audited)
-}
-
-#[test]
-fn a_seat_looks_ahead(rt: HostRuntime) {
-    assert!(rt; looks_ahead(&rt, rt.alloc()) == Some(true));
-}
-
-#[test]
-fn receipts_are_compared(rt: HostRuntime) {
-    assert!(rt; compares(&rt, rt.alloc()) == Some(true));
-}
-
-#[test]
-fn a_seat_of_other_tables_is_ahead(rt: HostRuntime) {
-    assert!(rt; is_ahead(&rt, rt.alloc()) == Some(true));
+/// Where there is no seat, the tables are handed back.
+fn refuses_nobody<R: Abort>(rt: &R, alloc: Global, unlocked: Unlocked) -> Unlocked {
+    let (error, unlocked, back) = unlocked
+        .audit(Vec::new(alloc))
+        .err()
+        .expect(rt, "a refusal");
+    assert!(rt; error == AuditError::MissingSeat && back.is_empty());
+    unlocked
 }
 
 #[test]
 fn an_audit_wants_its_own_seats(rt: HostRuntime) {
-    assert!(rt; audits(&rt, rt.alloc()) == Some(true));
+    let alloc = rt.alloc();
+    let (tables, seats) = tracked(&rt, alloc).unlock(&rt, alloc);
+    let (_others, strangers) = fresh(&rt, alloc).unlock(&rt, alloc);
+    let tables = refuses_strangers(&rt, tables, strangers);
+    let tables = refuses_nobody(&rt, alloc, tables);
+    let audit = tables.audit(seats).ok().expect(&rt, "an audit");
+    assert!(rt; has_receipts(&audit));
 }
 
+/// The first seat of others, and then this one.
+fn twice<R: Abort>(rt: &R, alloc: Global, first: Seat) -> Vec<Seat> {
+    let (_others, mut seats) = shards(alloc, &[T1], 2).expect(rt, "two seats");
+    let _second = seats.pop();
+    seats.push(first).ok().expect(rt, "memory");
+    seats
+}
+
+/// A seat that is there twice, beside one that lacks, is a missing seat: both are handed back with the tables. The latter, and
+/// the last of the seats.
+fn misses_a_seat<R: Abort>(rt: &R, unlocked: Unlocked, twice: Vec<Seat>) -> (Unlocked, Seat) {
+    let (error, unlocked, mut back) = unlocked.audit(twice).err().expect(rt, "a refusal");
+    let first = back.pop().expect(rt, "the seat");
+    assert!(rt; error == AuditError::MissingSeat && back.len() == 1);
+    assert!(rt; first.number() == 1 && first.seen(1) == 1);
+    (unlocked, first)
+}
+
+/// `t1` and two seats, of which the first has tracked.
+fn of_two_seats<R: Abort + Wait>(rt: &R, alloc: Global) -> (Shards, Seat, Seat) {
+    let (shards, mut seats) = shards(alloc, &[T1], 2).expect(rt, "two seats");
+    let second = seats.pop().expect(rt, "the second seat");
+    let mut first = seats.pop();
+    let tracked = track(rt, &shards, &mut first, 1, 7);
+    assert!(rt; tracked == Some(1));
+    (shards, first.expect(rt, "the first seat"), second)
+}
+
+/// Of both seats the audit finds nothing wrong.
 #[test]
 fn a_seat_that_is_there_twice_is_missed(rt: HostRuntime) {
-    assert!(rt; misses_a_seat(&rt, rt.alloc()) == Some(true));
+    let alloc = rt.alloc();
+    let (shards, first, second) = of_two_seats(&rt, alloc);
+    let tables = shards.unlock(alloc).ok().expect(&rt, "memory");
+    let (tables, first) = misses_a_seat(&rt, tables, twice(&rt, alloc, first));
+    let seats = vec![in alloc; second, first].expect(&rt, "memory");
+    assert!(rt; tables.audit(seats).is_ok());
+}
+
+/// Another table's id is no table's: no lock is lent for it, and a track of it leaves no receipt.
+fn refuses_a_stranger<R: Wait>(rt: &R, round: &mut Round) -> Option<bool> {
+    let refusal = round.refusal(rt, 1, 9, Key::Int(7))?;
+    let no_receipt = round.receipts(9)?.is_empty();
+    Some(refusal == ShardError::NoTable && no_receipt && round.shards.cell(9).is_none())
+}
+
+/// A purge of a table without rows is answered, and leaves a receipt.
+fn purges<R: Wait>(rt: &R, shards: &Shards, seat: Seat) -> Option<bool> {
+    let mut locked = shards.cell(1)?.lock(rt);
+    let (seat, purged) = held::purge(&mut locked, seat, 1, Moment::least());
+    Some(purged.ok()? == 0 && seat.receipts(1).len() == 1 && seat.seen(1) == 1)
 }
 
 #[test]
 fn another_table_leaves_no_receipt(rt: HostRuntime) {
-    assert!(rt; other_calls(&rt, rt.alloc()) == Some(true));
+    let mut round = fresh(&rt, rt.alloc());
+    assert!(rt; refuses_a_stranger(&rt, &mut round) == Some(true));
+    let seat = round.seat.take().expect(&rt, "the seat");
+    assert!(rt; purges(&rt, &round.shards, seat) == Some(true));
+}
+
+/// A refused call between two that are answered.
+fn refused_between<R: Wait>(rt: &R, alloc: Global, round: &mut Round) -> Option<bool> {
+    let first = round.track(rt, 1, 7);
+    let text = Key::Str(Items::new(Vec::from_slice(alloc, b"a").ok()?));
+    let refusal = round.refusal(rt, 1, 1, text)?;
+    let second = round.track(rt, 1, 7);
+    let refused = refusal == ShardError::Cell(TrackError::WrongKey);
+    Some(first == Some(1) && refused && second == Some(2) && round.receipts(1)?.len() == 2)
 }
 
 #[test]
 fn a_refusal_leaves_no_receipt(rt: HostRuntime) {
-    assert!(rt; refused_between(&rt, rt.alloc()) == Some(true));
+    let mut round = fresh(&rt, rt.alloc());
+    assert!(rt; refused_between(&rt, rt.alloc(), &mut round) == Some(true));
+    assert!(rt; round.fault(&rt, rt.alloc()) == None);
 }

@@ -1,12 +1,26 @@
 //! Cells that were swapped under their locks: the calls and the audit name it.
 
-use crate::parts::{T2, alone, only, shards, track, track_at};
-use example_parts::T1;
+use crate::round::Round;
+use example_parts::{T1, TableParts};
 use std::alloc::Global;
 use std::mem;
+use std::process::Abort;
 use std::sync::Wait;
-use table_shards::{AuditError, Seat, ShardError, Shards};
-use table_types::Key;
+use table_shards::{AuditError, Seat, ShardError, Shards, Unlocked};
+use table_types::{DataType, Key, KeyKind};
+
+/// Table `t2`, as `t1`.
+pub const T2: TableParts = TableParts {
+    id: 2,
+    name: b"t2",
+    kind: KeyKind::Integer,
+    key_length: 4,
+    expire: 30_000,
+    types: &[(DataType::Gpc0, None)],
+};
+
+/// What the audit finds wrong with `t1` where its cell is another table's.
+const SWAPPED: AuditError = AuditError::Mismatch { table: 1, seat: 0 };
 
 /// Swaps what stands under the lock of one table with what stands under that of another.
 fn swap<R: Wait>(rt: &R, one: (&Shards, u64), other: (&Shards, u64)) -> Option<()> {
@@ -16,85 +30,85 @@ fn swap<R: Wait>(rt: &R, one: (&Shards, u64), other: (&Shards, u64)) -> Option<(
     Some(())
 }
 
-/// `t1` and `t2`, each with a row of key 7, and their seat.
-fn two_tables<R: Wait>(rt: &R, alloc: Global) -> Option<(Shards, Seat)> {
-    let (shards, mut seats) = shards(alloc, &[T1, T2], 1)?;
-    let (seat, _one) = track(rt, &shards, seats.pop()?, 1, 7)?;
-    let (seat, _two) = track(rt, &shards, seat, 2, 7)?;
-    Some((shards, seat))
+/// `t1` and `t2`, each with a row of key 7, whose cells were then swapped.
+fn swapped<R: Abort + Wait>(rt: &R, alloc: Global) -> Round {
+    let mut round = Round::new(rt, alloc, &[T1, T2]);
+    let (one, other) = (round.track(rt, 1, 7), round.track(rt, 2, 7));
+    assert!(rt; one == Some(1) && other == Some(1));
+    let swapped = swap(rt, (&round.shards, 1), (&round.shards, 2));
+    assert!(rt; swapped.is_some());
+    round
 }
 
-/// Under the lock of `t1` stands the cell of `t2`: a call of `t1` is refused and leaves no receipt, and the audit names `t1`.
-fn swapped<R: Wait>(rt: &R, alloc: Global) -> Option<bool> {
-    let (shards, seat) = two_tables(rt, alloc)?;
-    swap(rt, (&shards, 1), (&shards, 2))?;
-    let (seat, answer) = track_at(rt, &shards, 1, seat, 1, Key::Int(7))?;
-    let refused = answer.err()? == ShardError::NoTable && seat.receipts(1).len() == 1;
-    let (error, unlocked, seats) = shards.unlock(alloc).ok()?.audit(only(alloc, seat)?).err()?;
+/// Whether a call of `t1` is refused, and leaves no receipt.
+fn is_refused<R: Wait>(rt: &R, round: &mut Round) -> Option<bool> {
+    let refusal = round.refusal(rt, 1, 1, Key::Int(7))?;
+    Some(refusal == ShardError::NoTable && round.receipts(1)?.len() == 1)
+}
+
+/// Whether both tables were handed back, each with its event, the cell of `t2` first, and one seat.
+fn are_handed_back(unlocked: &Unlocked, seats: &[Seat]) -> bool {
     let [first, second] = unlocked.tables() else {
-        return None;
+        return false;
     };
     let events = first.cell.events() == 1 && second.cell.events() == 1;
-    let handed_back = first.table == 1 && first.cell.definition().id() == 2 && seats.len() == 1;
-    Some(refused && error == AuditError::Mismatch { table: 1, seat: 0 } && events && handed_back)
+    first.table == 1 && first.cell.definition().id() == 2 && events && seats.len() == 1
 }
 
-/// Each cell stands under its own lock again: calls are answered as before, and the audit finds nothing wrong.
-fn swapped_back<R: Wait>(rt: &R, alloc: Global) -> Option<bool> {
-    let (shards, seat) = two_tables(rt, alloc)?;
-    swap(rt, (&shards, 1), (&shards, 2))?;
-    let (seat, answer) = track_at(rt, &shards, 2, seat, 2, Key::Int(7))?;
-    let refused = answer.err()? == ShardError::NoTable;
-    swap(rt, (&shards, 1), (&shards, 2))?;
-    let (seat, count) = track(rt, &shards, seat, 1, 7)?;
-    let audited = shards.unlock(alloc).ok()?.audit(only(alloc, seat)?).is_ok();
-    Some(refused && count == 2 && audited)
-}
-
-/// The cell of `t2` is called by its own id under the lock of `t1`: it answers, and the audit still names `t1`.
-fn called_by_its_id<R: Wait>(rt: &R, alloc: Global) -> Option<bool> {
-    let (shards, seat) = two_tables(rt, alloc)?;
-    swap(rt, (&shards, 1), (&shards, 2))?;
-    let (seat, answer) = track_at(rt, &shards, 1, seat, 2, Key::Int(7))?;
-    let answered = answer.is_ok() && seat.seen(2) == 2;
-    let (error, _unlocked, _seats) = shards.unlock(alloc).ok()?.audit(only(alloc, seat)?).err()?;
-    Some(answered && error == AuditError::Mismatch { table: 1, seat: 0 })
-}
-
-/// Two cells of one id, of which one has no events, were swapped: the seat that made an event is ahead of the other, and the
-/// audit names the seat whose receipt isn't the table's event.
-fn swapped_with_its_like<R: Wait>(rt: &R, alloc: Global) -> Option<bool> {
-    let (shards, seat) = alone(alloc)?;
-    let (others, fresh) = alone(alloc)?;
-    let (seat, _one) = track(rt, &shards, seat, 1, 7)?;
-    swap(rt, (&shards, 1), (&others, 1))?;
-    let (seat, answer) = track_at(rt, &shards, 1, seat, 1, Key::Int(7))?;
-    let ahead = answer.err()? == ShardError::SeatAhead { seen: 1, found: 0 };
-    let (error, _unlocked, _seats) = shards.unlock(alloc).ok()?.audit(only(alloc, seat)?).err()?;
-    let (other, _unlocked, _seats) = others.unlock(alloc).ok()?.audit(only(alloc, fresh)?).err()?;
-    Some(
-        ahead
-            && error == AuditError::Mismatch { table: 1, seat: 1 }
-            && other == AuditError::Mismatch { table: 1, seat: 0 },
-    )
-}
-
+/// Under the lock of `t1` stands the cell of `t2`: a call of `t1` is refused, and the audit names `t1`.
 #[test]
 fn swapped_cells_are_named(rt: HostRuntime) {
-    assert!(rt; swapped(&rt, rt.alloc()) == Some(true));
+    let mut round = swapped(&rt, rt.alloc());
+    assert!(rt; is_refused(&rt, &mut round) == Some(true));
+    let audited = round.audit(&rt, rt.alloc());
+    let (error, unlocked, seats) = audited.err().expect(&rt, "a refusal");
+    assert!(rt; error == SWAPPED && are_handed_back(&unlocked, seats.as_slice()));
 }
 
+/// Whether a call of `t2` is refused, and one of `t1` is answered once each cell stands under its own lock again.
+fn is_swapped_back<R: Wait>(rt: &R, round: &mut Round) -> Option<bool> {
+    let refusal = round.refusal(rt, 2, 2, Key::Int(7))?;
+    swap(rt, (&round.shards, 1), (&round.shards, 2))?;
+    let counted = round.track(rt, 1, 7);
+    Some(refusal == ShardError::NoTable && counted == Some(2))
+}
+
+/// The audit then finds nothing wrong.
 #[test]
 fn swapped_cells_may_be_swapped_back(rt: HostRuntime) {
-    assert!(rt; swapped_back(&rt, rt.alloc()) == Some(true));
+    let mut round = swapped(&rt, rt.alloc());
+    assert!(rt; is_swapped_back(&rt, &mut round) == Some(true));
+    assert!(rt; round.fault(&rt, rt.alloc()) == None);
 }
 
+/// Whether the cell of `t2` answers under the lock of `t1` where it is called by its own id.
+fn is_called_by_its_id<R: Wait>(rt: &R, round: &mut Round) -> Option<bool> {
+    let answered = round.track_at(rt, 1, 2, Key::Int(7))?.is_ok();
+    Some(answered && round.seat.as_ref()?.seen(2) == 2)
+}
+
+/// The audit still names `t1`.
 #[test]
 fn a_swapped_cell_is_called_by_its_id(rt: HostRuntime) {
-    assert!(rt; called_by_its_id(&rt, rt.alloc()) == Some(true));
+    let mut round = swapped(&rt, rt.alloc());
+    assert!(rt; is_called_by_its_id(&rt, &mut round) == Some(true));
+    assert!(rt; round.fault(&rt, rt.alloc()) == Some(SWAPPED));
 }
 
+/// Two cells of one id, of which one has no events, are swapped: the seat that made an event is ahead of the other.
+fn is_ahead<R: Wait>(rt: &R, round: &mut Round, others: &Round) -> Option<bool> {
+    let counted = round.track(rt, 1, 7);
+    swap(rt, (&round.shards, 1), (&others.shards, 1))?;
+    let refusal = round.refusal(rt, 1, 1, Key::Int(7))?;
+    Some(counted == Some(1) && refusal == ShardError::SeatAhead { seen: 1, found: 0 })
+}
+
+/// The audit names the seat whose receipt isn't the table's event.
 #[test]
 fn cells_of_one_id_are_told_apart(rt: HostRuntime) {
-    assert!(rt; swapped_with_its_like(&rt, rt.alloc()) == Some(true));
+    let mut round = Round::new(&rt, rt.alloc(), &[T1]);
+    let others = Round::new(&rt, rt.alloc(), &[T1]);
+    assert!(rt; is_ahead(&rt, &mut round, &others) == Some(true));
+    assert!(rt; round.fault(&rt, rt.alloc()) == Some(AuditError::Mismatch { table: 1, seat: 1 }));
+    assert!(rt; others.fault(&rt, rt.alloc()) == Some(SWAPPED));
 }

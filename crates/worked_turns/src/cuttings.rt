@@ -1,6 +1,6 @@
 //! Two sessions over memory, each of which gets what the other sent in pieces of so many bytes.
 
-use crate::parts::{Role, Side, Tables, meet};
+use crate::parts::{Role, Side, Tables, meet, rows};
 use crate::turns::ROWS;
 use example_parts::{KeyParts, ST, T1, TableParts, UpdateParts};
 use std::alloc::Global;
@@ -88,15 +88,24 @@ fn are_same(one: &(Key, Row), other: &(Key, Row)) -> bool {
         && one.1.name() == other.1.name()
 }
 
+/// Whether these are as many rows, the same.
+fn are_alike(ours: &[(Key, Row)], theirs: &[(Key, Row)]) -> bool {
+    if ours.len() != theirs.len() {
+        return false;
+    }
+    for (row, taught) in ours.iter().zip(theirs.iter()) {
+        if !are_same(row, taught) {
+            return false;
+        }
+    }
+    true
+}
+
 /// Whether both sides have so many rows of a table, the same.
 fn share<H: Wait>(rt: &H, one: &Shards, other: &Shards, table: u64, count: usize) -> Option<bool> {
-    let ours = one.cell(table)?.lock(rt).cell().rows().ok()?;
-    let theirs = other.cell(table)?.lock(rt).cell().rows().ok()?;
-    let same = ours
-        .iter()
-        .zip(theirs.iter())
-        .all(|(row, taught)| are_same(row, taught));
-    Some(ours.len() == count && theirs.len() == count && same)
+    let ours = rows(rt, one, table)?;
+    let theirs = rows(rt, other, table)?;
+    Some(ours.len() == count && are_alike(ours.as_slice(), theirs.as_slice()))
 }
 
 /// Whether both sides have so many rows of each table, the same.

@@ -67,45 +67,51 @@ struct Outcome {
     sent: usize,
 }
 
-/// A turn that finds nothing to read.
+/// A turn that finds nothing to read. `None` where the seat isn't there.
 fn teaches<H: Wait, G: Gate>(
     rt: &H,
     alloc: Global,
     session: &mut Session,
     shards: &Shards,
-    seat: Seat,
+    seat: &mut Option<Seat>,
     gate: &G,
-) -> Outcome {
+) -> Option<Outcome> {
+    let taken = seat.take()?;
+    let mut input = Waiting::new(b"");
     let mut output = Counting::new(Vec::new(alloc));
     let now = Moment::least();
-    let (_seat, turned) = turn(
+    let (back, turned) = turn(
         rt,
         alloc,
         session,
-        &mut Waiting::new(b""),
+        &mut input,
         &mut output,
         gate,
         shards,
-        seat,
+        taken,
         SESSION,
         now,
     );
-    Outcome {
-        turned,
-        sent: output.into_inner().len(),
-    }
+    *seat = Some(back);
+    let sent = output.into_inner().len();
+    Some(Outcome { turned, sent })
 }
 
 /// A lesson is copied, planned and written, in that order, and no lock is held at the gate.
 fn notes_stages<H: Wait>(rt: &H, alloc: Global, side: &mut Side) -> Option<bool> {
     is_asked(rt, alloc, side)?;
-    let seat = side.seat.take()?;
+    let Side {
+        session,
+        shards,
+        seat,
+        ..
+    } = side;
     let gate = Noting {
-        shards: &side.shards,
+        shards: &*shards,
         stages: AtomicU32::new(0),
         was_locked: AtomicBool::new(false),
     };
-    let outcome = teaches(rt, alloc, &mut side.session, &side.shards, seat, &gate);
+    let outcome = teaches(rt, alloc, session, shards, seat, &gate)?;
     let stages = gate.stages.load(Ordering::SeqCst);
     let was_locked = gate.was_locked.load(Ordering::SeqCst);
     Some(outcome.turned == Ok(Turned::Going) && stages == 123 && !was_locked)
@@ -131,34 +137,43 @@ enum Meanwhile {
     Reopens,
 }
 
-/// Closes the session in `t1` and opens it again.
-fn reopened<R: Wait>(rt: &R, shards: &Shards, seat: Seat) -> Option<Seat> {
-    let mut locked = shards.cell(1)?.lock(rt);
-    let (seat, closed) = held::close_session(&mut locked, seat, 1, SESSION);
-    let (seat, opened) = held::open_session(&mut locked, seat, 1, SESSION);
-    closed.ok()?;
-    opened.ok()?;
-    Some(seat)
+/// Closes the session in `t1` and opens it again. Answers whether both calls were answered.
+fn reopens<R: Wait>(rt: &R, shards: &Shards, seat: &mut Option<Seat>) -> Option<bool> {
+    let lock = shards.cell(1)?;
+    let taken = seat.take()?;
+    let mut locked = lock.lock(rt);
+    let (back, closed) = held::close_session(&mut locked, taken, 1, SESSION);
+    let (back, opened) = held::open_session(&mut locked, back, 1, SESSION);
+    *seat = Some(back);
+    Some(closed.is_ok() && opened.is_ok())
 }
 
 /// Copies a batch of the rows that were changed here, and answers whether one key was.
-fn is_copied<R: Wait>(rt: &R, shards: &Shards, seat: Seat) -> Option<bool> {
-    let mut locked = shards.cell(1)?.lock(rt);
+fn copies<R: Wait>(rt: &R, shards: &Shards, seat: &mut Option<Seat>) -> Option<bool> {
+    let lock = shards.cell(1)?;
+    let taken = seat.take()?;
+    let mut locked = lock.lock(rt);
     let now = Moment::least();
-    let (_seat, copied) = held::copy(&mut locked, seat, 1, SESSION, CopyKind::Push, 512, now);
-    Some(copied.ok()?.updates().len() == 1)
+    let (back, copied) = held::copy(&mut locked, taken, 1, SESSION, CopyKind::Push, 512, now);
+    *seat = Some(back);
+    Some(copied.is_ok_and(|batch| batch.updates().len() == 1))
 }
 
 /// Does that, and answers whether it was answered.
-fn is_answered<R: Wait>(rt: &R, shards: &Shards, seat: Seat, meanwhile: Meanwhile) -> Option<bool> {
-    let seat = match meanwhile {
-        Meanwhile::Tracks => seat,
-        Meanwhile::Reopens => reopened(rt, shards, seat)?,
-    };
-    let (seat, _count) = track(rt, shards, seat, 1, 9)?;
+fn is_answered<R: Wait>(
+    rt: &R,
+    shards: &Shards,
+    seat: &mut Option<Seat>,
+    meanwhile: Meanwhile,
+) -> Option<bool> {
     match meanwhile {
-        Meanwhile::Tracks => Some(true),
-        Meanwhile::Reopens => is_copied(rt, shards, seat),
+        Meanwhile::Tracks => Some(track(rt, shards, seat, 1, 9) == Some(1)),
+        Meanwhile::Reopens => {
+            let reopened = reopens(rt, shards, seat)?;
+            let counted = track(rt, shards, seat, 1, 9);
+            let copied = copies(rt, shards, seat)?;
+            Some(reopened && counted == Some(1) && copied)
+        }
     }
 }
 
@@ -166,7 +181,7 @@ fn is_answered<R: Wait>(rt: &R, shards: &Shards, seat: Seat, meanwhile: Meanwhil
 fn lets_go<R: Wait + Clock>(
     rt: &R,
     shards: &Shards,
-    seat: Seat,
+    seat: &mut Option<Seat>,
     meanwhile: Meanwhile,
     came: &AtomicBool,
     let_go: &AtomicBool,
@@ -184,13 +199,11 @@ struct Scene {
     meanwhile: Meanwhile,
 }
 
-/// A turn that is held so, which two threads have seats for: how it ended, if it was let go.
+/// A turn that is held so, and which two threads have seats for: how it ended, if it was let go.
 fn held_over<H: Threads + Wait + Clock + Sync>(
     rt: &H,
     alloc: Global,
-    session: &mut Session,
-    shards: &Shards,
-    seats: (Seat, Seat),
+    side: &mut Side,
     scene: Scene,
 ) -> Option<Outcome> {
     let (came, let_go, gave_up) = (
@@ -205,14 +218,20 @@ fn held_over<H: Threads + Wait + Clock + Sync>(
         let_go: &let_go,
         gave_up: &gave_up,
     };
-    let (seat, other) = seats;
+    let Side {
+        session,
+        shards,
+        seat,
+        other,
+    } = side;
+    let shards = &*shards;
     let (outcome, was_answered) = thread::join(
         rt,
         || teaches(rt, alloc, session, shards, seat, &gate),
         || lets_go(rt, shards, other, scene.meanwhile, &came, &let_go),
     );
     if was_answered && !gave_up.load(Ordering::SeqCst) {
-        Some(outcome)
+        outcome
     } else {
         None
     }
@@ -226,8 +245,7 @@ fn held_at<H: Threads + Wait + Clock + Sync>(
     scene: Scene,
 ) -> Option<Outcome> {
     is_asked(rt, alloc, side)?;
-    let seats = (side.seat.take()?, side.other.take()?);
-    held_over(rt, alloc, &mut side.session, &side.shards, seats, scene)
+    held_over(rt, alloc, side, scene)
 }
 
 /// The same of a new side.

@@ -14,7 +14,7 @@ use std::sync::atomic::{AtomicBool, Ordering};
 use std::time::Clock;
 use table_cell::TableCell;
 use table_shards::{Seat, Shards};
-use table_types::{Moment, Roster};
+use table_types::{Key, Moment, Name, Roster, Row};
 use worked_shards::parts::comes;
 
 /// The number of the session in the tables of its side.
@@ -40,7 +40,8 @@ impl Side {
         output: &mut W,
         gate: &G,
     ) -> Option<Result<Turned, EngineError>> {
-        let (seat, turned) = turn(
+        let taken = self.seat.take()?;
+        let (back, turned) = turn(
             rt,
             alloc,
             &mut self.session,
@@ -48,12 +49,26 @@ impl Side {
             output,
             gate,
             &self.shards,
-            self.seat.take()?,
+            taken,
             SESSION,
             Moment::least(),
         );
-        self.seat = Some(seat);
+        self.seat = Some(back);
         Some(turned)
+    }
+
+    /// A turn for which these bytes have come, and after which the session goes on. How many of them it read, and what it sent.
+    fn take_piece<H: Wait>(&mut self, rt: &H, alloc: Global, piece: &[u8]) -> Option<(usize, Vec<u8>)> {
+        let mut reader = Waiting::new(piece);
+        let mut writer = Counting::new(Vec::new(alloc));
+        let turned = self.take_turn(rt, alloc, &mut reader, &mut writer, &Open)?;
+        let read = piece.len().saturating_sub(reader.left());
+        let sent = writer.into_inner();
+        if turned == Ok(Turned::Going) {
+            Some((read, sent))
+        } else {
+            None
+        }
     }
 
     /// A turn for which at most so many more bytes have come, and after which the session goes on.
@@ -65,19 +80,9 @@ impl Side {
         most: usize,
         output: &mut Pipe,
     ) -> Option<()> {
-        let piece = input.piece(most);
-        let length = piece.len();
-        let mut reader = Waiting::new(piece);
-        let mut writer = Counting::new(Vec::new(alloc));
-        let turned = self.take_turn(rt, alloc, &mut reader, &mut writer, &Open)?;
-        let read = length.saturating_sub(reader.left());
+        let (read, mut sent) = self.take_piece(rt, alloc, input.piece(most))?;
         input.read = input.read.saturating_add(read);
-        output.bytes.append(&mut writer.into_inner()).ok()?;
-        if turned == Ok(Turned::Going) {
-            Some(())
-        } else {
-            None
-        }
+        output.bytes.append(&mut sent).ok()
     }
 }
 
@@ -122,19 +127,19 @@ impl Tables {
         Some(())
     }
 
-    fn cell(&self, alloc: Global, table: &TableParts) -> Option<TableCell> {
-        let size = if self.are_full { 1 } else { 10 };
-        let mut cell = TableCell::new(
-            alloc,
-            definition(alloc, table)?,
-            size,
-            self.are_full,
-            1,
-        ).ok()?;
+    /// Opens the session in a table where it is to be open, and learns the table's rows.
+    fn fill(&self, alloc: Global, cell: &mut TableCell, table: u64) -> Option<()> {
         if self.are_open {
             cell.open_session(SESSION).ok()?;
         }
-        self.learn(alloc, &mut cell, table.id)?;
+        self.learn(alloc, cell, table)
+    }
+
+    fn cell(&self, alloc: Global, table: &TableParts) -> Option<TableCell> {
+        let size = if self.are_full { 1 } else { 10 };
+        let definition = definition(alloc, table)?;
+        let mut cell = TableCell::new(alloc, definition, size, self.are_full, 1).ok()?;
+        self.fill(alloc, &mut cell, table.id)?;
         Some(cell)
     }
 
@@ -157,9 +162,9 @@ impl Tables {
 
     /// A side with these tables.
     pub fn side(&self, alloc: Global, role: Role) -> Option<Side> {
+        let session = self.session(alloc, role)?;
         let (shards, mut seats) = self.shards(alloc)?;
         let (other, seat) = (seats.pop(), seats.pop());
-        let session = self.session(alloc, role)?;
         Some(Side {
             session,
             shards,
@@ -169,22 +174,32 @@ impl Tables {
     }
 }
 
-/// The session of `a`, which connects to `b` and isn't up to date.
-pub fn connecting(alloc: Global, roster: Roster) -> Option<Session> {
-    let hello = Hello {
+/// The hello of `a` to `b`.
+fn hello(alloc: Global) -> Option<Hello> {
+    Some(Hello {
         remote: named(alloc, b"b")?,
         local: named(alloc, b"a")?,
         pid: 1,
         relative: 1,
-    };
-    Session::connect(alloc, hello, roster, false).ok()
+    })
+}
+
+/// The session of `a`, which connects to `b` and isn't up to date.
+pub fn connecting(alloc: Global, roster: Roster) -> Option<Session> {
+    Session::connect(alloc, hello(alloc)?, roster, false).ok()
+}
+
+/// The peers that `b` knows: `a` alone.
+fn peers(alloc: Global) -> Option<Vec<Name>> {
+    let mut peers = Vec::new(alloc);
+    peers.push(named(alloc, b"a")?).ok()?;
+    Some(peers)
 }
 
 /// The session of `b`, to which `a` connects, and which is up to date.
 pub fn accepting(alloc: Global, roster: Roster) -> Option<Session> {
-    let mut peers = Vec::new(alloc);
-    peers.push(named(alloc, b"a")?).ok()?;
-    Session::accept(alloc, named(alloc, b"b")?, peers, roster, true).ok()
+    let (own, peers) = (named(alloc, b"b")?, peers(alloc)?);
+    Session::accept(alloc, own, peers, roster, true).ok()
 }
 
 /// Bytes on their way from one side to the other.
@@ -210,8 +225,38 @@ impl Pipe {
     }
 }
 
+/// The bytes between two sides.
+#[derive(Drop)]
+struct Pipes {
+    to_joiner: Pipe,
+    to_server: Pipe,
+}
+
 /// Turns of two sides, each of which gets so many bytes at most in a turn, until the first's resync is confirmed or each has
-/// taken so many turns. What the second sent to the first, if it is confirmed.
+/// taken so many turns. Whether it is confirmed; `None` where a session doesn't go on.
+fn are_met<H: Wait>(
+    rt: &H,
+    alloc: Global,
+    joiner: &mut Side,
+    server: &mut Side,
+    pipes: &mut Pipes,
+    (most, turns): (usize, u32),
+) -> Option<bool> {
+    let Pipes {
+        to_joiner,
+        to_server,
+    } = pipes;
+    for _ in 0..turns {
+        joiner.go_on(rt, alloc, to_joiner, most, to_server)?;
+        server.go_on(rt, alloc, to_server, most, to_joiner)?;
+        if joiner.session.confirmed() {
+            return Some(true);
+        }
+    }
+    Some(false)
+}
+
+/// The same: what the second sent to the first, if its resync is confirmed.
 pub fn meet<H: Wait>(
     rt: &H,
     alloc: Global,
@@ -220,16 +265,21 @@ pub fn meet<H: Wait>(
     most: usize,
     turns: u32,
 ) -> Option<Vec<u8>> {
-    let mut to_joiner = Pipe::new(alloc);
-    let mut to_server = Pipe::new(alloc);
-    for _ in 0..turns {
-        joiner.go_on(rt, alloc, &mut to_joiner, most, &mut to_server)?;
-        server.go_on(rt, alloc, &mut to_server, most, &mut to_joiner)?;
-        if joiner.session.confirmed() {
-            return Some(to_joiner.bytes);
-        }
+    let mut pipes = Pipes {
+        to_joiner: Pipe::new(alloc),
+        to_server: Pipe::new(alloc),
+    };
+    if are_met(rt, alloc, joiner, server, &mut pipes, (most, turns)) == Some(true) {
+        Some(pipes.to_joiner.bytes)
+    } else {
+        None
     }
-    None
+}
+
+/// The rows of a table.
+pub fn rows<H: Wait>(rt: &H, shards: &Shards, table: u64) -> Option<Vec<(Key, Row)>> {
+    let locked = shards.cell(table)?.lock(rt);
+    locked.cell().rows().ok()
 }
 
 /// A reader whose failing reads aren't counted, since more may come.

@@ -1,6 +1,6 @@
 //! Turns of one side, of which the other's bytes are written out.
 
-use crate::parts::{Role, Side, Tables, Waiting};
+use crate::parts::{Role, Side, Tables, Waiting, rows};
 use example_parts::{KeyParts, T1, TableParts, UpdateParts};
 use peers_devices::{Counting, Faults};
 use peers_engine::{EngineError, Fused, Open, Turned};
@@ -9,7 +9,7 @@ use std::alloc::Global;
 use std::io::{Read, Write};
 use std::sync::Wait;
 use table_shards::Shards;
-use table_types::{Cell, Key, Value};
+use table_types::{Cell, Key, Row, Value};
 
 /// The hello of `a` to `b`.
 const HELLO: &[u8] = b"HAProxyS 2.1\nb\na 1 1\n";
@@ -120,18 +120,31 @@ fn are_so<H: Wait>(rt: &H, alloc: Global, side: &mut Side, turns: &[Exchange]) -
     Some(true)
 }
 
-/// Whether `t1` has rows of these keys and counts, and no others.
-fn has_rows<H: Wait>(rt: &H, shards: &Shards, expected: &[(u32, u64)]) -> Option<bool> {
-    let rows = shards.cell(1)?.lock(rt).cell().rows().ok()?;
+/// Whether a row has that count alone.
+fn has_count(row: &Row, expected: u64) -> bool {
+    match row.cells() {
+        [Cell::Count(count)] => *count == expected,
+        _ => false,
+    }
+}
+
+/// Whether these are rows of these keys and counts, and no others.
+fn are_rows(rows: &[(Key, Row)], expected: &[(u32, u64)]) -> bool {
     if rows.len() != expected.len() {
-        return Some(false);
+        return false;
     }
     for ((key, row), (number, count)) in rows.iter().zip(expected.iter()) {
-        if *key != Key::Int(*number) || row.cells() != [Cell::Count(*count)].as_slice() {
-            return Some(false);
+        if !key.is_same(&Key::Int(*number)) || !has_count(row, *count) {
+            return false;
         }
     }
-    Some(true)
+    true
+}
+
+/// Whether `t1` has such rows.
+fn has_rows<H: Wait>(rt: &H, shards: &Shards, expected: &[(u32, u64)]) -> Option<bool> {
+    let rows = rows(rt, shards, 1)?;
+    Some(are_rows(rows.as_slice(), expected))
 }
 
 /// Whether all of a story's turns go as they say, and end so.
@@ -349,14 +362,26 @@ fn wrote<H: Wait, W: Write + Faults>(
     side.take_turn(rt, alloc, &mut Waiting::new(b""), output, &Open)
 }
 
-/// The writer takes 20 bytes of the lesson, and then fails.
-fn cannot_write<H: Wait>(rt: &H, alloc: Global, side: &mut Side) -> Option<bool> {
-    let was_asked = is_lived(rt, alloc, side, &IS_ASKED)?;
+/// A turn over a writer that takes 20 bytes and then fails: whether these are the first ones of the lesson, and the turn ends so.
+fn writes_20<H: Wait>(rt: &H, alloc: Global, side: &mut Side) -> Option<bool> {
     let mut output = Counting::new(Fused::new(Vec::new(alloc), 20));
     let turned = wrote(rt, alloc, side, &mut output)?;
     let written = output.into_inner().into_inner();
-    let failed = turned == Err(EngineError::Write { sent: 20 }) && written.as_slice() == FIRST;
-    let is_over = side.session.state() == State::Ended && is_so(rt, alloc, side, &OVER)?;
+    Some(turned == Err(EngineError::Write { sent: 20 }) && written.as_slice() == FIRST)
+}
+
+/// Whether the session has ended, and another turn says so.
+fn is_over<H: Wait>(rt: &H, alloc: Global, side: &mut Side) -> Option<bool> {
+    let has_ended = side.session.state() == State::Ended;
+    let says_so = is_so(rt, alloc, side, &OVER)?;
+    Some(has_ended && says_so)
+}
+
+/// The writer takes 20 bytes of the lesson, and then fails.
+fn cannot_write<H: Wait>(rt: &H, alloc: Global, side: &mut Side) -> Option<bool> {
+    let was_asked = is_lived(rt, alloc, side, &IS_ASKED)?;
+    let failed = writes_20(rt, alloc, side)?;
+    let is_over = is_over(rt, alloc, side)?;
     Some(was_asked && failed && is_over)
 }
 
@@ -394,7 +419,7 @@ fn cannot_read<H: Wait>(rt: &H, alloc: Global, side: &mut Side) -> Option<bool> 
     let mut input = Counting::new(Fused::new(LESSON, 0));
     let turned = read(rt, alloc, side, &mut input)?;
     let failed = passed_over == Ok(Turned::Going) && turned == Err(EngineError::Read);
-    let is_over = side.session.state() == State::Ended && is_so(rt, alloc, side, &OVER)?;
+    let is_over = is_over(rt, alloc, side)?;
     Some(has_asked && failed && is_over)
 }
 
