@@ -58,7 +58,12 @@ impl Side {
     }
 
     /// A turn for which these bytes have come, and after which the session goes on. How many of them it read, and what it sent.
-    fn take_piece<H: Wait>(&mut self, rt: &H, alloc: Global, piece: &[u8]) -> Option<(usize, Vec<u8>)> {
+    fn take_piece<H: Wait>(
+        &mut self,
+        rt: &H,
+        alloc: Global,
+        piece: &[u8],
+    ) -> Option<(usize, Vec<u8>)> {
         let mut reader = Waiting::new(piece);
         let mut writer = Counting::new(Vec::new(alloc));
         let turned = self.take_turn(rt, alloc, &mut reader, &mut writer, &Open)?;
