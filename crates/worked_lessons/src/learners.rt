@@ -7,23 +7,23 @@ use std::alloc::Global;
 use table_types::{Key, Moment, Row};
 
 /// Table 1 `t1`, and two rows of it: key 7 with 5, and key 8 with 240.
-const TWO_UPDATES: &[u8] = &[
+pub const TWO_UPDATES: &[u8] = &[
     0x0A, 0x82, 0x0A, 1, 2, 0x74, 0x31, 2, 4, 4, 0xF0, 0xC4, 0x0D, 0x0A, 0x85, 0x0D, 0, 0, 0, 1, 0,
     0, 0x75, 0x30, 0, 0, 0, 7, 5, 0x0A, 0x86, 0x0A, 0, 0, 0x75, 0x30, 0, 0, 0, 8, 0xF0, 0,
 ];
 
 /// Table 3 `st`.
-const ST_DEFINED: &[u8] = &[
+pub const ST_DEFINED: &[u8] = &[
     0x0A, 0x82, 0x0D, 3, 2, 0x73, 0x74, 6, 0x21, 0xF0, 0xF1, 0xFE, 0, 0xF0, 0xC4, 0x0D,
 ];
 
 /// Row `a`, number 1, which writes `s1` to slot 1.
-const WRITES: &[u8] = &[
+pub const WRITES: &[u8] = &[
     0x0A, 0x85, 0x0F, 0, 0, 0, 1, 0, 0, 0x75, 0x30, 1, 0x61, 4, 1, 2, 0x73, 0x31,
 ];
 
 /// Row `b`, with the next number, which reads slot 1.
-const READS: &[u8] = &[0x0A, 0x86, 8, 0, 0, 0x75, 0x30, 1, 0x62, 1, 1];
+pub const READS: &[u8] = &[0x0A, 0x86, 8, 0, 0, 0x75, 0x30, 1, 0x62, 1, 1];
 
 /// Row `b`, number 2, which reads slot 1.
 const READS_AS_2: &[u8] = &[

@@ -3,6 +3,8 @@
 #![tactic(auto)]
 
 #[cfg(test)]
+mod intakes;
+#[cfg(test)]
 mod learners;
 #[cfg(test)]
 mod lessons;

@@ -6,6 +6,8 @@ mod answers;
 #[cfg(test)]
 mod connectors;
 #[cfg(test)]
+mod endings;
+#[cfg(test)]
 mod resyncs;
 #[cfg(test)]
 mod runs;

@@ -71,7 +71,8 @@ static ACCEPTOR_RESYNC: [Step; 5] = [
     },
 ];
 
-static OVER: After = After {
+/// Nothing comes any more.
+pub static OVER: After = After {
     confirmed: false,
     fault: None,
     refused: Some((Given::Turn, SessionError::Ended)),
