@@ -8,7 +8,7 @@ use Rattle.table_types.specs.Rosters.{table_at, has_id, repeats_name, roster_fau
 use Rattle.peers_msg.specs.Received.{defined, with_own}
 use Rattle.known_state.specs.LastNumbers.{last_of, set_last}
 use Rattle.known_state.specs.declared.known.KnownError.TheVariants as build_errors
-use Rattle.known_state.specs.Known.{AreOwn, holds, repeats, has_last, repeats_last, or_none, are_known, are_defined, build_fault, built}
+use Rattle.known_state.specs.Known.{AreOwn, is_in, repeats, has_last, repeats_last, or_none, are_known, are_defined, build_fault, built}
 use Rattle.known_state.proofs.KnownLemmas.{or-false-left, or-false-right, table_at-id, define_selects, AreOwn-defined, AreOwn-resumed}
 use Rattle.known_state.proofs.StepLemmas.{has_id-table_at}
 use Rattle.known_state.proofs.RosterLemmas.{roster_names, still_received}
@@ -60,7 +60,7 @@ one_more roster d ds id distinct listed own = elim (cases_eq d.id id) [
     by false e true f apart = let bad : false ≡ true = sym (rw (ne_eqb id d.id apart, e) refl) ∙ found_before d ds id f in cc
 
 -- so after the definitions of these ids, these are defined and those from before
-all_more : (roster : List Definition) (ids : List ℕ) (ds : List Definition) (id : ℕ) → repeats_name roster ≡ false → list_all (λ other. has_id other roster) ids ≡ true → AreOwn roster ds → is_some (table_at (fold (with_own roster) ds ids) id) ≡ (holds id ids || is_some (table_at ds id))
+all_more : (roster : List Definition) (ids : List ℕ) (ds : List Definition) (id : ℕ) → repeats_name roster ≡ false → list_all (λ other. has_id other roster) ids ≡ true → AreOwn roster ds → is_some (table_at (fold (with_own roster) ds ids) id) ≡ (is_in id ids || is_some (table_at ds id))
 all_more roster [] ds id distinct listed own = refl
 all_more roster (i ∷ ids) ds id distinct listed own =
     let rest : list_all (λ other. has_id other roster) ids ≡ true = and-right (has_id i roster) (list_all (λ other. has_id other roster) ids) listed in
@@ -69,16 +69,16 @@ all_more roster (i ∷ ids) ds id distinct listed own =
     first : has_id i roster ≡ true
     first = and-left (has_id i roster) (list_all (λ other. has_id other roster) ids) listed
 
-    at : ((ts : List Definition) → AreOwn roster ts → is_some (table_at (fold (with_own roster) ts ids) id) ≡ (holds id ids || is_some (table_at ts id))) → (o : Option Definition) → table_at roster i ≡ o → is_some (table_at (fold (with_own roster) (with_own roster ds i) ids) id) ≡ ((i == id || holds id ids) || is_some (table_at ds id))
+    at : ((ts : List Definition) → AreOwn roster ts → is_some (table_at (fold (with_own roster) ts ids) id) ≡ (is_in id ids || is_some (table_at ts id))) → (o : Option Definition) → table_at roster i ≡ o → is_some (table_at (fold (with_own roster) (with_own roster ds i) ids) id) ≡ ((i == id || is_in id ids) || is_some (table_at ds id))
     at more None e = let bad : false ≡ true = sym (has_id-table_at roster i ∙ rw e refl) ∙ first in cc
     at more (Some d) e =
         let id_is : d.id ≡ i = table_at-id roster i d e in
         let listed_d : table_at roster d.id ≡ Some d = subst (λ (n : ℕ). table_at roster n ≡ Some d) (sym id_is) e in
         let put : with_own roster ds i ≡ defined d ds = rw e refl in
-        let later : is_some (table_at (fold (with_own roster) (defined d ds) ids) id) ≡ (holds id ids || is_some (table_at (defined d ds) id)) = more (defined d ds) (AreOwn-defined roster d ds listed_d own) in
+        let later : is_some (table_at (fold (with_own roster) (defined d ds) ids) id) ≡ (is_in id ids || is_some (table_at (defined d ds) id)) = more (defined d ds) (AreOwn-defined roster d ds listed_d own) in
         let one : is_some (table_at (defined d ds) id) ≡ (i == id || is_some (table_at ds id)) = subst (λ (n : ℕ). is_some (table_at (defined d ds) id) ≡ (eqb n id || is_some (table_at ds id))) id_is (one_more roster d ds id distinct listed_d own) in
-        subst (λ (ts : List Definition). is_some (table_at (fold (with_own roster) ts ids) id) ≡ ((eqb i id || holds id ids) || is_some (table_at ds id))) (sym put)
-        (later ∙ ap (λ (b : Bool). holds id ids || b) one ∙ or_swap (eqb i id) (holds id ids) (is_some (table_at ds id)))
+        subst (λ (ts : List Definition). is_some (table_at (fold (with_own roster) ts ids) id) ≡ ((eqb i id || is_in id ids) || is_some (table_at ds id))) (sym put)
+        (later ∙ ap (λ (b : Bool). is_in id ids || b) one ∙ or_swap (eqb i id) (is_in id ids) (is_some (table_at ds id)))
 
 -- what is received is the roster's, where it is received
 own_at : (roster ds : List Definition) (id : ℕ) → AreOwn roster ds → table_at ds id ≡ cond (is_some (table_at ds id)) (table_at roster id) None
@@ -92,10 +92,10 @@ or_false : (b : Bool) → (b || false) ≡ b
 or_false true = refl
 or_false false = refl
 
-pub built_tables : (roster : List Definition) (selected : Option ℕ) (ids : List ℕ) (last_numbers : List (ℕ × ℕ)) (slots : List (Option (List ℕ))) (id : ℕ) → roster_fault roster ≡ None → build_fault roster selected ids last_numbers ≡ None → table_at (built roster selected ids last_numbers slots).state.received.tables id ≡ cond (holds id ids) (table_at roster id) None
+pub built_tables : (roster : List Definition) (selected : Option ℕ) (ids : List ℕ) (last_numbers : List (ℕ × ℕ)) (slots : List (Option (List ℕ))) (id : ℕ) → roster_fault roster ≡ None → build_fault roster selected ids last_numbers ≡ None → table_at (built roster selected ids last_numbers slots).state.received.tables id ≡ cond (is_in id ids) (table_at roster id) None
 built_tables roster selected ids last_numbers slots id sound none =
     let listed : list_all (λ other. has_id other roster) ids ≡ true = each_listed roster selected ids last_numbers (no_fault (are_known roster selected ids last_numbers) (are_defined selected ids last_numbers) (repeats ids) (repeats_last last_numbers) none).0 in
-    let received : is_some (table_at (fold (with_own roster) [] ids) id) ≡ holds id ids = all_more roster ids [] id (roster_names roster sound) listed tt ∙ or_false (holds id ids) in
+    let received : is_some (table_at (fold (with_own roster) [] ids) id) ≡ is_in id ids = all_more roster ids [] id (roster_names roster sound) listed tt ∙ or_false (is_in id ids) in
     own_at roster (fold (with_own roster) [] ids) id (AreOwn-resumed roster ids selected) ∙ ap (λ (b : Bool). cond b (table_at roster id) None) received
 
 -- ---- last numbers

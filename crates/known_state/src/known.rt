@@ -7,7 +7,7 @@ ghost use Rattle.peers_msg.specs.Fitting.{fits, IsPlain};
 ghost use Rattle.peers_msg.specs.Received.{selected_table};
 ghost use Rattle.known_state.specs.State.{Step, IsOwn};
 ghost use Rattle.known_state.specs.declared.effect.Effect.TheVariants as effects;
-ghost use Rattle.known_state.specs.Known.{known_of, KnownState, AreOwn, fresh_of, build_fault, built, Refuses, refused_as, switch_refusal, update_refusal, IsTakenBy, IsLegalEffect, step_error_name};
+ghost use Rattle.known_state.specs.Known.{known_of, KnownState, AreOwn, fresh_of, build_fault, built, Refuses, as_step_error, switch_refusal, update_refusal, IsTakenBy, IsLegalEffect, step_error_name};
 ghost use Rattle.known_state.specs.LastNumbers.{AreRising};
 ghost use Rattle.known_state.specs.declared.known.KnownError.{KnownError};
 ghost use Rattle.known_state.specs.declared.known.KnownError.TheVariants as build_errors;
@@ -98,7 +98,7 @@ impl From<Memory> for StepError {
 }
 
 impl From<Refusal> for StepError {
-    ghost from_gives = { λ refusal e. e ≡ refused_as refusal };
+    ghost from_gives = { λ refusal e. e ≡ as_step_error refusal };
 
     fn from(refusal: Refusal) -> StepError {
         match refusal {

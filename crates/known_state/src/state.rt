@@ -219,7 +219,7 @@ impl State {
                 self.received.select(id);
                 Ok(())
             }
-            Effect::Update(update) => self.take(update),
+            Effect::Update(update) => self.make_update(update),
         }
     }
 
@@ -234,7 +234,7 @@ impl State {
         Ok(())
     }
 
-    fn take(&mut self, update: ResolvedUpdate) -> Result<(), Memory>
+    fn make_update(&mut self, update: ResolvedUpdate) -> Result<(), Memory>
         ensures made { OnOk result (self.new ≡ made self.old (effects.Update update)) }
         ensures stays { OnErr result (self.new ≡ self.old) }
     {

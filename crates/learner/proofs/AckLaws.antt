@@ -6,7 +6,7 @@ use Rattle.table_types.specs.Tables.{Definition}
 use Rattle.peers_msg.specs.declared.message.Message.{Message}
 use Rattle.peers_msg.specs.declared.message.Message.TheVariants as messages
 use Rattle.peers_msg.specs.Received.{IsBelow, AreDistinct}
-use Rattle.known_state.specs.Known.{holds}
+use Rattle.known_state.specs.Known.{is_in}
 use Rattle.known_state.specs.LastNumbers.{last_of}
 use Rattle.learner.specs.LocalTables.{local_table}
 use Rattle.learner.specs.Intake.{Taking, ack_of}
@@ -33,7 +33,7 @@ all_rise f (d ∷ ds) each distinct = at (f d) refl (all_rise f ds each distinct
     at (Some m) e rest = let is = each d m e in rw (e, is.1) (all_above f d ds each distinct.0, rest)
 
 each_ack : (t : Taking) → AckEach (ack_of t)
-each_ack t d m e = by (is_some (local_table t.roster d) && holds d.id t.due) (last_of t.state.last_numbers d.id) e
+each_ack t d m e = by (is_some (local_table t.roster d) && is_in d.id t.due) (last_of t.state.last_numbers d.id) e
   where
     by : (b : Bool) (last : Option ℕ) → cond b (option_map (λ n. messages.Ack d.id n) last) None ≡ Some m → (number : ℕ) × (m ≡ messages.Ack d.id number)
     by true (Some n) e = let here : Some (messages.Ack d.id n) ≡ Some m = e in let is : messages.Ack d.id n ≡ m = cc in (n, sym is)

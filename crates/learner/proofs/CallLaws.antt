@@ -8,7 +8,7 @@ use Rattle.learner.specs.declared.fault.Fault.{Fault}
 use Rattle.learner.specs.declared.fault.Fault.TheVariants as faults
 use Rattle.learner.specs.declared.taken.Taken.{Taken}
 use Rattle.learner.specs.Intake.{Taking, Takes, Gives, IntakeFeeds, IntakeNext, rows_of, fed}
-use Rattle.learner.specs.Calls.{AreCalled, IsEndOf, IsFaultless, bytes_of, given_of}
+use Rattle.learner.specs.Calls.{AreIntakeCalls, IsEndOf, IsFaultless, bytes_of, answers_given}
 use Rattle.learner.proofs.PieceLaws.{takes_on, left_good}
 use Rattle.learner.proofs.FaultLaws.{stops_on}
 use Rattle.learner.proofs.OneOutcome.{intake_next_once}
@@ -37,7 +37,7 @@ after_feeding t mid e piece others more answers (Err fault) fine feeds taken =
     unfed f memory feeds = (subst (λ (g : Fault). IntakeFeeds t piece (Err g) mid) memory feeds).1
 
 -- and after one that asked
-asked : (t mid e : Taking) (bytes : List ℕ) (others : List Taken) (answer : Result (Option Taken) Fault) → IsBytes t.unread → IsFaultless answer → IntakeNext t answer mid → AreTaken (fed mid bytes) others e → AreTaken (fed t bytes) (given_of answer ++ others) e
+asked : (t mid e : Taking) (bytes : List ℕ) (others : List Taken) (answer : Result (Option Taken) Fault) → IsBytes t.unread → IsFaultless answer → IntakeNext t answer mid → AreTaken (fed mid bytes) others e → AreTaken (fed t bytes) (answers_given answer ++ others) e
 asked t mid e bytes others (Ok None) good fine (is_open, none, is) taken = subst (λ (x : Taking). AreTaken (fed x bytes) others e) is taken
 asked t mid e bytes others (Ok (Some answer)) good fine (m, takes, tells) taken =
     (fed mid bytes, (m, takes_on t mid m (rows_of answer) bytes good takes, tells), taken)
@@ -69,7 +69,7 @@ asked_good t mid bytes (Err fault) good fine next =
     untaken f memory next = (subst (λ (g : Fault). IntakeNext t (Err g) mid) memory next).2
 
 -- what calls give is taken of all that they feed
-called_taken : (calls : List (Option (List ℕ))) (t e : Taking) (bytes more : List ℕ) (answers : List Taken) → IsBytes (t.unread ++ (bytes ++ more)) → AreCalled t calls bytes answers e → AreTaken (fed t (bytes ++ more)) answers (fed e more) × IsBytes (e.unread ++ more)
+called_taken : (calls : List (Option (List ℕ))) (t e : Taking) (bytes more : List ℕ) (answers : List Taken) → IsBytes (t.unread ++ (bytes ++ more)) → AreIntakeCalls t calls bytes answers e → AreTaken (fed t (bytes ++ more)) answers (fed e more) × IsBytes (e.unread ++ more)
 called_taken [] t e bytes more answers good (nothing, none, here) =
     let end : AreTaken (fed t more) [] (fed e more) = ap (λ (x : Taking). fed x more) here in
     let answered : AreTaken (fed t more) answers (fed e more) = subst (λ (xs : List Taken). AreTaken (fed t more) xs (fed e more)) (sym none) end in (
@@ -127,7 +127,7 @@ same_taken t a b x y (answer ∷ answers) (other ∷ others) end last more rest 
     one_given p q same = cc
 
 -- however one stream is fed and asked for, it comes to one thing
-pub same_called : (t a b x y : Taking) (one other : List (Option (List ℕ))) (bytes others more rest : List ℕ) (answers given : List Taken) (end last : Result (Option Taken) Fault) → IsBytes (t.unread ++ (bytes ++ more)) → bytes ++ more ≡ others ++ rest → AreCalled t one bytes answers a → AreCalled t other others given b → IntakeNext a end x → IntakeNext b last y → IsEndOf end more → IsEndOf last rest
+pub same_called : (t a b x y : Taking) (one other : List (Option (List ℕ))) (bytes others more rest : List ℕ) (answers given : List Taken) (end last : Result (Option Taken) Fault) → IsBytes (t.unread ++ (bytes ++ more)) → bytes ++ more ≡ others ++ rest → AreIntakeCalls t one bytes answers a → AreIntakeCalls t other others given b → IntakeNext a end x → IntakeNext b last y → IsEndOf end more → IsEndOf last rest
     → (answers ≡ given) × (end ≡ last) × (fed x more ≡ fed y rest)
 same_called t a b x y one other bytes others more rest answers given end last good cut called again next then ends stops =
     let good_other : IsBytes (t.unread ++ (others ++ rest)) = subst (λ (xs : List ℕ). IsBytes (t.unread ++ xs)) cut good in

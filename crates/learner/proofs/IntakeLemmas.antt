@@ -11,7 +11,7 @@ use Rattle.known_state.specs.declared.effect.Effect.{Effect}
 use Rattle.known_state.specs.declared.effect.Refusal.{Refusal}
 use Rattle.known_state.specs.declared.effect.Refusal.TheVariants as refusals
 use Rattle.known_state.proofs.EffectLemmas.{effect_steps}
-use Rattle.learner.specs.Faults.{refused_as}
+use Rattle.learner.specs.Faults.{as_fault}
 use Rattle.learner.specs.LocalTables.{local_updates}
 use Rattle.learner.specs.declared.fault.Fault.{Fault}
 use Rattle.learner.specs.declared.fault.Fault.TheVariants as faults
@@ -57,13 +57,13 @@ front_takable t m used front unrefused = (m, drop used t.unread, front.1, unrefu
 
 -- ---- faults
 
-never_so : (o : Option Refusal) (breach : Breach) → ◌≡◌ {A = Option Fault} (option_map refused_as o) (Some (faults.Breach breach)) → ⊥
+never_so : (o : Option Refusal) (breach : Breach) → ◌≡◌ {A = Option Fault} (option_map as_fault o) (Some (faults.Breach breach)) → ⊥
 never_so None breach e = cc
 never_so (Some refusals.NoNumber) breach e = cc
 never_so (Some refusals.EmptySlot) breach e = cc
 never_so (Some refusals.Memory) breach e = cc
 
-never_closed : (o : Option Refusal) → ◌≡◌ {A = Option Fault} (option_map refused_as o) (Some faults.Closed) → ⊥
+never_closed : (o : Option Refusal) → ◌≡◌ {A = Option Fault} (option_map as_fault o) (Some faults.Closed) → ⊥
 never_closed None e = cc
 never_closed (Some refusals.NoNumber) e = cc
 never_closed (Some refusals.EmptySlot) e = cc

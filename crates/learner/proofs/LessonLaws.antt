@@ -34,7 +34,7 @@ use Rattle.known_state.specs.declared.effect.Refusal.{Refusal}
 use Rattle.known_state.proofs.EffectLemmas.{step_unrefused}
 use Rattle.learner.specs.declared.fault.Fault.{Fault}
 use Rattle.learner.specs.declared.fault.Fault.TheVariants as faults
-use Rattle.learner.specs.Faults.{refused_as}
+use Rattle.learner.specs.Faults.{as_fault}
 use Rattle.learner.specs.LocalTables.{local_table, local_id, local_updates}
 use Rattle.learner.specs.Intake.{Taking, Takes, Stops, due_after}
 use Rattle.learner.specs.Rows.{put, put_all}
@@ -181,11 +181,11 @@ never_some : (fault : Fault) → ◌≡◌ {A = Option Fault} None (Some fault) 
 never_some fault e = cc
 
 -- a message that makes a step isn't refused
-steps_unrefused : (t : Taking) (m n : Message) (us : List Update) (e : State) (rest after : List ℕ) (fault : Fault) → message_at t.state.received t.unread ≡ found m rest → message_at t.state.received t.unread ≡ found n after → Step t.state m us e → option_map refused_as (message_refusal t.state n) ≡ Some fault → ⊥
+steps_unrefused : (t : Taking) (m n : Message) (us : List Update) (e : State) (rest after : List ℕ) (fault : Fault) → message_at t.state.received t.unread ≡ found m rest → message_at t.state.received t.unread ≡ found n after → Step t.state m us e → option_map as_fault (message_refusal t.state n) ≡ Some fault → ⊥
 steps_unrefused t m n us e rest after fault at next step refused =
     let same = found_is m n rest after (sym at ∙ next) in
     let none : message_refusal t.state n ≡ None = subst (λ (k : Message). message_refusal t.state k ≡ None) same.0 (step_unrefused t.state e m us step) in
-    never_some fault (sym (ap (λ (o : Option Refusal). option_map refused_as o) none) ∙ refused)
+    never_some fault (sym (ap (λ (o : Option Refusal). option_map as_fault o) none) ∙ refused)
 
 pub apart : true ≡ false → ⊥
 apart e = cc

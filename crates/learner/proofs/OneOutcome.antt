@@ -15,7 +15,7 @@ use Rattle.learner.specs.declared.fault.Fault.{Fault}
 use Rattle.learner.specs.declared.fault.Fault.TheVariants as faults
 use Rattle.learner.specs.declared.taken.Taken.{Taken}
 use Rattle.learner.specs.declared.taken.Taken.TheVariants as taken
-use Rattle.learner.specs.Faults.{refused_as}
+use Rattle.learner.specs.Faults.{as_fault}
 use Rattle.learner.specs.Intake.{Taking, Takes, Stops, IntakeFeeds, IntakeNext, Answers, rows_of, fed, shut}
 use Rattle.learner.specs.Learning.{Learning, AreLearned, LearnerFeeds, with_piece}
 use Rattle.learner.proofs.PieceLaws.{one_learned, one_message, one_taking, same_fed}
@@ -35,7 +35,7 @@ abbrev stopping : Taking → Bool → Result (Option (Message × List ℕ)) Brea
 stopping t true read = (faults.Closed, t)
 stopping t false (Err breach) = (faults.Breach breach, shut t)
 stopping t false (Ok None) = (faults.Memory, t)
-stopping t false (Ok (Some found)) = refusing t (option_map refused_as (message_refusal t.state found.0))
+stopping t false (Ok (Some found)) = refusing t (option_map as_fault (message_refusal t.state found.0))
 
 stopping_with : (t : Taking) (closed : Bool) (read : Result (Option (Message × List ℕ)) Breach) → t.closed ≡ closed → message_at t.state.received t.unread ≡ read → stopping t t.closed (message_at t.state.received t.unread) ≡ stopping t closed read
 stopping_with t closed read is at = ap (λ (b : Bool). stopping t b (message_at t.state.received t.unread)) is ∙ ap (stopping t closed) at
@@ -43,7 +43,7 @@ stopping_with t closed read is at = ap (λ (b : Bool). stopping t b (message_at 
 both_are : (f g : Fault) (x y : Taking) → f ≡ g → x ≡ y → ◌≡◌ {A = Fault × Taking} (f, x) (g, y)
 both_are f g x y faults takings = ap (λ (q : Fault). (q, x)) faults ∙ ap (λ (q : Taking). (g, q)) takings
 
-refused_so : (t e : Taking) (fault : Fault) (m : Message) (rest : List ℕ) → t.closed ≡ false → message_at t.state.received t.unread ≡ found m rest → option_map refused_as (message_refusal t.state m) ≡ Some fault → e ≡ shut t
+refused_so : (t e : Taking) (fault : Fault) (m : Message) (rest : List ℕ) → t.closed ≡ false → message_at t.state.received t.unread ≡ found m rest → option_map as_fault (message_refusal t.state m) ≡ Some fault → e ≡ shut t
     → (fault, e) ≡ stopping t t.closed (message_at t.state.received t.unread)
 refused_so t e fault m rest is_open at refused is =
     both_are fault fault e (shut t) refl is ∙ sym (ap (refusing t) refused) ∙ sym (stopping_with t false (found m rest) is_open at)

@@ -6,7 +6,7 @@ use Rattle.peers_msg.specs.declared.fault.Fault.TheVariants as faults
 use Rattle.peers_msg.specs.declared.message.Message.{Message}
 use Rattle.peers_msg.specs.Received.{Received, received_after}
 use Rattle.peers_msg.specs.Decoding.{Decoding, DecoderFeeds, DecoderNext, AreRead, AreReadInPieces, together}
-use Rattle.peers_msg.specs.Calls.{AreCalled, given_of, taken_of}
+use Rattle.peers_msg.specs.Calls.{AreDecoderCalls, messages_given, taken_of}
 use Rattle.peers_msg.specs.Spelling.{stream_of}
 use Rattle.peers_msg.specs.Stream.{AllFit}
 use Rattle.peers_msg.proofs.CuttingIndependence.{whole}
@@ -34,7 +34,7 @@ feeds d mid e piece (Err faults.Memory) others ms (is_open, is) reads = reads_as
 feeds d mid e piece (Err faults.Closed) others ms (is_shut, is) reads = reads_as d mid e others ms (ap (λ (x : Decoding). x.received) is) (ap (λ (x : Decoding). x.unread) is) reads
 feeds d mid e piece (Err (faults.Breach breach)) others ms none reads = absurd none
 
-asks : (d mid e : Decoding) (answer : Result (Option Message) Fault) (pieces : List (List ℕ)) (others : List Message) → DecoderNext d answer mid → Reads mid pieces others e → Reads d pieces (given_of answer ++ others) e
+asks : (d mid e : Decoding) (answer : Result (Option Message) Fault) (pieces : List (List ℕ)) (others : List Message) → DecoderNext d answer mid → Reads mid pieces others e → Reads d pieces (messages_given answer ++ others) e
 asks d mid e (Ok None) pieces others (is_open, none, is) reads = reads_as d mid e pieces others (ap (λ (x : Decoding). x.received) is) (ap (λ (x : Decoding). x.unread) is) reads
 asks d mid e (Ok (Some m)) pieces others (is_open, rest, at, is) reads =
     let after : AreReadInPieces (received_after d.received m) [] (rest ∷ pieces) others e.received e.unread =
@@ -44,7 +44,7 @@ asks d mid e (Err faults.Memory) pieces others (is_open, stands, is) reads = rea
 asks d mid e (Err faults.Closed) pieces others (is_shut, is) reads = reads_as d mid e pieces others (ap (λ (x : Decoding). x.received) is) (ap (λ (x : Decoding). x.unread) is) reads
 asks d mid e (Err (faults.Breach breach)) pieces others (is_open, at, is) reads = reads_as d mid e pieces others (ap (λ (x : Decoding). x.received) is) (ap (λ (x : Decoding). x.unread) is) reads
 
-pub read_in_pieces : (calls : List (Option (List ℕ))) (d e : Decoding) (pieces : List (List ℕ)) (ms : List Message) → AreCalled d calls pieces ms e → AreReadInPieces d.received [] (d.unread ∷ pieces) ms e.received e.unread
+pub read_in_pieces : (calls : List (Option (List ℕ))) (d e : Decoding) (pieces : List (List ℕ)) (ms : List Message) → AreDecoderCalls d calls pieces ms e → AreReadInPieces d.received [] (d.unread ∷ pieces) ms e.received e.unread
 read_in_pieces [] d e pieces ms (nothing, none, here) =
     let end : Reads d [] [] d = ([], [], d.received, d.unread, refl, (refl, refl), (refl, refl)) in
     subst (λ (x : Decoding). Reads d pieces ms x) (sym here)
@@ -55,7 +55,7 @@ read_in_pieces (None ∷ calls) d e pieces ms (answer, others, mid, all, asked, 
     subst (λ (ns : List Message). Reads d pieces ns e) (sym all) (asks d mid e answer pieces others asked (read_in_pieces calls mid e pieces others later))
 
 -- the messages given are spelled by the bytes that were unread and those that were taken, up to what is unread
-pub called_spelled : (calls : List (Option (List ℕ))) (d e : Decoding) (pieces : List (List ℕ)) (ms : List Message) → IsBytes (d.unread ++ together pieces) → AreCalled d calls pieces ms e
+pub called_spelled : (calls : List (Option (List ℕ))) (d e : Decoding) (pieces : List (List ℕ)) (ms : List Message) → IsBytes (d.unread ++ together pieces) → AreDecoderCalls d calls pieces ms e
     → (d.unread ++ together pieces ≡ stream_of ms ++ e.unread) × AllFit d.received ms × (e.received ≡ fold received_after d.received ms)
 called_spelled calls d e pieces ms good called =
     let read : AreRead d.received (d.unread ++ together pieces) ms e.received e.unread =

@@ -24,7 +24,7 @@ use Rattle.learner.specs.declared.fault.Fault.{Fault}
 use Rattle.learner.specs.declared.fault.Fault.TheVariants as faults
 use Rattle.learner.specs.declared.taken.Taken.{Taken}
 use Rattle.learner.specs.declared.taken.Taken.TheVariants as taken
-use Rattle.learner.specs.Faults.{refused_as}
+use Rattle.learner.specs.Faults.{as_fault}
 use Rattle.learner.specs.LocalTables.{local_update, local_updates}
 use Rattle.learner.specs.Intake.{Taking, Answers, Gives, IntakeNext, Stops, due_after, rows_of, shut}
 
@@ -114,8 +114,8 @@ never_memory s (messages.Other other) is = cc
 -- by whether the message at the front is refused
 at_message : (t : Taking) (m : Message) (rest : List ℕ) (refusal : Option Refusal) → IsBytes t.unread → t.closed ≡ false → message_at t.state.received t.unread ≡ Ok (Some (m, rest)) → message_refusal t.state m ≡ refusal → Does t
 at_message t m rest None good is_open at is = takes t m rest good is_open at (told t m is)
-at_message t m rest (Some refusals.NoNumber) good is_open at is = inr (inr (faults.NoNumber, shut t, (λ same. cc), (is_open, m, rest, at, ap (option_map refused_as) is, refl)))
-at_message t m rest (Some refusals.EmptySlot) good is_open at is = inr (inr (faults.EmptySlot, shut t, (λ same. cc), (is_open, m, rest, at, ap (option_map refused_as) is, refl)))
+at_message t m rest (Some refusals.NoNumber) good is_open at is = inr (inr (faults.NoNumber, shut t, (λ same. cc), (is_open, m, rest, at, ap (option_map as_fault) is, refl)))
+at_message t m rest (Some refusals.EmptySlot) good is_open at is = inr (inr (faults.EmptySlot, shut t, (λ same. cc), (is_open, m, rest, at, ap (option_map as_fault) is, refl)))
 at_message t m rest (Some refusals.Memory) good is_open at is = absurd (never_memory t.state m is)
 
 -- by what stands at the front

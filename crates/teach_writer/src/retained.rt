@@ -40,10 +40,10 @@ fn lowest_free(flags: &[bool; SLOT_COUNT]) -> Option<u8>
     None
 }
 
-fn holds(slot: Option<&Name>, name: &Name) -> bool
-    ensures { IsTrue result ↔ (option_copied slot.entry ≡ Some name.now) }
+fn is_held_name(held: Option<&Name>, name: &Name) -> bool
+    ensures { IsTrue result ↔ (option_copied held.entry ≡ Some name.now) }
 {
-    match slot {
+    match held {
         Some(held) => held.is_same(name),
         None => false,
     }
@@ -65,7 +65,7 @@ impl Retained {
         requires { is_slot slot ≡ true }
         ensures { IsTrue result ↔ Retains self.now slots.now slot name.now }
     {
-        self.flags[usize::from(slot) - 1] && holds(slots.name(slot), name)
+        self.flags[usize::from(slot) - 1] && is_held_name(slots.name(slot), name)
     }
 
     /// A slot in which this name is retained, by what the slots hold: none where its request isn't kept. The likely one is
@@ -92,7 +92,7 @@ impl Retained {
         }
         for (index, retained) in self.flags.iter().enumerate() {
             let slot = index as u8 + 1;
-            if *retained && holds(slots.name(slot), name) {
+            if *retained && is_held_name(slots.name(slot), name) {
                 return Some(slot);
             }
         }

@@ -10,7 +10,7 @@ use Rattle.known_state.proofs.EffectLemmas.{effect_unrefused}
 use Rattle.learner.proofs.IntakeLemmas.{shown_taken, front_takable}
 use Rattle.learner.proofs.RowLemmas.{row_within}
 use Rattle.learner.proofs.LearningLemmas.{gives_rows, gives_cut, cut_here}
-use Rattle.learner.proofs.learner.Learner.learn.Goals as goal
+use Rattle.learner.proofs.learner.Learner.learn_message.Goals as goal
 
 pub returns-in_err-row-in-Ok-Some-clause-learns : goal.returns-in_err-row-in-Ok-Some-clause-learns
 returns-in_err-row-in-Ok-Some-clause-learns c =
