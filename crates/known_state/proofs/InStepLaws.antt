@@ -81,16 +81,16 @@ has_passed p (x ∷ xs) id d h passes = elim (cases_eq x.id id) [
       rw (first, eq-eqb x.id id same) refl
   | inr other ↦
       let later : has_id id (filter p xs) ≡ true = has_passed p xs id d (sym (rw (ne_eqb x.id id other) refl) ∙ h) passes in
-      behind (p x) later
+      in_rest (p x) later
 ]
   where
     or-right : (a b : Bool) → b ≡ true → (a || b) ≡ true
     or-right true b h = refl
     or-right false b h = h
 
-    behind : (b : Bool) → has_id id (filter p xs) ≡ true → has_id id (cond b (x ∷ filter p xs) (filter p xs)) ≡ true
-    behind true later = or-right (eqb x.id id) (has_id id (filter p xs)) later
-    behind false later = later
+    in_rest : (b : Bool) → has_id id (filter p xs) ≡ true → has_id id (cond b (x ∷ filter p xs) (filter p xs)) ≡ true
+    in_rest true later = or-right (eqb x.id id) (has_id id (filter p xs)) later
+    in_rest false later = later
 
 -- whether an id keeps its last number at a definition
 abbrev keeps : Definition → List Definition → ℕ → Bool

@@ -74,14 +74,14 @@ put-filter keeps id n (l ∷ ls) kept rise = elim (cases_eq l.0 id) [
         let whole : AreAbove id (l ∷ ls) = (lt, above-lower id l.0 ls lt rise.0) in
         let first = put_first id n (filter (λ l. keeps l.0) (l ∷ ls)) (above-filter id (λ l. keeps l.0) (l ∷ ls) whole) in
         rw (ne_eqb l.0 id other, lt-ltb id l.0 lt, kept) (sym first)
-    | inr le ↦ rw (ne_eqb l.0 id other, le-ltb id l.0 le) (behind (keeps l.0) other le (put-filter keeps id n ls kept rise.1))
+    | inr le ↦ rw (ne_eqb l.0 id other, le-ltb id l.0 le) (in_rest (keeps l.0) other le (put-filter keeps id n ls kept rise.1))
   ]
 ]
   where
-    behind : (b : Bool) → (l.0 ≡ id → ⊥) → l.0 ≤ id → filter (λ x. keeps x.0) (set_last id n ls) ≡ set_last id n (filter (λ x. keeps x.0) ls)
+    in_rest : (b : Bool) → (l.0 ≡ id → ⊥) → l.0 ≤ id → filter (λ x. keeps x.0) (set_last id n ls) ≡ set_last id n (filter (λ x. keeps x.0) ls)
         → cond b (l ∷ filter (λ x. keeps x.0) (set_last id n ls)) (filter (λ x. keeps x.0) (set_last id n ls)) ≡ set_last id n (cond b (l ∷ filter (λ x. keeps x.0) ls) (filter (λ x. keeps x.0) ls))
-    behind true other le later = rw (ne_eqb l.0 id other, le-ltb id l.0 le) (ap (λ (xs : List (ℕ × ℕ)). l ∷ xs) later)
-    behind false other le later = later
+    in_rest true other le later = rw (ne_eqb l.0 id other, le-ltb id l.0 le) (ap (λ (xs : List (ℕ × ℕ)). l ∷ xs) later)
+    in_rest false other le later = later
 
 -- where one was put, and where none was
 pub rising-put_or_not : {X E : Type 0} (result : Result X E) (id n : ℕ) (old new : List (ℕ × ℕ)) → OnOk result (new ≡ set_last id n old) → OnErr result (new ≡ old) → AreRising old → AreRising new

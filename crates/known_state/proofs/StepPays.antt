@@ -172,11 +172,11 @@ own_stays roster s mid (messages.Other o) one own is_own (fit, none, is) = subst
 
 -- what holds of each of the updates holds of each of the rest
 pub all_rest : (p : Update → Type 0) (one rest us : List Update) → us ≡ one ++ rest → AllByRecursion p us → AllByRecursion p rest
-all_rest p one rest us is all = behind one (subst (λ (l : List Update). AllByRecursion p l) is all)
+all_rest p one rest us is all = in_rest one (subst (λ (l : List Update). AllByRecursion p l) is all)
   where
-    behind : (one : List Update) → AllByRecursion p (one ++ rest) → AllByRecursion p rest
-    behind [] all = all
-    behind (u ∷ us) all = behind us all.1
+    in_rest : (one : List Update) → AllByRecursion p (one ++ rest) → AllByRecursion p rest
+    in_rest [] all = all
+    in_rest (u ∷ us) all = in_rest us all.1
 
 -- messages pay for what they save
 pub list_pays : (roster : List Definition) (s e : State) (ms : List Message) (us : List Update) → AreOwn roster s.received.tables → AllByRecursion (IsOfRoster roster) us → Legal roster s ms us e → (saved : ℕ) × Saves roster s ms us saved × (cost roster s us ≤ size_of_all ms + saved)

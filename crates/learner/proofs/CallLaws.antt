@@ -39,8 +39,8 @@ after_feeding t mid e piece others more answers (Err fault) fine feeds taken =
 -- and after one that asked
 asked : (t mid e : Taking) (bytes : List ℕ) (others : List Taken) (answer : Result (Option Taken) Fault) → IsBytes t.unread → IsFaultless answer → IntakeNext t answer mid → AreTaken (fed mid bytes) others e → AreTaken (fed t bytes) (answers_given answer ++ others) e
 asked t mid e bytes others (Ok None) good fine (is_open, none, is) taken = subst (λ (x : Taking). AreTaken (fed x bytes) others e) is taken
-asked t mid e bytes others (Ok (Some answer)) good fine (m, takes, tells) taken =
-    (fed mid bytes, (m, takes_on t mid m (rows_of answer) bytes good takes, tells), taken)
+asked t mid e bytes others (Ok (Some answer)) good fine (m, takes, says) taken =
+    (fed mid bytes, (m, takes_on t mid m (rows_of answer) bytes good takes, says), taken)
 asked t mid e bytes others (Err fault) good fine next taken =
     subst (λ (x : Taking). AreTaken (fed x bytes) others e) (untaken fault (fine fault refl) next) taken
   where
@@ -60,7 +60,7 @@ fed_good t mid piece others more (Err fault) good fine feeds =
 
 asked_good : (t mid : Taking) (bytes : List ℕ) (answer : Result (Option Taken) Fault) → IsBytes (t.unread ++ bytes) → IsFaultless answer → IntakeNext t answer mid → IsBytes (mid.unread ++ bytes)
 asked_good t mid bytes (Ok None) good fine (is_open, none, is) = subst (λ (x : Taking). IsBytes (x.unread ++ bytes)) (sym is) good
-asked_good t mid bytes (Ok (Some answer)) good fine (m, takes, tells) =
+asked_good t mid bytes (Ok (Some answer)) good fine (m, takes, says) =
     left_good (fed t bytes) (fed mid bytes) m (rows_of answer) good (takes_on t mid m (rows_of answer) bytes (front_good t.unread bytes good) takes)
 asked_good t mid bytes (Err fault) good fine next =
     subst (λ (x : Taking). IsBytes (x.unread ++ bytes)) (sym (untaken fault (fine fault refl) next)) good

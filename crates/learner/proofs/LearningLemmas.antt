@@ -60,7 +60,7 @@ begins_so roster t rows is held =
 
 -- the rows that it gives are put
 pub gives_rows : (now : ℕ) (l : Learning) (e : Taking) (answer : Taken) (rows : List (List (Key × StoredRow))) (count : ℕ) → Gives l.intake (Ok answer) e → rows ≡ put_all now e.roster (rows_of answer) l.rows → count ≡ length (rows_of answer) → LearnsOne now l (Ok (Some count)) (record { intake = e; rows = rows })
-gives_rows now l e answer rows count (m, takes, tells) is counted =
+gives_rows now l e answer rows count (m, takes, says) is counted =
     (m, rows_of answer, (takes, is ∙ ap (λ (ds : List Definition). put_all now ds (rows_of answer) l.rows) (ap (λ (t : Taking). t.roster) takes.6)), counted)
 
 -- memory is wanted before anything changes
@@ -69,7 +69,7 @@ cut_here now l takable = (takable, refl, inl refl)
 
 -- memory is wanted for a row
 pub gives_cut : (now : ℕ) (l : Learning) (e : Taking) (answer : Taken) → IsTakable l.intake → Gives l.intake (Ok answer) e → LearnsOne now l (Err faults.Memory) (record { intake = e; rows = l.rows })
-gives_cut now l e answer takable (m, takes, tells) = (takable, refl, inr (m, rows_of answer, takes))
+gives_cut now l e answer takable (m, takes, says) = (takable, refl, inr (m, rows_of answer, takes))
 
 -- what is open doesn't answer that it is closed
 pub not_closed : (now : ℕ) (l e : Learning) (fault : Fault) → l.intake.closed ≡ false → LearnsOne now l (Err fault) e → fault ≢ faults.Closed

@@ -83,11 +83,11 @@ no_row : (u : Update) (us : List Update) → u ∷ us ≡ [] → ⊥
 no_row u us e = cc
 
 passed : (u : UpdateFields) (answer : Taken) → rows_of answer ≡ [] → Answers (messages.Update u) answer → answer ≡ taken.Passed
-passed u (taken.Row own) none tells = absurd (no_row own [] none)
-passed u taken.Passed none tells = tells
-passed u (taken.Said c) none tells = tells
-passed u (taken.Failed e) none tells = tells
-passed u (taken.Acked table number) none tells = tells
+passed u (taken.Row own) none says = absurd (no_row own [] none)
+passed u taken.Passed none says = says
+passed u (taken.Said c) none says = says
+passed u (taken.Failed e) none says = says
+passed u (taken.Acked table number) none says = says
 
 gives_row : (answer : Taken) (own : Update) → rows_of answer ≡ own ∷ [] → answer ≡ taken.Row own
 gives_row (taken.Row other) own is = let same : other ≡ own = cc in ap (λ (u : Update). taken.Row u) same
@@ -122,12 +122,12 @@ intake_next_once t a b (Ok None) (Ok None) next again p q = (refl, next.2 ∙ sy
 intake_next_once t a b (Ok None) (Ok (Some answer)) next again p q = absurd (taken_or_waits t b again.0 (rows_of answer) next.1 again.1)
 intake_next_once t a b (Ok None) (Err fault) next again p q = absurd (waits_on t b fault (next.0, next.1) again (not_wanted fault q))
 intake_next_once t a b (Ok (Some answer)) (Ok None) next again p q = absurd (taken_or_waits t a next.0 (rows_of answer) again.1 next.1)
-intake_next_once t a b (Ok (Some answer)) (Ok (Some other)) (m, takes, tells) (n, takes', tells') p q =
+intake_next_once t a b (Ok (Some answer)) (Ok (Some other)) (m, takes, says) (n, takes', says') p q =
     let same : m ≡ n = one_message t a b m n (rows_of answer) (rows_of other) takes takes' in
     let takes_too : Takes t m (rows_of other) b = subst (λ (k : Message). Takes t k (rows_of other) b) (sym same) takes' in
-    let tells_too : Answers m other = subst (λ (k : Message). Answers k other) (sym same) tells' in
+    let tells_too : Answers m other = subst (λ (k : Message). Answers k other) (sym same) says' in
     let both = one_taking t a b m (rows_of answer) (rows_of other) takes takes_too in
-    (ap (λ (x : Taken). Ok (Some x)) (one_answer m answer other both.0 tells tells_too), both.1)
+    (ap (λ (x : Taken). Ok (Some x)) (one_answer m answer other both.0 says tells_too), both.1)
 intake_next_once t a b (Ok (Some answer)) (Err fault) next again p q = absurd (goes_on t a b next.0 (rows_of answer) fault next.1 again (not_wanted fault q))
 intake_next_once t a b (Err fault) (Ok None) next again p q = absurd (waits_on t a fault (again.0, again.1) next (not_wanted fault p))
 intake_next_once t a b (Err fault) (Ok (Some answer)) next again p q = absurd (goes_on t b a again.0 (rows_of answer) fault again.1 next (not_wanted fault p))

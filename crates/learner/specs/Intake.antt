@@ -94,7 +94,7 @@ abbrev pub rows_of : Taken → List Update
 rows_of (taken.Row u) = u ∷ []
 rows_of t = []
 
--- what an answer tells of a message that gives no row
+-- what an answer says of a message that gives no row
 abbrev pub answer_of : Message → Taken
 answer_of (messages.Control c) = taken.Said c
 answer_of (messages.Error e) = taken.Failed e

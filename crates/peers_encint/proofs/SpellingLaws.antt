@@ -61,15 +61,15 @@ same_front (f ∷ c ∷ a) (g ∷ d ∷ b) x y m n p q e =
     cc
 
 -- what stands after the same front is the same
-behind : (a x y : List ℕ) → a ++ x ≡ a ++ y → x ≡ y
-behind [] x y e = e
-behind (c ∷ a) x y e = let rest : a ++ x ≡ a ++ y = cc in behind a x y rest
+same_rest : (a x y : List ℕ) → a ++ x ≡ a ++ y → x ≡ y
+same_rest [] x y e = e
+same_rest (c ∷ a) x y e = let rest : a ++ x ≡ a ++ y = cc in same_rest a x y rest
 
 pub apart : BeginsNoOther
 apart a b x y m n p q e =
     let same = same_front a b x y m n p q e in
     let q_at_a : SpellsInteger a n = subst (λ (s : List ℕ). SpellsInteger s n) (sym same) q in
-    (same, one_number a m n p q_at_a, behind a x y (e ∙ ap (λ (s : List ℕ). s ++ y) (sym same)))
+    (same, one_number a m n p q_at_a, same_rest a x y (e ∙ ap (λ (s : List ℕ). s ++ y) (sym same)))
 
 bytes_spelled : (a : List ℕ) (n : ℕ) → SpellsInteger a n → IsBytes a
 bytes_spelled [] n p i = absurd p

@@ -138,7 +138,7 @@ pub fn verify(
     ensures shortest { IfOk result (λ verdict. (bytes : ℕ) → verdict ≡ verdicts.Shortest bytes →
         (ms : List Message) × (stream.now ≡ stream_of ms) × (bytes ≡ length stream.now) × Shortest known.now batch.now ms) }
 {
-    // Called for their clauses alone: they tell that the roster is sound and that there are 128 slots, which `shortest` needs.
+    // Called for their clauses alone: they say that the roster is sound and that there are 128 slots, which `shortest` needs.
     let _tables = known.roster().tables();
     let _slots = known.slots().len();
     said(alloc, known, batch, stream, prices)

@@ -30,7 +30,7 @@ use Rattle.session_core.specs.declared.phase.Phase.TheVariants as phases
 use Rattle.session_core.specs.declared.share.Share.{Share}
 use Rattle.session_core.specs.Shares.{any_out, all_quiet, quiet_set}
 use Rattle.session_core.specs.Actions.{sends_control, status_text}
-use Rattle.session_core.specs.Courses.{Course, course_fed, HearsAll, acks_given, table_to_ask}
+use Rattle.session_core.specs.Courses.{Course, course_fed, ReceivesAll, acks_given, table_to_ask}
 use Rattle.session_core.specs.Sessions.{SessionState, Goes, GoesIn, GoesNew, GoesHello, GoesOpen, Concludes, ReceivesBytes, IsWelcomed, Connects, Accepts, Greets, Turns, HasNothing, FinishesResync, StartsPendingResync, Settles}
 use Rattle.session_core.specs.Runs.{Runs, IsBegun, ends_resync, HasNothingLeft, HasNothingOut}
 use Rattle.session_core.proofs.ShareLemmas.{shares_in, ids_of, shares_begin, none_out, each_quiet}
@@ -62,17 +62,17 @@ HasTaughtAll roster steps s event acts = HasNothingOut s × AllByRecursion (λ d
 no_end : {X : Type 0} (acts given : List Action) → acts ≡ given → ends_resync given ≡ false → ends_resync acts ≡ true → X
 no_end acts given is plain ends = absurd (false≢true (sym plain ∙ (sym (ap ends_resync is) ∙ ends)))
 
-no_end_heard : {X : Type 0} (s : SessionState) (c mid : Course) (first acts given : List Action) (e : SessionState) (result : Result (Unit {0}) Halt) → is_plain 0 first → HearsAll c result given mid → Concludes s mid result (first ++ given) acts e → ends_resync acts ≡ true → X
-no_end_heard s c mid first acts given e (Ok u) plain (ts, are, waits) (is, then) ends =
+no_end_received : {X : Type 0} (s : SessionState) (c mid : Course) (first acts given : List Action) (e : SessionState) (result : Result (Unit {0}) Halt) → is_plain 0 first → ReceivesAll c result given mid → Concludes s mid result (first ++ given) acts e → ends_resync acts ≡ true → X
+no_end_received s c mid first acts given e (Ok u) plain (ts, are, waits) (is, then) ends =
     no_end acts ((first ++ given) ++ acks_given mid) is (plain_append 0 (first ++ given) (acks_given mid) (plain_append 0 first given plain (plain_all 0 c mid ts given are)) (plain_acks 0 mid.intake)).0 ends
-no_end_heard s c mid first acts given e (Err halts.Failed) plain (ts, left, are, halted) (is, then) ends =
+no_end_received s c mid first acts given e (Err halts.Failed) plain (ts, left, are, halted) (is, then) ends =
     no_end acts ((first ++ given) ++ (actions.Close ∷ [])) is (plain_append 0 (first ++ given) (actions.Close ∷ []) (plain_append 0 first given plain (plain_all 0 c left ts given are)) (refl, refl)).0 ends
-no_end_heard s c mid first acts given e (Err (halts.Fault fault)) plain (ts, left, are, halted) (is, then) ends =
+no_end_received s c mid first acts given e (Err (halts.Fault fault)) plain (ts, left, are, halted) (is, then) ends =
     no_end acts ((first ++ given) ++ (actions.Part _ ∷ [])) is (plain_append 0 (first ++ given) (actions.Part _ ∷ []) (plain_append 0 first given plain (plain_all 0 c left ts given are)) (refl, refl)).0 ends
-no_end_heard s c mid first acts given e (Err halts.Memory) plain hears concludes ends = absurd concludes
+no_end_received s c mid first acts given e (Err halts.Memory) plain receives concludes ends = absurd concludes
 
 no_end_receives : {X : Type 0} (s : SessionState) (c : Course) (first acts : List Action) (e : SessionState) → is_plain 0 first → ReceivesBytes s c first acts e → ends_resync acts ≡ true → X
-no_end_receives s c first acts e plain (result, given, mid, hears, concludes) ends = no_end_heard s c mid first acts given e result plain hears concludes ends
+no_end_receives s c first acts e plain (result, given, mid, receives, concludes) ends = no_end_received s c mid first acts given e result plain receives concludes ends
 
 no_end_new : {X : Type 0} (s : SessionState) (hello : Hello) (c : Course) (event : Event) (acts : List Action) (e : SessionState) → GoesNew s hello c event acts e → ends_resync acts ≡ true → X
 no_end_new s hello c events.Opened acts e (is, then) ends = no_end acts _ is refl ends

@@ -8,7 +8,7 @@ ghost use Rattle.session_core.specs.declared.action.Action.{Action};
 ghost use Rattle.session_core.specs.declared.halt.Halt.TheVariants as halts;
 ghost use Rattle.session_core.specs.Shares.{any_out, is_out};
 ghost use Rattle.session_core.specs.Actions.{control_text, sends_control, sends_acks};
-ghost use Rattle.session_core.specs.Courses.{Course, course_fed, requested, acknowledged, said, heard, is_failure, Hears, AreHeard, IsHalted, HearsAll, acks_sent, acks_given};
+ghost use Rattle.session_core.specs.Courses.{Course, course_fed, requested, acknowledged, said, message_received, is_failure, Receives, AreReceived, IsHalted, ReceivesAll, acks_sent, acks_given};
 
 use crate::action::{Action, push};
 use crate::course::Course;
@@ -63,7 +63,7 @@ fn push_acks(alloc: Global, actions: &mut Vec<Action>, acks: &[Message]) -> Resu
 }
 
 impl Course {
-    /// Hears a request for a resync.
+    /// Receives a request for a resync.
     fn request(&mut self, actions: &mut Vec<Action>) -> Result<(), Memory>
         ensures actions { OnOk result (actions.new.items ≡ actions.old.items ++ (requested (any_out self.old.shares) self.old).0) }
         ensures course { OnOk result (self.new ≡ (requested (any_out self.old.shares) self.old).1) }
@@ -76,7 +76,7 @@ impl Course {
         }
     }
 
-    /// Hears an acknowledgement.
+    /// Receives an acknowledgement.
     fn acknowledge(
         &mut self,
         table: u64,
@@ -93,8 +93,8 @@ impl Course {
         Ok(())
     }
 
-    /// Hears a control message.
-    fn hear_control(
+    /// Receives a control message.
+    fn receive_control(
         &mut self,
         alloc: Global,
         control: Control,
@@ -112,14 +112,19 @@ impl Course {
         }
     }
 
-    /// Hears a message.
-    fn hear(&mut self, alloc: Global, taken: Taken, actions: &mut Vec<Action>) -> Result<(), Memory>
-        ensures actions { OnOk result (actions.new.items ≡ actions.old.items ++ (heard self.old taken).0) }
-        ensures course { OnOk result (self.new ≡ (heard self.old taken).1) }
+    /// Receives a message.
+    fn receive(
+        &mut self,
+        alloc: Global,
+        taken: Taken,
+        actions: &mut Vec<Action>,
+    ) -> Result<(), Memory>
+        ensures actions { OnOk result (actions.new.items ≡ actions.old.items ++ (message_received self.old taken).0) }
+        ensures course { OnOk result (self.new ≡ (message_received self.old taken).1) }
     {
         match taken {
             Taken::Row(update) => push(actions, Action::Learn(update)),
-            Taken::Said(control) => self.hear_control(alloc, control, actions),
+            Taken::Said(control) => self.receive_control(alloc, control, actions),
             Taken::Acked { table, number } => self.acknowledge(table, number, actions),
             Taken::Passed | Taken::Failed(_) => Ok(()),
         }
@@ -127,7 +132,7 @@ impl Course {
 
     /// Takes the message at the front; `None` while it isn't whole.
     fn next(&mut self) -> Result<Option<Taken>, Halt>
-        ensures hears { IfOk result (λ found. IfSome found (λ taken. Hears self.old taken self.new)) }
+        ensures receives { IfOk result (λ found. IfSome found (λ taken. Receives self.old taken self.new)) }
         ensures waits { result ≡ Ok None → (self.new ≡ self.old) × IntakeNext self.old.intake (Ok None) self.old.intake }
         ensures halted { IfErr result (λ halt. IsHalted self.old halt) }
         ensures fewer { IfOk result (λ found. IsSome found → length self.new.intake.unread < length self.old.intake.unread) }
@@ -138,27 +143,27 @@ impl Course {
         }
     }
 
-    /// Hears the messages that are whole, and adds what they ask for, up to the first that halts.
-    fn hear_all(&mut self, alloc: Global, actions: &mut Vec<Action>) -> Result<(), Halt>
-        ensures { result ≢ Err halts.Memory → (given : List Action) × HearsAll self.old result given self.new × (actions.new.items ≡ actions.old.items ++ given) }
+    /// Receives the messages that are whole, and adds what they ask for, up to the first that halts.
+    fn receive_all(&mut self, alloc: Global, actions: &mut Vec<Action>) -> Result<(), Halt>
+        ensures { result ≢ Err halts.Memory → (given : List Action) × ReceivesAll self.old result given self.new × (actions.new.items ≡ actions.old.items ++ given) }
     {
         while let Some(taken) = self.next()? {
-            self.hear(alloc, taken, actions)?;
+            self.receive(alloc, taken, actions)?;
         }
         Ok(())
     }
 
-    /// Takes bytes and hears the messages that are whole then, and adds what they ask for, up to the first that halts.
-    pub(crate) fn hear_bytes(
+    /// Takes bytes and receives the messages that are whole then, and adds what they ask for, up to the first that halts.
+    pub(crate) fn receive_bytes(
         &mut self,
         alloc: Global,
         bytes: &[u8],
         actions: &mut Vec<Action>,
     ) -> Result<(), Halt>
-        ensures { result ≢ Err halts.Memory → (given : List Action) × HearsAll (course_fed self.old bytes.now) result given self.new × (actions.new.items ≡ actions.old.items ++ given) }
+        ensures { result ≢ Err halts.Memory → (given : List Action) × ReceivesAll (course_fed self.old bytes.now) result given self.new × (actions.new.items ≡ actions.old.items ++ given) }
     {
         self.intake.feed(bytes)?;
-        self.hear_all(alloc, actions)
+        self.receive_all(alloc, actions)
     }
 
     /// Adds that the acknowledgements that are due are to be sent.

@@ -4,8 +4,8 @@ use Rattle.std.proofs.lemmas.Result.{err_from_is_err_and}
 use Rattle.learner.specs.Intake.{IntakeFeeds}
 use Rattle.session_core.specs.declared.halt.Halt.TheVariants as halts
 use Rattle.session_core.specs.Courses.{Course, course_fed, halt_of}
-use Rattle.session_core.proofs.HearingLemmas.{feed_halts}
-use Rattle.session_core.proofs.course.Course.hear_bytes.Goals as goal
+use Rattle.session_core.proofs.ReceivingLemmas.{feed_halts}
+use Rattle.session_core.proofs.course.Course.receive_bytes.Goals as goal
 
 pub returns-in_err-feed : goal.returns-in_err-feed
 returns-in_err-feed c =
