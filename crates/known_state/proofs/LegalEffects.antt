@@ -7,7 +7,7 @@ use Rattle.table_types.specs.Tables.{Definition}
 use Rattle.table_types.specs.Rosters.{table_at, has_id}
 use Rattle.peers_msg.specs.declared.name_field.NameField.{NameField}
 use Rattle.table_types.specs.Shapes.{is_same_definition}
-use Rattle.table_types.proofs.ShapeLaws.{means_shape, same_definition}
+use Rattle.table_types.proofs.OneTableByShape.{means_shape, same_definition}
 use Rattle.peers_msg.specs.declared.message.Message.{Message}
 use Rattle.peers_msg.specs.declared.message.Message.TheVariants as messages
 use Rattle.peers_msg.specs.Messages.{UpdateFields}
@@ -23,7 +23,7 @@ use Rattle.known_state.specs.declared.effect.Refusal.{Refusal}
 use Rattle.known_state.specs.declared.effect.Refusal.TheVariants as refusals
 use Rattle.known_state.specs.declared.known.StepError.{StepError}
 use Rattle.known_state.specs.declared.known.StepError.TheVariants as step_errors
-use Rattle.known_state.proofs.EffectLemmas.{effect_steps}
+use Rattle.known_state.proofs.EffectsAreSteps.{effect_steps}
 use Rattle.known_state.proofs.StepPays.{own_stays}
 
 -- the effect of a legal message makes its step, in a known state of these parts

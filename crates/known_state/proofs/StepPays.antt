@@ -21,10 +21,10 @@ use Rattle.known_state.specs.LastNumbers.{keeps_last, last_of, set_last}
 use Rattle.known_state.specs.Known.{AreOwn}
 use Rattle.known_state.specs.Cost.{knowledge_of, knowledge_after, cost, saving, selection_cost, definition_cost, is_held, Saves, IsOfRoster}
 use Rattle.known_state.proofs.LesserKnowledge.{KnowsLess, with_selected}
-use Rattle.known_state.proofs.KnownLemmas.{table_at-id, table_at-passes, define_selects, AreOwn-defined}
-use Rattle.known_state.proofs.StepLemmas.{selected-id, selected-found}
-use Rattle.known_state.proofs.RefusalLaws.{switch_found, selection}
-use Rattle.known_state.proofs.CostLaws.{falls, defining_pays, switched_pays, update_pays, found_before, last-dropped, last-filter, last-put}
+use Rattle.known_state.proofs.ReceivedIsOwn.{table_at-id, table_at-passes, define_selects, AreOwn-defined}
+use Rattle.known_state.proofs.FitsOrIsRefused.{selected-id, selected-found}
+use Rattle.known_state.proofs.RefusedIsNoStep.{switch_found, selection}
+use Rattle.known_state.proofs.KnowingMoreCostsLess.{falls, defining_pays, switched_pays, update_pays, found_before, last-dropped, last-filter, last-put}
 
 -- what moves nothing pays
 stays_pays : (roster : List Definition) (s mid : State) (m : Message) (one rest : List Update) → one ≡ [] → mid ≡ s → cost roster s (one ++ rest) ≤ size_of m + saving roster (knowledge_of s) m one + cost roster mid rest

@@ -18,8 +18,8 @@ use Rattle.learner.specs.declared.taken.Taken.TheVariants as taken
 use Rattle.learner.specs.Faults.{as_fault}
 use Rattle.learner.specs.Intake.{Taking, Takes, Stops, IntakeFeeds, IntakeNext, Answers, rows_of, fed, shut}
 use Rattle.learner.specs.Learning.{Learning, AreLearned, LearnerFeeds, with_piece}
-use Rattle.learner.proofs.PieceLaws.{one_learned, one_message, one_taking, same_fed}
-use Rattle.learner.proofs.LessonLaws.{apart, goes_on, no_fault, waits_on}
+use Rattle.learner.proofs.SameHoweverCut.{one_learned, one_message, one_taking, same_fed}
+use Rattle.learner.proofs.LegalStreamIsTaught.{apart, goes_on, no_fault, waits_on}
 
 parts : {X Y : Type 0} → (p q : X × Y) → p ≡ q → (p.0 ≡ q.0) × (p.1 ≡ q.1)
 parts {X} {Y} p q e = (ap (λ (r : X × Y). r.0) e, ap (λ (r : X × Y). r.1) e)

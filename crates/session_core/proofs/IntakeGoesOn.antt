@@ -19,7 +19,7 @@ use Rattle.known_state.specs.declared.effect.Effect.TheVariants as effects
 use Rattle.known_state.specs.declared.effect.Refusal.{Refusal}
 use Rattle.known_state.specs.declared.effect.Refusal.TheVariants as refusals
 use Rattle.known_state.specs.declared.effect.ResolvedUpdate.{ResolvedUpdate}
-use Rattle.known_state.proofs.EffectLemmas.{effect_steps, numbered, resolves_so}
+use Rattle.known_state.proofs.EffectsAreSteps.{effect_steps, numbered, resolves_so}
 use Rattle.learner.specs.declared.fault.Fault.{Fault}
 use Rattle.learner.specs.declared.fault.Fault.TheVariants as faults
 use Rattle.learner.specs.declared.taken.Taken.{Taken}

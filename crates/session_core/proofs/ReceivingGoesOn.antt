@@ -6,7 +6,7 @@ use Rattle.peers_msg.specs.declared.control.Control.TheVariants as controls
 use Rattle.learner.specs.declared.taken.Taken.{Taken}
 use Rattle.learner.specs.declared.taken.Taken.TheVariants as taken
 use Rattle.learner.specs.Intake.{Taking, Gives, rows_of}
-use Rattle.learner.proofs.PieceLaws.{left_good}
+use Rattle.learner.proofs.SameHoweverCut.{left_good}
 use Rattle.session_core.specs.declared.action.Action.{Action}
 use Rattle.session_core.specs.declared.action.Action.TheVariants as actions
 use Rattle.session_core.specs.declared.halt.Halt.{Halt}

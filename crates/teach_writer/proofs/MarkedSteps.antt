@@ -18,7 +18,7 @@ use Rattle.known_state.specs.State.{State, Named}
 use Rattle.known_state.specs.Cost.{Knowledge, knowledge_after, written_field}
 use Rattle.known_state.specs.Requests.{Asked, asked, requests_of}
 use Rattle.known_state.specs.Plans.{Asking, at_start, after_requests, AreLinked, keeps_next, kept_over, links, names_in}
-use Rattle.known_state.proofs.RosterLemmas.{name_itself}
+use Rattle.known_state.proofs.RosterNamesDiffer.{name_itself}
 use Rattle.known_state.proofs.LinkPlaces.{after-append}
 use Rattle.known_state.proofs.NamesToKeep.{names_to_keep}
 use Rattle.known_state.proofs.SlotsNeeded.{turned}

@@ -15,7 +15,7 @@ use Rattle.peers_msg.specs.declared.message.Message.TheVariants as messages
 use Rattle.peers_msg.specs.Received.{selected_table}
 use Rattle.known_state.specs.State.{State, Teaches, Named}
 use Rattle.known_state.specs.Requests.{mark_of, reads_of}
-use Rattle.known_state.proofs.RosterLemmas.{name_itself}
+use Rattle.known_state.proofs.RosterNamesDiffer.{name_itself}
 use Rattle.teach_writer.specs.Naming.{is_that_name, lowest_from, starts_after, marks_after, keeps_next_update, IsRetainedOver, IsNamed}
 use Rattle.teach_writer.specs.Retained.{retained_at, Retains}
 use Rattle.teach_writer.specs.Sending.{is_table, selection, slot_of, is_stored, update_sent, IsSent, AreSent}

@@ -1,6 +1,6 @@
 use Rattle.std.proofs.Common.{◌≡◌, ◌∙◌, Some, None, ap, refl, sym}
 use Rattle.known_state.specs.Effects.{selected_number, written_by}
-use Rattle.known_state.proofs.EffectLemmas.{numbered, resolves_so}
+use Rattle.known_state.proofs.EffectsAreSteps.{numbered, resolves_so}
 use Rattle.known_state.proofs.LegalEffects.{taken_update}
 use Rattle.known_state.proofs.known.Known.effect_of_update.Goals as goal
 

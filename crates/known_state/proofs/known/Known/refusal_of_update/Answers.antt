@@ -7,7 +7,7 @@ use Rattle.peers_msg.specs.Borrowed.{owned_name}
 use Rattle.known_state.specs.Known.{KnownState, as_step_error, update_refusal}
 use Rattle.known_state.specs.declared.effect.Refusal.{Refusal}
 use Rattle.known_state.specs.declared.known.StepError.{StepError}
-use Rattle.known_state.proofs.StepLemmas.{misfit, update_fits_received}
+use Rattle.known_state.proofs.FitsOrIsRefused.{misfit, update_fits_received}
 use Rattle.known_state.proofs.LegalEffects.{refusal_here}
 use Rattle.known_state.proofs.known.Known.refusal_of_update.Goals as goal
 

@@ -1,6 +1,6 @@
 use Rattle.std.proofs.Common.{◌≡◌, ◌≤◌, ◌<◌, ◌+◌, [], ◌∷◌, ◌++◌, length, length-append, refl, arith}
 use Rattle.std.proofs.lemmas.Result.{err_from_is_err_and}
-use Rattle.learner.proofs.LearningLemmas.{learned_more, stays_open, not_closed}
+use Rattle.learner.proofs.LearningGoesOn.{learned_more, stays_open, not_closed}
 use Rattle.learner.proofs.learner.Learner.learn_all.Goals as goal
 
 pub returns-in_err-rows-clause-going : goal.returns-in_err-rows-clause-going

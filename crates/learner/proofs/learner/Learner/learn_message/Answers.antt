@@ -6,10 +6,10 @@ use Rattle.learner.specs.Intake.{Taking, rows_of}
 use Rattle.learner.specs.Front.{owned}
 use Rattle.learner.specs.NewRows.{AreRowsOf}
 use Rattle.learner.specs.Learning.{Learning}
-use Rattle.known_state.proofs.EffectLemmas.{effect_unrefused}
-use Rattle.learner.proofs.IntakeLemmas.{shown_taken, front_takable}
-use Rattle.learner.proofs.RowLemmas.{row_within}
-use Rattle.learner.proofs.LearningLemmas.{gives_rows, gives_cut, cut_here}
+use Rattle.known_state.proofs.EffectsAreSteps.{effect_unrefused}
+use Rattle.learner.proofs.TakingOneMessage.{shown_taken, front_takable}
+use Rattle.learner.proofs.RowsStandByTable.{row_within}
+use Rattle.learner.proofs.LearningGoesOn.{gives_rows, gives_cut, cut_here}
 use Rattle.learner.proofs.learner.Learner.learn_message.Goals as goal
 
 pub returns-in_err-row-in-Ok-Some-clause-learns : goal.returns-in_err-row-in-Ok-Some-clause-learns

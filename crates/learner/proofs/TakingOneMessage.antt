@@ -10,7 +10,7 @@ use Rattle.known_state.specs.Effects.{IsEffect, carried_by, made, message_refusa
 use Rattle.known_state.specs.declared.effect.Effect.{Effect}
 use Rattle.known_state.specs.declared.effect.Refusal.{Refusal}
 use Rattle.known_state.specs.declared.effect.Refusal.TheVariants as refusals
-use Rattle.known_state.proofs.EffectLemmas.{effect_steps}
+use Rattle.known_state.proofs.EffectsAreSteps.{effect_steps}
 use Rattle.learner.specs.Faults.{as_fault}
 use Rattle.learner.specs.LocalTables.{local_updates}
 use Rattle.learner.specs.declared.fault.Fault.{Fault}

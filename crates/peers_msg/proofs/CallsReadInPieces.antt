@@ -10,7 +10,7 @@ use Rattle.peers_msg.specs.Calls.{AreDecoderCalls, messages_given, taken_of}
 use Rattle.peers_msg.specs.Spelling.{stream_of}
 use Rattle.peers_msg.specs.Stream.{AllFit}
 use Rattle.peers_msg.proofs.CuttingIndependence.{whole}
-use Rattle.peers_msg.proofs.ListLaws.{read_spelled}
+use Rattle.peers_msg.proofs.StreamRoundTrip.{read_spelled}
 
 -- what is unread is the first piece
 abbrev Reads : Decoding → List (List ℕ) → List Message → Decoding → Type 0

@@ -12,7 +12,7 @@ use Rattle.peers_msg.specs.declared.message.Message.TheVariants as messages
 use Rattle.peers_msg.specs.Spelling.{size_of}
 use Rattle.known_state.specs.Cost.{Knowledge, knowledge_after, sent_as, written_field, is_named_table, written_cost, selection_cost, cost_from}
 use Rattle.known_state.specs.Requests.{Asked, held_cost, asked, requests_of}
-use Rattle.known_state.proofs.BatchLemmas.{name_of_fits}
+use Rattle.known_state.proofs.BatchIsOfRoster.{name_of_fits}
 
 -- what is known after updates
 abbrev pub knowledge_after_all : Knowledge → List Update → Knowledge

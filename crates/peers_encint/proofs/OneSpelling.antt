@@ -3,7 +3,7 @@ use Rattle.std.proofs.Common.{◌≡◌, ℕ, zero, suc, ◌+◌, ◌-◌, ◌*�
 use Rattle.std.proofs.lemmas.Bool.{cases_lt, lt-ltb, le-ltb}
 use Rattle.peers_encint.specs.Integers.{added_from, IsTail, SpellsInteger, tail_of, spelling, IsBytes}
 use Rattle.peers_encint.specs.IntegerLaws.{IsSpelled, HasOneSpelling, MeansOneNumber, BeginsNoOther, SpellsBytes, IsLongerForGreater, HasLengthWithin, FitsTheTable}
-use Rattle.peers_encint.proofs.TailLaws.{value_of, added-first, value-tail_of, IsTail-tail_of, same_tail, apart_tail, short_tail, longer_tail, tail_within, length-tail_of-last, bytes_tail}
+use Rattle.peers_encint.proofs.OneTail.{value_of, added-first, value-tail_of, IsTail-tail_of, same_tail, apart_tail, short_tail, longer_tail, tail_within, length-tail_of-last, bytes_tail}
 
 pub spelling-low : (n : ℕ) → n < 240 → spelling n ≡ n ∷ []
 unfolding spelling

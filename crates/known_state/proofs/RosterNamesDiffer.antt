@@ -8,8 +8,8 @@ use Rattle.table_types.specs.Tables.{Definition}
 use Rattle.table_types.specs.Rosters.{table_at, has_id, has_name, is_same_name, repeats_id, repeats_name, roster_fault}
 use Rattle.peers_msg.specs.Received.{defined, insert_table, outlives}
 use Rattle.known_state.specs.Known.{AreOwn}
-use Rattle.known_state.proofs.KnownLemmas.{or-false-left, or-false-right}
-use Rattle.known_state.proofs.StepLemmas.{has_id-table_at}
+use Rattle.known_state.proofs.ReceivedIsOwn.{or-false-left, or-false-right}
+use Rattle.known_state.proofs.FitsOrIsRefused.{has_id-table_at}
 
 -- a name is the same as itself
 pub name_itself : (a : List ℕ) → is_same_name a a ≡ true

@@ -25,13 +25,13 @@ use Rattle.peers_msg.specs.Decoding.{together}
 use Rattle.known_state.specs.State.{State, Step, Teaches, IsOwn, Legal, resolved}
 use Rattle.peers_msg.proofs.CuttingIndependence.{found, found_is}
 use Rattle.peers_msg.proofs.MessageRoundTrip.{message_again}
-use Rattle.table_types.proofs.ShapeLaws.{means_shape, shape_means}
+use Rattle.table_types.proofs.OneTableByShape.{means_shape, shape_means}
 use Rattle.known_state.specs.Known.{AreOwn}
-use Rattle.known_state.proofs.KnownLemmas.{table_at-id, table_at-passes}
-use Rattle.known_state.proofs.InStepLaws.{own_stays}
+use Rattle.known_state.proofs.ReceivedIsOwn.{table_at-id, table_at-passes}
+use Rattle.known_state.proofs.TeacherAndLearnerInStep.{own_stays}
 use Rattle.known_state.specs.Effects.{message_refusal}
 use Rattle.known_state.specs.declared.effect.Refusal.{Refusal}
-use Rattle.known_state.proofs.EffectLemmas.{step_unrefused}
+use Rattle.known_state.proofs.EffectsAreSteps.{step_unrefused}
 use Rattle.learner.specs.declared.fault.Fault.{Fault}
 use Rattle.learner.specs.declared.fault.Fault.TheVariants as faults
 use Rattle.learner.specs.Faults.{as_fault}
@@ -39,7 +39,7 @@ use Rattle.learner.specs.LocalTables.{local_table, local_id, local_updates}
 use Rattle.learner.specs.Intake.{Taking, Takes, Stops, due_after}
 use Rattle.learner.specs.Rows.{put, put_all}
 use Rattle.learner.specs.Learning.{Learning, AreLearned, IsWaiting, LearnerFeeds, AreFed, IsReady, IsTaught, with_piece}
-use Rattle.learner.proofs.PieceLaws.{one_learned, waits_for_more, same, whole}
+use Rattle.learner.proofs.SameHoweverCut.{one_learned, waits_for_more, same, whole}
 
 -- ---- the local table of a roster's own definition is that definition
 

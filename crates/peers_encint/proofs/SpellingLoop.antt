@@ -6,8 +6,8 @@ use Rattle.std.proofs.lemmas.Bool.{cases_lt}
 use Rattle.std.proofs.lemmas.Nat.{and_mask, or_shifted, or_comm, or_block, pow-add}
 use Rattle.std.proofs.lemmas.List.{take_more_set}
 use Rattle.peers_encint.specs.Integers.{tail_of, spelling}
-use Rattle.peers_encint.proofs.TailLaws.{tail_of-more}
-use Rattle.peers_encint.proofs.SpellingLaws.{spelling-low, spelling-high}
+use Rattle.peers_encint.proofs.OneTail.{tail_of-more}
+use Rattle.peers_encint.proofs.OneSpelling.{spelling-low, spelling-high}
 
 -- ---- bytes
 

@@ -24,14 +24,14 @@ use Rattle.peers_msg.proofs.MessageCanonical.{message_takes}
 use Rattle.peers_msg.proofs.MessageRoundTrip.{message_again}
 use Rattle.known_state.proofs.StepIsDeterministic.{one_step}
 use Rattle.known_state.specs.Known.{AreOwn}
-use Rattle.known_state.proofs.InStepLaws.{own_stays}
+use Rattle.known_state.proofs.TeacherAndLearnerInStep.{own_stays}
 use Rattle.learner.specs.declared.fault.Fault.{Fault}
 use Rattle.learner.specs.declared.fault.Fault.TheVariants as faults
 use Rattle.learner.specs.Intake.{Taking, Stops}
 use Rattle.learner.specs.Rows.{put_all}
 use Rattle.learner.specs.Learning.{Learning, Learns, AreLearned, IsWaiting, LearnerFeeds, with_piece}
 use Rattle.learner.specs.Moments.{Piece, stream_in, AreFedInTime, AreTooFew, FallInto, put_parts}
-use Rattle.learner.proofs.LessonLaws.{step_fits, kept_own, takes_legal, put_all-append, waits_at_end, goes_on, waits_on, apart, is_memory}
+use Rattle.learner.proofs.LegalStreamIsTaught.{step_fits, kept_own, takes_legal, put_all-append, waits_at_end, goes_on, waits_on, apart, is_memory}
 
 -- ---- streams that are cut
 

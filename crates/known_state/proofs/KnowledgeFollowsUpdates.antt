@@ -8,7 +8,7 @@ use Rattle.known_state.specs.declared.knowledge.KnowledgeSoFar.{KnowledgeSoFar}
 use Rattle.known_state.specs.LastNumbers.{last_of, set_last}
 use Rattle.known_state.specs.Cost.{Knowledge, knowledge_of, knowledge_after}
 use Rattle.known_state.specs.Knowing.{known_so_far}
-use Rattle.known_state.proofs.CostLaws.{last-put}
+use Rattle.known_state.proofs.KnowingMoreCostsLess.{last-put}
 
 abbrev made : ℕ → (ℕ → Bool) → (ℕ → Option ℕ) → Knowledge
 made table is_defined last = record { is_defined = is_defined; selected = Some table; last = last }

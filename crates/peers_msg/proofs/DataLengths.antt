@@ -9,7 +9,7 @@ use Rattle.std.proofs.lemmas.List.Sums.{sum_by-cons}
 use Rattle.std.proofs.lemmas.Bool.Decides.{nat_tests}
 use Rattle.table_types.specs.Tables.{Definition, is_definition, rise_from}
 use Rattle.peers_encint.specs.Integers.{spelling}
-use Rattle.peers_encint.proofs.SpellingLaws.{longer, within}
+use Rattle.peers_encint.proofs.OneSpelling.{longer, within}
 use Rattle.peers_msg.specs.Spelling.{bits_of, counted}
 
 pub id_most : (t : DataType) → id_of t ≤ 19

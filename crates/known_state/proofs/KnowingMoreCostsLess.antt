@@ -5,7 +5,7 @@ use Rattle.std.specs.List.{AllByRecursion}
 use Rattle.std.proofs.lemmas.Bool.{cases_eq, eq-eqb, ne_eqb}
 use Rattle.std.proofs.lemmas.Bool.Decides.{nat_tests}
 use Rattle.peers_encint.specs.Integers.{spelling}
-use Rattle.peers_encint.proofs.SpellingLaws as integers
+use Rattle.peers_encint.proofs.OneSpelling as integers
 use Rattle.table_types.specs.declared.update.Update.{Update}
 use Rattle.table_types.specs.Tables.{Definition}
 use Rattle.table_types.specs.Updates.{stores_name}
@@ -23,8 +23,8 @@ use Rattle.known_state.specs.State.{Named, resolved_number}
 use Rattle.known_state.specs.LastNumbers.{last_of, set_last}
 use Rattle.peers_msg.specs.Messages.{UpdateFields}
 use Rattle.peers_msg.specs.Spelling.{spelled, size_of, framed, counted, definition_text, update_text, update_type, optional_word, word, key_text, value_text, name_text}
-use Rattle.known_state.proofs.KnownLemmas.{table_at-id}
-use Rattle.known_state.proofs.StepLemmas.{has_id-table_at}
+use Rattle.known_state.proofs.ReceivedIsOwn.{table_at-id}
+use Rattle.known_state.proofs.FitsOrIsRefused.{has_id-table_at}
 use Rattle.known_state.specs.Cost.{Knowledge, knowledge_after, follows, number_sent, sent_as, written_field, is_named_table, written_cost, is_selected, definition_cost, selection_cost, cost_from, saving, is_held, IsOfRoster}
 use Rattle.known_state.proofs.LesserKnowledge.{KnowsLess, with_selected}
 

@@ -3,7 +3,7 @@ use Rattle.std.proofs.Common.{◌≡◌, ℕ, suc, ◌+◌, ◌-◌, ◌*◌, �
 use Rattle.std.specs.Option.{option_map}
 use Rattle.std.proofs.lemmas.List.{drop_more, drop_all, take_more, length-take-le}
 use Rattle.peers_encint.specs.Integers.{added_from, tail_length, whole_of, long_of}
-use Rattle.peers_encint.proofs.ReadingLaws.{tail_length-last, tail_length-more}
+use Rattle.peers_encint.proofs.ReadAsSpelled.{tail_length-last, tail_length-more}
 
 -- how many later bytes are the number's, where the first p of them don't end it
 abbrev pub counted : ℕ → List ℕ → Option ℕ

@@ -7,15 +7,15 @@ use Rattle.peers_msg.specs.declared.message.Message.{Message}
 use Rattle.peers_msg.specs.declared.message.Message.TheVariants as messages
 use Rattle.peers_msg.specs.Decoding.{together}
 use Rattle.peers_msg.proofs.CuttingIndependence.{front_good, read_on}
-use Rattle.peers_msg.proofs.CuttingLaws.{breach_on}
+use Rattle.peers_msg.proofs.SameEndHoweverCut.{breach_on}
 use Rattle.learner.specs.declared.fault.Fault.{Fault}
 use Rattle.learner.specs.declared.fault.Fault.TheVariants as faults
 use Rattle.learner.specs.Intake.{Taking, Stops, fed}
 use Rattle.learner.specs.Learning.{Learning, AreLearned, LearnerFeeds, AreFed, with_piece}
 use Rattle.learner.specs.Cutting.{IsStopped, AreAnswered}
-use Rattle.learner.proofs.LearningLemmas.{stays_open}
-use Rattle.learner.proofs.LessonLaws.{apart}
-use Rattle.learner.proofs.PieceLaws.{joined, learns_on, left_good, whole}
+use Rattle.learner.proofs.LearningGoesOn.{stays_open}
+use Rattle.learner.proofs.LegalStreamIsTaught.{apart}
+use Rattle.learner.proofs.SameHoweverCut.{joined, learns_on, left_good, whole}
 use Rattle.learner.proofs.OneOutcome.{Runs, faulty, learner_fed_once}
 
 -- ---- more bytes after a fault

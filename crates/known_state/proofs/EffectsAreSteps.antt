@@ -15,7 +15,7 @@ use Rattle.known_state.specs.declared.effect.Effect.TheVariants as effects
 use Rattle.known_state.specs.declared.effect.Refusal.{Refusal}
 use Rattle.known_state.specs.declared.effect.Refusal.TheVariants as refusals
 use Rattle.known_state.specs.declared.effect.ResolvedUpdate.{ResolvedUpdate}
-use Rattle.known_state.proofs.ResolvingLemmas.{named_by, named_so}
+use Rattle.known_state.proofs.NamedAsResolved.{named_by, named_so}
 use Rattle.known_state.proofs.StepIsDeterministic.{one_step}
 
 -- a name that a field writes stands in its slot

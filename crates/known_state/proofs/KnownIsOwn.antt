@@ -5,7 +5,7 @@ use Rattle.table_types.specs.Tables.{Definition}
 use Rattle.table_types.specs.Rosters.{table_at}
 use Rattle.table_types.specs.Shapes.{is_same_definition}
 use Rattle.peers_msg.specs.OwnTables.{is_own}
-use Rattle.table_types.proofs.ShapeLaws.{same_definition}
+use Rattle.table_types.proofs.OneTableByShape.{same_definition}
 use Rattle.known_state.specs.Known.{AreOwn}
 
 -- an own table is the one that its id stands for

@@ -16,14 +16,14 @@ use Rattle.peers_msg.specs.OwnTables.{is_own, is_own_one}
 use Rattle.peers_msg.specs.Fitting.{fits}
 use Rattle.known_state.specs.State.{State, Step, Teaches, IsOwn, Legal, last_numbers_after, resolved_number}
 use Rattle.known_state.specs.LastNumbers.{keeps_last, last_of, set_last, own_last_numbers, AreRising}
-use Rattle.table_types.proofs.ShapeLaws.{means_shape}
+use Rattle.table_types.proofs.OneTableByShape.{means_shape}
 use Rattle.known_state.specs.Known.{AreOwn, known_of}
-use Rattle.known_state.proofs.RosterLemmas.{has_put}
-use Rattle.known_state.proofs.KnownLemmas.{table_at-id, table_at-passes, define_selects, AreOwn-defined}
-use Rattle.known_state.proofs.StepLemmas.{has_id-table_at}
-use Rattle.known_state.proofs.RefusalLaws.{switch_found, selection}
-use Rattle.known_state.proofs.CostLaws.{found_before, last-kept}
-use Rattle.known_state.proofs.RisingLemmas.{put-filter, rising-step}
+use Rattle.known_state.proofs.RosterNamesDiffer.{has_put}
+use Rattle.known_state.proofs.ReceivedIsOwn.{table_at-id, table_at-passes, define_selects, AreOwn-defined}
+use Rattle.known_state.proofs.FitsOrIsRefused.{has_id-table_at}
+use Rattle.known_state.proofs.RefusedIsNoStep.{switch_found, selection}
+use Rattle.known_state.proofs.KnowingMoreCostsLess.{found_before, last-kept}
+use Rattle.known_state.proofs.LastNumbersRise.{put-filter, rising-step}
 
 -- ---- what is known of a learner that received the roster's own tables alone
 

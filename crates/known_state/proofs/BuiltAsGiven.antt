@@ -9,11 +9,11 @@ use Rattle.peers_msg.specs.Received.{defined, with_own}
 use Rattle.known_state.specs.LastNumbers.{last_of, set_last}
 use Rattle.known_state.specs.declared.known.KnownError.TheVariants as build_errors
 use Rattle.known_state.specs.Known.{AreOwn, is_in, repeats, has_last, repeats_last, or_none, are_known, are_defined, build_fault, built}
-use Rattle.known_state.proofs.KnownLemmas.{or-false-left, or-false-right, table_at-id, define_selects, AreOwn-defined, AreOwn-resumed}
-use Rattle.known_state.proofs.StepLemmas.{has_id-table_at}
-use Rattle.known_state.proofs.RosterLemmas.{roster_names, still_received}
-use Rattle.known_state.proofs.CostLaws.{found_before, last-put}
-use Rattle.known_state.proofs.ReadLaws.{received_is_own}
+use Rattle.known_state.proofs.ReceivedIsOwn.{or-false-left, or-false-right, table_at-id, define_selects, AreOwn-defined, AreOwn-resumed}
+use Rattle.known_state.proofs.FitsOrIsRefused.{has_id-table_at}
+use Rattle.known_state.proofs.RosterNamesDiffer.{roster_names, still_received}
+use Rattle.known_state.proofs.KnowingMoreCostsLess.{found_before, last-put}
+use Rattle.known_state.proofs.ReadsPay.{received_is_own}
 
 and-left : (a b : Bool) → (a && b) ≡ true → a ≡ true
 and-left true b h = refl

@@ -4,7 +4,7 @@ use Rattle.std.specs.Prelude.{is_some, filter, flat_map}
 use Rattle.std.specs.List.{AllByRecursion}
 use Rattle.std.proofs.lemmas.Bool.{cases_eq, eq-eqb, ne_eqb}
 use Rattle.peers_encint.specs.Integers.{spelling}
-use Rattle.peers_encint.proofs.SpellingLaws as integers
+use Rattle.peers_encint.proofs.OneSpelling as integers
 use Rattle.table_types.specs.declared.key.Key.{Key}
 use Rattle.table_types.specs.declared.update.Value.{Value}
 use Rattle.table_types.specs.declared.update.Update.{Update}
@@ -22,14 +22,14 @@ use Rattle.known_state.specs.LastNumbers.{keeps_last, last_of, set_last}
 use Rattle.known_state.specs.Known.{AreOwn}
 use Rattle.known_state.specs.Cost.{Knowledge, knowledge_of, knowledge_after, sent_as, number_sent, written_cost, written_field, is_named_table, is_held, saving, full, IsOfRoster, Saves}
 use Rattle.known_state.specs.Requests.{Asked, held_cost, asked, requests_of, mark_of, reads_of, read_savings}
-use Rattle.known_state.proofs.RequestLemmas.{knowledge_after_all}
-use Rattle.known_state.proofs.KnownLemmas.{table_at-id, table_at-passes, define_selects}
-use Rattle.known_state.proofs.RosterLemmas.{name_itself, roster_names, still_received, two_names}
-use Rattle.known_state.proofs.RefusalLaws.{selection}
-use Rattle.known_state.proofs.StepLemmas.{selected-id, selected-found}
-use Rattle.known_state.proofs.CostLaws.{framed_longer, found_before, last-dropped, last-kept, last-put}
+use Rattle.known_state.proofs.CostsAddUp.{knowledge_after_all}
+use Rattle.known_state.proofs.ReceivedIsOwn.{table_at-id, table_at-passes, define_selects}
+use Rattle.known_state.proofs.RosterNamesDiffer.{name_itself, roster_names, still_received, two_names}
+use Rattle.known_state.proofs.RefusedIsNoStep.{selection}
+use Rattle.known_state.proofs.FitsOrIsRefused.{selected-id, selected-found}
+use Rattle.known_state.proofs.KnowingMoreCostsLess.{framed_longer, found_before, last-dropped, last-kept, last-put}
 use Rattle.known_state.proofs.StepPays.{is_there, moved_last, own_stays}
-use Rattle.known_state.proofs.FullLaws.{list_pays_full}
+use Rattle.known_state.proofs.FullIsCost.{list_pays_full}
 
 -- ---- last numbers, by the state there and by the updates so far
 

@@ -14,9 +14,9 @@ use Rattle.known_state.specs.State.{State, Step, IsOwn}
 use Rattle.known_state.specs.Effects.{refusal_of}
 use Rattle.known_state.specs.declared.known.StepError.{StepError}
 use Rattle.known_state.specs.Known.{KnownState, AreOwn, Refuses, switch_refusal, update_refusal}
-use Rattle.known_state.proofs.KnownLemmas.{table_at-id, table_at-passes}
-use Rattle.known_state.proofs.ResolvingLemmas.{named_so}
-use Rattle.known_state.proofs.StepLemmas.{has_id-table_at}
+use Rattle.known_state.proofs.ReceivedIsOwn.{table_at-id, table_at-passes}
+use Rattle.known_state.proofs.NamedAsResolved.{named_so}
+use Rattle.known_state.proofs.FitsOrIsRefused.{has_id-table_at}
 
 pub switch_found : (h : Received) (id : ℕ) → fits h (messages.Switch id) ≡ true → (d : Definition) × (table_at h.tables id ≡ Some d)
 unfolding fits

@@ -13,12 +13,12 @@ use Rattle.known_state.specs.Cost.{full, knowledge_of, IsOfRoster}
 use Rattle.known_state.specs.Requests.{Asked, requests_of, reads_of}
 use Rattle.known_state.specs.Shortest.{Shortest}
 use Rattle.known_state.specs.Plans.{Plan, Accepts, all_links, bound, kept_savings, links, names_in}
-use Rattle.known_state.proofs.KnownLemmas.{table_at-passes}
-use Rattle.known_state.proofs.RefusalLaws.{selection}
-use Rattle.known_state.proofs.StepLemmas.{selected-id, selected-found}
+use Rattle.known_state.proofs.ReceivedIsOwn.{table_at-passes}
+use Rattle.known_state.proofs.RefusedIsNoStep.{selection}
+use Rattle.known_state.proofs.FitsOrIsRefused.{selected-id, selected-found}
 use Rattle.known_state.proofs.StepPays.{own_stays}
-use Rattle.known_state.proofs.ReadLaws.{reads_pay, marks_fit}
-use Rattle.known_state.proofs.LinkLaws.{reads_save, savings_bounded}
+use Rattle.known_state.proofs.ReadsPay.{reads_pay, marks_fit}
+use Rattle.known_state.proofs.SavingsAreBounded.{reads_save, savings_bounded}
 use Rattle.known_state.proofs.ReadsNeedSlots.{reads_linked, reads_room}
 
 -- ---- what is carried is of tables of the roster

@@ -9,7 +9,7 @@ use Rattle.peers_msg.specs.declared.message.Message.{Message}
 use Rattle.peers_msg.specs.declared.message.Message.TheVariants as messages
 use Rattle.peers_msg.specs.Received.{Received, IsBelow, AreDistinct, insert_table, outlives, defined, received_after, with_own, resumed}
 use Rattle.peers_msg.specs.OwnTables.{is_own, own_part}
-use Rattle.table_types.proofs.ShapeLaws.{same_name}
+use Rattle.table_types.proofs.OneTableByShape.{same_name}
 
 -- ---- of a list of tables those that pass
 

@@ -10,8 +10,8 @@ use Rattle.peers_encint.specs.declared.reading.Read.{Read}
 use Rattle.peers_encint.specs.declared.reading.Read.TheVariants.{Value, Short, Over}
 use Rattle.peers_encint.specs.Integers.{added_from, IsTail, SpellsInteger, spelling, IsBytes, Reads, tail_length, whole_of, long_of, read_of}
 use Rattle.peers_encint.specs.IntegerLaws.{IsReadAgain, IsSpelledAsRead, StaysRead}
-use Rattle.peers_encint.proofs.TailLaws.{value_of, added-first, room_for-suc, IsTail-cons}
-use Rattle.peers_encint.proofs.SpellingLaws.{SpellsInteger-long, spelled, one_spelling}
+use Rattle.peers_encint.proofs.OneTail.{value_of, added-first, room_for-suc, IsTail-cons}
+use Rattle.peers_encint.proofs.OneSpelling.{SpellsInteger-long, spelled, one_spelling}
 
 -- ---- how many bytes a tail takes
 

@@ -5,7 +5,7 @@ use Rattle.std.specs.Prelude.{is_some}
 use Rattle.std.specs.List.{list_any}
 use Rattle.std.proofs.lemmas.Bool.{cases_eq, eq-eqb, ne_eqb, le-leb, lt-ltb}
 use Rattle.peers_encint.specs.Integers.{spelling}
-use Rattle.peers_encint.proofs.SpellingLaws as integers
+use Rattle.peers_encint.proofs.OneSpelling as integers
 use Rattle.table_types.specs.Tables.{Definition, is_definition}
 use Rattle.table_types.specs.Updates.{stores_name}
 use Rattle.table_types.specs.Rosters.{table_at, has_id}
@@ -19,7 +19,7 @@ use Rattle.peers_msg.specs.Fitting.{fits, update_fits, name_fits}
 use Rattle.peers_msg.proofs.DataLimits.{update_small, definition_small}
 use Rattle.known_state.specs.declared.known.StepError.TheVariants as step_errors
 use Rattle.known_state.specs.Known.{KnownState, AreOwn, switch_refusal, update_refusal}
-use Rattle.known_state.proofs.KnownLemmas.{table_at-id, table_at-passes}
+use Rattle.known_state.proofs.ReceivedIsOwn.{table_at-id, table_at-passes}
 
 -- an id is one of the tables' where its table is found
 pub has_id-table_at : (ds : List Definition) (id : ℕ) → has_id id ds ≡ is_some (table_at ds id)

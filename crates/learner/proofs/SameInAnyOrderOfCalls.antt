@@ -9,8 +9,8 @@ use Rattle.learner.specs.declared.fault.Fault.TheVariants as faults
 use Rattle.learner.specs.declared.taken.Taken.{Taken}
 use Rattle.learner.specs.Intake.{Taking, Takes, Gives, IntakeFeeds, IntakeNext, rows_of, fed}
 use Rattle.learner.specs.Calls.{AreIntakeCalls, IsEndOf, IsFaultless, bytes_of, answers_given}
-use Rattle.learner.proofs.PieceLaws.{takes_on, left_good}
-use Rattle.learner.proofs.FaultLaws.{stops_on}
+use Rattle.learner.proofs.SameHoweverCut.{takes_on, left_good}
+use Rattle.learner.proofs.SameFaultHoweverCut.{stops_on}
 use Rattle.learner.proofs.OneOutcome.{intake_next_once}
 
 -- messages are taken one after another, and these are the answers
