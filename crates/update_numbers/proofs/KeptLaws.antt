@@ -5,11 +5,6 @@ use Rattle.std.specs.Ordering.{is_eq, nat_cmp}
 use Rattle.std.specs.Map.{keys_of, remove_entry}
 use Rattle.std.specs.BTreeMap.{is_at}
 use Rattle.table_types.specs.declared.key.Key.{Key}
-<<<<<<< HEAD
-use Rattle.table_types.specs.Keys.{key_cmp}
-use Rattle.table_types.proofs.EqualKeysAreOne.{one_key}
-=======
->>>>>>> 4114578a29ab99a77c799762aeb57edf64c6ae34
 use Rattle.update_numbers.specs.Index.{Agree, AreIndexed, IsKept, key_at, key_without, number_at, pairs_without}
 use Rattle.update_numbers.specs.Numbers.{without}
 use Rattle.update_numbers.proofs.IndexLaws.{given_agree, renumbered_agree}
