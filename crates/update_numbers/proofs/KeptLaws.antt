@@ -7,7 +7,7 @@ use Rattle.std.specs.Map.{keys_of, remove_entry}
 use Rattle.std.specs.BTreeMap.{is_at}
 use Rattle.table_types.specs.declared.key.Key.{Key}
 use Rattle.table_types.specs.Keys.{key_cmp}
-use Rattle.table_types.proofs.KeyLaws.{one_key}
+use Rattle.table_types.proofs.EqualKeysAreOne.{one_key}
 use Rattle.update_numbers.specs.Index.{Agree, AreIndexed, IsKept, key_at, key_without, number_at, pairs_without}
 use Rattle.update_numbers.specs.Numbers.{Reservation, given, without}
 use Rattle.update_numbers.proofs.IndexLaws.{given_agree, key-same, number-same, renumbered_agree}

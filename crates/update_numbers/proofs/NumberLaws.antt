@@ -11,7 +11,7 @@ use Rattle.std.specs.BTreeMap.{insert_entry, is_at}
 use Rattle.std.proofs.lemmas.Map.Lookups.{exact_unsigned}
 use Rattle.table_types.specs.declared.key.Key.{Key}
 use Rattle.table_types.specs.Keys.{key_cmp}
-use Rattle.table_types.proofs.KeyLaws.{one_key}
+use Rattle.table_types.proofs.EqualKeysAreOne.{one_key}
 use Rattle.update_numbers.specs.Index.{Agree, AreIndexed, key_at, number_at}
 use Rattle.update_numbers.specs.Numbers.{Numbering, is_of, without}
 use Rattle.update_numbers.proofs.IndexLaws.{one_number, number-same, key-same, true_or_false}

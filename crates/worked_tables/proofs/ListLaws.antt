@@ -17,7 +17,7 @@ use Rattle.table_types.specs.declared.key.Key.{Key}
 use Rattle.table_types.specs.Keys.{key_cmp}
 use Rattle.table_types.specs.KeyOrder.{key_cmp_total}
 use Rattle.table_types.specs.Rows.{StoredRow}
-use Rattle.table_types.proofs.KeyLaws.{exact_keys, key_cmp-same}
+use Rattle.table_types.proofs.EqualKeysAreOne.{exact_keys, key_cmp-same}
 use Rattle.table_rows.specs.Rows.{AreLive, IsFirstToEnd, end_cmp, ends_cmp, goes_past, is_live, row_at, rows_without}
 use Rattle.worked_tables.specs.Places.{IsAfterNone, IsBefore, IsFirstAt, IsPast, IsThere}
 

@@ -1,6 +1,6 @@
 use Rattle.std.proofs.Common.{◌∷◌, []}
 use Rattle.table_types.specs.Batches.{batch_fault}
-use Rattle.table_types.proofs.BatchLaws.{batch_has_no_fault}
+use Rattle.table_types.proofs.BatchIsFaultless.{batch_has_no_fault}
 use Rattle.table_cell.proofs.CopyLaws.{no_error}
 use Rattle.table_cell.proofs.batches.batch_of.Goals as goal
 
