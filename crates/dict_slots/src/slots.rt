@@ -2,27 +2,28 @@
 
 ghost use Rattle.std.specs.Prelude.{◌≡◌, ◌≤◌, ◌-◌, ℕ, Some, IfOk, IfSome, IsNone, true, IsTrue, ◌↔◌, option_copied, length, slice_set};
 ghost use Rattle.dict_slots.specs.Slots.{no_names, slot_at, Holds};
-ghost use Rattle.table_types.specs.SlotIds.{is_slot};
+ghost use Rattle.table_types.specs.SlotIds.{slot_count, is_slot};
 
 use std::alloc::Global;
 use std::marker::Model;
-use table_types::{Memory, Name};
+use table_types::{Memory, Name, SLOT_COUNT};
 
 /// The dictionary of server names of one direction of a session: slots 1 to 128, each empty or with a name.
 /// The slots lie in the value itself, so only the names take memory.
 #[derive(Debug, Drop)]
 pub struct Slots {
-    names: [Option<Name>; 128],
+    names: [Option<Name>; SLOT_COUNT],
 }
 
 impl Model for Slots {
     ghost use Rattle.std.specs.Prelude.{◌≡◌, List, Option, ℕ, length};
+    ghost use Rattle.table_types.specs.SlotIds.{slot_count};
 
     ghost Value = { List (Option (List ℕ)) };
 
     ghost view = { λ a. a.names };
 
-    ghost invariant = { λ a. length a.names ≡ 128 };
+    ghost invariant = { λ a. length a.names ≡ slot_count };
 }
 
 fn holds(slot: &Option<Name>, name: &Name) -> bool
@@ -34,7 +35,7 @@ fn holds(slot: &Option<Name>, name: &Name) -> bool
     }
 }
 
-fn no_names() -> [Option<Name>; 128]
+fn no_names() -> [Option<Name>; SLOT_COUNT]
     ensures { result ≡ no_names }
 {
     Default::default()
@@ -42,7 +43,7 @@ fn no_names() -> [Option<Name>; 128]
 
 impl Slots {
     /// How many slots there are, and the number of the last.
-    pub const COUNT: u8 = 128;
+    pub const COUNT: u8 = SLOT_COUNT as u8;
 
     /// The slots, all empty. It takes no memory.
     pub fn new(_alloc: Global) -> Slots
@@ -54,7 +55,7 @@ impl Slots {
     /// How many slots there are: 128.
     pub fn len(&self) -> usize
         ensures count { result ≡ length self.now }
-        ensures all { result ≡ 128 }
+        ensures all { result ≡ slot_count }
     {
         self.names.as_slice().len()
     }
@@ -64,7 +65,7 @@ impl Slots {
         ensures found { IfSome result (λ slot. Holds self.now slot name.now) }
         ensures lowest { IfSome result (λ slot. (other : ℕ) → Holds self.now other name.now → slot ≤ other) }
         ensures absent { IsNone result → (slot : ℕ) → Holds self.now slot name.now → ⊥ }
-        ensures count { length self.now ≡ 128 }
+        ensures count { length self.now ≡ slot_count }
     {
         for (index, held) in self.names.iter().enumerate() {
             if holds(held, name) {
@@ -78,7 +79,7 @@ impl Slots {
     pub fn name(&self, id: u8) -> Option<&Name>
         requires slot { is_slot id ≡ true }
         ensures held { option_copied result ≡ slot_at self.now id }
-        ensures count { length self.now ≡ 128 }
+        ensures count { length self.now ≡ slot_count }
     {
         self.names[usize::from(id) - 1].as_ref()
     }
@@ -88,7 +89,7 @@ impl Slots {
         requires slot { is_slot id ≡ true }
         ensures old { result ≡ slot_at self.old id }
         ensures written { self.new ≡ slice_set self.old (id - 1) (Some name) }
-        ensures count { length self.new ≡ 128 }
+        ensures count { length self.new ≡ slot_count }
     {
         self.names[usize::from(id) - 1].replace(name)
     }

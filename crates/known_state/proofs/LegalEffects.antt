@@ -7,7 +7,7 @@ use Rattle.table_types.specs.Tables.{Definition}
 use Rattle.table_types.specs.Rosters.{table_at, has_id}
 use Rattle.peers_msg.specs.declared.name_field.NameField.{NameField}
 use Rattle.table_types.specs.Shapes.{is_same_definition}
-use Rattle.table_types.proofs.ShapeLaws.{means_shape, same_definition}
+use Rattle.table_types.proofs.OneTableByShape.{means_shape, same_definition}
 use Rattle.peers_msg.specs.declared.message.Message.{Message}
 use Rattle.peers_msg.specs.declared.message.Message.TheVariants as messages
 use Rattle.peers_msg.specs.Messages.{UpdateFields}
@@ -16,14 +16,14 @@ use Rattle.peers_msg.specs.Received.{selected_table}
 use Rattle.peers_msg.specs.Fitting.{fits}
 use Rattle.known_state.specs.State.{State, Step, IsOwn}
 use Rattle.known_state.specs.Effects.{Resolves, carried_by, made, refusal_of}
-use Rattle.known_state.specs.Known.{KnownState, AreOwn, IsLegalEffect, IsTakenBy, refused_as, update_refusal}
+use Rattle.known_state.specs.Known.{KnownState, AreOwn, IsLegalEffect, IsTakenBy, as_step_error, update_refusal}
 use Rattle.known_state.specs.declared.effect.Effect.{Effect}
 use Rattle.known_state.specs.declared.effect.ResolvedUpdate.{ResolvedUpdate}
 use Rattle.known_state.specs.declared.effect.Refusal.{Refusal}
 use Rattle.known_state.specs.declared.effect.Refusal.TheVariants as refusals
 use Rattle.known_state.specs.declared.known.StepError.{StepError}
 use Rattle.known_state.specs.declared.known.StepError.TheVariants as step_errors
-use Rattle.known_state.proofs.EffectLemmas.{effect_steps}
+use Rattle.known_state.proofs.EffectsAreSteps.{effect_steps}
 use Rattle.known_state.proofs.StepPays.{own_stays}
 
 -- the effect of a legal message makes its step, in a known state of these parts
@@ -43,23 +43,23 @@ legal_own k roster s e m effect view all legal made_is =
 -- ---- updates
 
 -- an update of the selected table that fits is refused for what its state refuses it
-pub refused_so : (k : KnownState) (u : UpdateFields) (d : Definition) → selected_table k.state.received ≡ Some d → fits k.state.received (messages.Update u) ≡ true → update_refusal k u (selected_table k.state.received) ≡ option_map refused_as (refusal_of k.state u.number u.name)
+pub refused_so : (k : KnownState) (u : UpdateFields) (d : Definition) → selected_table k.state.received ≡ Some d → fits k.state.received (messages.Update u) ≡ true → update_refusal k u (selected_table k.state.received) ≡ option_map as_step_error (refusal_of k.state u.number u.name)
 refused_so k u d sel fit =
     let here : update_refusal k u (selected_table k.state.received) ≡ update_refusal k u (Some d) = ap (λ (o : Option Definition). update_refusal k u o) sel in
     here ∙ rw fit refl
 
 -- whether its state refuses it, and why, is passed on
 pub refusal_here : (k : KnownState) (s : State) (u : UpdateFields) (d : Definition) (number : Option ℕ) (field : NameField) (refusal : Option Refusal) → s ≡ k.state → number ≡ u.number → field ≡ u.name → selected_table k.state.received ≡ Some d → fits k.state.received (messages.Update u) ≡ true
-    → refusal ≡ refusal_of s number field → update_refusal k u (selected_table k.state.received) ≡ option_map refused_as refusal
+    → refusal ≡ refusal_of s number field → update_refusal k u (selected_table k.state.received) ≡ option_map as_step_error refusal
 refusal_here k s u d number field refusal is_s is_number is_field sel fit is =
     let here : refusal_of k.state u.number u.name ≡ refusal = rw (← is_s, ← is_number, ← is_field) (sym is) in
-    refused_so k u d sel fit ∙ ap (λ (o : Option Refusal). option_map refused_as o) here
+    refused_so k u d sel fit ∙ ap (λ (o : Option Refusal). option_map as_step_error o) here
 
 -- where nothing refuses it in the known state, its state refuses it for want of memory alone
 pub only_memory : (k : KnownState) (s : State) (u : UpdateFields) (number : Option ℕ) (field : NameField) (refusal : Refusal) → s ≡ k.state → number ≡ u.number → field ≡ u.name → refusal_of k.state u.number u.name ≡ None
-    → (refusal ≢ refusals.Memory → refusal_of s number field ≡ Some refusal) → refused_as refusal ≢ step_errors.Memory → ⊥
+    → (refusal ≢ refusals.Memory → refusal_of s number field ≡ Some refusal) → as_step_error refusal ≢ step_errors.Memory → ⊥
 only_memory k s u number field refusal is_s is_number is_field none refused other =
-    let found : refusal_of s number field ≡ Some refusal = refused (λ same. other (ap refused_as same)) in
+    let found : refusal_of s number field ≡ Some refusal = refused (λ same. other (ap as_step_error same)) in
     let here : refusal_of k.state u.number u.name ≡ Some refusal = rw (← is_s, ← is_number, ← is_field) found in
     let bad : None ≡ Some refusal = sym none ∙ here in
     cc
@@ -85,7 +85,7 @@ taken_update k u taken = at (selected_table k.state.received) refl (fits k.state
     at None is f fit r refused = absurd (taken step_errors.NoTable (ap (λ (x : Option Definition). update_refusal k u x) is))
     at (Some d) is false fit r refused = absurd (taken step_errors.Foreign (ap (λ (x : Option Definition). update_refusal k u x) is ∙ rw fit refl))
     at (Some d) is true fit None refused = (d, is, fit, refused)
-    at (Some d) is true fit (Some r) refused = absurd (taken (refused_as r) (refused_so k u d is fit ∙ ap (λ (x : Option Refusal). option_map refused_as x) refused))
+    at (Some d) is true fit (Some r) refused = absurd (taken (as_step_error r) (refused_so k u d is fit ∙ ap (λ (x : Option Refusal). option_map as_step_error x) refused))
 
 -- a switch among them goes to a table that is defined
 pub taken_switch : (k : KnownState) (id : ℕ) → IsTakenBy k (messages.Switch id) → is_some (table_at k.state.received.tables id) ≡ true

@@ -9,7 +9,7 @@ use Rattle.std.proofs.lemmas.Map.Made.{length-le_from_is_member}
 use Rattle.table_types.specs.Rosters.{is_same_name}
 use Rattle.known_state.specs.Requests.{Asked}
 use Rattle.known_state.specs.Plans.{Asking, at_start, after_request, after_requests, Link, links_from, links, kept_over, keeps_next}
-use Rattle.known_state.proofs.LinkLaws.{kept_over-append}
+use Rattle.known_state.proofs.SavingsAreBounded.{kept_over-append}
 use Rattle.known_state.proofs.LinkPlaces.{AreBefore, before-start, before-after, place-after, links-append, links_forward, over_none}
 use Rattle.known_state.proofs.SlotsNeeded.{is_among, is_before, names_over, as_many, or_first, or_second, turned, ends_here}
 

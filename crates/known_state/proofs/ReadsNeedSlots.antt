@@ -16,11 +16,11 @@ use Rattle.peers_msg.specs.Fitting.{name_fits}
 use Rattle.known_state.specs.State.{State, Step, Teaches, Named, resolved}
 use Rattle.known_state.specs.Cost.{Knowledge}
 use Rattle.known_state.specs.Requests.{Asked, asked, requests_of, mark_of, reads_of}
-use Rattle.known_state.proofs.RequestLemmas.{knowledge_after_all}
+use Rattle.known_state.proofs.CostsAddUp.{knowledge_after_all}
 use Rattle.known_state.specs.Plans.{AreLinked, at_start, kept_over, links, name_held, names_in}
-use Rattle.known_state.proofs.RefusalLaws.{selection}
-use Rattle.known_state.proofs.RosterLemmas.{name_itself}
-use Rattle.known_state.proofs.ReadLaws.{requests-append}
+use Rattle.known_state.proofs.RefusedIsNoStep.{selection}
+use Rattle.known_state.proofs.RosterNamesDiffer.{name_itself}
+use Rattle.known_state.proofs.ReadsPay.{requests-append}
 use Rattle.known_state.proofs.StepPays.{name_fitting}
 use Rattle.known_state.proofs.SlotsNeeded.{AreMet, is_among, or_first, or_second, length-slots, linked_from_start, room_from_start}
 

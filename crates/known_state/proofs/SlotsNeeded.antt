@@ -11,7 +11,7 @@ use Rattle.std.proofs.lemmas.Map.Made.{length-le_from_is_member, IsDistinct-from
 use Rattle.table_types.specs.Rosters.{is_same_name}
 use Rattle.known_state.specs.Requests.{Asked}
 use Rattle.known_state.specs.Plans.{Asking, at_start, after_request, Link, link_of, links_from, links, AreLinked, kept_over, name_held, names_in}
-use Rattle.known_state.proofs.RosterLemmas.{name_itself}
+use Rattle.known_state.proofs.RosterNamesDiffer.{name_itself}
 
 -- a name is among names
 abbrev pub is_among : List ℕ → List (List ℕ) → Bool

@@ -21,10 +21,10 @@ use Rattle.known_state.specs.LastNumbers.{keeps_last, last_of, set_last}
 use Rattle.known_state.specs.Known.{AreOwn}
 use Rattle.known_state.specs.Cost.{knowledge_of, knowledge_after, cost, saving, selection_cost, definition_cost, is_held, Saves, IsOfRoster}
 use Rattle.known_state.proofs.LesserKnowledge.{KnowsLess, with_selected}
-use Rattle.known_state.proofs.KnownLemmas.{table_at-id, table_at-passes, define_selects, AreOwn-defined}
-use Rattle.known_state.proofs.StepLemmas.{selected-id, selected-found}
-use Rattle.known_state.proofs.RefusalLaws.{switch_found, selection}
-use Rattle.known_state.proofs.CostLaws.{falls, defining_pays, switched_pays, update_pays, found_before, last-dropped, last-filter, last-put}
+use Rattle.known_state.proofs.ReceivedIsOwn.{table_at-id, table_at-passes, define_selects, AreOwn-defined}
+use Rattle.known_state.proofs.FitsOrIsRefused.{selected-id, selected-found}
+use Rattle.known_state.proofs.RefusedIsNoStep.{switch_found, selection}
+use Rattle.known_state.proofs.KnowingMoreCostsLess.{falls, defining_pays, switched_pays, update_pays, found_before, last-dropped, last-filter, last-put}
 
 -- what moves nothing pays
 stays_pays : (roster : List Definition) (s mid : State) (m : Message) (one rest : List Update) → one ≡ [] → mid ≡ s → cost roster s (one ++ rest) ≤ size_of m + saving roster (knowledge_of s) m one + cost roster mid rest
@@ -172,11 +172,11 @@ own_stays roster s mid (messages.Other o) one own is_own (fit, none, is) = subst
 
 -- what holds of each of the updates holds of each of the rest
 pub all_rest : (p : Update → Type 0) (one rest us : List Update) → us ≡ one ++ rest → AllByRecursion p us → AllByRecursion p rest
-all_rest p one rest us is all = behind one (subst (λ (l : List Update). AllByRecursion p l) is all)
+all_rest p one rest us is all = in_rest one (subst (λ (l : List Update). AllByRecursion p l) is all)
   where
-    behind : (one : List Update) → AllByRecursion p (one ++ rest) → AllByRecursion p rest
-    behind [] all = all
-    behind (u ∷ us) all = behind us all.1
+    in_rest : (one : List Update) → AllByRecursion p (one ++ rest) → AllByRecursion p rest
+    in_rest [] all = all
+    in_rest (u ∷ us) all = in_rest us all.1
 
 -- messages pay for what they save
 pub list_pays : (roster : List Definition) (s e : State) (ms : List Message) (us : List Update) → AreOwn roster s.received.tables → AllByRecursion (IsOfRoster roster) us → Legal roster s ms us e → (saved : ℕ) × Saves roster s ms us saved × (cost roster s us ≤ size_of_all ms + saved)

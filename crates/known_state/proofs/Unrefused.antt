@@ -4,7 +4,7 @@ use Rattle.std.specs.Prelude.{is_some}
 use Rattle.table_types.specs.Tables.{Definition}
 use Rattle.table_types.specs.Rosters.{table_at}
 use Rattle.known_state.specs.Known.{KnownState, switch_refusal}
-use Rattle.known_state.proofs.StepLemmas.{has_id-table_at}
+use Rattle.known_state.proofs.FitsOrIsRefused.{has_id-table_at}
 
 -- a switch to a table that is the roster's and defined
 pub switch_taken : (k : KnownState) (id : ℕ) → is_some (table_at k.roster id) ≡ true → is_some (table_at k.state.received.tables id) ≡ true → switch_refusal k id ≡ None

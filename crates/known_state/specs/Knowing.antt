@@ -6,7 +6,7 @@ use Rattle.known_state.specs.LastNumbers.{last_of}
 use Rattle.known_state.specs.Cost.{Knowledge, knowledge_of}
 
 -- what is known so far: a table with an update in the lesson is defined, and that update's number is its last; of any
--- other the known state tells
+-- other table the known state says that
 abbrev pub known_so_far : KnowledgeSoFar → Knowledge
 known_so_far k = record {
   is_defined = λ id. is_some (last_of k.sent id) || (knowledge_of k.known.now.state).is_defined id;

@@ -35,12 +35,12 @@ AreOwn roster ds = AllByRecursion (λ d. table_at roster d.id ≡ Some d) ds
 abbrev pub fresh_of : List Definition → KnownState
 fresh_of roster = record { roster = roster; state = record { received = nothing_received; last_numbers = []; slots = no_names } }
 
-abbrev pub holds : ℕ → List ℕ → Bool
-holds id ids = list_any (λ other. other == id) ids
+abbrev pub is_in : ℕ → List ℕ → Bool
+is_in id ids = list_any (λ other. other == id) ids
 
 abbrev pub repeats : List ℕ → Bool
 repeats [] = false
-repeats (id ∷ ids) = holds id ids || repeats ids
+repeats (id ∷ ids) = is_in id ids || repeats ids
 
 abbrev pub has_last : ℕ → List (ℕ × ℕ) → Bool
 has_last id last_numbers = list_any (λ l. l.0 == id) last_numbers
@@ -60,7 +60,7 @@ are_known roster selected defined last_numbers =
 
 -- what is selected and what has a last number is defined
 abbrev pub are_defined : Option ℕ → List ℕ → List (ℕ × ℕ) → Bool
-are_defined selected defined last_numbers = or_none (λ id. holds id defined) selected && list_all (λ l. holds l.0 defined) last_numbers
+are_defined selected defined last_numbers = or_none (λ id. is_in id defined) selected && list_all (λ l. is_in l.0 defined) last_numbers
 
 -- what is first wrong with the parts of a known state: an id that the roster lacks, one that is selected or has a
 -- last number and isn't defined, or one that is defined twice or has two last numbers
@@ -86,17 +86,17 @@ switch_refusal k id =
     else (if is_none (table_at k.state.received.tables id) then Some step_errors.NotDefined else None)
 
 -- a state's refusal, as a known state's
-abbrev pub refused_as : Refusal → StepError
-refused_as refusals.NoNumber = step_errors.NoNumber
-refused_as refusals.EmptySlot = step_errors.EmptySlot
-refused_as refusals.Memory = step_errors.Memory
+abbrev pub as_step_error : Refusal → StepError
+as_step_error refusals.NoNumber = step_errors.NoNumber
+as_step_error refusals.EmptySlot = step_errors.EmptySlot
+as_step_error refusals.Memory = step_errors.Memory
 
 -- why an update is refused, by the table that is selected
 abbrev pub update_refusal : KnownState → UpdateFields → Option Definition → Option StepError
 update_refusal k u None = Some step_errors.NoTable
 update_refusal k u (Some d) =
     if not (fits k.state.received (messages.Update u)) then Some step_errors.Foreign
-    else option_map refused_as (refusal_of k.state u.number u.name)
+    else option_map as_step_error (refusal_of k.state u.number u.name)
 
 -- Why a message is refused in a known state. An update: with no table selected, where it doesn't fit, or where the state
 -- refuses it. A definition that isn't the roster's own. A switch to an id that isn't the roster's, or to a table that

@@ -5,11 +5,12 @@ ghost use Rattle.table_types.specs.declared.update.Update.{Update};
 ghost use Rattle.peers_msg.specs.declared.message.Message.{Message};
 ghost use Rattle.peers_msg.specs.Fitting.{fits};
 ghost use Rattle.known_state.specs.State.{State, Step};
-ghost use Rattle.known_state.specs.Effects.{IsEffect, carried_by, made, message_refusal};
+ghost use Rattle.known_state.specs.Effects.{IsEffect, carried_by, made, message_refusal, written_by};
 ghost use Rattle.known_state.specs.declared.effect.Effect.{Effect};
 ghost use Rattle.known_state.specs.declared.effect.Refusal.{Refusal};
 ghost use Rattle.known_state.specs.declared.effect.Refusal.TheVariants as refusals;
 
+use peers_msg::NameField;
 use table_types::{Memory, Name, TableDef};
 use thiserror::Error;
 
@@ -44,6 +45,25 @@ pub struct ResolvedUpdate {
     pub number: u32,
     /// The slot that the update writes, 1 to 128, and the name.
     pub written: Option<(u8, Name)>,
+}
+
+impl ResolvedUpdate {
+    /// What an update does that has this number, of the table that is selected, and this name field, which it gives up.
+    pub(crate) fn of(table: u64, number: u32, field: NameField) -> ResolvedUpdate
+        ensures table { result.table ≡ table }
+        ensures number { result.number ≡ number }
+        ensures written { result.written ≡ written_by field }
+    {
+        let written = match field {
+            NameField::Written(slot, name) => Some((slot, name)),
+            NameField::NotStored | NameField::NoName | NameField::Held(_) => None,
+        };
+        ResolvedUpdate {
+            table,
+            number,
+            written,
+        }
+    }
 }
 
 /// What a message does to a state, with all that it owns (HAProxy, doc/peers-v2.0.txt, "Stick Table Messages").

@@ -7,8 +7,7 @@ ghost use Rattle.peers_msg.specs.Fitting.{fits, IsPlain};
 ghost use Rattle.peers_msg.specs.Received.{selected_table};
 ghost use Rattle.known_state.specs.State.{Step, IsOwn};
 ghost use Rattle.known_state.specs.declared.effect.Effect.TheVariants as effects;
-ghost use Rattle.known_state.specs.Effects.{written_by};
-ghost use Rattle.known_state.specs.Known.{known_of, KnownState, AreOwn, fresh_of, build_fault, built, Refuses, refused_as, switch_refusal, update_refusal, IsTakenBy, IsLegalEffect, step_error_name};
+ghost use Rattle.known_state.specs.Known.{known_of, KnownState, AreOwn, fresh_of, build_fault, built, Refuses, as_step_error, switch_refusal, update_refusal, IsTakenBy, IsLegalEffect, step_error_name};
 ghost use Rattle.known_state.specs.LastNumbers.{AreRising};
 ghost use Rattle.known_state.specs.declared.known.KnownError.{KnownError};
 ghost use Rattle.known_state.specs.declared.known.KnownError.TheVariants as build_errors;
@@ -20,10 +19,10 @@ use crate::last_numbers::LastNumbers;
 use crate::parts::{are_defined, are_known, repeats, repeats_last};
 use crate::state::State;
 use dict_slots::Slots;
-use peers_msg::{Message, NameField, Received, UpdateMsg, is_own};
+use peers_msg::{Message, Received, UpdateMsg, is_own};
 use std::alloc::Global;
 use std::marker::Model;
-use table_types::{Memory, Name, Roster, TableDef};
+use table_types::{Memory, Roster, TableDef};
 use thiserror::Error;
 
 /// Why a known state can't be built: the first that applies, in this order.
@@ -99,7 +98,7 @@ impl From<Memory> for StepError {
 }
 
 impl From<Refusal> for StepError {
-    ghost from_gives = { λ refusal e. e ≡ refused_as refusal };
+    ghost from_gives = { λ refusal e. e ≡ as_step_error refusal };
 
     fn from(refusal: Refusal) -> StepError {
         match refusal {
@@ -127,17 +126,6 @@ impl Model for Known {
     ghost view = { λ k. record { roster = k.roster; state = k.state } };
 
     ghost invariant = { λ k. AreOwn k.roster k.state.received.tables };
-}
-
-/// The slot that an update writes, and the name, which it gives up.
-fn written_by(update: UpdateMsg) -> Option<(u8, Name)>
-    ensures { result ≡ written_by update.name }
-{
-    let (_, _, field) = update.into_parts();
-    match field {
-        NameField::Written(slot, name) => Some((slot, name)),
-        NameField::NotStored | NameField::NoName | NameField::Held(_) => None,
-    }
 }
 
 impl Known {
@@ -431,11 +419,10 @@ impl Known {
         ensures { IsLegalEffect self.now (messages.Update update) result }
     {
         match self.state.number(update.number()) {
-            Some((table, number)) => Effect::Update(ResolvedUpdate {
-                table,
-                number,
-                written: written_by(update),
-            }),
+            Some((table, number)) => {
+                let (_, _, field) = update.into_parts();
+                Effect::Update(ResolvedUpdate::of(table, number, field))
+            }
             None => unreachable!(),
         }
     }

@@ -13,7 +13,7 @@ ghost use Rattle.peers_msg.specs.declared.name_field.NameField.{NameField};
 ghost use Rattle.known_state.specs.State.{State, Step, Teaches, Named, IsOwn, Legal, fresh, reads_empty, name_of, slots_after};
 ghost use Rattle.known_state.specs.LastNumbers.{last_of, AreRising};
 ghost use Rattle.known_state.specs.declared.known.StepError.{StepError};
-ghost use Rattle.known_state.specs.Known.{KnownState, AreOwn, build_fault, built, holds, Refuses, known_of};
+ghost use Rattle.known_state.specs.Known.{KnownState, AreOwn, build_fault, built, is_in, Refuses, known_of};
 ghost use Rattle.known_state.specs.Requests.{read_savings, reads_of, requests_of};
 ghost use Rattle.known_state.specs.Cost.{IsOfRoster, Knowledge, Pays, Saves, cost, full, knowledge_of};
 ghost use Rattle.known_state.specs.Shortest.{Shortest};
@@ -43,7 +43,7 @@ pub fn one_name()
 pub fn what_is_built()
     ensures tables { (roster : List Definition) (selected : Option ℕ) (defined : List ℕ) (last_numbers : List (ℕ × ℕ)) (slots : List (Option (List ℕ))) (id : ℕ) →
         roster_fault roster ≡ None → build_fault roster selected defined last_numbers ≡ None →
-        table_at (built roster selected defined last_numbers slots).state.received.tables id ≡ (if holds id defined then table_at roster id else None) }
+        table_at (built roster selected defined last_numbers slots).state.received.tables id ≡ (if is_in id defined then table_at roster id else None) }
     ensures last_numbers { (roster : List Definition) (selected : Option ℕ) (defined : List ℕ) (last_numbers : List (ℕ × ℕ)) (slots : List (Option (List ℕ))) (id : ℕ) →
         build_fault roster selected defined last_numbers ≡ None →
         last_of (built roster selected defined last_numbers slots).state.last_numbers id ≡ last_of last_numbers id }

@@ -3,7 +3,7 @@
 ghost use Rattle.std.specs.Prelude.{◌≡◌};
 ghost use Rattle.std.specs.List.{list_all};
 ghost use Rattle.table_types.specs.Rosters.{has_id};
-ghost use Rattle.known_state.specs.Known.{holds, repeats, has_last, repeats_last, are_known, are_defined};
+ghost use Rattle.known_state.specs.Known.{is_in, repeats, has_last, repeats_last, are_known, are_defined};
 
 use table_types::{Roster, has_id};
 
@@ -29,17 +29,17 @@ fn all_last_numbers_own(roster: &Roster, last_numbers: &[(u64, u32)]) -> bool
     true
 }
 
-fn holds(ids: &[u64], id: u64) -> bool
-    ensures { result ≡ holds id ids.now }
+fn is_in(ids: &[u64], id: u64) -> bool
+    ensures { result ≡ is_in id ids.now }
 {
     ids.contains(&id)
 }
 
 fn all_last_numbers_held(defined: &[u64], last_numbers: &[(u64, u32)]) -> bool
-    ensures { result ≡ list_all (λ last. holds last.0 defined.now) last_numbers.now }
+    ensures { result ≡ list_all (λ last. is_in last.0 defined.now) last_numbers.now }
 {
     for last in last_numbers {
-        if !holds(defined, last.0) {
+        if !is_in(defined, last.0) {
             return false;
         }
     }
@@ -67,7 +67,7 @@ pub fn are_defined(selected: Option<u64>, defined: &[u64], last_numbers: &[(u64,
     ensures { result ≡ are_defined selected defined.now last_numbers.now }
 {
     let selects_defined = match selected {
-        Some(id) => holds(defined, id),
+        Some(id) => is_in(defined, id),
         None => true,
     };
     selects_defined && all_last_numbers_held(defined, last_numbers)
@@ -78,7 +78,7 @@ pub fn repeats(ids: &[u64]) -> bool
     ensures { result ≡ repeats ids.now }
 {
     for (index, id) in ids.iter().enumerate() {
-        if holds(&ids[index + 1..], *id) {
+        if is_in(&ids[index + 1..], *id) {
             return true;
         }
     }

@@ -5,6 +5,7 @@ ghost use Rattle.std.specs.List.{AllByRecursion, IsDistinct};
 ghost use Rattle.table_types.specs.declared.update.Update.{Update};
 ghost use Rattle.table_types.specs.Rosters.{is_same_name, roster_fault};
 ghost use Rattle.table_types.specs.Tables.{Definition};
+ghost use Rattle.table_types.specs.SlotIds.{slot_count};
 ghost use Rattle.peers_msg.specs.declared.message.Message.{Message};
 ghost use Rattle.peers_msg.specs.Spelling.{size_of_all};
 ghost use Rattle.known_state.specs.State.{State, Legal, Teaches};
@@ -24,11 +25,11 @@ pub fn slots_stay()
 /// request stands in a slot, read or written, which leaves room for 127 of the links that are read.
 pub fn reads_need_slots()
     ensures linked { (roster : List Definition) (k : Knowledge) (s e : State) (ms : List Message) (us : List Update) →
-        length s.slots ≡ 128 → Teaches s ms us e →
+        length s.slots ≡ slot_count → Teaches s ms us e →
         AreLinked (at_start (names_in s.slots)) (requests_of roster k us) (reads_of ms) }
     ensures room { (roster : List Definition) (k : Knowledge) (s e : State) (ms : List Message) (us : List Update) (place : ℕ) →
-        length s.slots ≡ 128 → Teaches s ms us e →
-        kept_over (links (names_in s.slots) (requests_of roster k us) (reads_of ms)) place ≤ 127 }
+        length s.slots ≡ slot_count → Teaches s ms us e →
+        kept_over (links (names_in s.slots) (requests_of roster k us) (reads_of ms)) place ≤ slot_count - 1 }
 {}
 
 /// The links of requests go forward: each comes from an earlier place than that to which it goes, which is the place of
@@ -118,22 +119,22 @@ pub fn carried_is_of_the_roster()
 /// of the names that it reads; and so none is shorter than that lesson less the bound of any prices.
 pub fn no_list_is_shorter()
     ensures reads { (roster : List Definition) (s e : State) (ms : List Message) (us : List Update) →
-        roster_fault roster ≡ None → AreOwn roster s.received.tables → length s.slots ≡ 128 → Legal roster s ms us e →
+        roster_fault roster ≡ None → AreOwn roster s.received.tables → length s.slots ≡ slot_count → Legal roster s ms us e →
         full roster s us ≤ size_of_all ms
         + kept_savings (links (names_in s.slots) (requests_of roster (knowledge_of s) us) (reads_of ms)) }
     ensures bound { (roster : List Definition) (s e : State) (ms : List Message) (us : List Update) (prices : List ℕ) →
-        roster_fault roster ≡ None → AreOwn roster s.received.tables → length s.slots ≡ 128 → Legal roster s ms us e →
+        roster_fault roster ≡ None → AreOwn roster s.received.tables → length s.slots ≡ slot_count → Legal roster s ms us e →
         full roster s us ≤ size_of_all ms
-        + bound 128 (all_links (names_in s.slots) (requests_of roster (knowledge_of s) us)) prices }
+        + bound slot_count (all_links (names_in s.slots) (requests_of roster (knowledge_of s) us)) prices }
 {}
 
 /// A legal list is a shortest one where some prices show that no more can be saved than it saves: its size and their
 /// bound are together the size of the lesson with every name written.
 pub fn tight_is_shortest()
     ensures { (k : KnownState) (e : State) (ms : List Message) (us : List Update) (prices : List ℕ) →
-        roster_fault k.roster ≡ None → AreOwn k.roster k.state.received.tables → length k.state.slots ≡ 128 →
+        roster_fault k.roster ≡ None → AreOwn k.roster k.state.received.tables → length k.state.slots ≡ slot_count →
         Legal k.roster k.state ms us e →
-        size_of_all ms + bound 128 (all_links (names_in k.state.slots) (requests_of k.roster (knowledge_of k.state) us)) prices
+        size_of_all ms + bound slot_count (all_links (names_in k.state.slots) (requests_of k.roster (knowledge_of k.state) us)) prices
         ≡ full k.roster k.state us →
         Shortest k us ms }
 {}
@@ -142,12 +143,12 @@ pub fn tight_is_shortest()
 /// the bound of the plan's prices, no more and no less.
 pub fn accepted_is_shortest()
     ensures { (k : KnownState) (e : State) (ms : List Message) (us : List Update) (plan : Plan) →
-        roster_fault k.roster ≡ None → AreOwn k.roster k.state.received.tables → length k.state.slots ≡ 128 →
-        Accepts 128 (names_in k.state.slots) (requests_of k.roster (knowledge_of k.state) us) plan →
+        roster_fault k.roster ≡ None → AreOwn k.roster k.state.received.tables → length k.state.slots ≡ slot_count →
+        Accepts slot_count (names_in k.state.slots) (requests_of k.roster (knowledge_of k.state) us) plan →
         Legal k.roster k.state ms us e →
         size_of_all ms + kept_savings (links (names_in k.state.slots) (requests_of k.roster (knowledge_of k.state) us) plan.keep)
         ≤ full k.roster k.state us →
-        (size_of_all ms + bound 128 (all_links (names_in k.state.slots) (requests_of k.roster (knowledge_of k.state) us)) plan.prices
+        (size_of_all ms + bound slot_count (all_links (names_in k.state.slots) (requests_of k.roster (knowledge_of k.state) us)) plan.prices
         ≡ full k.roster k.state us)
         × Shortest k us ms }
 {}

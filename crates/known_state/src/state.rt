@@ -6,7 +6,7 @@ ghost use Rattle.dict_slots.specs.Slots.{slot_at};
 ghost use Rattle.peers_msg.specs.Borrowed.{owned_name, is_named};
 ghost use Rattle.known_state.specs.LastNumbers.{last_of};
 ghost use Rattle.known_state.specs.State.{fresh, resolved_number, reads_empty, name_of};
-ghost use Rattle.known_state.specs.Effects.{Resolves, made, refusal_of, selected_number, slots_with, written_by};
+ghost use Rattle.known_state.specs.Effects.{Resolves, made, refusal_of, selected_number, slots_with};
 ghost use Rattle.known_state.specs.declared.effect.Effect.TheVariants as effects;
 ghost use Rattle.known_state.specs.declared.effect.Refusal.{Refusal};
 ghost use Rattle.known_state.specs.declared.effect.Refusal.TheVariants as refusals;
@@ -70,17 +70,6 @@ fn write(slots: &mut Slots, written: Option<(u8, Name)>)
         return;
     }
     let _old = slots.write(slot.max(1), name);
-}
-
-/// The slot that a field writes, and a copy of the name.
-fn written_by(alloc: Global, field: NameFieldRef<'_>) -> Result<Option<(u8, Name)>, Memory>
-    requires { is_named (owned_name field) ≡ true }
-    ensures { IfOk result (λ written. written ≡ written_by (owned_name field.entry)) }
-{
-    match field {
-        NameFieldRef::Written(slot, name) => Ok(Some((slot, Name::from_slice(alloc, name)?))),
-        NameFieldRef::NotStored | NameFieldRef::NoName | NameFieldRef::Held(_) => Ok(None),
-    }
 }
 
 impl State {
@@ -211,12 +200,8 @@ impl State {
     {
         match self.numbered(number, field) {
             Ok((table, number)) => {
-                let written = written_by(self.alloc, field)?;
-                Ok(ResolvedUpdate {
-                    table,
-                    number,
-                    written,
-                })
+                let field = field.to_owned(self.alloc)?;
+                Ok(ResolvedUpdate::of(table, number, field))
             }
             Err(refusal) => Err(refusal),
         }
@@ -234,7 +219,7 @@ impl State {
                 self.received.select(id);
                 Ok(())
             }
-            Effect::Update(update) => self.take(update),
+            Effect::Update(update) => self.make_update(update),
         }
     }
 
@@ -249,7 +234,7 @@ impl State {
         Ok(())
     }
 
-    fn take(&mut self, update: ResolvedUpdate) -> Result<(), Memory>
+    fn make_update(&mut self, update: ResolvedUpdate) -> Result<(), Memory>
         ensures made { OnOk result (self.new ≡ made self.old (effects.Update update)) }
         ensures stays { OnErr result (self.new ≡ self.old) }
     {

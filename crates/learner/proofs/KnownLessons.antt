@@ -13,15 +13,15 @@ use Rattle.known_state.proofs.StepIsDeterministic.{one_lesson}
 use Rattle.known_state.specs.Known.{KnownState, AreOwn, known_of}
 use Rattle.known_state.specs.LastNumbers.{AreRising}
 use Rattle.known_state.specs.Lessons.{IsLessonFor}
-use Rattle.known_state.proofs.InStepLaws.{known_enough}
-use Rattle.known_state.proofs.RisingLemmas.{rising-step}
+use Rattle.known_state.proofs.TeacherAndLearnerInStep.{known_enough}
+use Rattle.known_state.proofs.LastNumbersRise.{rising-step}
 use Rattle.learner.specs.declared.fault.Fault.{Fault}
 use Rattle.learner.specs.declared.fault.Fault.TheVariants as faults
 use Rattle.learner.specs.Intake.{Taking, Stops}
 use Rattle.learner.specs.Learning.{Learning, AreLearned, IsCutShort, LearnerFeeds, AreFed, IsReadyIn, IsTaught, HasLearned, with_piece}
 use Rattle.learner.specs.Moments.{Piece, stream_in, AreFedInTime, AreTooFew, FallInto, HasLearnedInTime}
-use Rattle.learner.proofs.LessonLaws.{once_named, taught, taught_in_pieces}
-use Rattle.learner.proofs.MomentLaws.{IsOnItsWay, some_bytes, taught_in_time, fed_along, only_memory}
+use Rattle.learner.proofs.LegalStreamIsTaught.{once_named, taught, taught_in_pieces}
+use Rattle.learner.proofs.EachPieceGivesItsOwn.{IsOnItsWay, some_bytes, taught_in_time, fed_along, only_memory}
 
 -- ---- last numbers stay in rising id
 

@@ -9,11 +9,11 @@ use Rattle.learner.specs.declared.fault.Fault.TheVariants as faults
 use Rattle.learner.specs.Intake.{Taking, Takes, Stops, fed}
 use Rattle.learner.specs.Learning.{Learning, AreLearned, LearnerFeeds, with_piece}
 use Rattle.learner.specs.Moments.{Piece, stream_in, AreFedInTime, IsStoppedInTime}
-use Rattle.learner.proofs.LessonLaws.{goes_on}
-use Rattle.learner.proofs.PieceLaws.{takes_on, left_good, one_message, one_taking}
+use Rattle.learner.proofs.LegalStreamIsTaught.{goes_on}
+use Rattle.learner.proofs.SameHoweverCut.{takes_on, left_good, one_message, one_taking}
 use Rattle.learner.proofs.OneOutcome.{stops_once}
-use Rattle.learner.proofs.FaultLaws.{stops_on, is_run}
-use Rattle.learner.proofs.CallLaws.{regrouped}
+use Rattle.learner.proofs.SameFaultHoweverCut.{stops_on, is_run}
+use Rattle.learner.proofs.SameInAnyOrderOfCalls.{regrouped}
 
 -- messages are taken one after another
 abbrev TakesAll : Taking → List Message → Taking → Type 0

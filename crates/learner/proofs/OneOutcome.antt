@@ -15,11 +15,11 @@ use Rattle.learner.specs.declared.fault.Fault.{Fault}
 use Rattle.learner.specs.declared.fault.Fault.TheVariants as faults
 use Rattle.learner.specs.declared.taken.Taken.{Taken}
 use Rattle.learner.specs.declared.taken.Taken.TheVariants as taken
-use Rattle.learner.specs.Faults.{refused_as}
+use Rattle.learner.specs.Faults.{as_fault}
 use Rattle.learner.specs.Intake.{Taking, Takes, Stops, IntakeFeeds, IntakeNext, Answers, rows_of, fed, shut}
 use Rattle.learner.specs.Learning.{Learning, AreLearned, LearnerFeeds, with_piece}
-use Rattle.learner.proofs.PieceLaws.{one_learned, one_message, one_taking, same_fed}
-use Rattle.learner.proofs.LessonLaws.{apart, goes_on, no_fault, waits_on}
+use Rattle.learner.proofs.SameHoweverCut.{one_learned, one_message, one_taking, same_fed}
+use Rattle.learner.proofs.LegalStreamIsTaught.{apart, goes_on, no_fault, waits_on}
 
 parts : {X Y : Type 0} → (p q : X × Y) → p ≡ q → (p.0 ≡ q.0) × (p.1 ≡ q.1)
 parts {X} {Y} p q e = (ap (λ (r : X × Y). r.0) e, ap (λ (r : X × Y). r.1) e)
@@ -35,7 +35,7 @@ abbrev stopping : Taking → Bool → Result (Option (Message × List ℕ)) Brea
 stopping t true read = (faults.Closed, t)
 stopping t false (Err breach) = (faults.Breach breach, shut t)
 stopping t false (Ok None) = (faults.Memory, t)
-stopping t false (Ok (Some found)) = refusing t (option_map refused_as (message_refusal t.state found.0))
+stopping t false (Ok (Some found)) = refusing t (option_map as_fault (message_refusal t.state found.0))
 
 stopping_with : (t : Taking) (closed : Bool) (read : Result (Option (Message × List ℕ)) Breach) → t.closed ≡ closed → message_at t.state.received t.unread ≡ read → stopping t t.closed (message_at t.state.received t.unread) ≡ stopping t closed read
 stopping_with t closed read is at = ap (λ (b : Bool). stopping t b (message_at t.state.received t.unread)) is ∙ ap (stopping t closed) at
@@ -43,7 +43,7 @@ stopping_with t closed read is at = ap (λ (b : Bool). stopping t b (message_at 
 both_are : (f g : Fault) (x y : Taking) → f ≡ g → x ≡ y → ◌≡◌ {A = Fault × Taking} (f, x) (g, y)
 both_are f g x y faults takings = ap (λ (q : Fault). (q, x)) faults ∙ ap (λ (q : Taking). (g, q)) takings
 
-refused_so : (t e : Taking) (fault : Fault) (m : Message) (rest : List ℕ) → t.closed ≡ false → message_at t.state.received t.unread ≡ found m rest → option_map refused_as (message_refusal t.state m) ≡ Some fault → e ≡ shut t
+refused_so : (t e : Taking) (fault : Fault) (m : Message) (rest : List ℕ) → t.closed ≡ false → message_at t.state.received t.unread ≡ found m rest → option_map as_fault (message_refusal t.state m) ≡ Some fault → e ≡ shut t
     → (fault, e) ≡ stopping t t.closed (message_at t.state.received t.unread)
 refused_so t e fault m rest is_open at refused is =
     both_are fault fault e (shut t) refl is ∙ sym (ap (refusing t) refused) ∙ sym (stopping_with t false (found m rest) is_open at)
@@ -83,11 +83,11 @@ no_row : (u : Update) (us : List Update) → u ∷ us ≡ [] → ⊥
 no_row u us e = cc
 
 passed : (u : UpdateFields) (answer : Taken) → rows_of answer ≡ [] → Answers (messages.Update u) answer → answer ≡ taken.Passed
-passed u (taken.Row own) none tells = absurd (no_row own [] none)
-passed u taken.Passed none tells = tells
-passed u (taken.Said c) none tells = tells
-passed u (taken.Failed e) none tells = tells
-passed u (taken.Acked table number) none tells = tells
+passed u (taken.Row own) none says = absurd (no_row own [] none)
+passed u taken.Passed none says = says
+passed u (taken.Said c) none says = says
+passed u (taken.Failed e) none says = says
+passed u (taken.Acked table number) none says = says
 
 gives_row : (answer : Taken) (own : Update) → rows_of answer ≡ own ∷ [] → answer ≡ taken.Row own
 gives_row (taken.Row other) own is = let same : other ≡ own = cc in ap (λ (u : Update). taken.Row u) same
@@ -122,12 +122,12 @@ intake_next_once t a b (Ok None) (Ok None) next again p q = (refl, next.2 ∙ sy
 intake_next_once t a b (Ok None) (Ok (Some answer)) next again p q = absurd (taken_or_waits t b again.0 (rows_of answer) next.1 again.1)
 intake_next_once t a b (Ok None) (Err fault) next again p q = absurd (waits_on t b fault (next.0, next.1) again (not_wanted fault q))
 intake_next_once t a b (Ok (Some answer)) (Ok None) next again p q = absurd (taken_or_waits t a next.0 (rows_of answer) again.1 next.1)
-intake_next_once t a b (Ok (Some answer)) (Ok (Some other)) (m, takes, tells) (n, takes', tells') p q =
+intake_next_once t a b (Ok (Some answer)) (Ok (Some other)) (m, takes, says) (n, takes', says') p q =
     let same : m ≡ n = one_message t a b m n (rows_of answer) (rows_of other) takes takes' in
     let takes_too : Takes t m (rows_of other) b = subst (λ (k : Message). Takes t k (rows_of other) b) (sym same) takes' in
-    let tells_too : Answers m other = subst (λ (k : Message). Answers k other) (sym same) tells' in
+    let tells_too : Answers m other = subst (λ (k : Message). Answers k other) (sym same) says' in
     let both = one_taking t a b m (rows_of answer) (rows_of other) takes takes_too in
-    (ap (λ (x : Taken). Ok (Some x)) (one_answer m answer other both.0 tells tells_too), both.1)
+    (ap (λ (x : Taken). Ok (Some x)) (one_answer m answer other both.0 says tells_too), both.1)
 intake_next_once t a b (Ok (Some answer)) (Err fault) next again p q = absurd (goes_on t a b next.0 (rows_of answer) fault next.1 again (not_wanted fault q))
 intake_next_once t a b (Err fault) (Ok None) next again p q = absurd (waits_on t a fault (again.0, again.1) next (not_wanted fault p))
 intake_next_once t a b (Err fault) (Ok (Some answer)) next again p q = absurd (goes_on t b a again.0 (rows_of answer) fault again.1 next (not_wanted fault p))

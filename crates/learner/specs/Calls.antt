@@ -15,30 +15,30 @@ bytes_of piece (Ok _) = piece
 bytes_of piece (Err fault) = []
 
 -- what a message gave that was asked for, where one was whole
-abbrev pub given_of : Result (Option Taken) Fault → List Taken
-given_of (Ok (Some answer)) = answer ∷ []
-given_of answer = []
+abbrev pub answers_given : Result (Option Taken) Fault → List Taken
+answers_given (Ok (Some answer)) = answer ∷ []
+answers_given answer = []
 
 -- Calls one after another lead from t to e without a fault but want of memory, where Some feeds that piece and None asks
 -- for a message: these bytes were taken, and these answers given.
-abbrev pub AreCalled : Taking → List (Option (List ℕ)) → List ℕ → List Taken → Taking → Type 0
-AreCalled t [] bytes answers e = (bytes ≡ []) × (answers ≡ []) × (e ≡ t)
-AreCalled t (Some piece ∷ calls) bytes answers e =
+abbrev pub AreIntakeCalls : Taking → List (Option (List ℕ)) → List ℕ → List Taken → Taking → Type 0
+AreIntakeCalls t [] bytes answers e = (bytes ≡ []) × (answers ≡ []) × (e ≡ t)
+AreIntakeCalls t (Some piece ∷ calls) bytes answers e =
     (answer : Result (Unit {0}) Fault)
     × (others : List ℕ)
     × (mid : Taking)
     × (bytes ≡ bytes_of piece answer ++ others)
     × IsFaultless answer
     × IntakeFeeds t piece answer mid
-    × AreCalled mid calls others answers e
-AreCalled t (None ∷ calls) bytes answers e =
+    × AreIntakeCalls mid calls others answers e
+AreIntakeCalls t (None ∷ calls) bytes answers e =
     (answer : Result (Option Taken) Fault)
     × (others : List Taken)
     × (mid : Taking)
-    × (answers ≡ given_of answer ++ others)
+    × (answers ≡ answers_given answer ++ others)
     × IsFaultless answer
     × IntakeNext t answer mid
-    × AreCalled mid calls bytes others e
+    × AreIntakeCalls mid calls bytes others e
 
 -- an answer at which a stream ends of which these bytes are still to come: a fault, but not want of memory, or that no
 -- message is whole, where none are

@@ -7,10 +7,10 @@ use Rattle.learner.specs.declared.fault.Fault.{Fault}
 use Rattle.learner.specs.declared.fault.Fault.TheVariants as faults
 
 -- why an update makes no step, as a learner calls it
-abbrev pub refused_as : Refusal → Fault
-refused_as refusals.NoNumber = faults.NoNumber
-refused_as refusals.EmptySlot = faults.EmptySlot
-refused_as refusals.Memory = faults.Memory
+abbrev pub as_fault : Refusal → Fault
+as_fault refusals.NoNumber = faults.NoNumber
+as_fault refusals.EmptySlot = faults.EmptySlot
+as_fault refusals.Memory = faults.Memory
 
 -- the word for a fault
 abbrev pub fault_name : Fault → List ℕ

@@ -8,12 +8,12 @@ use Rattle.peers_msg.specs.Reading.{message_at}
 use Rattle.known_state.specs.State.{State, Step, fresh, last_numbers_after}
 use Rattle.known_state.specs.LastNumbers.{last_of}
 use Rattle.known_state.specs.Effects.{message_refusal}
-use Rattle.known_state.specs.Known.{holds}
+use Rattle.known_state.specs.Known.{is_in}
 use Rattle.learner.specs.declared.fault.Fault.{Fault}
 use Rattle.learner.specs.declared.fault.Fault.TheVariants as faults
 use Rattle.learner.specs.declared.taken.Taken.{Taken}
 use Rattle.learner.specs.declared.taken.Taken.TheVariants as taken
-use Rattle.learner.specs.Faults.{refused_as}
+use Rattle.learner.specs.Faults.{as_fault}
 use Rattle.learner.specs.LocalTables.{local_table, local_updates}
 
 -- the local tables; the state in which the messages read leave it; the ids of which an update came since the last
@@ -41,7 +41,7 @@ shut t = record t { closed = true }
 
 abbrev pub with_due : Option ℕ → List ℕ → List ℕ
 with_due None due = due
-with_due (Some id) due = if holds id due then due else due ++ (id ∷ [])
+with_due (Some id) due = if is_in id due then due else due ++ (id ∷ [])
 
 -- an update makes its table due, and an id that loses its last number at a definition is due no more
 abbrev pub due_after : State → Message → List ℕ → List ℕ
@@ -68,7 +68,7 @@ IsTakable t = (m : Message) × (rest : List ℕ) × (message_at t.state.received
 -- why a message that is whole isn't taken: the state refuses it, or memory is wanted for one that it doesn't refuse
 abbrev pub IsRefused : State → Message → Fault → Type 0
 IsRefused s m faults.Memory = message_refusal s m ≡ None
-IsRefused s m fault = option_map refused_as (message_refusal s m) ≡ Some fault
+IsRefused s m fault = option_map as_fault (message_refusal s m) ≡ Some fault
 
 -- Why no message is taken. What stands at the front is a message that the state refuses, or no message: it closes. Memory
 -- is wanted only for a whole message that isn't refused, and changes nothing; what is closed stays so.
@@ -94,7 +94,7 @@ abbrev pub rows_of : Taken → List Update
 rows_of (taken.Row u) = u ∷ []
 rows_of t = []
 
--- what an answer tells of a message that gives no row
+-- what an answer says of a message that gives no row
 abbrev pub answer_of : Message → Taken
 answer_of (messages.Control c) = taken.Said c
 answer_of (messages.Error e) = taken.Failed e
@@ -128,7 +128,7 @@ IntakeFeeds t piece (Err fault) e = ⊥
 -- the acknowledgement of a table received: of its last number, where it is a local table and is due
 abbrev pub ack_of : Taking → Definition → Option Message
 ack_of t d =
-    if is_some (local_table t.roster d) && holds d.id t.due then option_map (λ n. messages.Ack d.id n) (last_of t.state.last_numbers d.id)
+    if is_some (local_table t.roster d) && is_in d.id t.due then option_map (λ n. messages.Ack d.id n) (last_of t.state.last_numbers d.id)
     else None
 
 -- one for each table that it is of, in rising id

@@ -91,8 +91,7 @@ LearnsAll now l (Err fault) e =
 abbrev pub shut_off : Learning → Learning
 shut_off l = record { intake = shut l.intake; rows = l.rows }
 
--- what is left where memory is wanted: the learner as it was, where the piece can't be held, or what its whole messages
--- lead to
+-- what is left where memory is wanted: the learner as it was, or what the piece's whole messages lead to
 abbrev pub IsLeft : ℕ → Learning → List ℕ → Learning → Type 0
 IsLeft now l piece left = (left ≡ l) ⊎ LearnsAll now (with_piece l piece) (Err faults.Memory) left
 

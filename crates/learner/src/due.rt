@@ -1,17 +1,17 @@
 //! Which tables are due for an acknowledgement.
 
 ghost use Rattle.std.specs.Prelude.{◌≡◌, ◌<◌, Some, filter, is_some, vec_len, vec_capacity};
-ghost use Rattle.known_state.specs.Known.{holds};
+ghost use Rattle.known_state.specs.Known.{is_in};
 ghost use Rattle.known_state.specs.LastNumbers.{last_of};
 ghost use Rattle.learner.specs.Intake.{with_due};
 
 use known_state::LastNumbers;
 
-/// Whether an id is among those.
-pub fn holds(ids: &[u64], id: u64) -> bool
-    ensures { result ≡ holds id ids.now }
+/// Whether an acknowledgement of this id is due.
+pub fn is_ack_due(due: &[u64], id: u64) -> bool
+    ensures { result ≡ is_in id due.now }
 {
-    ids.contains(&id)
+    due.contains(&id)
 }
 
 /// Makes an id due, once.
@@ -19,7 +19,7 @@ pub fn add_due(due: &mut Vec<u64>, id: u64)
     requires { vec_len due.old < vec_capacity due.old }
     ensures { due.new.items ≡ with_due (Some id) due.old.items }
 {
-    if !holds(due.as_slice(), id) {
+    if !is_ack_due(due.as_slice(), id) {
         due.push(id).unwrap();
     }
 }

@@ -1,7 +1,7 @@
 //! Why a learner stops.
 
 ghost use Rattle.std.specs.Prelude.{◌≡◌};
-ghost use Rattle.learner.specs.Faults.{fault_name, refused_as};
+ghost use Rattle.learner.specs.Faults.{fault_name, as_fault};
 ghost use Rattle.learner.specs.declared.fault.Fault.TheVariants.{Memory as NoMemory};
 
 use known_state::Refusal;
@@ -34,7 +34,7 @@ pub enum Fault {
 }
 
 impl From<Refusal> for Fault {
-    ghost from_gives = { λ refusal e. e ≡ refused_as refusal };
+    ghost from_gives = { λ refusal e. e ≡ as_fault refusal };
 
     fn from(refusal: Refusal) -> Fault {
         match refusal {

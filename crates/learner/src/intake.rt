@@ -12,7 +12,7 @@ ghost use Rattle.learner.specs.Intake.{begun, shut, IntakeFeeds, IntakeNext, IsR
 ghost use Rattle.learner.specs.Front.{Looks, Shows, due_made, passed, stopped};
 
 use crate::advance::Advance;
-use crate::due::{add_due, holds, still_due};
+use crate::due::{add_due, is_ack_due, still_due};
 use crate::fault::Fault;
 use crate::local_tables::local_table;
 use crate::taken::{LocalUpdateRef, Taken, TakenRef};
@@ -269,7 +269,7 @@ impl Intake {
         ensures { result ≡ ack_of self.now table.now }
     {
         if local_table(self.roster.tables(), table).is_none()
-            || !holds(self.due.as_slice(), table.id())
+            || !is_ack_due(self.due.as_slice(), table.id())
         {
             return None;
         }

@@ -20,7 +20,7 @@ ghost use Rattle.learner.specs.declared.fault.Fault.TheVariants as faults;
 ghost use Rattle.learner.specs.declared.taken.Taken.{Taken};
 ghost use Rattle.learner.specs.Intake.{Taking, IntakeFeeds, IntakeNext, fed};
 ghost use Rattle.learner.specs.Cutting.{IsStopped, AreAnswered};
-ghost use Rattle.learner.specs.Calls.{AreCalled, IsEndOf};
+ghost use Rattle.learner.specs.Calls.{AreIntakeCalls, IsEndOf};
 ghost use Rattle.learner.specs.Rows.{put, put_all, row_at, rows_at, AreOfOthers};
 ghost use Rattle.learner.specs.Moments.{Piece, stream_in, AreFedInTime, IsStoppedInTime, HasLearnedInTime};
 ghost use Rattle.learner.specs.Learning.{Learning, unlearned, with_piece, LearnerFeeds, AreFed, IsReady, IsReadyIn, IsTaught, HasLearned};
@@ -86,7 +86,7 @@ pub fn one_fault()
 pub fn any_calls()
     ensures { (t a b x y : Taking) (one other : List (Option (List ℕ))) (bytes others more rest : List ℕ) (answers given : List Taken) (end last : Result (Option Taken) Fault) →
         IsBytes (t.unread ++ (bytes ++ more)) → bytes ++ more ≡ others ++ rest →
-        AreCalled t one bytes answers a → AreCalled t other others given b → IntakeNext a end x → IntakeNext b last y →
+        AreIntakeCalls t one bytes answers a → AreIntakeCalls t other others given b → IntakeNext a end x → IntakeNext b last y →
         IsEndOf end more → IsEndOf last rest →
         (answers ≡ given) × (end ≡ last) × (fed x more ≡ fed y rest) }
 {}

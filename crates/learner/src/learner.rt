@@ -187,7 +187,7 @@ impl Learner {
     pub fn feed(&mut self, piece: &[u8], now: Moment) -> Result<usize, Fault>
         ensures { LearnerFeeds now self.old piece.now result self.new }
     {
-        match self.take(piece, now) {
+        match self.feed_and_learn(piece, now) {
             Ok(count) => Ok(count),
             Err(Fault::Memory) => {
                 self.intake.close();
@@ -197,7 +197,7 @@ impl Learner {
         }
     }
 
-    fn take(&mut self, piece: &[u8], now: Moment) -> Result<usize, Fault>
+    fn feed_and_learn(&mut self, piece: &[u8], now: Moment) -> Result<usize, Fault>
         ensures { FedAndOpen now self.old piece.now result self.new }
     {
         self.intake.feed(piece)?;
@@ -213,7 +213,7 @@ impl Learner {
         // A row takes one byte at least.
         let most = self.waiting();
         let mut count = 0;
-        while let Some(rows) = self.learn(now)? {
+        while let Some(rows) = self.learn_message(now)? {
             count += rows;
             prove!(count <= most);
         }
@@ -221,7 +221,7 @@ impl Learner {
     }
 
     /// Takes the message at the front, and answers how many rows were put; `None` while no message is whole.
-    fn learn(&mut self, now: Moment) -> Result<Option<usize>, Fault>
+    fn learn_message(&mut self, now: Moment) -> Result<Option<usize>, Fault>
         ensures learns { LearnsOne now self.old result self.new }
         ensures one { IfOk result (λ found. IfSome found (λ rows. rows ≤ 1)) }
         ensures fewer { IfOk result (λ found. IsSome found → length self.new.intake.unread < length self.old.intake.unread) }

@@ -43,8 +43,8 @@ rows_of (endings.Line n) rows = absurd (false≢true rows)
 rows_of endings.Scene rows = absurd (false≢true rows)
 rows_of endings.Memory rows = absurd (false≢true rows)
 
-pub rows_told : (e after : Ending) → has_rows e ≡ true → after ≡ e → (HasRows after → ⊥) → ⊥
-rows_told e after rows same none = none (subst HasRows (sym same) (rows_of e rows))
+pub rows_printed : (e after : Ending) → has_rows e ≡ true → after ≡ e → (HasRows after → ⊥) → ⊥
+rows_printed e after rows same none = none (subst HasRows (sym same) (rows_of e rows))
 
 -- ---- how much is written
 
@@ -59,9 +59,9 @@ pub of_ok : {A E : Type 0} (P : A → Type 0) (r : Result A E) (x : A) → r ≡
 of_ok P r x is holds = subst (λ m. IfOk m P) is holds
 
 -- what follows from what is so of an answer
-pub told_of : {A E : Type 0} (P Q : A → Type 0) (r : Result A E) → ((x : A) → P x → Q x) → IfOk r P → IfOk r Q
-told_of P Q (Ok x) then holds = then x holds
-told_of P Q (Err e) then holds = tt
+pub then_ok : {A E : Type 0} (P Q : A → Type 0) (r : Result A E) → ((x : A) → P x → Q x) → IfOk r P → IfOk r Q
+then_ok P Q (Ok x) then holds = then x holds
+then_ok P Q (Err e) then holds = tt
 
 -- want of memory and a device that failed come early
 pub early_of : (e : Ending) → (e ≡ endings.Memory) ⊎ (e ≡ endings.Device) → IsEarly e

@@ -1,4 +1,4 @@
-//! What a node is told of the one that it meets.
+//! What a node is given about the one that it meets.
 
 use table_types::Name;
 

@@ -186,8 +186,8 @@ impl Node {
         Ok(node)
     }
 
-    /// Runs the session with the other node, which is read and written there, for at most so many turns, and tells what is to
-    /// be printed then. Refuses with `Device` where a read or a write failed, and with `Memory`; nothing is printed then.
+    /// Runs the session with the other node, which is read and written there, for at most so many turns, and returns what is
+    /// to be printed then. Refuses with `Device` where a read or a write failed, and with `Memory`; nothing is printed then.
     pub fn meet<H: Wait, R: Read + Faults, W: Write + Faults>(
         self,
         rt: &H,

@@ -1,5 +1,5 @@
-pub mod TailLaws
-pub mod SpellingLaws
-pub mod ReadingLaws
-pub mod ReadingSteps
-pub mod SpellingSteps
+pub mod OneTail
+pub mod OneSpelling
+pub mod ReadAsSpelled
+pub mod ReadingLoop
+pub mod SpellingLoop

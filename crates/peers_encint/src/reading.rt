@@ -7,7 +7,7 @@ ghost use Rattle.peers_encint.specs.declared.reading.Read.{Read};
 pub enum Read {
     /// The number, and how many bytes spell it, 1 to 10. Other bytes may follow them.
     Value(u64, usize),
-    /// The bytes end before the number does, so the number can't be told yet.
+    /// The bytes end before the number does, so the number isn't known yet.
     Short,
     /// Ten bytes stand, none of the first nine ends the number, and with the tenth it is 2^64 or more.
     Over,

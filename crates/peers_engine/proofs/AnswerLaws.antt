@@ -27,8 +27,8 @@ abbrev pub IsAnswer : Result Event EngineError → Option Event → Type 0
 IsAnswer result answer = (event : Event) × (result ≡ Ok event) × (answer ≡ Some event)
 
 -- what the call says of an answer holds of it
-told_of : (P : Event → Type 0) (result : Result Event EngineError) (event : Event) → IfOk result P → result ≡ Ok event → P event
-told_of P result event given is = subst (λ (r : Result Event EngineError). IfOk r P) is given
+of_event : (P : Event → Type 0) (result : Result Event EngineError) (event : Event) → IfOk result P → result ≡ Ok event → P event
+of_event P result event given is = subst (λ (r : Result Event EngineError). IfOk r P) is given
 
 -- an acknowledgement that was taken, and a copy that was made
 abbrev pub IsTaken : ℕ → SeatState → ℕ → ℕ → SeatState → Event → Type 0
@@ -56,14 +56,14 @@ pub ack_done : (n now : ℕ) (k : KnownState) (s t : SeatState) (action : Action
     → action ≡ actions.Ack table number → IfOk result (IsTaken n s table number t)
     → IsAnswer result answer → (out : List ℕ) × Done n now k s action out answer t × Appends known known out
 ack_done n now k s t action table number known result answer is given (event, ok, some) =
-    ([], subst (λ (a : Action). Done n now k s a [] answer t) (sym is) (taken_as n now k s t table number answer event some (told_of (IsTaken n s table number t) result event given ok)), Appends-nil known)
+    ([], subst (λ (a : Action). Done n now k s a [] answer t) (sym is) (taken_as n now k s t table number answer event some (of_event (IsTaken n s table number t) result event given ok)), Appends-nil known)
 
 -- a copy
 pub copy_done : (n now : ℕ) (k : KnownState) (s t : SeatState) (action : Action) (table : ℕ) (kind : CopyKind) (known : Option (List ℕ)) (result : Result Event EngineError) (answer : Option Event)
     → action ≡ actions.Copy table kind → IfOk result (IsCopied n now s table kind t)
     → IsAnswer result answer → (out : List ℕ) × Done n now k s action out answer t × Appends known known out
 copy_done n now k s t action table kind known result answer is given (event, ok, some) =
-    ([], subst (λ (a : Action). Done n now k s a [] answer t) (sym is) (copied_as n now k s t table kind answer event some (told_of (IsCopied n now s table kind t) result event given ok)), Appends-nil known)
+    ([], subst (λ (a : Action). Done n now k s a [] answer t) (sym is) (copied_as n now k s t table kind answer event some (of_event (IsCopied n now s table kind t) result event given ok)), Appends-nil known)
 
 -- what a call that answered says
 on_ok : (P : Type 0) (result : Result (Unit {0}) EngineError) → IsOk result → OnOk result P → P
@@ -82,20 +82,20 @@ pub reopen_done : (n now : ℕ) (k : KnownState) (s t : SeatState) (action : Act
 reopen_done n now k s t action table known result answer is given (ok, none) =
     ([], subst (λ (a : Action). Done n now k s a [] answer t) (sym is) (refl, none, on_ok (IsReopened n s table t) result ok given), Appends-nil known)
 
-abbrev pub IsTaught : ℕ → KnownState → SeatState → List Update → Option (List ℕ) → Option (List ℕ) → Event → Type 0
-IsTaught n k s batch old new event = (out : List ℕ) × (after : KnownState) × IsShortestLesson k batch out after × (event ≡ events.Written after) × IsSettled n s batch × Appends old new out
+abbrev pub IsAnswerToTeach : ℕ → KnownState → SeatState → List Update → Option (List ℕ) → Option (List ℕ) → Event → Type 0
+IsAnswerToTeach n k s batch old new event = (out : List ℕ) × (after : KnownState) × IsShortestLesson k batch out after × (event ≡ events.Written after) × IsSettled n s batch × Appends old new out
 
 taught_as : (n now : ℕ) (k : KnownState) (s t : SeatState) (batch : List Update) (old new : Option (List ℕ)) (answer : Option Event) (event : Event) → answer ≡ Some event → t ≡ s
-    → IsTaught n k s batch old new event → (out : List ℕ) × Done n now k s (actions.Teach batch) out answer t × Appends old new out
+    → IsAnswerToTeach n k s batch old new event → (out : List ℕ) × Done n now k s (actions.Teach batch) out answer t × Appends old new out
 taught_as n now k s t batch old new answer event some same (out, after, lesson, is, settled, appended) = (out, (after, lesson, some ∙ ap (λ (x : Event). Some x) is, settled, same), appended)
 
 -- a lesson
 pub teach_done : (n now : ℕ) (k : KnownState) (s t : SeatState) (action : Action) (batch : List Update) (old new : Option (List ℕ)) (result : Result Event EngineError) (answer : Option Event)
-    → action ≡ actions.Teach batch → t ≡ s → IfOk result (IsTaught n k s batch old new)
+    → action ≡ actions.Teach batch → t ≡ s → IfOk result (IsAnswerToTeach n k s batch old new)
     → IsAnswer result answer → (out : List ℕ) × Done n now k s action out answer t × Appends old new out
 teach_done n now k s t action batch old new result answer is same given (event, ok, some) =
     subst (λ (a : Action). (out : List ℕ) × Done n now k s a out answer t × Appends old new out) (sym is)
-    (taught_as n now k s t batch old new answer event some same (told_of (IsTaught n k s batch old new) result event given ok))
+    (taught_as n now k s t batch old new answer event some same (of_event (IsAnswerToTeach n k s batch old new) result event given ok))
 
 -- an error message that didn't go out whole
 pub part_falls : (n now : ℕ) (k : KnownState) (s : SeatState) (action : Action) (kind : ErrorKind) (old new : Option (List ℕ)) (result : Result (Unit {0}) EngineError) (error : EngineError)

@@ -22,7 +22,7 @@ use Rattle.session_core.specs.Shares.{any_out, all_quiet, out_set, quiet_set}
 use Rattle.session_core.specs.Actions.{reopens}
 use Rattle.session_core.specs.Courses.{Course}
 use Rattle.session_core.specs.Sessions.{SessionState, Goes, GoesIn, GoesOpen, HasNothing, FinishesResync, StartsPendingResync, Settles, state_of}
-use Rattle.peers_engine.specs.Doing.{Acts, Done, Told, ToldIn, Worker, asked, stands}
+use Rattle.peers_engine.specs.Doing.{Acts, Done, IsGiven, IsGivenIn, Worker, asked, stands}
 
 -- an action that a table doesn't answer
 abbrev pub is_calm : Action → Bool
@@ -143,7 +143,7 @@ done_last n now k s t (actions.Teach batch) out answer calm (after, lesson, is, 
 done_last n now k s t (actions.Part kind) out answer calm (written, none, same) = ap is_last none
 done_last n now k s t actions.Close out answer calm (written, none, same) = ap is_last none
 
--- ---- what is asked for when they are told
+-- ---- what is asked for when they are given
 
 none_calm : (steps : List (Event × List Action)) → steps ≡ [] → are_calm (asked steps) ≡ true
 none_calm steps none = ap (λ (x : List (Event × List Action)). are_calm (asked x)) none
@@ -153,57 +153,57 @@ one_calm s e event steps is (acts, goes, one) =
     ap (λ (x : List (Event × List Action)). are_calm (asked x)) one
     ∙ (ap are_calm (append-nil acts) ∙ goes_calm s.phase s event acts e is goes)
 
-told_in_calm : (state : State) (s e : SessionState) (event : Event) (steps : List (Event × List Action)) → is_answer event ≡ true → ToldIn state s event steps e → are_calm (asked steps) ≡ true
-told_in_calm states.Ended s e event steps is told = none_calm steps told.0
-told_in_calm states.New s e event steps is told = one_calm s e event steps is told
-told_in_calm states.Hello s e event steps is told = one_calm s e event steps is told
-told_in_calm states.Ready s e event steps is told = one_calm s e event steps is told
-told_in_calm states.Teaching s e event steps is told = one_calm s e event steps is told
+given_in_calm : (state : State) (s e : SessionState) (event : Event) (steps : List (Event × List Action)) → is_answer event ≡ true → IsGivenIn state s event steps e → are_calm (asked steps) ≡ true
+given_in_calm states.Ended s e event steps is answers = none_calm steps answers.0
+given_in_calm states.New s e event steps is answers = one_calm s e event steps is answers
+given_in_calm states.Hello s e event steps is answers = one_calm s e event steps is answers
+given_in_calm states.Ready s e event steps is answers = one_calm s e event steps is answers
+given_in_calm states.Teaching s e event steps is answers = one_calm s e event steps is answers
 
-told_calm : (s e : SessionState) (answer : Option Event) (steps : List (Event × List Action)) → is_answered answer ≡ true → Told s answer steps e → are_calm (asked steps) ≡ true
-told_calm s e None steps is told = none_calm steps told.0
-told_calm s e (Some event) steps is told = told_in_calm (state_of s.phase) s e event steps is told
+given_calm : (s e : SessionState) (answer : Option Event) (steps : List (Event × List Action)) → is_answered answer ≡ true → IsGiven s answer steps e → are_calm (asked steps) ≡ true
+given_calm s e None steps is answers = none_calm steps answers.0
+given_calm s e (Some event) steps is answers = given_in_calm (state_of s.phase) s e event steps is answers
 
 -- what the answers of actions ask for, no table answers
-pub acts_calm : (s e : Worker) (acts : List Action) (told : List (Event × List Action)) (out : List ℕ) → Acts s acts told out e → are_calm (asked told) ≡ true
-acts_calm s e [] told out (none, nothing, same) = none_calm told none
-acts_calm s e (act ∷ acts) told out (bytes, more, answer, first, rest, seat, mid, done, tells, after, is, written) =
+pub acts_calm : (s e : Worker) (acts : List Action) (answers : List (Event × List Action)) (out : List ℕ) → Acts s acts answers out e → are_calm (asked answers) ≡ true
+acts_calm s e [] answers out (none, nothing, same) = none_calm answers none
+acts_calm s e (act ∷ acts) answers out (bytes, more, answer, first, rest, seat, mid, done, gives, after, is, written) =
     ap (λ (x : List (Event × List Action)). are_calm (asked x)) is
     ∙ (ap are_calm (flat_map-append (λ (step : Event × List Action). step.1) first rest)
     ∙ (list_all-append is_calm (asked first) (asked rest)
-    ∙ and_from _ _ (told_calm s.session mid answer first (done_answered s.number s.now s.session.known s.seat seat act bytes answer done) tells)
+    ∙ and_from _ _ (given_calm s.session mid answer first (done_answered s.number s.now s.session.known s.seat seat act bytes answer done) gives)
     (acts_calm (stands s mid seat) e acts rest more after)))
 
 one_last : (s e : SessionState) (known : KnownState) (steps : List (Event × List Action)) → ((acts : List Action) × Goes s (events.Written known) acts e × (steps ≡ (events.Written known, acts) ∷ [])) → asked steps ≡ []
 one_last s e known steps (acts, goes, one) = ap asked one ∙ (append-nil acts ∙ written_in s.phase s known acts e goes)
 
-told_in_last : (state : State) (s e : SessionState) (known : KnownState) (steps : List (Event × List Action)) → ToldIn state s (events.Written known) steps e → asked steps ≡ []
-told_in_last states.Ended s e known steps told = ap asked told.0
-told_in_last states.New s e known steps told = one_last s e known steps told
-told_in_last states.Hello s e known steps told = one_last s e known steps told
-told_in_last states.Ready s e known steps told = one_last s e known steps told
-told_in_last states.Teaching s e known steps told = one_last s e known steps told
+given_in_last : (state : State) (s e : SessionState) (known : KnownState) (steps : List (Event × List Action)) → IsGivenIn state s (events.Written known) steps e → asked steps ≡ []
+given_in_last states.Ended s e known steps answers = ap asked answers.0
+given_in_last states.New s e known steps answers = one_last s e known steps answers
+given_in_last states.Hello s e known steps answers = one_last s e known steps answers
+given_in_last states.Ready s e known steps answers = one_last s e known steps answers
+given_in_last states.Teaching s e known steps answers = one_last s e known steps answers
 
-told_last : (s e : SessionState) (answer : Option Event) (steps : List (Event × List Action)) → is_last answer ≡ true → Told s answer steps e → asked steps ≡ []
-told_last s e None steps is told = ap asked told.0
-told_last s e (Some (events.Written known)) steps is told = told_in_last (state_of s.phase) s e known steps told
-told_last s e (Some (events.Copied table batch)) steps is told = absurd (false≢true is)
-told_last s e (Some (events.Nothing table)) steps is told = absurd (false≢true is)
-told_last s e (Some (events.Settled table settled)) steps is told = absurd (false≢true is)
-told_last s e (Some (events.Refused table)) steps is told = absurd (false≢true is)
-told_last s e (Some events.Turn) steps is told = absurd (false≢true is)
-told_last s e (Some (events.Bytes bytes)) steps is told = absurd (false≢true is)
-told_last s e (Some events.End) steps is told = absurd (false≢true is)
-told_last s e (Some events.ReadFault) steps is told = absurd (false≢true is)
-told_last s e (Some events.WriteFault) steps is told = absurd (false≢true is)
-told_last s e (Some events.Opened) steps is told = absurd (false≢true is)
+given_last : (s e : SessionState) (answer : Option Event) (steps : List (Event × List Action)) → is_last answer ≡ true → IsGiven s answer steps e → asked steps ≡ []
+given_last s e None steps is answers = ap asked answers.0
+given_last s e (Some (events.Written known)) steps is answers = given_in_last (state_of s.phase) s e known steps answers
+given_last s e (Some (events.Copied table batch)) steps is answers = absurd (false≢true is)
+given_last s e (Some (events.Nothing table)) steps is answers = absurd (false≢true is)
+given_last s e (Some (events.Settled table settled)) steps is answers = absurd (false≢true is)
+given_last s e (Some (events.Refused table)) steps is answers = absurd (false≢true is)
+given_last s e (Some events.Turn) steps is answers = absurd (false≢true is)
+given_last s e (Some (events.Bytes bytes)) steps is answers = absurd (false≢true is)
+given_last s e (Some events.End) steps is answers = absurd (false≢true is)
+given_last s e (Some events.ReadFault) steps is answers = absurd (false≢true is)
+given_last s e (Some events.WriteFault) steps is answers = absurd (false≢true is)
+given_last s e (Some events.Opened) steps is answers = absurd (false≢true is)
 
 -- and what their answers ask for is nothing
-pub acts_last : (s e : Worker) (acts : List Action) (told : List (Event × List Action)) (out : List ℕ) → are_calm acts ≡ true → Acts s acts told out e → asked told ≡ []
-acts_last s e [] told out calm (none, nothing, same) = ap asked none
-acts_last s e (act ∷ acts) told out calm (bytes, more, answer, first, rest, seat, mid, done, tells, after, is, written) =
+pub acts_last : (s e : Worker) (acts : List Action) (answers : List (Event × List Action)) (out : List ℕ) → are_calm acts ≡ true → Acts s acts answers out e → asked answers ≡ []
+acts_last s e [] answers out calm (none, nothing, same) = ap asked none
+acts_last s e (act ∷ acts) answers out calm (bytes, more, answer, first, rest, seat, mid, done, gives, after, is, written) =
     let both = and_parts (is_calm act) (are_calm acts) calm in
     ap asked is
     ∙ (flat_map-append (λ (step : Event × List Action). step.1) first rest
-    ∙ (ap (λ (x : List Action). x ++ asked rest) (told_last s.session mid answer first (done_last s.number s.now s.session.known s.seat seat act bytes answer both.0 done) tells)
+    ∙ (ap (λ (x : List Action). x ++ asked rest) (given_last s.session mid answer first (done_last s.number s.now s.session.known s.seat seat act bytes answer both.0 done) gives)
     ∙ acts_last (stands s mid seat) e acts rest more both.1 after))

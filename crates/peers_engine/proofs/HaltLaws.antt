@@ -18,9 +18,9 @@ use Rattle.session_core.specs.Sessions.{SessionState, Goes, ended, state_of}
 use Rattle.session_core.specs.Runs.{Runs}
 use Rattle.peers_engine.specs.declared.errors.EngineError.{EngineError}
 use Rattle.peers_engine.specs.declared.errors.EngineError.TheVariants as errors
-use Rattle.peers_engine.specs.Doing.{Acts, Done, Fails, Falls, IsAtTable, IsCut, IsLost, IsRefusal, IsUnheard, Stops, Told, Worker, asked, stands}
-use Rattle.peers_engine.specs.Turns.{Breaks, Halts, HaltsAt, Hears, Idles, Reacts, StopsTurn, TakesTurn, Turns, first_event, is_push}
-use Rattle.peers_engine.proofs.ActLaws.{acts_on, one_act, told_some}
+use Rattle.peers_engine.specs.Doing.{Acts, Done, Fails, Falls, IsAtTable, IsCut, IsLost, IsRefusal, DoesNotGoOn, Stops, IsGiven, Worker, asked, stands}
+use Rattle.peers_engine.specs.Turns.{Breaks, Halts, HaltsAt, Receives, Idles, Reacts, StopsTurn, TakesTurn, Turns, first_event, is_push}
+use Rattle.peers_engine.proofs.ActLaws.{acts_on, one_act, given_some}
 use Rattle.peers_engine.proofs.CalmLaws.{acts_calm, acts_last}
 use Rattle.peers_engine.proofs.RunLaws.{acts_run, runs_on}
 
@@ -32,11 +32,11 @@ asked_on first rest = flat_map-append (λ (step : Event × List Action). step.1)
 -- ---- one action
 
 -- one action more is done
-pub act_more : (s mid : Worker) (e : SessionState) (seat : SeatState) (acts : List Action) (act : Action) (answer : Option Event) (told steps : List (Event × List Action)) (out bytes : List ℕ)
-    → Acts s acts told out mid → Done mid.number mid.now mid.session.known mid.seat act bytes answer seat → Told mid.session answer steps e
-    → Acts s (acts ++ (act ∷ [])) (told ++ steps) (out ++ bytes) (stands mid e seat)
-act_more s mid e seat acts act answer told steps out bytes acted done tells =
-    acts_on s mid (stands mid e seat) acts (act ∷ []) told steps out bytes acted (one_act mid e seat act answer steps bytes done tells)
+pub act_more : (s mid : Worker) (e : SessionState) (seat : SeatState) (acts : List Action) (act : Action) (answer : Option Event) (answers steps : List (Event × List Action)) (out bytes : List ℕ)
+    → Acts s acts answers out mid → Done mid.number mid.now mid.session.known mid.seat act bytes answer seat → IsGiven mid.session answer steps e
+    → Acts s (acts ++ (act ∷ [])) (answers ++ steps) (out ++ bytes) (stands mid e seat)
+act_more s mid e seat acts act answer answers steps out bytes acted done gives =
+    acts_on s mid (stands mid e seat) acts (act ∷ []) answers steps out bytes acted (one_act mid e seat act answer steps bytes done gives)
 
 -- a write failed
 pub falls_short : (error : EngineError) (n now : ℕ) (k : KnownState) (s : SeatState) (act : Action) (bytes : List ℕ) (answer : Option Event) (old new : Option (List ℕ))
@@ -57,96 +57,96 @@ nothing_done (errors.Write sent) n now k s act known refusal here = absurd refus
 nothing_done (errors.Session refused) n now k s act known refusal here = absurd refusal
 
 -- an action failed
-pub act_stops : (s mid : Worker) (all before rest : List Action) (act : Action) (error : EngineError) (told : List (Event × List Action)) (first last : List ℕ)
-    → all ≡ before ++ (act ∷ rest) → Acts s before told first mid → Fails mid.number mid.now mid.session.known mid.seat act error last
-    → Stops s all error told (first ++ last) mid.session
-act_stops s mid all before rest act error told first last is acted fails =
+pub act_stops : (s mid : Worker) (all before rest : List Action) (act : Action) (error : EngineError) (answers : List (Event × List Action)) (first last : List ℕ)
+    → all ≡ before ++ (act ∷ rest) → Acts s before answers first mid → Fails mid.number mid.now mid.session.known mid.seat act error last
+    → Stops s all error answers (first ++ last) mid.session
+act_stops s mid all before rest act error answers first last is acted fails =
     (before, act ∷ rest, first, last, mid, is, acted, inl (inl fails), refl, refl)
 
-more_told : (told : List (Event × List Action)) (step : Event × List Action) → (told ++ (step ∷ [])) ≢ []
-more_told [] step is = cc is
-more_told (one ∷ told) step is = cc is
+more_answers : (answers : List (Event × List Action)) (step : Event × List Action) → (answers ++ (step ∷ [])) ≢ []
+more_answers [] step is = cc is
+more_answers (one ∷ answers) step is = cc is
 
 -- an action was done, and its answer was refused, or what it asks for couldn't be kept
-pub tell_stops : (s mid : Worker) (e : SessionState) (seat : SeatState) (all before rest : List Action) (act : Action) (answer : Option Event) (event : Event) (error : EngineError) (told : List (Event × List Action)) (first bytes : List ℕ)
-    → all ≡ before ++ (act ∷ rest) → Acts s before told first mid → Done mid.number mid.now mid.session.known mid.seat act bytes answer seat → answer ≡ Some event
-    → state_of mid.session.phase ≢ states.Ended → IsUnheard mid.session event error e
-    → (told' : List (Event × List Action)) × Stops s all error told' (first ++ bytes) e
-tell_stops s mid e seat all before rest act answer event error told first bytes is acted done some going (inl (refused, over)) =
+pub give_stops : (s mid : Worker) (e : SessionState) (seat : SeatState) (all before rest : List Action) (act : Action) (answer : Option Event) (event : Event) (error : EngineError) (answers : List (Event × List Action)) (first bytes : List ℕ)
+    → all ≡ before ++ (act ∷ rest) → Acts s before answers first mid → Done mid.number mid.now mid.session.known mid.seat act bytes answer seat → answer ≡ Some event
+    → state_of mid.session.phase ≢ states.Ended → DoesNotGoOn mid.session event error e
+    → (answers' : List (Event × List Action)) × Stops s all error answers' (first ++ bytes) e
+give_stops s mid e seat all before rest act answer event error answers first bytes is acted done some going (inl (refused, over)) =
     let answered = subst (λ (x : Option Event). Done mid.number mid.now mid.session.known mid.seat act bytes x seat) some done in
-    (told, (before, act ∷ rest, first, bytes, mid, is, acted, inl (inr (event, seat, answered, going, refused)), refl, ap ended over))
-tell_stops s mid e seat all before rest act answer event error told first bytes is acted done some going (inr (acts, goes, memory)) =
+    (answers, (before, act ∷ rest, first, bytes, mid, is, acted, inl (inr (event, seat, answered, going, refused)), refl, ap ended over))
+give_stops s mid e seat all before rest act answer event error answers first bytes is acted done some going (inr (acts, goes, memory)) =
     let rejoined : all ≡ (before ++ (act ∷ [])) ++ rest = is ∙ sym (append_assoc before (act ∷ []) rest) in
-    let more = act_more s mid e seat before act answer told ((event, acts) ∷ []) first bytes acted done (told_some mid.session e answer event acts some goes) in
-    (told ++ ((event, acts) ∷ []), (before ++ (act ∷ []), rest, first ++ bytes, [], stands mid e seat, rejoined, more, inr (more_told told (event, acts), memory, refl), sym (append-nil (first ++ bytes)), refl))
+    let more = act_more s mid e seat before act answer answers ((event, acts) ∷ []) first bytes acted done (given_some mid.session e answer event acts some goes) in
+    (answers ++ ((event, acts) ∷ []), (before ++ (act ∷ []), rest, first ++ bytes, [], stands mid e seat, rejoined, more, inr (more_answers answers (event, acts), memory, refl), sym (append-nil (first ++ bytes)), refl))
 
 -- ---- one event
 
 -- what the answers asked for is done, and nothing more is asked for
-pub react_done : (s next e : Worker) (mid : SessionState) (event : Event) (acts : List Action) (told more : List (Event × List Action)) (out rest : List ℕ)
-    → Goes s.session event acts mid → Acts (stands s mid s.seat) acts told out next → Acts next (asked told) more rest e → Reacts s event (out ++ rest) e
-react_done s next e mid event acts told more out rest goes first second =
-    let none : asked more ≡ [] = acts_last next e (asked told) more rest (acts_calm (stands s mid s.seat) next acts told out first) second in
-    let all : asked told ≡ asked (told ++ more) = sym (asked_on told more ∙ (ap (λ (x : List Action). asked told ++ x) none ∙ append-nil (asked told))) in (
+pub react_done : (s next e : Worker) (mid : SessionState) (event : Event) (acts : List Action) (answers more : List (Event × List Action)) (out rest : List ℕ)
+    → Goes s.session event acts mid → Acts (stands s mid s.seat) acts answers out next → Acts next (asked answers) more rest e → Reacts s event (out ++ rest) e
+react_done s next e mid event acts answers more out rest goes first second =
+    let none : asked more ≡ [] = acts_last next e (asked answers) more rest (acts_calm (stands s mid s.seat) next acts answers out first) second in
+    let all : asked answers ≡ asked (answers ++ more) = sym (asked_on answers more ∙ (ap (λ (x : List Action). asked answers ++ x) none ∙ append-nil (asked answers))) in (
       acts,
-      told ++ more,
+      answers ++ more,
       mid,
       goes,
-      subst (λ (x : List Action). Acts (stands s mid s.seat) (acts ++ x) (told ++ more) (out ++ rest) e) all
-          (acts_on (stands s mid s.seat) next e acts (asked told) told more out rest first second),
+      subst (λ (x : List Action). Acts (stands s mid s.seat) (acts ++ x) (answers ++ more) (out ++ rest) e) all
+          (acts_on (stands s mid s.seat) next e acts (asked answers) answers more out rest first second),
     )
 
-cut_more : (s : Worker) (rest more : List Action) (told : List (Event × List Action)) (error : EngineError) (out : List ℕ) → (IsCut s rest error out ⊎ IsLost told error out) → (IsCut s (rest ++ more) error out ⊎ IsLost told error out)
-cut_more s [] more told error out (inl cut) = absurd cut
-cut_more s (act ∷ rest) more told error out (inl cut) = inl cut
-cut_more s rest more told error out (inr lost) = inr lost
+cut_more : (s : Worker) (rest more : List Action) (answers : List (Event × List Action)) (error : EngineError) (out : List ℕ) → (IsCut s rest error out ⊎ IsLost answers error out) → (IsCut s (rest ++ more) error out ⊎ IsLost answers error out)
+cut_more s [] more answers error out (inl cut) = absurd cut
+cut_more s (act ∷ rest) more answers error out (inl cut) = inl cut
+cut_more s rest more answers error out (inr lost) = inr lost
 
 after_nothing : (first rest : List (Event × List Action)) → rest ≢ [] → (first ++ rest) ≢ []
 after_nothing [] rest some is = some is
 after_nothing (step ∷ first) rest some is = cc is
 
-lost_later : (s : Worker) (rest : List Action) (first told : List (Event × List Action)) (error : EngineError) (out : List ℕ) → (IsCut s rest error out ⊎ IsLost told error out) → (IsCut s rest error out ⊎ IsLost (first ++ told) error out)
-lost_later s rest first told error out (inl cut) = inl cut
-lost_later s rest first told error out (inr (some, memory, nothing)) = inr (after_nothing first told some, memory, nothing)
+lost_later : (s : Worker) (rest : List Action) (first answers : List (Event × List Action)) (error : EngineError) (out : List ℕ) → (IsCut s rest error out ⊎ IsLost answers error out) → (IsCut s rest error out ⊎ IsLost (first ++ answers) error out)
+lost_later s rest first answers error out (inl cut) = inl cut
+lost_later s rest first answers error out (inr (some, memory, nothing)) = inr (after_nothing first answers some, memory, nothing)
 
 -- an error among what the event asked for
-pub react_stops : (s : Worker) (mid e : SessionState) (event : Event) (acts : List Action) (error : EngineError) (told : List (Event × List Action)) (out : List ℕ)
-    → Goes s.session event acts mid → Stops (stands s mid s.seat) acts error told out e → Halts s event error out e
-react_stops s mid e event acts error told out goes (before, rest, first, last, next, is, acted, cut, written, same) =
-    let all : acts ++ asked told ≡ before ++ (rest ++ asked told) = ap (λ (x : List Action). x ++ asked told) is ∙ append_assoc before rest (asked told) in
-    inr (acts, told, mid, goes, (before, rest ++ asked told, first, last, next, all, acted, cut_more next rest (asked told) told error last cut, written, same))
+pub react_stops : (s : Worker) (mid e : SessionState) (event : Event) (acts : List Action) (error : EngineError) (answers : List (Event × List Action)) (out : List ℕ)
+    → Goes s.session event acts mid → Stops (stands s mid s.seat) acts error answers out e → Halts s event error out e
+react_stops s mid e event acts error answers out goes (before, rest, first, last, next, is, acted, cut, written, same) =
+    let all : acts ++ asked answers ≡ before ++ (rest ++ asked answers) = ap (λ (x : List Action). x ++ asked answers) is ∙ append_assoc before rest (asked answers) in
+    inr (acts, answers, mid, goes, (before, rest ++ asked answers, first, last, next, all, acted, cut_more next rest (asked answers) answers error last cut, written, same))
 
 -- an error among what the answers asked for
-pub react_stops_later : (s next : Worker) (mid e : SessionState) (event : Event) (acts : List Action) (error : EngineError) (told more : List (Event × List Action)) (out rest : List ℕ)
-    → Goes s.session event acts mid → Acts (stands s mid s.seat) acts told out next → Stops next (asked told) error more rest e → Halts s event error (out ++ rest) e
-react_stops_later s next mid e event acts error told more out rest goes done (before, left, first, last, then, is, acted, cut, written, same) =
-    let all : acts ++ asked (told ++ more) ≡ (acts ++ before) ++ (left ++ asked more) =
-    ap (λ (x : List Action). acts ++ x) (asked_on told more)
+pub react_stops_later : (s next : Worker) (mid e : SessionState) (event : Event) (acts : List Action) (error : EngineError) (answers more : List (Event × List Action)) (out rest : List ℕ)
+    → Goes s.session event acts mid → Acts (stands s mid s.seat) acts answers out next → Stops next (asked answers) error more rest e → Halts s event error (out ++ rest) e
+react_stops_later s next mid e event acts error answers more out rest goes done (before, left, first, last, then, is, acted, cut, written, same) =
+    let all : acts ++ asked (answers ++ more) ≡ (acts ++ before) ++ (left ++ asked more) =
+    ap (λ (x : List Action). acts ++ x) (asked_on answers more)
     ∙ (ap (λ (x : List Action). acts ++ (x ++ asked more)) is
     ∙ (ap (λ (x : List Action). acts ++ x) (append_assoc before left (asked more))
     ∙ sym (append_assoc acts before (left ++ asked more)))) in
-    let done_on = acts_on (stands s mid s.seat) next then acts before told more out first done acted in
+    let done_on = acts_on (stands s mid s.seat) next then acts before answers more out first done acted in
     let rejoined : out ++ rest ≡ (out ++ first) ++ last = ap (λ (x : List ℕ). out ++ x) written ∙ sym (append_assoc out first last) in
-    inr (acts, told ++ more, mid, goes, (acts ++ before, left ++ asked more, out ++ first, last, then, all, done_on, lost_later then (left ++ asked more) told more error last (cut_more then left (asked more) more error last cut), rejoined, same))
+    inr (acts, answers ++ more, mid, goes, (acts ++ before, left ++ asked more, out ++ first, last, then, all, done_on, lost_later then (left ++ asked more) answers more error last (cut_more then left (asked more) more error last cut), rejoined, same))
 
 -- ---- runs
 
 run_of : (s e : Worker) (event : Event) (out : List ℕ) → Reacts s event out e → (acts : List Action) × (steps : List (Event × List Action)) × Runs s.session ((event, acts) ∷ steps) e.session
-run_of s e event out (acts, told, mid, goes, done) = (acts, told, (mid, goes, acts_run (stands s mid s.seat) e (acts ++ asked told) told out done))
+run_of s e event out (acts, answers, mid, goes, done) = (acts, answers, (mid, goes, acts_run (stands s mid s.seat) e (acts ++ asked answers) answers out done))
 
 idles_run : (s e : Worker) (event : Event) → Idles s event e → (acts : List Action) × (steps : List (Event × List Action)) × Runs s.session ((event, acts) ∷ steps) e.session
-idles_run s e event (acts, told, mid, goes, pushes, done, nothing) = (acts, told, (mid, goes, acts_run (stands s mid s.seat) e acts told [] done))
+idles_run s e event (acts, answers, mid, goes, pushes, done, nothing) = (acts, answers, (mid, goes, acts_run (stands s mid s.seat) e acts answers [] done))
 
-hears_run : (s e : Worker) (heard : Option Event) (out : List ℕ) → Hears s heard out e → (steps : List (Event × List Action)) × Runs s.session steps e.session
-hears_run s e None out (nothing, same) = ([], ap (λ (x : Worker). x.session) same)
-hears_run s e (Some event) out reacts = let one = run_of s e event out reacts in ((event, one.0) ∷ one.1, one.2)
+receives_run : (s e : Worker) (received : Option Event) (out : List ℕ) → Receives s received out e → (steps : List (Event × List Action)) × Runs s.session steps e.session
+receives_run s e None out (nothing, same) = ([], ap (λ (x : Worker). x.session) same)
+receives_run s e (Some event) out reacts = let one = run_of s e event out reacts in ((event, one.0) ∷ one.1, one.2)
 
 -- the session moved by a run
-pub turns_of : (s e : Worker) (heard : Option Event) (out : List ℕ) → TakesTurn s heard out e → Turns s.session e.session
-turns_of s e heard out (inl (none, reacts)) = run_of s e (first_event (state_of s.session.phase)) out reacts
-turns_of s e heard out (inr (mid, idles, hears)) =
+pub turns_of : (s e : Worker) (received : Option Event) (out : List ℕ) → TakesTurn s received out e → Turns s.session e.session
+turns_of s e received out (inl (none, reacts)) = run_of s e (first_event (state_of s.session.phase)) out reacts
+turns_of s e received out (inr (mid, idles, receives)) =
     let one = idles_run s mid (first_event (state_of s.session.phase)) idles in
-    let more = hears_run mid e heard out hears in
+    let more = receives_run mid e received out receives in
     (one.0, one.1 ++ more.0, runs_on s.session mid.session e.session ((first_event (state_of s.session.phase), one.0) ∷ one.1) more.0 one.2 more.1)
 
 -- how far a run went
@@ -156,10 +156,10 @@ Ran s event e =
 
 halts_ran : (s : Worker) (e : SessionState) (event : Event) (error : EngineError) (out : List ℕ) → Halts s event error out e → (ended e ≡ ended s.session) ⊎ Ran s.session event e
 halts_ran s e event error out (inl (refused, none, same)) = inl same
-halts_ran s e event error out (inr (acts, told, mid, goes, (before, rest, first, last, next, is, acted, cut, written, same))) =
-    inr (acts, told, next.session, (mid, goes, acts_run (stands s mid s.seat) next before told first acted), same)
+halts_ran s e event error out (inr (acts, answers, mid, goes, (before, rest, first, last, next, is, acted, cut, written, same))) =
+    inr (acts, answers, next.session, (mid, goes, acts_run (stands s mid s.seat) next before answers first acted), same)
 
-halted_ran : (s : Worker) (e : SessionState) (heard : Option Event) (error : EngineError) (out : List ℕ) → HaltsAt s heard error out e
+halted_ran : (s : Worker) (e : SessionState) (received : Option Event) (error : EngineError) (out : List ℕ) → HaltsAt s received error out e
     → (steps : List (Event × List Action)) × (mid : SessionState) × Runs s.session steps mid × (ended e ≡ ended mid)
 halted_ran s e None error out (unread, nothing, same) = ([], s.session, refl, same)
 halted_ran s e (Some event) error out halts = elim (halts_ran s e event error out halts) [
@@ -168,14 +168,14 @@ halted_ran s e (Some event) error out halts = elim (halts_ran s e event error ou
 ]
 
 -- the session moved by a run or none, and was then ended
-pub breaks_of : (s : Worker) (e new : SessionState) (heard : Option Event) (error : EngineError) (out : List ℕ) → StopsTurn s heard error out e → new ≡ ended e → Breaks s.session new
-breaks_of s e new heard error out (inl (none, halts)) is = elim (halts_ran s e (first_event (state_of s.session.phase)) error out halts) [
+pub breaks_of : (s : Worker) (e new : SessionState) (received : Option Event) (error : EngineError) (out : List ℕ) → StopsTurn s received error out e → new ≡ ended e → Breaks s.session new
+breaks_of s e new received error out (inl (none, halts)) is = elim (halts_ran s e (first_event (state_of s.session.phase)) error out halts) [
   | inl same ↦ inl (is ∙ same)
   | inr ran ↦ inr (ran.2, (ran.0, ran.1, ran.3), is ∙ ran.4)
 ]
-breaks_of s e new heard error out (inr (mid, idles, halts)) is =
+breaks_of s e new received error out (inr (mid, idles, halts)) is =
     let one = idles_run s mid (first_event (state_of s.session.phase)) idles in
-    let more = halted_ran mid e heard error out halts in
+    let more = halted_ran mid e received error out halts in
     inr (more.1, (one.0, one.1 ++ more.0, runs_on s.session mid.session more.1 ((first_event (state_of s.session.phase), one.0) ∷ one.1) more.0 one.2 more.2), is ∙ more.3)
 
 -- ---- the end
@@ -184,17 +184,17 @@ halt_ended : (s : Worker) (e : SessionState) (event : Event) (error : EngineErro
 halt_ended s e event error out (inl halts) = inl halts
 halt_ended s e event error out (inr halts) = inr halts
 
-halts_ended : (s : Worker) (e : SessionState) (heard : Option Event) (error : EngineError) (out : List ℕ) → HaltsAt s heard error out e → HaltsAt s heard error out (ended e)
+halts_ended : (s : Worker) (e : SessionState) (received : Option Event) (error : EngineError) (out : List ℕ) → HaltsAt s received error out e → HaltsAt s received error out (ended e)
 halts_ended s e None error out halts = halts
 halts_ended s e (Some event) error out halts = halt_ended s e event error out halts
 
-stops_ended : (s : Worker) (e : SessionState) (heard : Option Event) (error : EngineError) (out : List ℕ) → StopsTurn s heard error out e → StopsTurn s heard error out (ended e)
-stops_ended s e heard error out (inl (none, halts)) = inl (none, halt_ended s e (first_event (state_of s.session.phase)) error out halts)
-stops_ended s e heard error out (inr (mid, idles, halts)) = inr (mid, idles, halts_ended mid e heard error out halts)
+stops_ended : (s : Worker) (e : SessionState) (received : Option Event) (error : EngineError) (out : List ℕ) → StopsTurn s received error out e → StopsTurn s received error out (ended e)
+stops_ended s e received error out (inl (none, halts)) = inl (none, halt_ended s e (first_event (state_of s.session.phase)) error out halts)
+stops_ended s e received error out (inr (mid, idles, halts)) = inr (mid, idles, halts_ended mid e received error out halts)
 
 -- what was written stays written when the session is ended
-pub halted : (s : Worker) (e new : SessionState) (heard : Option Event) (error : EngineError) (out : List ℕ) → StopsTurn s heard error out e → new ≡ ended e → StopsTurn s heard error out new
-halted s e new heard error out halts is = subst (λ (x : SessionState). StopsTurn s heard error out x) (sym is) (stops_ended s e heard error out halts)
+pub halted : (s : Worker) (e new : SessionState) (received : Option Event) (error : EngineError) (out : List ℕ) → StopsTurn s received error out e → new ≡ ended e → StopsTurn s received error out new
+halted s e new received error out halts is = subst (λ (x : SessionState). StopsTurn s received error out x) (sym is) (stops_ended s e received error out halts)
 
 -- ---- nothing to do
 
@@ -210,33 +210,33 @@ push_silent n now k s t (actions.Teach batch) out answer is done = absurd (false
 push_silent n now k s t (actions.Part kind) out answer is done = absurd (false≢true is)
 push_silent n now k s t actions.Close out answer is done = absurd (false≢true is)
 
-pushes_silent : (s e : Worker) (acts : List Action) (told : List (Event × List Action)) (out : List ℕ) → list_all is_push acts ≡ true → Acts s acts told out e → out ≡ []
-pushes_silent s e [] told out are (none, nothing, same) = nothing
-pushes_silent s e (act ∷ acts) told out are (bytes, more, answer, first, rest, seat, mid, done, tells, after, is, written) =
+pushes_silent : (s e : Worker) (acts : List Action) (answers : List (Event × List Action)) (out : List ℕ) → list_all is_push acts ≡ true → Acts s acts answers out e → out ≡ []
+pushes_silent s e [] answers out are (none, nothing, same) = nothing
+pushes_silent s e (act ∷ acts) answers out are (bytes, more, answer, first, rest, seat, mid, done, gives, after, is, written) =
     let both = and_parts (is_push act) (list_all is_push acts) are in
     written
     ∙ (ap (λ (x : List ℕ). x ++ more) (push_silent s.number s.now s.session.known s.seat seat act bytes answer both.0 done)
     ∙ pushes_silent (stands s mid seat) e acts rest more both.1 after)
 
-none_done : (s e : Worker) (acts : List Action) (told : List (Event × List Action)) (out : List ℕ) → acts ≡ [] → Acts s acts told out e → (out ≡ []) × (e ≡ s)
-none_done s e acts told out none done =
-    let nothing = subst (λ (x : List Action). Acts s x told out e) none done in
+none_done : (s e : Worker) (acts : List Action) (answers : List (Event × List Action)) (out : List ℕ) → acts ≡ [] → Acts s acts answers out e → (out ≡ []) × (e ≡ s)
+none_done s e acts answers out none done =
+    let nothing = subst (λ (x : List Action). Acts s x answers out e) none done in
     (nothing.1, nothing.2)
 
 -- only pushes were asked for, and nothing came of them
-pub idle_done : (s next e : Worker) (mid : SessionState) (event : Event) (acts : List Action) (told more : List (Event × List Action)) (out rest : List ℕ)
-    → Goes s.session event acts mid → Acts (stands s mid s.seat) acts told out next → Acts next (asked told) more rest e → list_all is_push acts ≡ true → asked told ≡ []
+pub idle_done : (s next e : Worker) (mid : SessionState) (event : Event) (acts : List Action) (answers more : List (Event × List Action)) (out rest : List ℕ)
+    → Goes s.session event acts mid → Acts (stands s mid s.seat) acts answers out next → Acts next (asked answers) more rest e → list_all is_push acts ≡ true → asked answers ≡ []
     → Idles s event e × (out ++ rest ≡ [])
-idle_done s next e mid event acts told more out rest goes first second pushes none =
-    let silent = pushes_silent (stands s mid s.seat) next acts told out pushes first in
-    let last = none_done next e (asked told) more rest none second in (
+idle_done s next e mid event acts answers more out rest goes first second pushes none =
+    let silent = pushes_silent (stands s mid s.seat) next acts answers out pushes first in
+    let last = none_done next e (asked answers) more rest none second in (
       (
         acts,
-        told,
+        answers,
         mid,
         goes,
         pushes,
-        subst (λ (x : Worker). Acts (stands s mid s.seat) acts told [] x) (sym last.1) (subst (λ (x : List ℕ). Acts (stands s mid s.seat) acts told x next) silent first),
+        subst (λ (x : Worker). Acts (stands s mid s.seat) acts answers [] x) (sym last.1) (subst (λ (x : List ℕ). Acts (stands s mid s.seat) acts answers x next) silent first),
         none,
       ),
       ap (λ (x : List ℕ). x ++ rest) silent ∙ last.0,

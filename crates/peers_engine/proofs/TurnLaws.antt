@@ -16,9 +16,9 @@ use Rattle.session_core.specs.declared.state.State.TheVariants as states
 use Rattle.session_core.specs.Courses.{state_of_course}
 use Rattle.session_core.specs.Sessions.{SessionState, Goes, Refuses, ended, state_of}
 use Rattle.peers_engine.specs.declared.errors.EngineError.{EngineError}
-use Rattle.peers_engine.specs.Doing.{Acts, Done, Fails, IsUnheard, Stops, Told, Worker, asked, stands}
-use Rattle.peers_engine.specs.Turns.{Breaks, Halts, HaltsAt, Hears, Idles, IsRead, Reacts, StopsTurn, TakesTurn, Turns, first_event, is_push}
-use Rattle.peers_engine.proofs.HaltLaws.{act_more, act_stops, breaks_of, halted, idle_done, react_done, react_stops, react_stops_later, tell_stops, turns_of}
+use Rattle.peers_engine.specs.Doing.{Acts, Done, Fails, DoesNotGoOn, Stops, IsGiven, Worker, asked, stands}
+use Rattle.peers_engine.specs.Turns.{Breaks, Halts, HaltsAt, Receives, Idles, IsRead, Reacts, StopsTurn, TakesTurn, Turns, first_event, is_push}
+use Rattle.peers_engine.proofs.HaltLaws.{act_more, act_stops, breaks_of, halted, idle_done, react_done, react_stops, react_stops_later, give_stops, turns_of}
 
 -- what is known of a result whose variant is known
 pub of_ok : {X : Type 0} (P : X → Type 0) (result : Result X EngineError) (x : X) → IfOk result P → result ≡ Ok x → P x
@@ -29,15 +29,15 @@ of_err {X} P result error given is = subst (λ (r : Result X EngineError). IfErr
 
 -- ---- the actions so far, and one more
 
--- the actions so far are done, their answers told, what these ask for is kept, and so much is written
+-- the actions so far are done, their answers given, what these ask for is kept, and so much is written
 abbrev pub AreDone : Worker → List Action → List Action → Worker → Option (List ℕ) → Option (List ℕ) → Type 0
 AreDone s acts given e old new =
-    (told : List (Event × List Action)) × (out : List ℕ) × Acts s acts told out e × (given ≡ asked told) × Appends old new out
+    (answers : List (Event × List Action)) × (out : List ℕ) × Acts s acts answers out e × (given ≡ asked answers) × Appends old new out
 
 -- up to where an error ended it
 abbrev pub AreStopped : Worker → List Action → EngineError → SessionState → Option (List ℕ) → Option (List ℕ) → Type 0
 AreStopped s acts error e old new =
-    (told : List (Event × List Action)) × (out : List ℕ) × Stops s acts error told out e × Appends old new out
+    (answers : List (Event × List Action)) × (out : List ℕ) × Stops s acts error answers out e × Appends old new out
 
 -- one action is done
 abbrev pub OneDone : ℕ → ℕ → KnownState → SeatState → SeatState → Action → Option (List ℕ) → Option (List ℕ) → Option Event → Type 0
@@ -47,16 +47,16 @@ OneDone n now k s t act old new answer = (out : List ℕ) × Done n now k s act 
 abbrev pub OneFails : ℕ → ℕ → KnownState → SeatState → Action → Option (List ℕ) → Option (List ℕ) → EngineError → Type 0
 OneFails n now k s act old new error = (out : List ℕ) × Fails n now k s act error out × Appends old new out
 
--- an answer isn't heard by a session that isn't over
-abbrev pub IsUntold : SessionState → Option Event → SessionState → EngineError → Type 0
-IsUntold s answer e error = (event : Event) × (answer ≡ Some event) × (state_of s.phase ≢ states.Ended) × IsUnheard s event error e
+-- an answer is not received by a session that isn't over
+abbrev pub IsNotGiven : SessionState → Option Event → SessionState → EngineError → Type 0
+IsNotGiven s answer e error = (event : Event) × (answer ≡ Some event) × (state_of s.phase ≢ states.Ended) × DoesNotGoOn s event error e
 
 fails_known : (s mid : Worker) (k : KnownState) (all before rest given : List Action) (act : Action) (error : EngineError) (a b d : Option (List ℕ))
     → all ≡ before ++ (act ∷ rest) → k ≡ mid.session.known → AreDone s before given mid a b → OneFails mid.number mid.now k mid.seat act b d error → AreStopped s all error mid.session a d
-fails_known s mid k all before rest given act error a b d is same (told, out, acted, kept, appended) (last, fails, more) = (
-  told,
+fails_known s mid k all before rest given act error a b d is same (answers, out, acted, kept, appended) (last, fails, more) = (
+  answers,
   out ++ last,
-  act_stops s mid all before rest act error told out last is acted (subst (λ (x : KnownState). Fails mid.number mid.now x mid.seat act error last) same fails),
+  act_stops s mid all before rest act error answers out last is acted (subst (λ (x : KnownState). Fails mid.number mid.now x mid.seat act error last) same fails),
   Appends-trans a b d out last appended more,
 )
 
@@ -67,40 +67,40 @@ pub next_fails : (s mid : Worker) (k : KnownState) (all before rest given : List
 next_fails s mid k all before rest given act error result a b d is same done fails err =
     fails_known s mid k all before rest given act error a b d is same done (of_err (OneFails mid.number mid.now k mid.seat act b d) result error fails err)
 
-tell_known : (s mid : Worker) (e : SessionState) (seat : SeatState) (k : KnownState) (all before rest given : List Action) (act : Action) (answer : Option Event) (error : EngineError) (a b d : Option (List ℕ))
-    → all ≡ before ++ (act ∷ rest) → k ≡ mid.session.known → AreDone s before given mid a b → OneDone mid.number mid.now k mid.seat seat act b d answer → IsUntold mid.session answer e error
+give_known : (s mid : Worker) (e : SessionState) (seat : SeatState) (k : KnownState) (all before rest given : List Action) (act : Action) (answer : Option Event) (error : EngineError) (a b d : Option (List ℕ))
+    → all ≡ before ++ (act ∷ rest) → k ≡ mid.session.known → AreDone s before given mid a b → OneDone mid.number mid.now k mid.seat seat act b d answer → IsNotGiven mid.session answer e error
     → AreStopped s all error e a d
-tell_known s mid e seat k all before rest given act answer error a b d is same (told, out, acted, kept, appended) (bytes, done, more) (event, some, going, unheard) =
-    let stops = tell_stops s mid e seat all before rest act answer event error told out bytes is acted
-    (subst (λ (x : KnownState). Done mid.number mid.now x mid.seat act bytes answer seat) same done) some going unheard in
+give_known s mid e seat k all before rest given act answer error a b d is same (answers, out, acted, kept, appended) (bytes, done, more) (event, some, going, stuck) =
+    let stops = give_stops s mid e seat all before rest act answer event error answers out bytes is acted
+    (subst (λ (x : KnownState). Done mid.number mid.now x mid.seat act bytes answer seat) same done) some going stuck in
     (stops.0, out ++ bytes, stops.1, Appends-trans a b d out bytes appended more)
 
--- the answer of the next action can't be told
-pub tell_fails : (s mid : Worker) (e : SessionState) (seat : SeatState) (k : KnownState) (all before rest given : List Action) (act : Action) (answer : Option Event) (error : EngineError) (result : Result (Option Event) EngineError) (a b d : Option (List ℕ))
+-- the answer of the next action can't be given
+pub give_fails : (s mid : Worker) (e : SessionState) (seat : SeatState) (k : KnownState) (all before rest given : List Action) (act : Action) (answer : Option Event) (error : EngineError) (result : Result (Option Event) EngineError) (a b d : Option (List ℕ))
     → all ≡ before ++ (act ∷ rest) → k ≡ mid.session.known → AreDone s before given mid a b → IfOk result (OneDone mid.number mid.now k mid.seat seat act b d) → result ≡ Ok answer
-    → IsUntold mid.session answer e error → AreStopped s all error e a d
-tell_fails s mid e seat k all before rest given act answer error result a b d is same done does ok untold =
-    tell_known s mid e seat k all before rest given act answer error a b d is same done (of_ok (OneDone mid.number mid.now k mid.seat seat act b d) result answer does ok) untold
+    → IsNotGiven mid.session answer e error → AreStopped s all error e a d
+give_fails s mid e seat k all before rest given act answer error result a b d is same done does ok not_given =
+    give_known s mid e seat k all before rest given act answer error a b d is same done (of_ok (OneDone mid.number mid.now k mid.seat seat act b d) result answer does ok) not_given
 
 more_known : (s mid : Worker) (e : SessionState) (seat : SeatState) (k : KnownState) (before given more : List Action) (act : Action) (answer : Option Event) (a b d : Option (List ℕ))
     → k ≡ mid.session.known → AreDone s before given mid a b → OneDone mid.number mid.now k mid.seat seat act b d answer
-    → ((steps : List (Event × List Action)) × Told mid.session answer steps e × (more ≡ given ++ asked steps))
+    → ((steps : List (Event × List Action)) × IsGiven mid.session answer steps e × (more ≡ given ++ asked steps))
     → AreDone s (before ++ (act ∷ [])) more (stands mid e seat) a d
-more_known s mid e seat k before given more act answer a b d same (told, out, acted, kept, appended) (bytes, done, then) (steps, tells, is) = (
-  told ++ steps,
+more_known s mid e seat k before given more act answer a b d same (answers, out, acted, kept, appended) (bytes, done, then) (steps, gives, is) = (
+  answers ++ steps,
   out ++ bytes,
-  act_more s mid e seat before act answer told steps out bytes acted (subst (λ (x : KnownState). Done mid.number mid.now x mid.seat act bytes answer seat) same done) tells,
-  is ∙ (ap (λ (x : List Action). x ++ asked steps) kept ∙ sym (flat_map-append (λ (step : Event × List Action). step.1) told steps)),
+  act_more s mid e seat before act answer answers steps out bytes acted (subst (λ (x : KnownState). Done mid.number mid.now x mid.seat act bytes answer seat) same done) gives,
+  is ∙ (ap (λ (x : List Action). x ++ asked steps) kept ∙ sym (flat_map-append (λ (step : Event × List Action). step.1) answers steps)),
   Appends-trans a b d out bytes appended then,
 )
 
--- the next action is done, and its answer told
+-- the next action is done, and its answer given
 pub one_more : (s mid : Worker) (e : SessionState) (seat : SeatState) (k : KnownState) (before given more : List Action) (act : Action) (answer : Option Event) (result : Result (Option Event) EngineError) (a b d : Option (List ℕ))
     → k ≡ mid.session.known → AreDone s before given mid a b → IfOk result (OneDone mid.number mid.now k mid.seat seat act b d) → result ≡ Ok answer
-    → ((steps : List (Event × List Action)) × Told mid.session answer steps e × (more ≡ given ++ asked steps))
+    → ((steps : List (Event × List Action)) × IsGiven mid.session answer steps e × (more ≡ given ++ asked steps))
     → AreDone s (before ++ (act ∷ [])) more (stands mid e seat) a d
-one_more s mid e seat k before given more act answer result a b d same done does ok told =
-    more_known s mid e seat k before given more act answer a b d same done (of_ok (OneDone mid.number mid.now k mid.seat seat act b d) result answer does ok) told
+one_more s mid e seat k before given more act answer result a b d same done does ok answers =
+    more_known s mid e seat k before given more act answer a b d same done (of_ok (OneDone mid.number mid.now k mid.seat seat act b d) result answer does ok) answers
 
 -- ---- one event
 
@@ -112,7 +112,7 @@ HasHalted s event e old new error = (out : List ℕ) × Halts s event error out 
 
 first_known : (s : Worker) (mid e : SessionState) (event : Event) (acts : List Action) (error : EngineError) (a b : Option (List ℕ))
     → Goes s.session event acts mid → AreStopped (stands s mid s.seat) acts error e a b → HasHalted s event e a b error
-first_known s mid e event acts error a b goes (told, out, stops, appended) = (out, react_stops s mid e event acts error told out goes stops, appended)
+first_known s mid e event acts error a b goes (answers, out, stops, appended) = (out, react_stops s mid e event acts error answers out goes stops, appended)
 
 -- an error among what the event asked for
 pub first_fails : {X : Type 0} (s : Worker) (mid e : SessionState) (event : Event) (acts : List Action) (error : EngineError) (result : Result X EngineError) (a b : Option (List ℕ))
@@ -122,9 +122,9 @@ first_fails s mid e event acts error result a b goes fails err =
 
 second_known : (s next : Worker) (mid e : SessionState) (event : Event) (acts given : List Action) (error : EngineError) (a b d : Option (List ℕ))
     → Goes s.session event acts mid → AreDone (stands s mid s.seat) acts given next a b → AreStopped next given error e b d → HasHalted s event e a d error
-second_known s next mid e event acts given error a b d goes (told, out, acted, kept, appended) (more, rest, stops, then) = (
+second_known s next mid e event acts given error a b d goes (answers, out, acted, kept, appended) (more, rest, stops, then) = (
   out ++ rest,
-  react_stops_later s next mid e event acts error told more out rest goes acted (subst (λ (x : List Action). Stops next x error more rest e) kept stops),
+  react_stops_later s next mid e event acts error answers more out rest goes acted (subst (λ (x : List Action). Stops next x error more rest e) kept stops),
   Appends-trans a b d out rest appended then,
 )
 
@@ -137,9 +137,9 @@ second_fails s next mid e event acts given error second a b d goes done fails er
 -- all is done, and nothing more is asked for
 pub both_done : (s next e : Worker) (mid : SessionState) (event : Event) (acts given last : List Action) (a b d : Option (List ℕ))
     → Goes s.session event acts mid → AreDone (stands s mid s.seat) acts given next a b → AreDone next given last e b d → HasReacted s event e a d
-both_done s next e mid event acts given last a b d goes (told, out, acted, kept, appended) (more, rest, then, is, also) = (
+both_done s next e mid event acts given last a b d goes (answers, out, acted, kept, appended) (more, rest, then, is, also) = (
   out ++ rest,
-  react_done s next e mid event acts told more out rest goes acted (subst (λ (x : List Action). Acts next x more rest e) kept then),
+  react_done s next e mid event acts answers more out rest goes acted (subst (λ (x : List Action). Acts next x more rest e) kept then),
   Appends-trans a b d out rest appended also,
 )
 
@@ -157,8 +157,8 @@ HasIdled s event e old new = Idles s event e × Appends old new []
 
 pub both_idle : (s next e : Worker) (mid : SessionState) (event : Event) (acts given last : List Action) (a b d : Option (List ℕ))
     → Goes s.session event acts mid → AreDone (stands s mid s.seat) acts given next a b → AreDone next given last e b d → list_all is_push acts ≡ true → given ≡ [] → HasIdled s event e a d
-both_idle s next e mid event acts given last a b d goes (told, out, acted, kept, appended) (more, rest, then, is, also) pushes none =
-    let idle = idle_done s next e mid event acts told more out rest goes acted (subst (λ (x : List Action). Acts next x more rest e) kept then) pushes (sym kept ∙ none) in
+both_idle s next e mid event acts given last a b d goes (answers, out, acted, kept, appended) (more, rest, then, is, also) pushes none =
+    let idle = idle_done s next e mid event acts answers more out rest goes acted (subst (λ (x : List Action). Acts next x more rest e) kept then) pushes (sym kept ∙ none) in
     (idle.0, subst (λ (x : List ℕ). Appends a d x) idle.1 (Appends-trans a b d out rest appended also))
 
 -- ---- a turn
@@ -166,31 +166,31 @@ both_idle s next e mid event acts given last a b d goes (told, out, acted, kept,
 -- what a turn did, and how far one came that an error ended
 abbrev pub HasTurned : Worker → Worker → Option (List ℕ) → Option (List ℕ) → Option (List ℕ) → Option (List ℕ) → Type 0
 HasTurned s e from to a b =
-    (heard : Option Event) × (read out : List ℕ) × IsRead heard read × TakesTurn s heard out e × Consumes from to read × Appends a b out
+    (received : Option Event) × (read out : List ℕ) × IsRead received read × TakesTurn s received out e × Consumes from to read × Appends a b out
 
 abbrev pub HasStopped : Worker → SessionState → Option (List ℕ) → Option (List ℕ) → Option (List ℕ) → Option (List ℕ) → EngineError → Type 0
 HasStopped s e from to a b error =
-    (heard : Option Event) × (read out : List ℕ) × IsRead heard read × StopsTurn s heard error out e × Consumes from to read × Appends a b out
+    (received : Option Event) × (read out : List ℕ) × IsRead received read × StopsTurn s received error out e × Consumes from to read × Appends a b out
 
--- what was read is heard, up to an error
+-- what was read is received, up to an error
 pub read_fails : (s : Worker) (e : SessionState) (found : Option Event) (event : Event) (error : EngineError) (from to a b : Option (List ℕ))
     → found ≡ Some event → ((read : List ℕ) × IsRead found read × Consumes from to read) → HasHalted s event e a b error
-    → (heard : Option Event) × (read out : List ℕ) × IsRead heard read × HaltsAt s heard error out e × Consumes from to read × Appends a b out
+    → (received : Option Event) × (read out : List ℕ) × IsRead received read × HaltsAt s received error out e × Consumes from to read × Appends a b out
 read_fails s e found event error from to a b is (read, reads, consumed) (out, halts, appended) =
     (Some event, read, out, subst (λ (x : Option Event). IsRead x read) is reads, halts, consumed, appended)
 
 -- the first event leaves nothing to do, and then it reads
 pub then_done : (s mid e : Worker) (event : Event) (from to a b d : Option (List ℕ)) → event ≡ first_event (state_of s.session.phase) → HasIdled s event mid a b
-    → ((heard : Option Event) × (read out : List ℕ) × IsRead heard read × Hears mid heard out e × Consumes from to read × Appends b d out)
+    → ((received : Option Event) × (read out : List ℕ) × IsRead received read × Receives mid received out e × Consumes from to read × Appends b d out)
     → HasTurned s e from to a d
-then_done s mid e event from to a b d is (idles, silent) (heard, read, out, reads, hears, consumed, more) =
-    (heard, read, out, reads, inr (mid, subst (λ (x : Event). Idles s x mid) is idles, hears), consumed, Appends-trans a b d [] out silent more)
+then_done s mid e event from to a b d is (idles, silent) (received, read, out, reads, receives, consumed, more) =
+    (received, read, out, reads, inr (mid, subst (λ (x : Event). Idles s x mid) is idles, receives), consumed, Appends-trans a b d [] out silent more)
 
 pub then_fails : (s mid : Worker) (e : SessionState) (event : Event) (error : EngineError) (from to a b d : Option (List ℕ)) → event ≡ first_event (state_of s.session.phase) → HasIdled s event mid a b
-    → ((heard : Option Event) × (read out : List ℕ) × IsRead heard read × HaltsAt mid heard error out e × Consumes from to read × Appends b d out)
+    → ((received : Option Event) × (read out : List ℕ) × IsRead received read × HaltsAt mid received error out e × Consumes from to read × Appends b d out)
     → HasStopped s e from to a d error
-then_fails s mid e event error from to a b d is (idles, silent) (heard, read, out, reads, halts, consumed, more) =
-    (heard, read, out, reads, inr (mid, subst (λ (x : Event). Idles s x mid) is idles, halts), consumed, Appends-trans a b d [] out silent more)
+then_fails s mid e event error from to a b d is (idles, silent) (received, read, out, reads, halts, consumed, more) =
+    (received, read, out, reads, inr (mid, subst (λ (x : Event). Idles s x mid) is idles, halts), consumed, Appends-trans a b d [] out silent more)
 
 -- the first event alone
 pub alone_done : (s e : Worker) (event : Event) (known a b : Option (List ℕ)) → event ≡ first_event (state_of s.session.phase) → HasReacted s event e a b → HasTurned s e known known a b
@@ -204,14 +204,14 @@ alone_fails s e event error known a b is (out, halts, appended) =
 
 -- the session after a turn
 pub turned : (s e : Worker) (from to a b : Option (List ℕ)) → HasTurned s e from to a b → Turns s.session e.session
-turned s e from to a b (heard, read, out, reads, all, consumed, appended) = turns_of s e heard out all
+turned s e from to a b (received, read, out, reads, all, consumed, appended) = turns_of s e received out all
 
 pub broken : (s : Worker) (e new : SessionState) (error : EngineError) (from to a b : Option (List ℕ)) → HasStopped s e from to a b error → new ≡ ended e → Breaks s.session new
-broken s e new error from to a b (heard, read, out, reads, stops, consumed, appended) is = breaks_of s e new heard error out stops is
+broken s e new error from to a b (received, read, out, reads, stops, consumed, appended) is = breaks_of s e new received error out stops is
 
 pub stopped : (s : Worker) (e new : SessionState) (error : EngineError) (from to a b : Option (List ℕ)) → HasStopped s e from to a b error → new ≡ ended e → HasStopped s new from to a b error
-stopped s e new error from to a b (heard, read, out, reads, stops, consumed, appended) is =
-    (heard, read, out, reads, halted s e new heard error out stops is, consumed, appended)
+stopped s e new error from to a b (received, read, out, reads, stops, consumed, appended) is =
+    (received, read, out, reads, halted s e new received error out stops is, consumed, appended)
 
 -- ---- a session that is over refuses each event for that
 

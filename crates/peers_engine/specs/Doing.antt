@@ -70,29 +70,29 @@ worker s seat number now = record { session = s; seat = seat; number = number; n
 abbrev pub stands : Worker → SessionState → SeatState → Worker
 stands w s seat = worker s seat w.number w.now
 
--- The session is told an answer, where there is one: it is the one event of a run. A session that is over is told nothing.
-abbrev pub ToldIn : State → SessionState → Event → List (Event × List Action) → SessionState → Type 0
-ToldIn states.Ended s event steps e = (steps ≡ []) × (e ≡ s)
-ToldIn state s event steps e = (acts : List Action) × Goes s event acts e × (steps ≡ (event, acts) ∷ [])
+-- The session is given an answer, where there is one: it is the one event of a run. A session that is over is given nothing.
+abbrev pub IsGivenIn : State → SessionState → Event → List (Event × List Action) → SessionState → Type 0
+IsGivenIn states.Ended s event steps e = (steps ≡ []) × (e ≡ s)
+IsGivenIn state s event steps e = (acts : List Action) × Goes s event acts e × (steps ≡ (event, acts) ∷ [])
 
-abbrev pub Told : SessionState → Option Event → List (Event × List Action) → SessionState → Type 0
-Told s None steps e = (steps ≡ []) × (e ≡ s)
-Told s (Some event) steps e = ToldIn (state_of s.phase) s event steps e
+abbrev pub IsGiven : SessionState → Option Event → List (Event × List Action) → SessionState → Type 0
+IsGiven s None steps e = (steps ≡ []) × (e ≡ s)
+IsGiven s (Some event) steps e = IsGivenIn (state_of s.phase) s event steps e
 
--- Actions are done one after another, each for the session as it stands then, which is told the answer at once: the answers
--- told, with what each asked for; what was written; and where the session stands in the end.
+-- Actions are done one after another, each for the session as it stands then, which is given the answer at once: the answers
+-- given, with what each asked for; what was written; and where the session stands in the end.
 abbrev pub Acts : Worker → List Action → List (Event × List Action) → List ℕ → Worker → Type 0
-Acts w [] told out e = (told ≡ []) × (out ≡ []) × (e ≡ w)
-Acts w (act ∷ acts) told out e =
+Acts w [] answers out e = (answers ≡ []) × (out ≡ []) × (e ≡ w)
+Acts w (act ∷ acts) answers out e =
     (bytes more : List ℕ)
     × (answer : Option Event)
     × (first rest : List (Event × List Action))
     × (seat : SeatState)
     × (mid : SessionState)
     × Done w.number w.now w.session.known w.seat act bytes answer seat
-    × Told w.session answer first mid
+    × IsGiven w.session answer first mid
     × Acts (stands w mid seat) acts rest more e
-    × (told ≡ first ++ rest)
+    × (answers ≡ first ++ rest)
     × (out ≡ bytes ++ more)
 
 -- what was asked for at some events, in order
@@ -128,9 +128,9 @@ Fails n now k s act error out = IsRefusal error × IsAtTable act × (out ≡ [])
 abbrev pub IsRefused : SessionState → Event → EngineError → Type 0
 IsRefused s event error = (why : SessionError) × Refuses s.phase event why × (error ≡ errors.Session why)
 
--- A session doesn't go on after an event: it refuses it; or hears it, and there is no memory for what it asks for.
-abbrev pub IsUnheard : SessionState → Event → EngineError → SessionState → Type 0
-IsUnheard s event error e =
+-- A session doesn't go on after an event: it refuses it; or receives it, and there is no memory for what it asks for.
+abbrev pub DoesNotGoOn : SessionState → Event → EngineError → SessionState → Type 0
+DoesNotGoOn s event error e =
     (IsRefused s event error × (e ≡ ended s))
     ⊎ ((acts : List Action) × Goes s event acts e × (error ≡ errors.Memory))
 
@@ -143,19 +143,19 @@ IsCut w (act ∷ rest) error out =
     ⊎ ((answer : Event) × (seat : SeatState) × Done w.number w.now w.session.known w.seat act out (Some answer) seat
     × (state_of w.session.phase ≢ states.Ended) × IsRefused w.session answer error)
 
--- there is no memory for what an answer that was told asks for
+-- there is no memory for what an answer that was given asks for
 abbrev pub IsLost : List (Event × List Action) → EngineError → List ℕ → Type 0
-IsLost told error out = (told ≢ []) × (error ≡ errors.Memory) × (out ≡ [])
+IsLost answers error out = (answers ≢ []) × (error ≡ errors.Memory) × (out ≡ [])
 
 -- Of the actions the first were done, and what came then ended it: what was written, and where the session stands, but for
 -- that it is then over.
 abbrev pub Stops : Worker → List Action → EngineError → List (Event × List Action) → List ℕ → SessionState → Type 0
-Stops w acts error told out e =
+Stops w acts error answers out e =
     (before rest : List Action)
     × (first last : List ℕ)
     × (mid : Worker)
     × (acts ≡ before ++ rest)
-    × Acts w before told first mid
-    × (IsCut mid rest error last ⊎ IsLost told error last)
+    × Acts w before answers first mid
+    × (IsCut mid rest error last ⊎ IsLost answers error last)
     × (out ≡ first ++ last)
     × (ended e ≡ ended mid.session)

@@ -31,24 +31,24 @@ Breaks s e = (e ≡ ended s) ⊎ ((mid : SessionState) × Turns s mid × (e ≡ 
 
 -- ---- what was done
 
--- An event is heard, and all that was asked for is done in order: what the event asked for, and then what the answers did.
+-- An event is received, and all that was asked for is done in order: what the event asked for, and then what the answers did.
 abbrev pub Reacts : Worker → Event → List ℕ → Worker → Type 0
 Reacts w event out e =
     (acts : List Action)
-    × (told : List (Event × List Action))
+    × (answers : List (Event × List Action))
     × (mid : SessionState)
     × Goes w.session event acts mid
-    × Acts (stands w mid w.seat) (acts ++ asked told) told out e
+    × Acts (stands w mid w.seat) (acts ++ asked answers) answers out e
 
--- an event is refused; or it is heard, and what was asked for is done up to where an error ended it
+-- an event is refused; or it is received, and what was asked for is done up to where an error ended it
 abbrev pub Halts : Worker → Event → EngineError → List ℕ → SessionState → Type 0
 Halts w event error out e =
     (IsRefused w.session event error × (out ≡ []) × (ended e ≡ ended w.session))
     ⊎ ((acts : List Action)
-    × (told : List (Event × List Action))
+    × (answers : List (Event × List Action))
     × (mid : SessionState)
     × Goes w.session event acts mid
-    × Stops (stands w mid w.seat) (acts ++ asked told) error told out e)
+    × Stops (stands w mid w.seat) (acts ++ asked answers) error answers out e)
 
 -- ---- a whole turn
 
@@ -61,12 +61,12 @@ is_push act = false
 abbrev pub Idles : Worker → Event → Worker → Type 0
 Idles w event e =
     (acts : List Action)
-    × (told : List (Event × List Action))
+    × (answers : List (Event × List Action))
     × (mid : SessionState)
     × Goes w.session event acts mid
     × (list_all is_push acts ≡ true)
-    × Acts (stands w mid w.seat) acts told [] e
-    × (asked told ≡ [])
+    × Acts (stands w mid w.seat) acts answers [] e
+    × (asked answers ≡ [])
 
 -- what a read gives, and the event that comes of it: none, 1 to 4,096 bytes, or the end
 abbrev pub IsRead : Option Event → List ℕ → Type 0
@@ -79,23 +79,23 @@ IsRead (Some event) bytes = ⊥
 abbrev pub IsUnread : EngineError → Type 0
 IsUnread error = (error ≡ errors.Read) ⊎ (error ≡ errors.Memory)
 
--- An event is heard, if there is one; and up to an error, which may come before there is one.
-abbrev pub Hears : Worker → Option Event → List ℕ → Worker → Type 0
-Hears w None out e = (out ≡ []) × (e ≡ w)
-Hears w (Some event) out e = Reacts w event out e
+-- An event is received, if there is one; and up to an error, which may come before there is one.
+abbrev pub Receives : Worker → Option Event → List ℕ → Worker → Type 0
+Receives w None out e = (out ≡ []) × (e ≡ w)
+Receives w (Some event) out e = Reacts w event out e
 
 abbrev pub HaltsAt : Worker → Option Event → EngineError → List ℕ → SessionState → Type 0
 HaltsAt w None error out e = IsUnread error × (out ≡ []) × (ended e ≡ ended w.session)
 HaltsAt w (Some event) error out e = Halts w event error out e
 
--- A turn hears its first event; and where that leaves nothing to do it reads, and hears the event that comes of it, if any.
+-- A turn receives its first event; and where that leaves nothing to do it reads, and receives the event that comes of it, if any.
 abbrev pub TakesTurn : Worker → Option Event → List ℕ → Worker → Type 0
-TakesTurn w heard out e =
-    ((heard ≡ None) × Reacts w (first_event (state_of w.session.phase)) out e)
-    ⊎ ((mid : Worker) × Idles w (first_event (state_of w.session.phase)) mid × Hears mid heard out e)
+TakesTurn w received out e =
+    ((received ≡ None) × Reacts w (first_event (state_of w.session.phase)) out e)
+    ⊎ ((mid : Worker) × Idles w (first_event (state_of w.session.phase)) mid × Receives mid received out e)
 
 -- the same up to an error
 abbrev pub StopsTurn : Worker → Option Event → EngineError → List ℕ → SessionState → Type 0
-StopsTurn w heard error out e =
-    ((heard ≡ None) × Halts w (first_event (state_of w.session.phase)) error out e)
-    ⊎ ((mid : Worker) × Idles w (first_event (state_of w.session.phase)) mid × HaltsAt mid heard error out e)
+StopsTurn w received error out e =
+    ((received ≡ None) × Halts w (first_event (state_of w.session.phase)) error out e)
+    ⊎ ((mid : Worker) × Idles w (first_event (state_of w.session.phase)) mid × HaltsAt mid received error out e)

@@ -15,5 +15,6 @@ mod writing;
 pub use errors::{EngineError, Turned};
 pub use fused::Fused;
 pub use gate::{Gate, Open, Stage};
+pub use peers_devices::{Counting, Faults};
 pub use turning::turn;
 pub use writing::{WriteFault, write_lesson};

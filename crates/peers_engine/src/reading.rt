@@ -39,7 +39,7 @@ pub(crate) fn read_event<R: Read + Faults>(
     alloc: Global,
     input: &mut R,
 ) -> Result<Option<Event>, EngineError>
-    ensures heard { IfOk result (λ event. (read : List ℕ) × IsRead event read
+    ensures received { IfOk result (λ event. (read : List ℕ) × IsRead event read
         × Consumes (R.remaining input.old) (R.remaining input.new) read) }
     ensures end { result ≡ Ok (Some events.End) → IsAtEnd (R.remaining input.new) }
     ensures failed { result ≡ Err errors.Read → Rose (R.failed input.old) (R.failed input.new) }

@@ -12,8 +12,8 @@ ghost use Rattle.session_core.specs.declared.state.State.TheVariants as states;
 ghost use Rattle.session_core.specs.Sessions.{Goes, Refuses, ended, state_of};
 ghost use Rattle.peers_engine.specs.declared.errors.EngineError.TheVariants as errors;
 ghost use Rattle.peers_engine.specs.declared.errors.Turned.TheVariants as turns;
-ghost use Rattle.peers_engine.specs.Doing.{Acts, IsUnheard, Stops, Told, Worker, asked, worker};
-ghost use Rattle.peers_engine.specs.Turns.{Breaks, Halts, HaltsAt, Hears, Idles, IsRead, Reacts, StopsTurn, TakesTurn, Turns, first_event, is_push};
+ghost use Rattle.peers_engine.specs.Doing.{Acts, DoesNotGoOn, Stops, IsGiven, Worker, asked, worker};
+ghost use Rattle.peers_engine.specs.Turns.{Breaks, Halts, HaltsAt, Receives, Idles, IsRead, Reacts, StopsTurn, TakesTurn, Turns, first_event, is_push};
 
 use crate::context::Context;
 use crate::doing::do_action;
@@ -28,16 +28,16 @@ use std::sync::Wait;
 use table_shards::{Seat, Shards};
 use table_types::{CopyKind, Moment};
 
-/// Has a session hear of an event, and adds what it asks for then.
-fn hear(
+/// Gives a session an event, and adds what it asks for then.
+fn give_event(
     session: &mut Session,
     now: Moment,
     event: Event,
     given: &mut Vec<Action>,
 ) -> Result<(), EngineError>
-    ensures heard { OnOk result ((acts : List Action) × Goes session.old event acts session.new
+    ensures goes { OnOk result ((acts : List Action) × Goes session.old event acts session.new
         × (given.new.items ≡ given.old.items ++ acts)) }
-    ensures unheard { IfErr result (λ e. IsUnheard session.old event e session.new) }
+    ensures stuck { IfErr result (λ e. DoesNotGoOn session.old event e session.new) }
 {
     let mut more = session.on(event, now)?;
     match given.append(&mut more) {
@@ -46,21 +46,21 @@ fn hear(
     }
 }
 
-/// Tells the session the answer to an action, if it has one, and adds what it asks for then. A session that is over is told
+/// Gives the session the answer to an action, if it has one, and adds what it asks for then. A session that is over is given
 /// nothing.
-fn tell(
+fn give_answer(
     session: &mut Session,
     now: Moment,
     answer: Option<Event>,
     given: &mut Vec<Action>,
 ) -> Result<(), EngineError>
-    ensures told { OnOk result ((steps : List (Event × List Action)) × Told session.old answer steps session.new
+    ensures given { OnOk result ((steps : List (Event × List Action)) × IsGiven session.old answer steps session.new
         × (given.new.items ≡ given.old.items ++ asked steps)) }
-    ensures unheard { IfErr result (λ e. (event : Event) × (answer ≡ Some event) × (state_of session.old.phase ≢ states.Ended)
-        × IsUnheard session.old event e session.new) }
+    ensures stuck { IfErr result (λ e. (event : Event) × (answer ≡ Some event) × (state_of session.old.phase ≢ states.Ended)
+        × DoesNotGoOn session.old event e session.new) }
 {
     match answer {
-        Some(event) if session.state() != State::Ended => hear(session, now, event, given),
+        Some(event) if session.state() != State::Ended => give_event(session, now, event, given),
         Some(_) | None => Ok(()),
     }
 }
@@ -74,11 +74,11 @@ fn do_all<H: Wait, G: Gate, W: Write + Faults>(
     actions: Vec<Action>,
 ) -> (Seat, Result<Vec<Action>, EngineError>)
     ensures seat { result.0.number ≡ seat.number }
-    ensures done { IfOk result.1 (λ given. (told : List (Event × List Action)) × (out : List ℕ)
-        × Acts (worker session.old seat context.now.number context.now.moment) actions.items told out (worker session.new result.0 context.now.number context.now.moment) × (given.items ≡ asked told)
+    ensures done { IfOk result.1 (λ given. (answers : List (Event × List Action)) × (out : List ℕ)
+        × Acts (worker session.old seat context.now.number context.now.moment) actions.items answers out (worker session.new result.0 context.now.number context.now.moment) × (given.items ≡ asked answers)
         × Appends (W.contents output.old) (W.contents output.new) out) }
-    ensures failed { IfErr result.1 (λ e. (told : List (Event × List Action)) × (out : List ℕ)
-        × Stops (worker session.old seat context.now.number context.now.moment) actions.items e told out session.new
+    ensures failed { IfErr result.1 (λ e. (answers : List (Event × List Action)) × (out : List ℕ)
+        × Stops (worker session.old seat context.now.number context.now.moment) actions.items e answers out session.new
         × Appends (W.contents output.old) (W.contents output.new) out) }
     ensures unread { IfErr result.1 (λ e. e ≢ errors.Read) }
 {
@@ -91,7 +91,7 @@ fn do_all<H: Wait, G: Gate, W: Write + Faults>(
             Ok(answer) => answer,
             Err(error) => return (seat, Err(error)),
         };
-        if let Err(error) = tell(session, context.moment, answer, &mut given) {
+        if let Err(error) = give_answer(session, context.moment, answer, &mut given) {
             return (seat, Err(error));
         }
     }
@@ -111,7 +111,7 @@ fn are_pushes(actions: &[Action]) -> bool
     ))
 }
 
-/// Has the session hear of an event, and does what it asks for, and what it asks for then. Answers whether nothing was to
+/// Gives the session an event, and does what it asks for, and what it asks for then. Answers whether nothing was to
 /// be done: no action, or a push of which the table had nothing.
 fn react<H: Wait, G: Gate, W: Write + Faults>(
     context: &Context<H, G>,
@@ -157,12 +157,12 @@ fn receive<H: Wait, G: Gate, R: Read + Faults, W: Write + Faults>(
     seat: Seat,
 ) -> (Seat, Result<bool, EngineError>)
     ensures seat { result.0.number ≡ seat.number }
-    ensures done { OnOk result.1 ((heard : Option Event) × (read out : List ℕ) × IsRead heard read
-        × Hears (worker session.old seat context.now.number context.now.moment) heard out (worker session.new result.0 context.now.number context.now.moment)
+    ensures done { OnOk result.1 ((received : Option Event) × (read out : List ℕ) × IsRead received read
+        × Receives (worker session.old seat context.now.number context.now.moment) received out (worker session.new result.0 context.now.number context.now.moment)
         × Consumes (R.remaining input.old) (R.remaining input.new) read
         × Appends (W.contents output.old) (W.contents output.new) out) }
-    ensures failed { IfErr result.1 (λ e. (heard : Option Event) × (read out : List ℕ) × IsRead heard read
-        × HaltsAt (worker session.old seat context.now.number context.now.moment) heard e out session.new
+    ensures failed { IfErr result.1 (λ e. (received : Option Event) × (read out : List ℕ) × IsRead received read
+        × HaltsAt (worker session.old seat context.now.number context.now.moment) received e out session.new
         × Consumes (R.remaining input.old) (R.remaining input.new) read
         × Appends (W.contents output.old) (W.contents output.new) out) }
     ensures read { result.1 ≡ Err errors.Read → Rose (R.failed input.old) (R.failed input.new) }
@@ -183,12 +183,12 @@ fn take_turn<H: Wait, G: Gate, R: Read + Faults, W: Write + Faults>(
     seat: Seat,
 ) -> (Seat, Result<bool, EngineError>)
     ensures seat { result.0.number ≡ seat.number }
-    ensures done { OnOk result.1 ((heard : Option Event) × (read out : List ℕ) × IsRead heard read
-        × TakesTurn (worker session.old seat context.now.number context.now.moment) heard out (worker session.new result.0 context.now.number context.now.moment)
+    ensures done { OnOk result.1 ((received : Option Event) × (read out : List ℕ) × IsRead received read
+        × TakesTurn (worker session.old seat context.now.number context.now.moment) received out (worker session.new result.0 context.now.number context.now.moment)
         × Consumes (R.remaining input.old) (R.remaining input.new) read
         × Appends (W.contents output.old) (W.contents output.new) out) }
-    ensures failed { IfErr result.1 (λ e. (heard : Option Event) × (read out : List ℕ) × IsRead heard read
-        × StopsTurn (worker session.old seat context.now.number context.now.moment) heard e out session.new
+    ensures failed { IfErr result.1 (λ e. (received : Option Event) × (read out : List ℕ) × IsRead received read
+        × StopsTurn (worker session.old seat context.now.number context.now.moment) received e out session.new
         × Consumes (R.remaining input.old) (R.remaining input.new) read
         × Appends (W.contents output.old) (W.contents output.new) out) }
     ensures read { result.1 ≡ Err errors.Read → Rose (R.failed input.old) (R.failed input.new) }
@@ -248,12 +248,12 @@ pub fn turn<H: Wait, R: Read + Faults, W: Write + Faults, G: Gate>(
     ensures broken { OnErr result.1 (Breaks session.old session.new) }
     ensures ended { OnErr result.1 (state_of session.new.phase ≡ states.Ended) }
     ensures seat { result.0.number ≡ seat.number }
-    ensures written { OnOk result.1 ((heard : Option Event) × (read out : List ℕ) × IsRead heard read
-        × TakesTurn (worker session.old seat number now) heard out (worker session.new result.0 number now)
+    ensures written { OnOk result.1 ((received : Option Event) × (read out : List ℕ) × IsRead received read
+        × TakesTurn (worker session.old seat number now) received out (worker session.new result.0 number now)
         × Consumes (R.remaining input.old) (R.remaining input.new) read
         × Appends (W.contents output.old) (W.contents output.new) out) }
-    ensures stopped { IfErr result.1 (λ e. (heard : Option Event) × (read out : List ℕ) × IsRead heard read
-        × StopsTurn (worker session.old seat number now) heard e out session.new
+    ensures stopped { IfErr result.1 (λ e. (received : Option Event) × (read out : List ℕ) × IsRead received read
+        × StopsTurn (worker session.old seat number now) received e out session.new
         × Consumes (R.remaining input.old) (R.remaining input.new) read
         × Appends (W.contents output.old) (W.contents output.new) out) }
     ensures read { result.1 ≡ Err errors.Read → Rose (R.failed input.old) (R.failed input.new) }

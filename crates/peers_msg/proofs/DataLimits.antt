@@ -5,7 +5,7 @@ use Rattle.std.proofs.lemmas.Bool.{le-leb}
 use Rattle.std.proofs.lemmas.Bool.Decides.{nat_tests}
 use Rattle.std.proofs.lemmas.List.Concat.{flat_map-cons}
 use Rattle.peers_encint.specs.Integers.{spelling}
-use Rattle.peers_encint.proofs.SpellingLaws.{within}
+use Rattle.peers_encint.proofs.OneSpelling.{within}
 use Rattle.table_types.specs.declared.data_type.DataType.{DataType}
 use Rattle.table_types.specs.declared.key.KeyKind.{KeyKind}
 use Rattle.table_types.specs.declared.key.KeyKind.TheVariants as kinds
@@ -22,7 +22,7 @@ use Rattle.peers_msg.specs.declared.name_field.NameField.TheVariants as names
 use Rattle.peers_msg.specs.Messages.{UpdateFields, key_bytes, is_small, most_data}
 use Rattle.peers_msg.specs.Spelling.{optional_word, counted, key_text, value_text, name_text, update_text, period_text, bits_of, definition_text}
 use Rattle.peers_msg.specs.Fitting.{name_fits, update_fits}
-use Rattle.peers_msg.proofs.SizeLaws.{types_short}
+use Rattle.peers_msg.proofs.DataLengths.{types_short}
 
 -- ---- what is small
 

@@ -9,7 +9,7 @@ use Rattle.std.proofs.lemmas.Nat.{be_bytes_4}
 use Rattle.peers_encint.specs.declared.reading.Read.{Read}
 use Rattle.peers_encint.specs.declared.reading.Read.TheVariants.{Value, Short, Over}
 use Rattle.peers_encint.specs.Integers.{spelling, read_of, IsBytes}
-use Rattle.peers_encint.proofs.ReadingLaws.{takes}
+use Rattle.peers_encint.proofs.ReadAsSpelled.{takes}
 use Rattle.table_types.specs.declared.data_type.DataType.{DataType}
 use Rattle.table_types.specs.declared.data_type.Shape.{Shape}
 use Rattle.table_types.specs.declared.data_type.Shape.TheVariants as shapes

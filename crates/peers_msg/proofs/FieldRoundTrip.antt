@@ -6,8 +6,8 @@ use Rattle.std.proofs.lemmas.List.{take_at, drop_at, length-append, append-nil}
 use Rattle.std.proofs.lemmas.List.Concat.{flat_map-cons}
 use Rattle.std.proofs.lemmas.Nat.{from_be_bytes-to_be_bytes_4}
 use Rattle.peers_encint.specs.Integers.{spelling}
-use Rattle.peers_encint.proofs.ReadingLaws.{again}
-use Rattle.peers_encint.proofs.SpellingLaws.{within}
+use Rattle.peers_encint.proofs.ReadAsSpelled.{again}
+use Rattle.peers_encint.proofs.OneSpelling.{within}
 use Rattle.table_types.specs.declared.data_type.DataType.{DataType}
 use Rattle.table_types.specs.declared.data_type.Shape.{Shape}
 use Rattle.table_types.specs.declared.data_type.Shape.TheVariants as shapes

@@ -6,8 +6,8 @@ use Rattle.std.proofs.lemmas.List.{length-drop, length-take-le}
 use Rattle.peers_encint.specs.declared.reading.Read.{Read}
 use Rattle.peers_encint.specs.declared.reading.Read.TheVariants.{Value, Short, Over}
 use Rattle.peers_encint.specs.Integers.{Reads, read_of, spelling}
-use Rattle.peers_encint.proofs.ReadingLaws.{again}
-use Rattle.peers_encint.proofs.SpellingLaws.{one_spelling, spelled as spelled_integer}
+use Rattle.peers_encint.proofs.ReadAsSpelled.{again}
+use Rattle.peers_encint.proofs.OneSpelling.{one_spelling, spelled as spelled_integer}
 use Rattle.peers_msg.specs.declared.control.Control.{Control}
 use Rattle.peers_msg.specs.declared.control.Control.TheVariants as controls
 use Rattle.peers_msg.specs.declared.control.ErrorKind.{ErrorKind}

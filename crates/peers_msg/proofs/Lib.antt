@@ -1,5 +1,5 @@
 pub mod AppendedIntegers
-pub mod SizeLaws
+pub mod DataLengths
 pub mod DataLimits
 pub mod FieldRoundTrip
 pub mod TypeRoundTrip
@@ -14,8 +14,8 @@ pub mod DefinitionParts
 pub mod ValidWhenRead
 pub mod CuttingIndependence
 pub mod FrameEnds
-pub mod ReceivedLaws
-pub mod ListLaws
-pub mod CuttingLaws
-pub mod CallLaws
+pub mod ReceivedTablesRise
+pub mod StreamRoundTrip
+pub mod SameEndHoweverCut
+pub mod CallsReadInPieces
 pub mod OneOutcome

@@ -7,12 +7,12 @@ use Rattle.std.proofs.lemmas.List.{drop_at, take-append-drop, length-append, len
 use Rattle.peers_encint.specs.declared.reading.Read.{Read}
 use Rattle.peers_encint.specs.declared.reading.Read.TheVariants.{Value, Short, Over}
 use Rattle.peers_encint.specs.Integers.{spelling, read_of, IsBytes}
-use Rattle.peers_encint.proofs.ReadingLaws.{takes}
+use Rattle.peers_encint.proofs.ReadAsSpelled.{takes}
 use Rattle.table_types.specs.declared.data_type.DataType.{DataType}
 use Rattle.table_types.specs.declared.key.KeyKind.{KeyKind}
 use Rattle.table_types.specs.Names.{is_name}
 use Rattle.table_types.specs.Keys.{number_of, kind_at, fits_length}
-use Rattle.table_types.proofs.KindLaws.{kind_numbered}
+use Rattle.table_types.proofs.KindRoundTrip.{kind_numbered}
 use Rattle.table_types.specs.DataTypes.{all_types}
 use Rattle.table_types.specs.Tables.{Definition, is_id, is_definition, has_its_period, rise_from}
 use Rattle.table_types.specs.Updates.{stores_name}

@@ -6,7 +6,7 @@ use Rattle.std.proofs.lemmas.Bool.{cases_Bool, cases_eq, ltb-true, leb-true, leb
 use Rattle.std.proofs.lemmas.List.{take_at, drop_at, length-append, append-nil, nil_from_length}
 use Rattle.peers_encint.specs.declared.reading.Read.TheVariants.{Value}
 use Rattle.peers_encint.specs.Integers.{spelling, read_of}
-use Rattle.peers_encint.proofs.ReadingLaws.{again}
+use Rattle.peers_encint.proofs.ReadAsSpelled.{again}
 use Rattle.table_types.specs.declared.data_type.DataType.{DataType}
 use Rattle.table_types.specs.declared.key.KeyKind.{KeyKind}
 use Rattle.table_types.specs.declared.key.KeyKind.TheVariants as kinds

@@ -5,7 +5,7 @@ use Rattle.std.proofs.lemmas.List.{take-append-le, drop-append-le, length-append
 use Rattle.peers_encint.specs.declared.reading.Read.{Read}
 use Rattle.peers_encint.specs.declared.reading.Read.TheVariants.{Value, Short, Over}
 use Rattle.peers_encint.specs.Integers.{IsBytes, read_of}
-use Rattle.peers_encint.proofs.ReadingLaws.{takes, stays}
+use Rattle.peers_encint.proofs.ReadAsSpelled.{takes, stays}
 use Rattle.peers_msg.specs.declared.fault.Breach.{Breach}
 use Rattle.peers_msg.specs.declared.message.Message.{Message}
 use Rattle.peers_msg.specs.Messages.{most_data}

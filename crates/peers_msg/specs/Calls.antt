@@ -10,25 +10,25 @@ taken_of piece (Ok _) = piece ∷ []
 taken_of piece (Err fault) = []
 
 -- the message that was asked for, where one was given
-abbrev pub given_of : Result (Option Message) Fault → List Message
-given_of (Ok (Some m)) = m ∷ []
-given_of answer = []
+abbrev pub messages_given : Result (Option Message) Fault → List Message
+messages_given (Ok (Some m)) = m ∷ []
+messages_given answer = []
 
 -- Calls one after another lead from d to e, where Some feeds that piece and None asks for a message: these pieces were
 -- taken, and these messages given.
-abbrev pub AreCalled : Decoding → List (Option (List ℕ)) → List (List ℕ) → List Message → Decoding → Type 0
-AreCalled d [] pieces ms e = (pieces ≡ []) × (ms ≡ []) × (e ≡ d)
-AreCalled d (Some piece ∷ calls) pieces ms e =
+abbrev pub AreDecoderCalls : Decoding → List (Option (List ℕ)) → List (List ℕ) → List Message → Decoding → Type 0
+AreDecoderCalls d [] pieces ms e = (pieces ≡ []) × (ms ≡ []) × (e ≡ d)
+AreDecoderCalls d (Some piece ∷ calls) pieces ms e =
     (answer : Result (Unit {0}) Fault)
     × (others : List (List ℕ))
     × (mid : Decoding)
     × (pieces ≡ taken_of piece answer ++ others)
     × DecoderFeeds d piece answer mid
-    × AreCalled mid calls others ms e
-AreCalled d (None ∷ calls) pieces ms e =
+    × AreDecoderCalls mid calls others ms e
+AreDecoderCalls d (None ∷ calls) pieces ms e =
     (answer : Result (Option Message) Fault)
     × (others : List Message)
     × (mid : Decoding)
-    × (ms ≡ given_of answer ++ others)
+    × (ms ≡ messages_given answer ++ others)
     × DecoderNext d answer mid
-    × AreCalled mid calls pieces others e
+    × AreDecoderCalls mid calls pieces others e

@@ -46,7 +46,7 @@ DecoderNext d (Err (faults.Breach breach)) e =
     × (message_at d.received d.unread ≡ Err breach)
     × (e ≡ record { received = d.received; unread = d.unread; closed = true })
 
--- What looking at the front of bytes tells, by what was received: the message there and how many bytes it has, none, or
+-- What looking at the front of bytes gives, by what was received: the message there and how many bytes it has, none, or
 -- what is wrong with it. It takes no memory.
 abbrev pub IsFrontOf : Received → List ℕ → Result (Option (MessageRef × ℕ)) Breach → Type 0
 IsFrontOf received bytes (Ok None) = message_at received bytes ≡ Ok None

@@ -4,7 +4,7 @@ ghost use Rattle.std.specs.Prelude.{List, length, fold, true, ℕ, ◌≡◌, �
 ghost use Rattle.peers_encint.specs.Integers.{IsBytes};
 ghost use Rattle.peers_msg.specs.Reading.{message_at, with_more};
 ghost use Rattle.peers_msg.specs.Decoding.{Decoding, DecoderFeeds, DecoderNext, AreRead, AreReadInPieces, IsEnd, together};
-ghost use Rattle.peers_msg.specs.Calls.{AreCalled};
+ghost use Rattle.peers_msg.specs.Calls.{AreDecoderCalls};
 ghost use Rattle.peers_msg.specs.Stream.{AllFit};
 ghost use Rattle.peers_msg.specs.Received.{Received, AreDistinct, nothing_received, received_after, resumed};
 ghost use Rattle.peers_msg.specs.OwnTables.{own_part};
@@ -73,9 +73,9 @@ pub fn any_cutting()
 /// them, and then come those that it took. So the messages that it gives fit, and they are spelled by those bytes up to
 /// what is unread at the end; and what it received is what they say.
 pub fn any_calls()
-    ensures pieces { (d e : Decoding) (calls : List (Option (List ℕ))) (pieces : List (List ℕ)) (ms : List Message) → AreCalled d calls pieces ms e →
+    ensures pieces { (d e : Decoding) (calls : List (Option (List ℕ))) (pieces : List (List ℕ)) (ms : List Message) → AreDecoderCalls d calls pieces ms e →
         AreReadInPieces d.received [] (d.unread ∷ pieces) ms e.received e.unread }
-    ensures spelled { (d e : Decoding) (calls : List (Option (List ℕ))) (pieces : List (List ℕ)) (ms : List Message) → IsBytes (d.unread ++ together pieces) → AreCalled d calls pieces ms e →
+    ensures spelled { (d e : Decoding) (calls : List (Option (List ℕ))) (pieces : List (List ℕ)) (ms : List Message) → IsBytes (d.unread ++ together pieces) → AreDecoderCalls d calls pieces ms e →
         (d.unread ++ together pieces ≡ stream_of ms ++ e.unread) × AllFit d.received ms × (e.received ≡ fold received_after d.received ms) }
 {}
 

@@ -138,7 +138,7 @@ fn periods_size(types: &[(DataType, Option<u32>)]) -> usize
 }
 
 /// How many bytes of data a definition has.
-#[tactic(auto, using(crate::proofs::SizeLaws::types_short))]
+#[tactic(auto, using(crate::proofs::DataLengths::types_short))]
 pub fn definition_size(table: &TableDef) -> usize
     ensures exact { result ≡ length (definition_text table.now) }
     ensures within { result ≤ most_data }

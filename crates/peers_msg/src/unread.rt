@@ -78,7 +78,7 @@ impl Unread {
         }
     }
 
-    /// The message at the front, as `front` tells it.
+    /// The message at the front, as `front` returns it.
     #[inline(always)]
     pub fn front<'a>(
         &'a self,

@@ -4,11 +4,11 @@ pub mod NamesInSlots
 pub mod LinksAreFound
 pub mod RoomIsKept
 pub mod PlansAreAccepted
-pub mod ComparisonLemmas
-pub mod StreamLemmas
+pub mod ComparisonGoesOn
+pub mod StreamIsReadOn
 pub mod OneReading
 pub mod OneVerdict
 pub mod ShortestIsSaid
 pub mod AllMarks
 pub mod NamedRequests
-pub mod VerdictLemmas
+pub mod FoundAsSaid

@@ -8,7 +8,7 @@ use Rattle.table_types.specs.Rosters.{is_same_name}
 use Rattle.table_types.specs.SlotIds.{is_slot}
 use Rattle.dict_slots.specs.Slots.{Holds}
 use Rattle.known_state.specs.Plans.{name_held, names_in}
-use Rattle.known_state.proofs.RosterLemmas.{name_itself}
+use Rattle.known_state.proofs.RosterNamesDiffer.{name_itself}
 
 or_true : (b : Bool) → (b || true) ≡ true
 or_true true = refl

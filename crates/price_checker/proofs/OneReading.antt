@@ -13,9 +13,9 @@ use Rattle.peers_msg.proofs.MessageRoundTrip.{message_again}
 use Rattle.known_state.specs.State.{State, Step, Teaches, IsOwn, Legal}
 use Rattle.known_state.specs.Known.{KnownState, AreOwn, Refuses}
 use Rattle.known_state.specs.declared.known.StepError.{StepError}
-use Rattle.known_state.proofs.EffectLemmas.{step_fits}
-use Rattle.known_state.proofs.InStepLaws.{own_stays}
-use Rattle.known_state.proofs.RefusalLaws.{no_step}
+use Rattle.known_state.proofs.EffectsAreSteps.{step_fits}
+use Rattle.known_state.proofs.TeacherAndLearnerInStep.{own_stays}
+use Rattle.known_state.proofs.RefusedIsNoStep.{no_step}
 use Rattle.known_state.proofs.StepIsDeterministic.{one_step}
 use Rattle.price_checker.specs.declared.verdict.Illegal.{Illegal}
 use Rattle.price_checker.specs.declared.verdict.Illegal.TheVariants as illegals

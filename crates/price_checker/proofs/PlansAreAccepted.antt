@@ -5,7 +5,7 @@ use Rattle.std.proofs.lemmas.Bool.{cases_eq, eq-eqb, ne_eqb}
 use Rattle.std.proofs.lemmas.List.{length-map}
 use Rattle.known_state.specs.Requests.{Asked}
 use Rattle.known_state.specs.Plans.{Plan, Link, sum_of, at_start, links, all_links, AreLinked, kept_over, kept_savings, bound, Accepts}
-use Rattle.known_state.proofs.LinkLaws.{above_alike}
+use Rattle.known_state.proofs.SavingsAreBounded.{above_alike}
 use Rattle.known_state.proofs.LinkPlaces.{links_forward}
 use Rattle.price_checker.specs.Links.{AreWithin}
 

@@ -25,7 +25,7 @@ kept_over_few (l ∷ ls) place = by (l.kept && is_inside place l) (kept_over_few
 pub room_kept : (slots : ℕ) (counts : List ℕ) (ls : List Link) → 1 ≤ slots → length counts ≡ 512 → AreWithin 512 ls → ((place : ℕ) → slice_index counts place ≡ kept_over ls place) → EachIndex counts (λ index. slice_index counts index < slots) → (place : ℕ) → kept_over ls place ≤ slots - 1
 room_kept slots counts ls some long within counted below place = elim (cases_lt place 512) [
   | inl before ↦ omega (arith, below place (omega arith), counted place)
-  | inr behind ↦ omega (arith, over_none 512 place ls within behind)
+  | inr beyond ↦ omega (arith, over_none 512 place ls within beyond)
 ]
 
 -- and the other way round

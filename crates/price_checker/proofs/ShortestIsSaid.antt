@@ -10,7 +10,7 @@ use Rattle.known_state.specs.Known.{KnownState, AreOwn}
 use Rattle.known_state.specs.Shortest.{Shortest}
 use Rattle.known_state.specs.Cost.{full}
 use Rattle.known_state.specs.Plans.{Plan, Accepts, kept_savings, links, names_in}
-use Rattle.known_state.proofs.PlanLaws as plans
+use Rattle.known_state.proofs.AcceptedIsShortest as plans
 use Rattle.price_checker.specs.declared.verdict.Verdict.TheVariants as verdicts
 use Rattle.price_checker.specs.Verdicts.{requests, Says, bound_shown}
 

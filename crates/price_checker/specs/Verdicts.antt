@@ -3,6 +3,7 @@
 use Rattle.std.specs.Prelude.{◌≡◌, ◌≢◌, ◌≤◌, ℕ, ◌+◌, ◌-◌, ◌^◌, nat_lt, true, List, [], ◌∷◌, ◌++◌, length, Some, None, Ok, Err, codes}
 use Rattle.std.specs.List.{AllByRecursion, list_any}
 use Rattle.table_types.specs.declared.update.Update.{Update}
+use Rattle.table_types.specs.SlotIds.{slot_count}
 use Rattle.peers_msg.specs.declared.message.Message.{Message}
 use Rattle.peers_msg.specs.Breaches.{breach_name}
 use Rattle.peers_msg.specs.Reading.{message_at}
@@ -69,7 +70,7 @@ requests k us = requests_of k.roster (knowledge_of k.state) us
 
 -- how many bytes reads can save at most in 128 slots, as these prices show
 abbrev pub bound_shown : KnownState → List Update → List ℕ → ℕ
-bound_shown k us prices = bound 128 (all_links (names_in k.state.slots) (requests k us)) prices
+bound_shown k us prices = bound slot_count (all_links (names_in k.state.slots) (requests k us)) prices
 
 -- there is one price for each request, and none is above 2^32
 abbrev pub ArePrices : KnownState → List Update → List ℕ → Type 0

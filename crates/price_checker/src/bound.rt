@@ -2,6 +2,7 @@
 
 ghost use Rattle.std.specs.Prelude.{◌≡◌, ◌<◌, ◌≤◌, ◌-◌, ◌^◌, length};
 ghost use Rattle.std.specs.List.{AllByRecursion};
+ghost use Rattle.table_types.specs.SlotIds.{slot_count};
 ghost use Rattle.known_state.specs.Plans.{sum_of, price_inside, kept_savings, bound};
 ghost use Rattle.price_checker.specs.Links.{AreWithin};
 
@@ -32,7 +33,7 @@ fn saved_above(link: &Link, prices: &[u64]) -> u64
 /// What the links can save at most with so many slots, 1 to 128, as these prices show: at most 512, and each at most
 /// 2^32.
 pub fn bound(slots: usize, links: &[Link], prices: &[u64]) -> u64
-    requires slots { (1 ≤ slots) × (slots ≤ 128) }
+    requires slots { (1 ≤ slots) × (slots ≤ slot_count) }
     requires prices { (length prices.now ≤ 512) × AllByRecursion (λ price. price ≤ 2 ^ 32) prices.now }
     requires links { (length links.now ≤ 512) × AreWithin (length prices.now) links.now }
     ensures { result ≡ bound slots links.now prices.now }

@@ -3,6 +3,7 @@
 ghost use Rattle.std.specs.Prelude.{◌≡◌, ◌≢◌, ◌≤◌, ◌↔◌, ◌+◌, ℕ, List, length, None};
 ghost use Rattle.table_types.specs.declared.update.Update.{Update};
 ghost use Rattle.table_types.specs.Rosters.{roster_fault};
+ghost use Rattle.table_types.specs.SlotIds.{slot_count};
 ghost use Rattle.peers_msg.specs.declared.message.Message.{Message};
 ghost use Rattle.peers_msg.specs.Spelling.{size_of_all, stream_of};
 ghost use Rattle.known_state.specs.State.{State, Legal};
@@ -35,7 +36,7 @@ pub fn said_of_streams()
 /// Of what is said to be shortest, no legal list that carries the batch is shorter.
 pub fn shortest_is_said()
     ensures { (k : KnownState) (us : List Update) (stream prices : List ℕ) (bytes : ℕ) →
-        roster_fault k.roster ≡ None → AreOwn k.roster k.state.received.tables → length k.state.slots ≡ 128 →
+        roster_fault k.roster ≡ None → AreOwn k.roster k.state.received.tables → length k.state.slots ≡ slot_count →
         Says k us stream prices (verdicts.Shortest bytes) →
         (ms : List Message) × (stream ≡ stream_of ms) × (bytes ≡ length stream) × Shortest k us ms }
 {}
@@ -44,8 +45,8 @@ pub fn shortest_is_said()
 /// the plan's prices.
 pub fn accepted_is_said()
     ensures { (k : KnownState) (e : State) (ms : List Message) (us : List Update) (plan : Plan) →
-        roster_fault k.roster ≡ None → AreOwn k.roster k.state.received.tables → length k.state.slots ≡ 128 →
-        Accepts 128 (names_in k.state.slots) (requests k us) plan → Legal k.roster k.state ms us e →
+        roster_fault k.roster ≡ None → AreOwn k.roster k.state.received.tables → length k.state.slots ≡ slot_count →
+        Accepts slot_count (names_in k.state.slots) (requests k us) plan → Legal k.roster k.state ms us e →
         size_of_all ms + kept_savings (links (names_in k.state.slots) (requests k us) plan.keep) ≤ full k.roster k.state us →
         Says k us (stream_of ms) plan.prices (verdicts.Shortest (length (stream_of ms))) }
 {}

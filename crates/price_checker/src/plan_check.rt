@@ -2,6 +2,7 @@
 
 ghost use Rattle.std.specs.Prelude.{◌≤◌, ◌^◌, ◌↔◌, IsTrue, length};
 ghost use Rattle.std.specs.List.{AllByRecursion};
+ghost use Rattle.table_types.specs.SlotIds.{slot_count};
 ghost use Rattle.known_state.specs.Plans.{Accepts};
 
 use crate::bound::{bound, kept_savings};
@@ -28,7 +29,7 @@ pub fn are_prices(prices: &[u64]) -> bool
 ///
 /// There are 1 to 128 slots, at most as many names held, and at most 512 requests.
 pub fn check_plan(slots: usize, held: &[Name], requests: &[Request], plan: &Plan) -> bool
-    requires slots { (1 ≤ slots) × (slots ≤ 128) }
+    requires slots { (1 ≤ slots) × (slots ≤ slot_count) }
     requires held { length held.now ≤ slots }
     requires requests { length requests.now ≤ 512 }
     ensures { IsTrue result ↔ Accepts slots held.now requests.now plan.now }

@@ -31,7 +31,7 @@ pub enum Reading {
 
 /// Moves the known state by the message at the front, which has so many bytes, if it is legal. What the message owns moves
 /// into the state.
-fn take(
+fn follow_if_legal(
     known: &mut Known,
     updates: &[Update],
     comparison: Comparison,
@@ -63,7 +63,7 @@ fn read_message(
     match front(known.received(), rest) {
         Ok(Some((found, used))) => {
             let message = found.to_owned(alloc)?;
-            take(known, updates, comparison, message, used)
+            follow_if_legal(known, updates, comparison, message, used)
         }
         Ok(None) => Ok(Next::Illegal(Illegal::Cut)),
         Err(breach) => Ok(Next::Illegal(Illegal::Decode(breach))),

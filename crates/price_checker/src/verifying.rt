@@ -4,6 +4,7 @@ ghost use Rattle.std.specs.Prelude.{◌≡◌, ◌≢◌, ◌≤◌, ◌^◌, �
 ghost use Rattle.std.specs.List.{AllByRecursion};
 ghost use Rattle.table_types.specs.Batches.{IsBatchFor};
 ghost use Rattle.table_types.specs.declared.update.Update.{Update};
+ghost use Rattle.table_types.specs.SlotIds.{slot_count};
 ghost use Rattle.peers_msg.specs.declared.message.Message.{Message};
 ghost use Rattle.peers_msg.specs.Spelling.{stream_of};
 ghost use Rattle.known_state.specs.Known.{KnownState};
@@ -26,17 +27,17 @@ use crate::verdict::Verdict;
 use dict_slots::Slots;
 use known_state::{Costing, Known, Request};
 use std::alloc::Global;
-use table_types::{Batch, Memory, Update};
+use table_types::{Batch, Memory, SLOT_COUNT, Update};
 
 /// How many bytes reads can save at most in 128 slots, as these prices show.
 fn bound_shown(slots: &Slots, requests: &[Request], prices: &[u64]) -> u64
     requires requests { length requests.now ≤ 512 }
     requires prices { (length prices.now ≡ length requests.now) × AllByRecursion (λ price. price ≤ 2 ^ 32) prices.now }
-    ensures { result ≡ bound 128 (all_links (names_in slots.now) requests.now) prices.now }
+    ensures { result ≡ bound slot_count (all_links (names_in slots.now) requests.now) prices.now }
 {
     let all = [true; MOST_REQUESTS];
     let (links, _) = find_links(Held::Slots(slots), requests, &all[..requests.len()]);
-    bound(usize::from(Slots::COUNT), links.as_slice(), prices)
+    bound(SLOT_COUNT, links.as_slice(), prices)
 }
 
 /// How many of the updates have a name.
@@ -137,7 +138,7 @@ pub fn verify(
     ensures shortest { IfOk result (λ verdict. (bytes : ℕ) → verdict ≡ verdicts.Shortest bytes →
         (ms : List Message) × (stream.now ≡ stream_of ms) × (bytes ≡ length stream.now) × Shortest known.now batch.now ms) }
 {
-    // Called for their clauses alone: they tell that the roster is sound and that there are 128 slots, which `shortest` needs.
+    // Called for their clauses alone: they say that the roster is sound and that there are 128 slots, which `shortest` needs.
     let _tables = known.roster().tables();
     let _slots = known.slots().len();
     said(alloc, known, batch, stream, prices)

@@ -35,9 +35,9 @@ little_more (first ∷ arcs) arc few little = λ node below. by (little_more arc
     by rest zero below = little 0 (omega arith)
     by rest (suc node) below = rest node (omega arith)
 
--- behind the last request there is none
+-- after the last request there is none
 pub arcs_end : (asking : Asking) (rs : List Asked) (i : ℕ) → length rs ≤ i → arcs_from asking (drop i rs) ≡ []
-arcs_end asking [] zero behind = refl
-arcs_end asking [] (suc i) behind = refl
-arcs_end asking (r ∷ rs) zero behind = absurd (omega arith)
-arcs_end asking (r ∷ rs) (suc i) behind = arcs_end asking rs i (omega arith)
+arcs_end asking [] zero beyond = refl
+arcs_end asking [] (suc i) beyond = refl
+arcs_end asking (r ∷ rs) zero beyond = absurd (omega arith)
+arcs_end asking (r ∷ rs) (suc i) beyond = arcs_end asking rs i (omega arith)

@@ -169,7 +169,7 @@ outside_none true true false out = refl
 outside_none true false before out = refl
 outside_none false after before out = refl
 
--- no link is over the start, nor over a place behind the requests
+-- no link is over the start, nor over a place after the requests
 none_outside : (asking : Asking) (rs : List Asked) (keep : List Bool) (place : ℕ) → (place ≡ 0) ⊎ (asking.place + length rs ≤ place) → kept_over (links_from asking rs keep) place ≡ 0
 none_outside asking [] keep place out = refl
 none_outside asking (r ∷ rs) [] place out = refl
@@ -177,11 +177,11 @@ none_outside asking (r ∷ rs) (kept ∷ keep) place out = by (asking.last r.nam
   where
     later : (place ≡ 0) ⊎ (asking.place + length (r ∷ rs) ≤ place) → (place ≡ 0) ⊎ (asking.place + 1 + length rs ≤ place)
     later (inl start) = inl start
-    later (inr behind) = inr (omega arith)
+    later (inr beyond) = inr (omega arith)
 
     tests : (from : ℕ) → (place ≡ 0) ⊎ (asking.place + length (r ∷ rs) ≤ place) → (nat_lt from place ≡ false) ⊎ (nat_lt place (asking.place + 1) ≡ false)
     tests from (inl start) = inl (grind (arith, nat_tests))
-    tests from (inr behind) = let here : asking.place + 1 ≤ place = omega arith in inr (grind (arith, nat_tests))
+    tests from (inr beyond) = let here : asking.place + 1 ≤ place = omega arith in inr (grind (arith, nat_tests))
 
     by : (last : Option ℕ) → (place ≡ 0) ⊎ (asking.place + length (r ∷ rs) ≤ place) → kept_over (links_from (after_request asking r) rs keep) place ≡ 0 → kept_over (link_of last (asking.place + 1) r kept ++ links_from (after_request asking r) rs keep) place ≡ 0
     by None out none = none
@@ -194,7 +194,7 @@ room_spent slots held rs room arcs spent zero = omega (arith, none_outside (at_s
 room_spent slots held rs room arcs spent (suc place) = elim (cases_lt place (length rs)) [
   | inl within ↦ let next : place + 1 ≡ suc place = omega arith in
       subst (λ (n : ℕ). kept_over (links held rs (marks arcs)) n ≤ slots) next (omega (arith, spent place within))
-  | inr behind ↦ omega (arith, none_outside (at_start held) rs (marks arcs) (suc place) (inr (omega arith)))
+  | inr beyond ↦ omega (arith, none_outside (at_start held) rs (marks arcs) (suc place) (inr (omega arith)))
 ]
 
 pub calm_is_accepted : (slots : ℕ) (held : List (List ℕ)) (rs : List Asked) (heights room : List ℕ) (arcs : List RequestArc) → AreArcs (at_start held) rs arcs → IsCalm heights room arcs → AreSpent (slots - 1) room held rs arcs

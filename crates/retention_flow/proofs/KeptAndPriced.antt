@@ -8,10 +8,10 @@ pub marks_more : (arcs : List RequestArc) (i : ℕ) → i < length arcs → mark
 marks_more arcs i below = ap marks (drop_more arcs i (record { from = 0; saving = 0; kept = false }) below)
 
 pub marks_end : (arcs : List RequestArc) (i : ℕ) → length arcs ≤ i → marks (drop i arcs) ≡ []
-marks_end [] zero behind = refl
-marks_end [] (suc i) behind = refl
-marks_end (arc ∷ arcs) zero behind = absurd (omega arith)
-marks_end (arc ∷ arcs) (suc i) behind = marks_end arcs i (omega arith)
+marks_end [] zero beyond = refl
+marks_end [] (suc i) beyond = refl
+marks_end (arc ∷ arcs) zero beyond = absurd (omega arith)
+marks_end (arc ∷ arcs) (suc i) beyond = marks_end arcs i (omega arith)
 
 pub prices_more : (hs : List ℕ) (i : ℕ) → i < length hs - 1 → prices_of (drop i hs) ≡ (slice_index hs (i + 1) - slice_index hs i) ∷ prices_of (drop (i + 1) hs)
 prices_more hs i below =
@@ -21,8 +21,8 @@ prices_more hs i below =
     ∙ ap (λ (l : List ℕ). (slice_index hs (i + 1) - slice_index hs i) ∷ prices_of l) (sym next)
 
 pub prices_end : (hs : List ℕ) (i : ℕ) → length hs - 1 ≤ i → prices_of (drop i hs) ≡ []
-prices_end [] zero behind = refl
-prices_end [] (suc i) behind = refl
-prices_end (h ∷ []) zero behind = refl
-prices_end (h ∷ (k ∷ hs)) zero behind = absurd (omega arith)
-prices_end (h ∷ hs) (suc i) behind = prices_end hs i (omega arith)
+prices_end [] zero beyond = refl
+prices_end [] (suc i) beyond = refl
+prices_end (h ∷ []) zero beyond = refl
+prices_end (h ∷ (k ∷ hs)) zero beyond = absurd (omega arith)
+prices_end (h ∷ hs) (suc i) beyond = prices_end hs i (omega arith)

@@ -164,7 +164,7 @@ next_arcs held rs hs room arcs steps slots node step arcs_next is below arcs_is 
 
 -- at the last node a slot less is left or taken at each place
 pub last_walk : (hs room : List ℕ) (arcs : List RequestArc) (steps : List (Option Step)) (slots node : ℕ) → length arcs ≤ node → IsWalk hs slots room arcs steps node → IsCalm hs room arcs × IsRoom (slots - 1) room arcs
-last_walk hs room arcs steps slots node behind walk = (
+last_walk hs room arcs steps slots node beyond walk = (
   walk.calm,
   record {
     count = walk.long;

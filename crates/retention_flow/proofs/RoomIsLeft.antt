@@ -41,7 +41,7 @@ AreCounted arcs node begun = (place : ℕ) → slice_index begun place + kept_fr
 pub counted-few : (arcs : List RequestArc) (node : ℕ) (begun : List ℕ) → length arcs ≤ 512 → AreCounted arcs node begun → (place : ℕ) → slice_index begun place ≤ 512
 counted-few arcs node begun most counted place = omega (arith, counted place, few_from 0 arcs place)
 
--- what stands at an index within a list, whatever stands behind its end
+-- what stands at an index within a list, whatever stands beyond its end
 pub any_default : (counts : List ℕ) (index default : ℕ) → index < length counts → slice_index_or counts index default ≡ slice_index counts index
 any_default [] index default within = absurd (omega arith)
 any_default (n ∷ counts) zero default within = refl
@@ -88,7 +88,7 @@ forward_links n node (arc ∷ arcs) back within =
 go_forward : (arcs : List RequestArc) → GoBack arcs → AllByRecursion (λ l. (l.from < l.to) × (l.to ≤ length arcs)) (links_of 0 arcs)
 go_forward arcs back = forward_links (length arcs) 0 arcs (λ i below. omega (arith, back i below)) (omega arith)
 
--- the link of an arc goes to the place behind its node, and no other does
+-- the link of an arc goes to the place after its node, and no other does
 none_to : (place node : ℕ) (arcs : List RequestArc) → place ≤ node → kept_to (links_of node arcs) place ≡ 0
 none_to place node [] le = refl
 none_to place node (arc ∷ arcs) le = let later = none_to place (node + 1) arcs (omega arith) in let here = by arc.kept in omega arith
@@ -122,12 +122,12 @@ passing_next arcs node back below =
     let ends = subst (λ (place : ℕ). kept_to (links_of 0 arcs) place ≡ cond (arc_at arcs node).kept 1 0) at (ends_at 0 node arcs below) in
     omega (arith, ends, over_next (length arcs) node (links_of 0 arcs) (go_forward arcs back))
 
--- before the first place none passes, and none behind the last
+-- before the first place none passes, and none after the last
 pub passing_first : (arcs : List RequestArc) → kept_over (links_of 0 arcs) 0 ≡ 0
 passing_first arcs = over_start (links_of 0 arcs)
 
 pub passing_none : (arcs : List RequestArc) (place : ℕ) → GoBack arcs → length arcs ≤ place → kept_over (links_of 0 arcs) place ≡ 0
-passing_none arcs place back behind = over_none (length arcs) place (links_of 0 arcs) (go_forward arcs back) behind
+passing_none arcs place back beyond = over_none (length arcs) place (links_of 0 arcs) (go_forward arcs back) beyond
 
 -- the counts up to a node are those of the arcs that pass the next place, and the others are as they were
 pub passed_more : (arcs : List RequestArc) (counts : List ℕ) (node passing : ℕ) → node < length counts → passing ≡ kept_over (links_of 0 arcs) (node + 1) → ((place : ℕ) → place < node → slice_index counts place ≡ kept_over (links_of 0 arcs) (place + 1))
@@ -139,15 +139,15 @@ passed_more arcs counts node passing within is done place below = elim (cases_eq
 ]
 
 pub left_more : (counts first : List ℕ) (node passing : ℕ) → ((place : ℕ) → node ≤ place → slice_index counts place ≡ slice_index first place) → (place : ℕ) → node + 1 ≤ place → slice_index (slice_set counts node passing) place ≡ slice_index first place
-left_more counts first node passing rest place behind = get_or-set_other counts node place passing 0 (λ same. absurd (omega (arith, same))) ∙ rest place (omega arith)
+left_more counts first node passing rest place beyond = get_or-set_other counts node place passing 0 (λ same. absurd (omega (arith, same))) ∙ rest place (omega arith)
 
-none_behind : (counts : List ℕ) (place : ℕ) → length counts ≤ place → slice_index counts place ≡ 0
-none_behind [] place behind = refl
-none_behind (n ∷ counts) zero behind = absurd (omega arith)
-none_behind (n ∷ counts) (suc place) behind = none_behind counts place (omega arith)
+none_beyond : (counts : List ℕ) (place : ℕ) → length counts ≤ place → slice_index counts place ≡ 0
+none_beyond [] place beyond = refl
+none_beyond (n ∷ counts) zero beyond = absurd (omega arith)
+none_beyond (n ∷ counts) (suc place) beyond = none_beyond counts place (omega arith)
 
 pub passed_all : (arcs : List RequestArc) (counts : List ℕ) → GoBack arcs → length counts ≡ length arcs → ((place : ℕ) → place < length arcs → slice_index counts place ≡ kept_over (links_of 0 arcs) (place + 1)) → (place : ℕ) → slice_index counts place ≡ kept_over (links_of 0 arcs) (place + 1)
 passed_all arcs counts back long done place = elim (cases_lt place (length arcs)) [
   | inl before ↦ done place before
-  | inr behind ↦ none_behind counts place (omega arith) ∙ sym (passing_none arcs (place + 1) back (omega arith))
+  | inr beyond ↦ none_beyond counts place (omega arith) ∙ sym (passing_none arcs (place + 1) back (omega arith))
 ]

@@ -23,7 +23,7 @@ pub side_yes : (place node : ℕ) → place < node → side place node ≡ 1
 side_yes place node before = grind (arith, nat_tests)
 
 pub side_no : (place node : ℕ) → node ≤ place → side place node ≡ 0
-side_no place node behind = grind (arith, nat_tests)
+side_no place node beyond = grind (arith, nat_tests)
 
 passed_yes : (from to place : ℕ) → from ≤ place → place < to → passed from to place ≡ 1
 passed_yes from to place after before = grind (arith, nat_tests)
@@ -31,8 +31,8 @@ passed_yes from to place after before = grind (arith, nat_tests)
 passed_before : (from to place : ℕ) → place < from → passed from to place ≡ 0
 passed_before from to place before = grind (arith, nat_tests)
 
-passed_behind : (from to place : ℕ) → to ≤ place → passed from to place ≡ 0
-passed_behind from to place behind = grind (arith, nat_tests)
+passed_beyond : (from to place : ℕ) → to ≤ place → passed from to place ≡ 0
+passed_beyond from to place beyond = grind (arith, nat_tests)
 
 -- past an arc the places before a node are those that it passes more
 sides : (from to place : ℕ) → from ≤ to → side place from + passed from to place ≡ side place to
@@ -40,7 +40,7 @@ sides from to place up = elim (cases_lt place from) [
   | inl before ↦ omega (arith, side_yes place from before, side_yes place to (omega arith), passed_before from to place before)
   | inr after ↦ elim (cases_lt place to) [
     | inl within ↦ omega (arith, side_no place from after, side_yes place to within, passed_yes from to place after within)
-    | inr behind ↦ omega (arith, side_no place from after, side_no place to behind, passed_behind from to place behind)
+    | inr beyond ↦ omega (arith, side_no place from after, side_no place to beyond, passed_beyond from to place beyond)
   ]
 ]
 
@@ -71,14 +71,14 @@ turned_is_walked hs room arcs residuals.Right node slots long back (some, most, 
         | inl here ↦
             let place_is : node - 1 ≡ place = omega arith in
             omega (arith, walked place below, set_here room (node - 1) place (slice_index room (node - 1) + 1) (omega arith) place_is, ap (λ (n : ℕ). slice_index room n) place_is, side_yes place node here, side_no place (node - 1) after)
-        | inr behind ↦ omega (arith, walked place below, set_other room (node - 1) place (slice_index room (node - 1) + 1) (omega arith) (λ same. absurd (omega arith)), side_no place node behind, side_no place (node - 1) after)
+        | inr beyond ↦ omega (arith, walked place below, set_other room (node - 1) place (slice_index room (node - 1) + 1) (omega arith) (λ same. absurd (omega arith)), side_no place node beyond, side_no place (node - 1) after)
       ]
     ]
 turned_is_walked hs room arcs residuals.Left node slots long back (within, some, tight) walked = λ place below.
     elim (cases_lt place node) [
       | inl before ↦ omega (arith, walked place below, set_other room node place (slice_index room node - 1) (omega arith) (λ same. absurd (omega arith)), side_yes place node before, side_yes place (node + 1) (omega arith))
       | inr after ↦ elim (cases_lt node place) [
-        | inl behind ↦ omega (arith, walked place below, set_other room node place (slice_index room node - 1) (omega arith) (λ same. absurd (omega arith)), side_no place node after, side_no place (node + 1) (omega arith))
+        | inl beyond ↦ omega (arith, walked place below, set_other room node place (slice_index room node - 1) (omega arith) (λ same. absurd (omega arith)), side_no place node after, side_no place (node + 1) (omega arith))
         | inr here ↦
             let place_is : node ≡ place = omega arith in
             omega (arith, walked place below, set_here room node place (slice_index room node - 1) (omega arith) place_is, ap (λ (n : ℕ). slice_index room n) place_is, some, side_no place node after, side_yes place (node + 1) (omega arith))

@@ -39,8 +39,8 @@ inside l place = cond (is_inside place l) 1 0
 inside_yes : (l : Link) (place : ℕ) → l.from < place → place < l.to → inside l place ≡ 1
 inside_yes l place after before = grind (arith, nat_tests)
 
-inside_behind : (l : Link) (place : ℕ) → l.to ≤ place → inside l place ≡ 0
-inside_behind l place behind = grind (arith, nat_tests)
+inside_beyond : (l : Link) (place : ℕ) → l.to ≤ place → inside l place ≡ 0
+inside_beyond l place beyond = grind (arith, nat_tests)
 
 inside_before : (l : Link) (place : ℕ) → place ≤ l.from → inside l place ≡ 0
 inside_before l place before = grind (arith, nat_tests)
@@ -68,7 +68,7 @@ weighed_after l q (p ∷ ps) after =
     let later : weighed (inside l) (q + 1) ps ≡ sum_of (take (l.to - 1 - (q + 1)) ps) = weighed_after l (q + 1) ps (omega arith) in
     elim (cases_lt (q + 1) l.to) [
       | inl before ↦ omega (arith, later, inside_yes l (q + 1) (omega arith) before, ap (λ n. p * n) (inside_yes l (q + 1) (omega arith) before), take_one (l.to - 1 - q) (l.to - 1 - (q + 1)) p ps (omega arith))
-      | inr behind ↦ omega (arith, later, ap (λ n. p * n) (inside_behind l (q + 1) behind), take_none (l.to - 1 - q) (p ∷ ps) (omega arith), take_none (l.to - 1 - (q + 1)) ps (omega arith))
+      | inr beyond ↦ omega (arith, later, ap (λ n. p * n) (inside_beyond l (q + 1) beyond), take_none (l.to - 1 - q) (p ∷ ps) (omega arith), take_none (l.to - 1 - (q + 1)) ps (omega arith))
     ]
 
 weighed_before : (l : Link) (q : ℕ) (ps : List ℕ) → q ≤ l.from → weighed (inside l) q ps ≡ sum_of (take (l.to - 1 - l.from) (drop (l.from - q) ps))

@@ -1,6 +1,7 @@
 //! The plan that saves the most.
 
 ghost use Rattle.std.specs.Prelude.{◌≡◌, ℕ, ◌+◌, ◌-◌, ◌^◌, ◌≤◌, ◌<◌, List, length, slice_index, IfOk};
+ghost use Rattle.table_types.specs.SlotIds.{slot_count};
 ghost use Rattle.known_state.specs.Requests.{Asked};
 ghost use Rattle.known_state.specs.Plans.{at_start, Accepts};
 ghost use Rattle.retention_flow.specs.Network.{AreArcs, GoBack, SaveLittle, IsCalm, IsRoom, marks, prices_of};
@@ -117,7 +118,7 @@ pub fn plan(
     held: &[Name],
     requests: &[Request],
 ) -> Result<Plan, PlanError>
-    requires slots { (1 ≤ slots) × (slots ≤ 128) }
+    requires slots { (1 ≤ slots) × (slots ≤ slot_count) }
     requires held { length held.now ≤ slots }
     requires requests { length requests.now ≤ 512 }
     ensures accepted { IfOk result (λ plan. Accepts slots held.now requests.now plan) }

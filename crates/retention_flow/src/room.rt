@@ -1,6 +1,7 @@
 //! The slots that are left at each place.
 
 ghost use Rattle.std.specs.Prelude.{◌≡◌, ℕ, ◌+◌, ◌-◌, ◌≤◌, ◌<◌, IfOk, length, slice_index};
+ghost use Rattle.table_types.specs.SlotIds.{slot_count};
 ghost use Rattle.known_state.specs.Plans.{kept_from, kept_over};
 ghost use Rattle.retention_flow.specs.Network.{links_of, GoBack, IsRoom};
 
@@ -85,7 +86,7 @@ pub fn find_room(
     slots: usize,
     arcs: &[RequestArc],
 ) -> Result<(Vec<usize>, usize), Memory>
-    requires slots { (1 ≤ slots) × (slots ≤ 128) }
+    requires slots { (1 ≤ slots) × (slots ≤ slot_count) }
     requires most { length arcs.now ≤ 512 }
     requires back { GoBack arcs.now }
     ensures { IfOk result (λ found. IsRoom found.1 found.0.items arcs.now × (slots - 1 ≤ found.1) × (found.1 ≤ 512)) }

@@ -1,15 +1,14 @@
 //! The kinds of lines of a scene.
 ghost use Rattle.std.specs.Prelude.{◌≡◌, ◌∷◌, ◌++◌, ◌-◌, ◌^◌, ◌≤◌, ℕ, [], Some, Err, true, Contains, IfOk, IfSome, OnOk, OnErr, vec_len};
-ghost use Rattle.table_types.specs.SlotIds.{is_slot};
+ghost use Rattle.table_types.specs.SlotIds.{slot_count, is_slot};
 ghost use Rattle.line_words.specs.Numbers.{from_one, number_of};
 
 use crate::scene::Scene;
-use dict_slots::Slots;
 use line_words::{
     LineError, hexadecimal, moment, name, number, number32, set_once, table_of, update_of, words_of,
 };
 use std::alloc::Global;
-use table_types::{Batch, Roster, TableDef};
+use table_types::{Batch, Roster, SLOT_COUNT, TableDef};
 
 impl Scene {
     /// Takes in what a line says, which comes without its LF. After a refusal the scene isn't to be
@@ -160,10 +159,10 @@ impl Scene {
 
 /// The slot that a word writes: 1 to 128.
 fn slot(word: &[u8]) -> Option<u8>
-    ensures exactly { result ≡ from_one (number_of word.now 128) }
+    ensures exactly { result ≡ from_one (number_of word.now slot_count) }
     ensures slot { IfSome result (λ id. is_slot id ≡ true) }
 {
-    let id = number(word, u64::from(Slots::COUNT))?;
+    let id = number(word, SLOT_COUNT as u64)?;
     if id == 0 { None } else { Some(id as u8) }
 }
 

@@ -30,7 +30,7 @@ use Rattle.session_core.specs.Courses.{Course, course_fed, table_to_ask}
 use Rattle.session_core.specs.Runs.{BringsBytes, HoldsBytes, IsBegun, Runs}
 use Rattle.session_core.specs.Sessions.{SessionState, Accepts, Connects, FinishesResync, Goes, GoesHello, GoesIn, GoesNew, GoesOpen, Greets, HasNothing, IsWelcomed, ReceivesBytes, Settles, StartsPendingResync, Turns}
 use Rattle.session_core.proofs.IntakeGoesOn.{append_good}
-use Rattle.session_core.proofs.HearingGoesOn.{heard_good}
+use Rattle.session_core.proofs.ReceivingGoesOn.{received_good}
 
 -- where it stands then, bytes are held
 held : (e x : SessionState) → e ≡ x → HoldsBytes x.phase → HoldsBytes e.phase
@@ -40,11 +40,11 @@ held e x ends holds = subst (λ (y : SessionState). HoldsBytes y.phase) (sym end
 answered_good : (c mid : Course) (due : List Due) → mid ≡ record c { due = due } → IsBytes c.intake.unread → IsBytes mid.intake.unread
 answered_good c mid due is good = subst (λ (x : Course). IsBytes x.intake.unread) (sym is) good
 
-held_heard : (s e : SessionState) (c : Course) (first acts : List Action) → IsBytes c.intake.unread → ReceivesBytes s c first acts e → HoldsBytes e.phase
-held_heard s e c first acts good (Ok _, given, mid, (ts, heard, waits), (is, ends)) = held e _ ends (heard_good c mid ts given good heard)
-held_heard s e c first acts good (Err halts.Failed, given, mid, hears, (is, ends)) = held e _ ends tt
-held_heard s e c first acts good (Err (halts.Fault fault), given, mid, hears, (is, ends)) = held e _ ends tt
-held_heard s e c first acts good (Err halts.Memory, given, mid, hears, concludes) = absurd concludes
+held_received : (s e : SessionState) (c : Course) (first acts : List Action) → IsBytes c.intake.unread → ReceivesBytes s c first acts e → HoldsBytes e.phase
+held_received s e c first acts good (Ok _, given, mid, (ts, all, waits), (is, ends)) = held e _ ends (received_good c mid ts given good all)
+held_received s e c first acts good (Err halts.Failed, given, mid, receives, (is, ends)) = held e _ ends tt
+held_received s e c first acts good (Err (halts.Fault fault), given, mid, receives, (is, ends)) = held e _ ends tt
+held_received s e c first acts good (Err halts.Memory, given, mid, receives, concludes) = absurd concludes
 
 held_new : (s e : SessionState) (hello : Hello) (c : Course) (event : Event) (acts : List Action) → IsBytes c.intake.unread → GoesNew s hello c event acts e → HoldsBytes e.phase
 held_new s e hello c events.Opened acts good (is, ends) = held e _ ends ((λ i. omega arith), good)
@@ -64,7 +64,7 @@ pub fed_good : (c : Course) (used : ℕ) (bytes : List ℕ) → IsBytes c.intake
 fed_good c used bytes unread good = append_good c.intake.unread (drop used bytes) unread (IsBytes-drop used bytes good)
 
 held_welcomed : (welcome : Bool) (s e : SessionState) (c : Course) (rest : List ℕ) (acts : List Action) → IsBytes (course_fed c rest).intake.unread → IsWelcomed welcome s c rest acts e → HoldsBytes e.phase
-held_welcomed true s e c rest acts good receives = held_heard s e (course_fed c rest) (sends_control controls.ResyncRequest ∷ []) acts good receives
+held_welcomed true s e c rest acts good receives = held_received s e (course_fed c rest) (sends_control controls.ResyncRequest ∷ []) acts good receives
 held_welcomed false s e c rest acts good (is, ends) = held e _ ends tt
 
 held_connects : (status : Status) (s e : SessionState) (bytes : List ℕ) (c : Course) (acts : List Action) → IsBytes bytes → IsBytes c.intake.unread → Connects status s bytes c acts e → HoldsBytes e.phase
@@ -75,7 +75,7 @@ held_connects (statuses.Other used) s e bytes c acts good unread (is, ends) = he
 held_accepts : (answer : Answer) (s e : SessionState) (greeter : Greeter) (bytes : List ℕ) (c : Course) (acts : List Action) → IsBytes bytes → IsBytes c.intake.unread → Accepts answer s greeter bytes c acts e → HoldsBytes e.phase
 held_accepts answers.More s e greeter bytes c acts good unread (is, ends) = held e _ ends (good, unread)
 held_accepts (answers.Accepted name used) s e greeter bytes c acts good unread goes =
-    held_heard s e (course_fed c (drop used bytes)) (actions.Send (status_text 200) ∷ []) acts (fed_good c used bytes unread good) goes
+    held_received s e (course_fed c (drop used bytes)) (actions.Send (status_text 200) ∷ []) acts (fed_good c used bytes unread good) goes
 held_accepts (answers.Refused code used) s e greeter bytes c acts good unread (is, ends) = held e _ ends tt
 
 held_greets : (greeter : Greeter) (s e : SessionState) (bytes : List ℕ) (c : Course) (acts : List Action) → IsBytes bytes → IsBytes c.intake.unread → Greets s greeter bytes c acts e → HoldsBytes e.phase
@@ -119,7 +119,7 @@ held_settles settles.Older s e c table acts good (is, ends) = held e _ ends good
 held_open : (s e : SessionState) (c : Course) (event : Event) (acts : List Action) → IsBytes c.intake.unread → BringsBytes event → GoesOpen s c event acts e → HoldsBytes e.phase
 held_open s e c events.Turn acts good brings (none, turns) = held_turns (table_to_ask c) s e c acts good turns
 held_open s e c (events.Bytes bytes) acts good brings (none, receives) =
-    held_heard s e (course_fed c bytes) [] acts (append_good c.intake.unread bytes good brings) receives
+    held_received s e (course_fed c bytes) [] acts (append_good c.intake.unread bytes good brings) receives
 held_open s e c (events.Copied table batch) acts good brings (mid, answered, (is, ends)) = held e _ ends (answered_good c mid mid.due answered.1 good)
 held_open s e c (events.Nothing table) acts good brings (mid, answered, nothing) = held_nothing mid.teaching s e mid table acts (answered_good c mid mid.due answered.1 good) nothing
 held_open s e c (events.Written known) acts good brings (mid, answered, is, ends) = held e _ ends (answered_good c mid mid.due answered.1 good)

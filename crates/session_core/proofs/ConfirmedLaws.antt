@@ -48,14 +48,14 @@ unsaid s e x acts given is plain ends same =
     let none : confirms acts ≡ false = ap confirms is ∙ plain in
     ap (λ (y : SessionState). y.confirmed) ends ∙ (same ∙ rw none (or_none s.confirmed))
 
-said_heard : (s : SessionState) (c : Course) (result : Result (Unit {0}) Halt) (given acts : List Action) (e : SessionState) → Concludes s c result given acts e → IsSaid s acts e
-said_heard s c (Ok u) given acts e (is, ends) = ap (λ (x : SessionState). x.confirmed) ends
-said_heard s c (Err halts.Failed) given acts e (is, ends) = ap (λ (x : SessionState). x.confirmed) ends
-said_heard s c (Err (halts.Fault fault)) given acts e (is, ends) = ap (λ (x : SessionState). x.confirmed) ends
-said_heard s c (Err halts.Memory) given acts e concludes = absurd concludes
+said_received : (s : SessionState) (c : Course) (result : Result (Unit {0}) Halt) (given acts : List Action) (e : SessionState) → Concludes s c result given acts e → IsSaid s acts e
+said_received s c (Ok u) given acts e (is, ends) = ap (λ (x : SessionState). x.confirmed) ends
+said_received s c (Err halts.Failed) given acts e (is, ends) = ap (λ (x : SessionState). x.confirmed) ends
+said_received s c (Err (halts.Fault fault)) given acts e (is, ends) = ap (λ (x : SessionState). x.confirmed) ends
+said_received s c (Err halts.Memory) given acts e concludes = absurd concludes
 
 said_receives : (s : SessionState) (c : Course) (first acts : List Action) (e : SessionState) → ReceivesBytes s c first acts e → IsSaid s acts e
-said_receives s c first acts e (result, given, mid, hears, concludes) = said_heard s mid result (first ++ given) acts e concludes
+said_receives s c first acts e (result, given, mid, receives, concludes) = said_received s mid result (first ++ given) acts e concludes
 
 said_new : (s : SessionState) (hello : Hello) (c : Course) (event : Event) (acts : List Action) (e : SessionState) → GoesNew s hello c event acts e → IsSaid s acts e
 said_new s hello c events.Opened acts e (is, ends) = unsaid s e _ acts _ is refl ends refl

@@ -20,7 +20,7 @@ use Rattle.session_core.specs.declared.share.Share.{Share}
 use Rattle.session_core.specs.declared.action.Action.{Action}
 use Rattle.session_core.specs.declared.action.Action.TheVariants as actions
 use Rattle.session_core.specs.Actions.{control_text, sends_acks, status_text, reopens}
-use Rattle.session_core.specs.Courses.{Course, heard, said, requested, acknowledged, AreHeard}
+use Rattle.session_core.specs.Courses.{Course, message_received, said, requested, acknowledged, AreReceived}
 use Rattle.session_core.specs.Runs.{is_end, ends_resync, is_copy_of, copies}
 
 -- neither ends a resync nor copies
@@ -51,17 +51,17 @@ plain_acknowledged id true c table number = (refl, refl)
 plain_acknowledged id false c table number = (refl, refl)
 
 -- what a message asks for is plain
-pub plain_heard : (id : ℕ) (c : Course) (t : Taken) → is_plain id (heard c t).0
-plain_heard id c (taken.Row u) = (refl, refl)
-plain_heard id c taken.Passed = (refl, refl)
-plain_heard id c (taken.Said control) = plain_said id c control true
-plain_heard id c (taken.Acked table number) = plain_acknowledged id _ c table number
-plain_heard id c (taken.Failed kind) = (refl, refl)
+pub plain_received : (id : ℕ) (c : Course) (t : Taken) → is_plain id (message_received c t).0
+plain_received id c (taken.Row u) = (refl, refl)
+plain_received id c taken.Passed = (refl, refl)
+plain_received id c (taken.Said control) = plain_said id c control true
+plain_received id c (taken.Acked table number) = plain_acknowledged id _ c table number
+plain_received id c (taken.Failed kind) = (refl, refl)
 
-pub plain_all : (id : ℕ) (c e : Course) (ts : List Taken) (acts : List Action) → AreHeard c ts acts e → is_plain id acts
+pub plain_all : (id : ℕ) (c e : Course) (ts : List Taken) (acts : List Action) → AreReceived c ts acts e → is_plain id acts
 plain_all id c e [] acts (none, here) = rw none (refl, refl)
-plain_all id c e (t ∷ ts) acts (mid, rest, hears, all, later) =
-    rw all (plain_append id (heard mid t).0 rest (plain_heard id mid t) (plain_all id (heard mid t).1 e ts rest later))
+plain_all id c e (t ∷ ts) acts (mid, rest, receives, all, later) =
+    rw all (plain_append id (message_received mid t).0 rest (plain_received id mid t) (plain_all id (message_received mid t).1 e ts rest later))
 
 -- ---- acknowledgements
 

@@ -35,14 +35,14 @@ IsFaultless s = (s.phase ≡ phases.Ended) ⊎ (s.fault ≡ None)
 keeps : (s e x : SessionState) → e ≡ x → x.fault ≡ s.fault → s.fault ≡ None → IsFaultless e
 keeps s e x ends same none = inr (ap (λ (y : SessionState). y.fault) ends ∙ (same ∙ none))
 
-unfaulted_heard : (s : SessionState) (c : Course) (result : Result (Unit {0}) Halt) (given acts : List Action) (e : SessionState) → Concludes s c result given acts e → s.fault ≡ None → IsFaultless e
-unfaulted_heard s c (Ok u) given acts e (is, ends) none = keeps s e _ ends refl none
-unfaulted_heard s c (Err halts.Failed) given acts e (is, ends) none = inl (ap (λ (x : SessionState). x.phase) ends)
-unfaulted_heard s c (Err (halts.Fault fault)) given acts e (is, ends) none = inl (ap (λ (x : SessionState). x.phase) ends)
-unfaulted_heard s c (Err halts.Memory) given acts e concludes none = absurd concludes
+unfaulted_received : (s : SessionState) (c : Course) (result : Result (Unit {0}) Halt) (given acts : List Action) (e : SessionState) → Concludes s c result given acts e → s.fault ≡ None → IsFaultless e
+unfaulted_received s c (Ok u) given acts e (is, ends) none = keeps s e _ ends refl none
+unfaulted_received s c (Err halts.Failed) given acts e (is, ends) none = inl (ap (λ (x : SessionState). x.phase) ends)
+unfaulted_received s c (Err (halts.Fault fault)) given acts e (is, ends) none = inl (ap (λ (x : SessionState). x.phase) ends)
+unfaulted_received s c (Err halts.Memory) given acts e concludes none = absurd concludes
 
 unfaulted_receives : (s : SessionState) (c : Course) (first acts : List Action) (e : SessionState) → ReceivesBytes s c first acts e → s.fault ≡ None → IsFaultless e
-unfaulted_receives s c first acts e (result, given, mid, hears, concludes) none = unfaulted_heard s mid result (first ++ given) acts e concludes none
+unfaulted_receives s c first acts e (result, given, mid, receives, concludes) none = unfaulted_received s mid result (first ++ given) acts e concludes none
 
 unfaulted_new : (s : SessionState) (hello : Hello) (c : Course) (event : Event) (acts : List Action) (e : SessionState) → GoesNew s hello c event acts e → s.fault ≡ None → IsFaultless e
 unfaulted_new s hello c events.Opened acts e (is, ends) none = keeps s e _ ends refl none

@@ -19,12 +19,12 @@ use Rattle.known_state.specs.declared.effect.Effect.TheVariants as effects
 use Rattle.known_state.specs.declared.effect.Refusal.{Refusal}
 use Rattle.known_state.specs.declared.effect.Refusal.TheVariants as refusals
 use Rattle.known_state.specs.declared.effect.ResolvedUpdate.{ResolvedUpdate}
-use Rattle.known_state.proofs.EffectLemmas.{effect_steps, numbered, resolves_so}
+use Rattle.known_state.proofs.EffectsAreSteps.{effect_steps, numbered, resolves_so}
 use Rattle.learner.specs.declared.fault.Fault.{Fault}
 use Rattle.learner.specs.declared.fault.Fault.TheVariants as faults
 use Rattle.learner.specs.declared.taken.Taken.{Taken}
 use Rattle.learner.specs.declared.taken.Taken.TheVariants as taken
-use Rattle.learner.specs.Faults.{refused_as}
+use Rattle.learner.specs.Faults.{as_fault}
 use Rattle.learner.specs.LocalTables.{local_update, local_updates}
 use Rattle.learner.specs.Intake.{Taking, Answers, Gives, IntakeNext, Stops, due_after, rows_of, shut}
 
@@ -37,9 +37,9 @@ append_good (x ∷ xs) b one other (suc i) = append_good xs b (λ (j : ℕ). one
 
 -- ---- a message that isn't refused
 
--- it has an effect, and is told as an answer that gives the updates of local tables which it carries
-abbrev IsTold : Taking → Message → Type 0
-IsTold t m =
+-- it has an effect, and the answer to it gives the updates of local tables which it carries
+abbrev IsAnswered : Taking → Message → Type 0
+IsAnswered t m =
     (effect : Effect)
     × (answer : Taken)
     × IsEffect t.state m effect
@@ -47,34 +47,34 @@ IsTold t m =
     × Answers m answer
 
 -- an update of a local table is a row, and any other is passed over
-told_row : (t : Taking) (u : UpdateFields) (x : Update) (own : Option Update) → local_update t.roster t.state.received x ≡ own
+row_answered : (t : Taking) (u : UpdateFields) (x : Update) (own : Option Update) → local_update t.roster t.state.received x ≡ own
     → (answer : Taken) × (rows_of answer ≡ local_updates t.roster t.state.received (x ∷ [])) × Answers (messages.Update u) answer
-told_row t u x None is = (taken.Passed, sym (ap (λ (o : Option Update). cons_option o []) is), refl)
-told_row t u x (Some own) is = (taken.Row own, sym (ap (λ (o : Option Update). cons_option o []) is), tt)
+row_answered t u x None is = (taken.Passed, sym (ap (λ (o : Option Update). cons_option o []) is), refl)
+row_answered t u x (Some own) is = (taken.Row own, sym (ap (λ (o : Option Update). cons_option o []) is), tt)
 
-told_as : (t : Taking) (u : UpdateFields) (r : ResolvedUpdate) → IsEffect t.state (messages.Update u) (effects.Update r) → IsTold t (messages.Update u)
-told_as t u r effect =
-    let told = told_row t u _ _ refl in
-    (effects.Update r, told.0, effect, told.1, told.2)
+answered_as : (t : Taking) (u : UpdateFields) (r : ResolvedUpdate) → IsEffect t.state (messages.Update u) (effects.Update r) → IsAnswered t (messages.Update u)
+answered_as t u r effect =
+    let row = row_answered t u _ _ refl in
+    (effects.Update r, row.0, effect, row.1, row.2)
 
 -- an update that isn't refused has a table and a number
-told_update : (t : Taking) (u : UpdateFields) (table number : Option ℕ) → t.state.received.selected ≡ table → selected_number t.state u.number ≡ number → message_refusal t.state (messages.Update u) ≡ None → IsTold t (messages.Update u)
-told_update t u table None selected is unrefused = absurd (numbered t.state u.number u.name unrefused is)
-told_update t u None (Some number) selected is unrefused =
+update_answered : (t : Taking) (u : UpdateFields) (table number : Option ℕ) → t.state.received.selected ≡ table → selected_number t.state u.number ≡ number → message_refusal t.state (messages.Update u) ≡ None → IsAnswered t (messages.Update u)
+update_answered t u table None selected is unrefused = absurd (numbered t.state u.number u.name unrefused is)
+update_answered t u None (Some number) selected is unrefused =
     let none : selected_number t.state u.number ≡ None = ap (λ (o : Option ℕ). option_and_then (λ table. resolved_number u.number (last_of t.state.last_numbers table)) o) selected in
     absurd (numbered t.state u.number u.name unrefused none)
-told_update t u (Some table) (Some number) selected is unrefused =
+update_answered t u (Some table) (Some number) selected is unrefused =
     let r : ResolvedUpdate = record { table = table; number = number; written = written_by u.name } in
-    told_as t u r (r, refl, resolves_so t.state u.number u.name r unrefused selected is refl)
+    answered_as t u r (r, refl, resolves_so t.state u.number u.name r unrefused selected is refl)
 
-told : (t : Taking) (m : Message) → message_refusal t.state m ≡ None → IsTold t m
-told t (messages.Update u) unrefused = told_update t u _ _ refl refl unrefused
-told t (messages.Define d) unrefused = (effects.Define d, taken.Passed, refl, refl, refl)
-told t (messages.Switch id) unrefused = (effects.Select id, taken.Passed, refl, refl, refl)
-told t (messages.Control control) unrefused = (effects.Nothing, taken.Said control, refl, refl, refl)
-told t (messages.Error kind) unrefused = (effects.Nothing, taken.Failed kind, refl, refl, refl)
-told t (messages.Ack table number) unrefused = (effects.Nothing, taken.Acked table number, refl, refl, refl)
-told t (messages.Other other) unrefused = (effects.Nothing, taken.Passed, refl, refl, refl)
+always_answered : (t : Taking) (m : Message) → message_refusal t.state m ≡ None → IsAnswered t m
+always_answered t (messages.Update u) unrefused = update_answered t u _ _ refl refl unrefused
+always_answered t (messages.Define d) unrefused = (effects.Define d, taken.Passed, refl, refl, refl)
+always_answered t (messages.Switch id) unrefused = (effects.Select id, taken.Passed, refl, refl, refl)
+always_answered t (messages.Control control) unrefused = (effects.Nothing, taken.Said control, refl, refl, refl)
+always_answered t (messages.Error kind) unrefused = (effects.Nothing, taken.Failed kind, refl, refl, refl)
+always_answered t (messages.Ack table number) unrefused = (effects.Nothing, taken.Acked table number, refl, refl, refl)
+always_answered t (messages.Other other) unrefused = (effects.Nothing, taken.Passed, refl, refl, refl)
 
 -- ---- what an intake does
 
@@ -85,7 +85,7 @@ Does t =
     ⊎ (((answer : Taken) × (e : Taking) × Gives t (Ok answer) e × (length e.unread < length t.unread) × IsBytes e.unread)
     ⊎ ((fault : Fault) × (e : Taking) × (fault ≢ faults.Memory) × Stops t fault e))
 
-takes : (t : Taking) (m : Message) (rest : List ℕ) → IsBytes t.unread → t.closed ≡ false → message_at t.state.received t.unread ≡ Ok (Some (m, rest)) → IsTold t m → Does t
+takes : (t : Taking) (m : Message) (rest : List ℕ) → IsBytes t.unread → t.closed ≡ false → message_at t.state.received t.unread ≡ Ok (Some (m, rest)) → IsAnswered t m → Does t
 takes t m rest good is_open at (effect, answer, is, rows, answers) =
     let step = effect_steps t.state m effect (message_takes t.state.received m t.unread rest good at).1 is in
     let e : Taking = record { roster = t.roster; state = made t.state effect; due = due_after t.state m t.due; unread = rest; closed = false } in
@@ -113,9 +113,9 @@ never_memory s (messages.Other other) is = cc
 
 -- by whether the message at the front is refused
 at_message : (t : Taking) (m : Message) (rest : List ℕ) (refusal : Option Refusal) → IsBytes t.unread → t.closed ≡ false → message_at t.state.received t.unread ≡ Ok (Some (m, rest)) → message_refusal t.state m ≡ refusal → Does t
-at_message t m rest None good is_open at is = takes t m rest good is_open at (told t m is)
-at_message t m rest (Some refusals.NoNumber) good is_open at is = inr (inr (faults.NoNumber, shut t, (λ same. cc), (is_open, m, rest, at, ap (option_map refused_as) is, refl)))
-at_message t m rest (Some refusals.EmptySlot) good is_open at is = inr (inr (faults.EmptySlot, shut t, (λ same. cc), (is_open, m, rest, at, ap (option_map refused_as) is, refl)))
+at_message t m rest None good is_open at is = takes t m rest good is_open at (always_answered t m is)
+at_message t m rest (Some refusals.NoNumber) good is_open at is = inr (inr (faults.NoNumber, shut t, (λ same. cc), (is_open, m, rest, at, ap (option_map as_fault) is, refl)))
+at_message t m rest (Some refusals.EmptySlot) good is_open at is = inr (inr (faults.EmptySlot, shut t, (λ same. cc), (is_open, m, rest, at, ap (option_map as_fault) is, refl)))
 at_message t m rest (Some refusals.Memory) good is_open at is = absurd (never_memory t.state m is)
 
 -- by what stands at the front

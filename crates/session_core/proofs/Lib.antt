@@ -1,4 +1,4 @@
-mod HearingLemmas
+mod ReceivingLemmas
 mod EndLemmas
 mod ShareLemmas
 mod RunLemmas
@@ -9,6 +9,6 @@ mod ConfirmedLaws
 mod FaultLaws
 mod StepIsUnique
 mod IntakeGoesOn
-mod HearingGoesOn
+mod ReceivingGoesOn
 mod BytesStay
 mod SomeStep

@@ -30,7 +30,7 @@ use Rattle.session_core.specs.declared.phase.Phase.TheVariants as phases
 use Rattle.session_core.specs.declared.share.Share.{Share}
 use Rattle.session_core.specs.Shares.{any_out, all_quiet, quiet_set}
 use Rattle.session_core.specs.Actions.{sends_control, status_text}
-use Rattle.session_core.specs.Courses.{Course, course_fed, HearsAll, acks_given, table_to_ask}
+use Rattle.session_core.specs.Courses.{Course, course_fed, ReceivesAll, acks_given, table_to_ask}
 use Rattle.session_core.specs.Sessions.{SessionState, Goes, GoesIn, GoesNew, GoesHello, GoesOpen, Concludes, ReceivesBytes, IsWelcomed, Connects, Accepts, Greets, Turns, HasNothing, FinishesResync, StartsPendingResync, Settles}
 use Rattle.session_core.specs.Runs.{Runs, IsBegun, ends_resync, HasNothingLeft, HasNothingOut}
 use Rattle.session_core.proofs.ShareLemmas.{shares_in, ids_of, shares_begin, none_out, each_quiet}
@@ -55,24 +55,24 @@ begun_kept roster s (inr (own, peers, up_to_date, is)) = subst (λ (x : SessionS
 -- ---- the step that ends a resync
 
 -- nothing is out then, and no table has anything left
-abbrev IsTaught : List Definition → List (Event × List Action) → SessionState → Event → List Action → Type 0
-IsTaught roster steps s event acts = HasNothingOut s × AllByRecursion (λ d. HasNothingLeft (with_step steps event acts) d.id) roster
+abbrev HasTaughtAll : List Definition → List (Event × List Action) → SessionState → Event → List Action → Type 0
+HasTaughtAll roster steps s event acts = HasNothingOut s × AllByRecursion (λ d. HasNothingLeft (with_step steps event acts) d.id) roster
 
 -- what ends no resync
 no_end : {X : Type 0} (acts given : List Action) → acts ≡ given → ends_resync given ≡ false → ends_resync acts ≡ true → X
 no_end acts given is plain ends = absurd (false≢true (sym plain ∙ (sym (ap ends_resync is) ∙ ends)))
 
-no_end_heard : {X : Type 0} (s : SessionState) (c mid : Course) (first acts given : List Action) (e : SessionState) (result : Result (Unit {0}) Halt) → is_plain 0 first → HearsAll c result given mid → Concludes s mid result (first ++ given) acts e → ends_resync acts ≡ true → X
-no_end_heard s c mid first acts given e (Ok u) plain (ts, are, waits) (is, then) ends =
+no_end_received : {X : Type 0} (s : SessionState) (c mid : Course) (first acts given : List Action) (e : SessionState) (result : Result (Unit {0}) Halt) → is_plain 0 first → ReceivesAll c result given mid → Concludes s mid result (first ++ given) acts e → ends_resync acts ≡ true → X
+no_end_received s c mid first acts given e (Ok u) plain (ts, are, waits) (is, then) ends =
     no_end acts ((first ++ given) ++ acks_given mid) is (plain_append 0 (first ++ given) (acks_given mid) (plain_append 0 first given plain (plain_all 0 c mid ts given are)) (plain_acks 0 mid.intake)).0 ends
-no_end_heard s c mid first acts given e (Err halts.Failed) plain (ts, left, are, halted) (is, then) ends =
+no_end_received s c mid first acts given e (Err halts.Failed) plain (ts, left, are, halted) (is, then) ends =
     no_end acts ((first ++ given) ++ (actions.Close ∷ [])) is (plain_append 0 (first ++ given) (actions.Close ∷ []) (plain_append 0 first given plain (plain_all 0 c left ts given are)) (refl, refl)).0 ends
-no_end_heard s c mid first acts given e (Err (halts.Fault fault)) plain (ts, left, are, halted) (is, then) ends =
+no_end_received s c mid first acts given e (Err (halts.Fault fault)) plain (ts, left, are, halted) (is, then) ends =
     no_end acts ((first ++ given) ++ (actions.Part _ ∷ [])) is (plain_append 0 (first ++ given) (actions.Part _ ∷ []) (plain_append 0 first given plain (plain_all 0 c left ts given are)) (refl, refl)).0 ends
-no_end_heard s c mid first acts given e (Err halts.Memory) plain hears concludes ends = absurd concludes
+no_end_received s c mid first acts given e (Err halts.Memory) plain receives concludes ends = absurd concludes
 
 no_end_receives : {X : Type 0} (s : SessionState) (c : Course) (first acts : List Action) (e : SessionState) → is_plain 0 first → ReceivesBytes s c first acts e → ends_resync acts ≡ true → X
-no_end_receives s c first acts e plain (result, given, mid, hears, concludes) ends = no_end_heard s c mid first acts given e result plain hears concludes ends
+no_end_receives s c first acts e plain (result, given, mid, receives, concludes) ends = no_end_received s c mid first acts given e result plain receives concludes ends
 
 no_end_new : {X : Type 0} (s : SessionState) (hello : Hello) (c : Course) (event : Event) (acts : List Action) (e : SessionState) → GoesNew s hello c event acts e → ends_resync acts ≡ true → X
 no_end_new s hello c events.Opened acts e (is, then) ends = no_end acts _ is refl ends
@@ -141,7 +141,7 @@ quiet_keeps_out table (s ∷ ss) = rw (one_keeps_out (s.table == table) s, quiet
     one_keeps_out true s = refl
     one_keeps_out false s = refl
 
-finishes_taught : (roster : List Definition) (steps : List (Event × List Action)) (b : Bool) (s : SessionState) (c : Course) (table : ℕ) (rest : List Due) (acts : List Action) (e : SessionState) → s.phase ≡ phases.Open c → IsSound (ids_of roster) steps c → c.due ≡ dues.Copy table ∷ rest → c.teaching ≡ true → all_quiet (quiet_set table c.shares) ≡ b → FinishesResync b s (record c { shares = quiet_set table c.shares; due = rest }) acts e → ends_resync acts ≡ true → IsTaught roster steps s (events.Nothing table) acts
+finishes_taught : (roster : List Definition) (steps : List (Event × List Action)) (b : Bool) (s : SessionState) (c : Course) (table : ℕ) (rest : List Due) (acts : List Action) (e : SessionState) → s.phase ≡ phases.Open c → IsSound (ids_of roster) steps c → c.due ≡ dues.Copy table ∷ rest → c.teaching ≡ true → all_quiet (quiet_set table c.shares) ≡ b → FinishesResync b s (record c { shares = quiet_set table c.shares; due = rest }) acts e → ends_resync acts ≡ true → HasTaughtAll roster steps s (events.Nothing table) acts
 finishes_taught roster steps false s c table rest acts e stands sound due teaching all (is, then) ends = no_end acts [] is refl ends
 finishes_taught roster steps true s c table rest acts e stands sound due teaching all (is, then) ends =
     let q = quieted (ids_of roster) steps c table rest acts sound due teaching (λ id. rw is (refl, refl)) in
@@ -151,11 +151,11 @@ finishes_taught roster steps true s c table rest acts e stands sound due teachin
       each_quiet (HasNothingLeft (with_step steps (events.Nothing table) acts)) roster q.0 q.1 (λ id quiets. (q.2.1 teaching id quiets).1) quiet,
     )
 
-nothing_taught : (roster : List Definition) (steps : List (Event × List Action)) (b : Bool) (s : SessionState) (c : Course) (table : ℕ) (rest : List Due) (acts : List Action) (e : SessionState) → s.phase ≡ phases.Open c → IsSound (ids_of roster) steps c → c.due ≡ dues.Copy table ∷ rest → c.teaching ≡ b → HasNothing b s (record c { due = rest }) table acts e → ends_resync acts ≡ true → IsTaught roster steps s (events.Nothing table) acts
+nothing_taught : (roster : List Definition) (steps : List (Event × List Action)) (b : Bool) (s : SessionState) (c : Course) (table : ℕ) (rest : List Due) (acts : List Action) (e : SessionState) → s.phase ≡ phases.Open c → IsSound (ids_of roster) steps c → c.due ≡ dues.Copy table ∷ rest → c.teaching ≡ b → HasNothing b s (record c { due = rest }) table acts e → ends_resync acts ≡ true → HasTaughtAll roster steps s (events.Nothing table) acts
 nothing_taught roster steps true s c table rest acts e stands sound due teaching quiets ends = finishes_taught roster steps _ s c table rest acts e stands sound due teaching refl quiets ends
 nothing_taught roster steps false s c table rest acts e stands sound due teaching (is, then) ends = no_end acts [] is refl ends
 
-open_taught : (roster : List Definition) (steps : List (Event × List Action)) (s : SessionState) (c : Course) (event : Event) (acts : List Action) (e : SessionState) → s.phase ≡ phases.Open c → IsSound (ids_of roster) steps c → GoesOpen s c event acts e → ends_resync acts ≡ true → IsTaught roster steps s event acts
+open_taught : (roster : List Definition) (steps : List (Event × List Action)) (s : SessionState) (c : Course) (event : Event) (acts : List Action) (e : SessionState) → s.phase ≡ phases.Open c → IsSound (ids_of roster) steps c → GoesOpen s c event acts e → ends_resync acts ≡ true → HasTaughtAll roster steps s event acts
 open_taught roster steps s c events.Turn acts e stands sound (none, turns) ends = no_end_turns (table_to_ask c) s c acts e turns ends
 open_taught roster steps s c (events.Bytes bytes) acts e stands sound (none, receives) ends = no_end_receives s (course_fed c bytes) [] acts e (refl, refl) receives ends
 open_taught roster steps s c (events.Copied table batch) acts e stands sound (mid, answered, (is, then)) ends = no_end acts (actions.Teach batch ∷ []) is refl ends
@@ -169,12 +169,12 @@ open_taught roster steps s c events.ReadFault acts e stands sound (is, then) end
 open_taught roster steps s c events.WriteFault acts e stands sound (is, then) ends = no_end acts (actions.Close ∷ []) is refl ends
 open_taught roster steps s c events.Opened acts e stands sound goes ends = absurd goes
 
-in_taught : (roster : List Definition) (steps : List (Event × List Action)) (phase : Phase) (s : SessionState) (event : Event) (acts : List Action) (e : SessionState) → s.phase ≡ phase → IsKeptIn (ids_of roster) steps phase → GoesIn phase s event acts e → ends_resync acts ≡ true → IsTaught roster steps s event acts
+in_taught : (roster : List Definition) (steps : List (Event × List Action)) (phase : Phase) (s : SessionState) (event : Event) (acts : List Action) (e : SessionState) → s.phase ≡ phase → IsKeptIn (ids_of roster) steps phase → GoesIn phase s event acts e → ends_resync acts ≡ true → HasTaughtAll roster steps s event acts
 in_taught roster steps (phases.New hello c) s event acts e stands kept goes ends = no_end_new s hello c event acts e goes ends
 in_taught roster steps (phases.Hello greeter bytes c) s event acts e stands kept goes ends = no_end_hello s greeter bytes c event acts e goes ends
 in_taught roster steps (phases.Open c) s event acts e stands kept goes ends = open_taught roster steps s c event acts e stands kept goes ends
 in_taught roster steps phases.Ended s event acts e stands kept goes ends = absurd goes
 
-pub ends_taught : (roster : List Definition) (begun s e : SessionState) (steps : List (Event × List Action)) (event : Event) (acts : List Action) → IsBegun roster begun → Runs begun steps s → Goes s event acts e → ends_resync acts ≡ true → IsTaught roster steps s event acts
+pub ends_taught : (roster : List Definition) (begun s e : SessionState) (steps : List (Event × List Action)) (event : Event) (acts : List Action) → IsBegun roster begun → Runs begun steps s → Goes s event acts e → ends_resync acts ≡ true → HasTaughtAll roster steps s event acts
 ends_taught roster begun s e steps event acts begins runs goes ends =
     in_taught roster steps s.phase s event acts e refl (run_kept (ids_of roster) [] steps begun s (begun_kept roster begun begins) runs) goes ends

@@ -18,7 +18,7 @@ use Rattle.session_core.specs.declared.phase.Phase.TheVariants as phases
 use Rattle.session_core.specs.declared.share.Share.{Share}
 use Rattle.session_core.specs.Shares.{any_out, is_out, unquieted}
 use Rattle.session_core.specs.Actions.{sends_control}
-use Rattle.session_core.specs.Courses.{Course, heard, said, requested, acknowledged, Hears, AreHeard, kind_of}
+use Rattle.session_core.specs.Courses.{Course, message_received, said, requested, acknowledged, Receives, AreReceived, kind_of}
 use Rattle.session_core.specs.Runs.{is_reopen_of, reopened, IsLeft, HasNothingLeft}
 use Rattle.session_core.proofs.ShareLemmas.{shares_in, never, unquieted_in, IsFree}
 
@@ -148,25 +148,25 @@ calm_acknowledged ids steps given true c table number (out, quiet, flags, none, 
     (out, quiet, flags, list_all-append _ c.due (dues.Ack table ∷ []) ∙ rw none refl, λ teaching id quiets. reopened_append id given (actions.Ack table number ∷ []) (still teaching id quiets) refl)
 calm_acknowledged ids steps given false c table number calm = calm_still ids steps given [] c (λ id. refl) calm
 
-calm_heard : (ids : List ℕ) (steps : List (Event × List Action)) (given : List Action) (c : Course) (t : Taken) → IsCalmAfter ids steps given c → IsCalmAfter ids steps (given ++ (heard c t).0) (heard c t).1
-calm_heard ids steps given c (taken.Row u) calm = calm_still ids steps given (actions.Learn u ∷ []) c (λ id. refl) calm
-calm_heard ids steps given c taken.Passed calm = calm_still ids steps given [] c (λ id. refl) calm
-calm_heard ids steps given c (taken.Said control) calm = calm_said ids steps given c control calm
-calm_heard ids steps given c (taken.Acked table number) calm = calm_acknowledged ids steps given (is_out table c.shares) c table number calm
-calm_heard ids steps given c (taken.Failed kind) calm = calm_still ids steps given [] c (λ id. refl) calm
+calm_received : (ids : List ℕ) (steps : List (Event × List Action)) (given : List Action) (c : Course) (t : Taken) → IsCalmAfter ids steps given c → IsCalmAfter ids steps (given ++ (message_received c t).0) (message_received c t).1
+calm_received ids steps given c (taken.Row u) calm = calm_still ids steps given (actions.Learn u ∷ []) c (λ id. refl) calm
+calm_received ids steps given c taken.Passed calm = calm_still ids steps given [] c (λ id. refl) calm
+calm_received ids steps given c (taken.Said control) calm = calm_said ids steps given c control calm
+calm_received ids steps given c (taken.Acked table number) calm = calm_acknowledged ids steps given (is_out table c.shares) c table number calm
+calm_received ids steps given c (taken.Failed kind) calm = calm_still ids steps given [] c (λ id. refl) calm
 
-calm_hears : (ids : List ℕ) (steps : List (Event × List Action)) (given : List Action) (c e : Course) (t : Taken) → Hears c t e → IsCalmAfter ids steps given c → IsCalmAfter ids steps given e
-calm_hears ids steps given c e t (no_failure, gives, is) calm = subst (IsCalmAfter ids steps given) (sym is) calm
+calm_receives : (ids : List ℕ) (steps : List (Event × List Action)) (given : List Action) (c e : Course) (t : Taken) → Receives c t e → IsCalmAfter ids steps given c → IsCalmAfter ids steps given e
+calm_receives ids steps given c e t (no_failure, gives, is) calm = subst (IsCalmAfter ids steps given) (sym is) calm
 
--- messages heard keep it
-calm_all : (ids : List ℕ) (steps : List (Event × List Action)) (given : List Action) (c e : Course) (ts : List Taken) (acts : List Action) → AreHeard c ts acts e → IsCalmAfter ids steps given c → IsCalmAfter ids steps (given ++ acts) e
+-- messages received keep it
+calm_all : (ids : List ℕ) (steps : List (Event × List Action)) (given : List Action) (c e : Course) (ts : List Taken) (acts : List Action) → AreReceived c ts acts e → IsCalmAfter ids steps given c → IsCalmAfter ids steps (given ++ acts) e
 calm_all ids steps given c e [] acts (none, here) calm =
     subst (λ (xs : List Action). IsCalmAfter ids steps (given ++ xs) e) (sym none) (subst (IsCalmAfter ids steps (given ++ [])) (sym here) (calm_still ids steps given [] c (λ id. refl) calm))
-calm_all ids steps given c e (t ∷ ts) acts (mid, rest, hears, all, later) calm =
-    let grouped : (given ++ (heard mid t).0) ++ rest ≡ given ++ acts = append_assoc given (heard mid t).0 rest ∙ ap (λ (xs : List Action). given ++ xs) (sym all) in
+calm_all ids steps given c e (t ∷ ts) acts (mid, rest, receives, all, later) calm =
+    let grouped : (given ++ (message_received mid t).0) ++ rest ≡ given ++ acts = append_assoc given (message_received mid t).0 rest ∙ ap (λ (xs : List Action). given ++ xs) (sym all) in
     subst (λ (xs : List Action). IsCalmAfter ids steps xs e) grouped
-    (calm_all ids steps (given ++ (heard mid t).0) (heard mid t).1 e ts rest later (calm_heard ids steps given mid t (calm_hears ids steps given c mid t hears calm)))
+    (calm_all ids steps (given ++ (message_received mid t).0) (message_received mid t).1 e ts rest later (calm_received ids steps given mid t (calm_receives ids steps given c mid t receives calm)))
 
 -- the course before any message
-pub calm_heard_all : (ids : List ℕ) (steps : List (Event × List Action)) (c e : Course) (ts : List Taken) (acts : List Action) → AreHeard c ts acts e → IsCalm ids steps c → IsCalmAfter ids steps acts e
-calm_heard_all ids steps c e ts acts are (out, quiet, flags, none) = calm_all ids steps [] c e ts acts are (out, quiet, flags, none, λ _ id _. refl)
+pub calm_all_received : (ids : List ℕ) (steps : List (Event × List Action)) (c e : Course) (ts : List Taken) (acts : List Action) → AreReceived c ts acts e → IsCalm ids steps c → IsCalmAfter ids steps acts e
+calm_all_received ids steps c e ts acts are (out, quiet, flags, none) = calm_all ids steps [] c e ts acts are (out, quiet, flags, none, λ _ id _. refl)

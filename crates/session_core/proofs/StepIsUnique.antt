@@ -28,7 +28,7 @@ use Rattle.session_core.specs.declared.phase.Greeter.{Greeter}
 use Rattle.session_core.specs.declared.phase.Greeter.TheVariants as greeters
 use Rattle.session_core.specs.declared.phase.Phase.{Phase}
 use Rattle.session_core.specs.declared.phase.Phase.TheVariants as phases
-use Rattle.session_core.specs.Courses.{Course, AreHeard, Answered, Hears, HearsAll, IsHalted, acks_sent, course_fed, heard, is_failure, table_to_ask}
+use Rattle.session_core.specs.Courses.{Course, AreReceived, Answered, Receives, ReceivesAll, IsHalted, acks_sent, course_fed, message_received, is_failure, table_to_ask}
 use Rattle.session_core.specs.Sessions.{SessionState, Accepts, Concludes, Connects, FinishesResync, Goes, GoesHello, GoesIn, GoesNew, GoesOpen, Greets, HasNothing, IsCopied, IsWelcomed, ReceivesBytes, Settles, StartsPendingResync, Turns, confirmed_by, ended, going}
 
 -- what both are is the same
@@ -41,7 +41,7 @@ same_end s e end by acts others same p q = (same, p ∙ ap by same ∙ sym q)
 
 -- ---- messages one after another
 
--- what ends the messages that are heard, by what the intake answers: none where another message is heard
+-- what ends the messages that are received, by what the intake answers: none where another message is received
 abbrev ending : Result (Option Taken) Fault → Option (Result (Unit {0}) Halt)
 ending (Ok None) = Some (Ok tt)
 ending (Ok (Some (taken.Failed kind))) = Some (Err halts.Failed)
@@ -77,8 +77,8 @@ goes_on (taken.Said control) is = refl
 goes_on (taken.Acked table number) is = refl
 goes_on (taken.Failed kind) is = cc
 
-shown_heard : (c mid : Course) (t : Taken) → Hears c t mid → Shows c None mid.intake (Ok (Some t))
-shown_heard c mid t (is, gives, then) = (gives, some_answer (Some t), goes_on t is)
+shown_received : (c mid : Course) (t : Taken) → Receives c t mid → Shows c None mid.intake (Ok (Some t))
+shown_received c mid t (is, gives, then) = (gives, some_answer (Some t), goes_on t is)
 
 end_of : (a b : Result (Unit {0}) Halt) → ◌≡◌ {A = Option (Result (Unit {0}) Halt)} (Some a) (Some b) → a ≡ b
 end_of a b same = cc
@@ -96,45 +96,45 @@ no_end c end next' t (answer, e, (next, wanted, is)) (gives, wanted', is') =
     let bad : Some end ≡ None = sym is ∙ ap ending (intake_next_once c.intake e next' answer (Ok (Some t)) next gives wanted wanted').0 ∙ is' in
     cc
 
-not_both : (c mid : Course) (t : Taken) (end : Result (Unit {0}) Halt) → Ends c end → Hears c t mid → ⊥
-not_both c mid t end ends hears = no_end c end mid.intake t (shown_end c end ends) (shown_heard c mid t hears)
+not_both : (c mid : Course) (t : Taken) (end : Result (Unit {0}) Halt) → Ends c end → Receives c t mid → ⊥
+not_both c mid t end ends receives = no_end c end mid.intake t (shown_end c end ends) (shown_received c mid t receives)
 
 taken_of : (t u : Taken) → ◌≡◌ {A = Result (Option Taken) Fault} (Ok (Some t)) (Ok (Some u)) → t ≡ u
 taken_of t u same = cc
 
-one_heard : (c mid next : Course) (t u : Taken) → Hears c t mid → Hears c u next → (t ≡ u) × (mid ≡ next)
-one_heard c mid next t u hears again =
-    let same = intake_next_once c.intake mid.intake next.intake (Ok (Some t)) (Ok (Some u)) hears.1 again.1 (some_answer (Some t)) (some_answer (Some u)) in
-    (taken_of t u same.0, hears.2 ∙ ap (λ (x : Taking). record c { intake = x }) same.1 ∙ sym again.2)
+one_received : (c mid next : Course) (t u : Taken) → Receives c t mid → Receives c u next → (t ≡ u) × (mid ≡ next)
+one_received c mid next t u receives again =
+    let same = intake_next_once c.intake mid.intake next.intake (Ok (Some t)) (Ok (Some u)) receives.1 again.1 (some_answer (Some t)) (some_answer (Some u)) in
+    (taken_of t u same.0, receives.2 ∙ ap (λ (x : Taking). record c { intake = x }) same.1 ∙ sym again.2)
 
--- from one course the messages are heard up to one end, and ask for the same
-heard_once : (c m n : Course) (ts us : List Taken) (acts others : List Action) (a b : Result (Unit {0}) Halt)
-    → AreHeard c ts acts m → AreHeard c us others n → Ends m a → Ends n b → (acts ≡ others) × (m ≡ n) × (a ≡ b)
-heard_once c m n [] [] acts others a b one again ends ends' =
+-- from one course the messages are received up to one end, and ask for the same
+all_received_once : (c m n : Course) (ts us : List Taken) (acts others : List Action) (a b : Result (Unit {0}) Halt)
+    → AreReceived c ts acts m → AreReceived c us others n → Ends m a → Ends n b → (acts ≡ others) × (m ≡ n) × (a ≡ b)
+all_received_once c m n [] [] acts others a b one again ends ends' =
     (one.0 ∙ sym again.0, one.1 ∙ sym again.1, one_end c a b (subst (λ (x : Course). Ends x a) one.1 ends) (subst (λ (x : Course). Ends x b) again.1 ends'))
-heard_once c m n [] (u ∷ us) acts others a b one (mid, rest, hears, is, then) ends ends' =
-    absurd (not_both c mid u a (subst (λ (x : Course). Ends x a) one.1 ends) hears)
-heard_once c m n (t ∷ ts) [] acts others a b (mid, rest, hears, is, then) again ends ends' =
-    absurd (not_both c mid t b (subst (λ (x : Course). Ends x b) again.1 ends') hears)
-heard_once c m n (t ∷ ts) (u ∷ us) acts others a b (mid, rest, hears, is, then) (mid', rest', hears', is', then') ends ends' =
-    let same = one_heard c mid mid' t u hears hears' in
-    let moved : heard mid' u ≡ heard mid t = ap (λ (x : Course). heard x u) (sym same.1) ∙ ap (heard mid) (sym same.0) in
-    let later : AreHeard (heard mid t).1 us rest' n = subst (λ (x : List Action × Course). AreHeard x.1 us rest' n) moved then' in
-    let all = heard_once (heard mid t).1 m n ts us rest rest' a b then later ends ends' in
-    let asked : acts ≡ others = is ∙ ap (λ (x : List Action). (heard mid t).0 ++ x) all.0 ∙ ap (λ (x : List Action × Course). x.0 ++ rest') (sym moved) ∙ sym is' in
+all_received_once c m n [] (u ∷ us) acts others a b one (mid, rest, receives, is, then) ends ends' =
+    absurd (not_both c mid u a (subst (λ (x : Course). Ends x a) one.1 ends) receives)
+all_received_once c m n (t ∷ ts) [] acts others a b (mid, rest, receives, is, then) again ends ends' =
+    absurd (not_both c mid t b (subst (λ (x : Course). Ends x b) again.1 ends') receives)
+all_received_once c m n (t ∷ ts) (u ∷ us) acts others a b (mid, rest, receives, is, then) (mid', rest', receives', is', then') ends ends' =
+    let same = one_received c mid mid' t u receives receives' in
+    let moved : message_received mid' u ≡ message_received mid t = ap (λ (x : Course). message_received x u) (sym same.1) ∙ ap (message_received mid) (sym same.0) in
+    let later : AreReceived (message_received mid t).1 us rest' n = subst (λ (x : List Action × Course). AreReceived x.1 us rest' n) moved then' in
+    let all = all_received_once (message_received mid t).1 m n ts us rest rest' a b then later ends ends' in
+    let asked : acts ≡ others = is ∙ ap (λ (x : List Action). (message_received mid t).0 ++ x) all.0 ∙ ap (λ (x : List Action × Course). x.0 ++ rest') (sym moved) ∙ sym is' in
     (asked, all.1, all.2)
 
--- bytes were received: which messages were heard, up to what, and what followed
+-- bytes were received: which messages were received, up to what, and what followed
 abbrev Received : SessionState → Course → List Action → Result (Unit {0}) Halt → List Action → List Action → SessionState → Type 0
 Received s c first end given acts e =
-    (ts : List Taken) × (m : Course) × AreHeard c ts given m × Ends m end × Concludes s m end (first ++ given) acts e
+    (ts : List Taken) × (m : Course) × AreReceived c ts given m × Ends m end × Concludes s m end (first ++ given) acts e
 
 received : (s : SessionState) (c mid : Course) (first given acts : List Action) (e : SessionState) (end : Result (Unit {0}) Halt)
-    → HearsAll c end given mid → Concludes s mid end (first ++ given) acts e → Received s c first end given acts e
-received s c mid first given acts e (Ok _) (ts, hears, waits) concludes = (ts, mid, hears, waits, concludes)
-received s c mid first given acts e (Err halts.Failed) (ts, m, hears, halted) concludes = (ts, m, hears, halted, concludes)
-received s c mid first given acts e (Err (halts.Fault fault)) (ts, m, hears, halted) concludes = (ts, m, hears, halted, concludes)
-received s c mid first given acts e (Err halts.Memory) hears concludes = absurd concludes
+    → ReceivesAll c end given mid → Concludes s mid end (first ++ given) acts e → Received s c first end given acts e
+received s c mid first given acts e (Ok _) (ts, receives, waits) concludes = (ts, mid, receives, waits, concludes)
+received s c mid first given acts e (Err halts.Failed) (ts, m, receives, halted) concludes = (ts, m, receives, halted, concludes)
+received s c mid first given acts e (Err (halts.Fault fault)) (ts, m, receives, halted) concludes = (ts, m, receives, halted, concludes)
+received s c mid first given acts e (Err halts.Memory) receives concludes = absurd concludes
 
 concludes_once : (s e end : SessionState) (c : Course) (how : Result (Unit {0}) Halt) (given acts others : List Action)
     → Concludes s c how given acts e → Concludes s c how given others end → (acts ≡ others) × (e ≡ end)
@@ -146,17 +146,17 @@ concludes_once s e end c (Err halts.Memory) given acts others p q = absurd p
 
 received_once : (s e end : SessionState) (c : Course) (first given given' acts others : List Action) (a b : Result (Unit {0}) Halt)
     → Received s c first a given acts e → Received s c first b given' others end → (acts ≡ others) × (e ≡ end)
-received_once s e end c first given given' acts others a b (ts, m, hears, ends, concludes) (us, n, hears', ends', concludes') =
-    let same = heard_once c m n ts us given given' a b hears hears' ends ends' in
+received_once s e end c first given given' acts others a b (ts, m, receives, ends, concludes) (us, n, receives', ends', concludes') =
+    let same = all_received_once c m n ts us given given' a b receives receives' ends ends' in
     let at_course : Concludes s m b (first ++ given') others end = subst (λ (x : Course). Concludes s x b (first ++ given') others end) (sym same.1) concludes' in
     let so : Concludes s m a (first ++ given') others end = subst (λ (x : Result (Unit {0}) Halt). Concludes s m x (first ++ given') others end) (sym same.2) at_course in
     concludes_once s e end m a (first ++ given) acts others concludes
     (subst (λ (x : List Action). Concludes s m a (first ++ x) others end) (sym same.0) so)
 
 bytes_once : (s e end : SessionState) (c : Course) (first acts others : List Action) → ReceivesBytes s c first acts e → ReceivesBytes s c first others end → (acts ≡ others) × (e ≡ end)
-bytes_once s e end c first acts others (how, given, mid, hears, concludes) (how', given', mid', hears', concludes') =
+bytes_once s e end c first acts others (how, given, mid, receives, concludes) (how', given', mid', receives', concludes') =
     received_once s e end c first given given' acts others how how'
-    (received s c mid first given acts e how hears concludes) (received s c mid' first given' others end how' hears' concludes')
+    (received s c mid first given acts e how receives concludes) (received s c mid' first given' others end how' receives' concludes')
 
 -- ---- New and Hello
 

@@ -31,12 +31,12 @@ use Rattle.learner.specs.Intake.{acks_of}
 use Rattle.session_core.specs.Shares.{out_set, quiet_set, next_table}
 use Rattle.session_core.specs.Actions.{sends_control, sends_acks, status_text}
 use Rattle.peers_msg.specs.declared.control.Control.TheVariants as controls
-use Rattle.session_core.specs.Courses.{Course, course_fed, HearsAll, acks_given, acks_sent, table_to_ask, kind_of, teaching_anew}
+use Rattle.session_core.specs.Courses.{Course, course_fed, ReceivesAll, acks_given, acks_sent, table_to_ask, kind_of, teaching_anew}
 use Rattle.session_core.specs.Sessions.{SessionState, Concludes, ReceivesBytes, IsWelcomed, Connects, Accepts, Greets, GoesNew, GoesHello, GoesOpen, GoesIn, Turns, IsCopied, HasNothing, FinishesResync, StartsPendingResync, Settles}
 use Rattle.session_core.specs.Runs.{copies, reopened, IsLeft, HasNothingLeft}
 use Rattle.session_core.proofs.ShareLemmas.{shares_in, set_at, never, out_set_in, quiet_set_in, IsFree, next_free, no_clash}
 use Rattle.session_core.proofs.EndLemmas.{is_plain, plain_append, plain_all, plain_acks, plain_status}
-use Rattle.session_core.proofs.RunLemmas.{IsSound, IsCalm, IsFresh, IsKeptIn, AreFlags, IsDueSound, no_copies, due_sound, due_rest, calm_sound, fresh_calm, flags_more, calm_more, IsCalmAfter, reopened_append, calm_heard_all, anew_flags, left_more}
+use Rattle.session_core.proofs.RunLemmas.{IsSound, IsCalm, IsFresh, IsKeptIn, AreFlags, IsDueSound, no_copies, due_sound, due_rest, calm_sound, fresh_calm, flags_more, calm_more, IsCalmAfter, reopened_append, calm_all_received, anew_flags, left_more}
 
 abbrev pub with_step : List (Event × List Action) → Event → List Action → List (Event × List Action)
 with_step steps event acts = steps ++ ((event, acts) ∷ [])
@@ -50,7 +50,7 @@ phase_is s e is = ap (λ (x : SessionState). x.phase) is
 
 -- ---- bytes
 
--- what is sent before the messages are heard
+-- what is sent before the messages are received
 abbrev IsOpening : ℕ → List Action → Type 0
 IsOpening id first = is_plain id first × (reopened id first ≡ false)
 
@@ -59,27 +59,27 @@ acks_reopen_none : (id : ℕ) (ms : List Message) → reopened id (sends_acks ms
 acks_reopen_none id [] = refl
 acks_reopen_none id (m ∷ ms) = refl
 
-heard_more : (ids : List ℕ) (steps : List (Event × List Action)) (mid : Course) (event : Event) (first given acts : List Action) → ((id : ℕ) → copies id acts ≡ false) → acts ≡ (first ++ given) ++ acks_given mid → ((id : ℕ) → IsOpening id first) → IsCalmAfter ids steps given mid → IsCalm ids (with_step steps event acts) mid
-heard_more ids steps mid event first given acts no_copy is opening (out, quiet, flags, none, still) =
+received_more : (ids : List ℕ) (steps : List (Event × List Action)) (mid : Course) (event : Event) (first given acts : List Action) → ((id : ℕ) → copies id acts ≡ false) → acts ≡ (first ++ given) ++ acks_given mid → ((id : ℕ) → IsOpening id first) → IsCalmAfter ids steps given mid → IsCalm ids (with_step steps event acts) mid
+received_more ids steps mid event first given acts no_copy is opening (out, quiet, flags, none, still) =
     let reopens_none : mid.teaching ≡ true → (id : ℕ) → quiet id ≡ true → reopened id acts ≡ false = λ teaching id quiets.
     ap (reopened id) is ∙ reopened_append id (first ++ given) (acks_given mid) (reopened_append id first given (opening id).1 (still teaching id quiets)) (acks_reopen_none id (acks_of mid.intake)) in
     (out, quiet, flags_more ids steps mid.teaching mid.shares out quiet event acts (λ teaching id quiets. (no_copy id, reopens_none teaching id quiets)) flags, none)
 
-received_kept : (ids : List ℕ) (steps : List (Event × List Action)) (s : SessionState) (c : Course) (first acts : List Action) (e : SessionState) (event : Event) (result : Result (Unit {0}) Halt) (given : List Action) (mid : Course) → IsCalm ids steps c → ((id : ℕ) → IsOpening id first) → HearsAll c result given mid → Concludes s mid result (first ++ given) acts e → IsKeptIn ids (with_step steps event acts) e.phase
+received_kept : (ids : List ℕ) (steps : List (Event × List Action)) (s : SessionState) (c : Course) (first acts : List Action) (e : SessionState) (event : Event) (result : Result (Unit {0}) Halt) (given : List Action) (mid : Course) → IsCalm ids steps c → ((id : ℕ) → IsOpening id first) → ReceivesAll c result given mid → Concludes s mid result (first ++ given) acts e → IsKeptIn ids (with_step steps event acts) e.phase
 received_kept ids steps s c first acts e event (Ok u) given mid calm plain (ts, are, waits) (is, ends) =
     let no_copy : (id : ℕ) → copies id acts ≡ false = λ id.
     rw is ((plain_append id (first ++ given) (acks_given mid) (plain_append id first given (plain id).0 (plain_all id c mid ts given are)) (plain_acks id mid.intake)).1) in
-    let calm_then : IsCalm ids (with_step steps event acts) mid = heard_more ids steps mid event first given acts no_copy is plain (calm_heard_all ids steps c mid ts given are calm) in
+    let calm_then : IsCalm ids (with_step steps event acts) mid = received_more ids steps mid event first given acts no_copy is plain (calm_all_received ids steps c mid ts given are calm) in
     stands ids (with_step steps event acts) e (phases.Open (acks_sent mid)) (ap (λ (x : SessionState). x.phase) ends) (calm_sound ids (with_step steps event acts) (acks_sent mid) calm_then)
-received_kept ids steps s c first acts e event (Err halts.Failed) given mid calm plain hears (is, ends) =
+received_kept ids steps s c first acts e event (Err halts.Failed) given mid calm plain receives (is, ends) =
     stands ids (with_step steps event acts) e phases.Ended (ap (λ (x : SessionState). x.phase) ends) tt
-received_kept ids steps s c first acts e event (Err (halts.Fault fault)) given mid calm plain hears (is, ends) =
+received_kept ids steps s c first acts e event (Err (halts.Fault fault)) given mid calm plain receives (is, ends) =
     stands ids (with_step steps event acts) e phases.Ended (ap (λ (x : SessionState). x.phase) ends) tt
-received_kept ids steps s c first acts e event (Err halts.Memory) given mid calm plain hears concludes = absurd concludes
+received_kept ids steps s c first acts e event (Err halts.Memory) given mid calm plain receives concludes = absurd concludes
 
 receives_kept : (ids : List ℕ) (steps : List (Event × List Action)) (s : SessionState) (c : Course) (first acts : List Action) (e : SessionState) (event : Event) → IsCalm ids steps c → ((id : ℕ) → IsOpening id first) → ReceivesBytes s c first acts e → IsKeptIn ids (with_step steps event acts) e.phase
-receives_kept ids steps s c first acts e event calm plain (result, given, mid, hears, concludes) =
-    received_kept ids steps s c first acts e event result given mid calm plain hears concludes
+receives_kept ids steps s c first acts e event calm plain (result, given, mid, receives, concludes) =
+    received_kept ids steps s c first acts e event result given mid calm plain receives concludes
 
 -- ---- New and Hello
 

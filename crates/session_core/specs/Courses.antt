@@ -70,12 +70,12 @@ said c controls.ResyncConfirmed = ([], c)
 said c controls.Heartbeat = ([], c)
 
 -- what a message asks for, and the course then
-abbrev pub heard : Course → Taken → List Action × Course
-heard c (taken.Row u) = (actions.Learn u ∷ [], c)
-heard c taken.Passed = ([], c)
-heard c (taken.Said control) = said c control
-heard c (taken.Acked table number) = acknowledged (is_out table c.shares) c table number
-heard c (taken.Failed kind) = ([], c)
+abbrev pub message_received : Course → Taken → List Action × Course
+message_received c (taken.Row u) = (actions.Learn u ∷ [], c)
+message_received c taken.Passed = ([], c)
+message_received c (taken.Said control) = said c control
+message_received c (taken.Acked table number) = acknowledged (is_out table c.shares) c table number
+message_received c (taken.Failed kind) = ([], c)
 
 -- ---- messages one after another
 
@@ -85,20 +85,20 @@ is_failure (taken.Failed kind) = true
 is_failure t = false
 
 -- the message at the front is taken off the bytes, and isn't an error message
-abbrev pub Hears : Course → Taken → Course → Type 0
-Hears c t e = (is_failure t ≡ false) × Gives c.intake (Ok t) e.intake × (e ≡ record c { intake = e.intake })
+abbrev pub Receives : Course → Taken → Course → Type 0
+Receives c t e = (is_failure t ≡ false) × Gives c.intake (Ok t) e.intake × (e ≡ record c { intake = e.intake })
 
--- these messages are heard one after another, and ask for these actions
-abbrev pub AreHeard : Course → List Taken → List Action → Course → Type 0
-AreHeard c [] acts e = (acts ≡ []) × (e ≡ c)
-AreHeard c (t ∷ ts) acts e =
+-- these messages are received one after another, and ask for these actions
+abbrev pub AreReceived : Course → List Taken → List Action → Course → Type 0
+AreReceived c [] acts e = (acts ≡ []) × (e ≡ c)
+AreReceived c (t ∷ ts) acts e =
     (mid : Course)
     × (rest : List Action)
-    × Hears c t mid
-    × (acts ≡ (heard mid t).0 ++ rest)
-    × AreHeard (heard mid t).1 ts rest e
+    × Receives c t mid
+    × (acts ≡ (message_received mid t).0 ++ rest)
+    × AreReceived (message_received mid t).1 ts rest e
 
--- why the message at the front isn't heard: it is an error message, or the intake has a fault
+-- why the message at the front isn't received: it is an error message, or the intake has a fault
 abbrev pub IsHalted : Course → Halt → Type 0
 IsHalted c halts.Failed = (kind : ErrorKind) × (e : Taking) × Gives c.intake (Ok (taken.Failed kind)) e
 IsHalted c (halts.Fault fault) = (fault ≢ faults.Memory) × (e : Taking) × Stops c.intake fault e
@@ -109,10 +109,10 @@ abbrev pub halt_of : Fault → Halt
 halt_of faults.Memory = halts.Memory
 halt_of fault = halts.Fault fault
 
--- The messages that are whole are heard one after another, up to the first that halts.
-abbrev pub HearsAll : Course → Result (Unit {0}) Halt → List Action → Course → Type 0
-HearsAll c (Ok _) acts e = (ts : List Taken) × AreHeard c ts acts e × IntakeNext e.intake (Ok None) e.intake
-HearsAll c (Err halt) acts e = (ts : List Taken) × (mid : Course) × AreHeard c ts acts mid × IsHalted mid halt
+-- The messages that are whole are received one after another, up to the first that halts.
+abbrev pub ReceivesAll : Course → Result (Unit {0}) Halt → List Action → Course → Type 0
+ReceivesAll c (Ok _) acts e = (ts : List Taken) × AreReceived c ts acts e × IntakeNext e.intake (Ok None) e.intake
+ReceivesAll c (Err halt) acts e = (ts : List Taken) × (mid : Course) × AreReceived c ts acts mid × IsHalted mid halt
 
 -- the acknowledgements that are due are sent
 abbrev pub acks_sent : Course → Course

@@ -37,7 +37,7 @@ use Rattle.session_core.specs.declared.phase.Phase.{Phase}
 use Rattle.session_core.specs.declared.phase.Phase.TheVariants as phases
 use Rattle.session_core.specs.Shares.{any_out, all_quiet, out_set, quiet_set}
 use Rattle.session_core.specs.Actions.{sends_control, status_text, reopens, confirms}
-use Rattle.session_core.specs.Courses.{Course, course_begun, course_fed, teaching_anew, HearsAll, acks_sent, acks_given, kind_of, table_to_ask, is_due, none_due, Answered, finished, state_of_course}
+use Rattle.session_core.specs.Courses.{Course, course_begun, course_fed, teaching_anew, ReceivesAll, acks_sent, acks_given, kind_of, table_to_ask, is_due, none_due, Answered, finished, state_of_course}
 
 -- Where a session stands; what it knows of the remote peer as a learner; the fault of the remote peer's messages that ended
 -- it, if any; and whether it sent that a resync is confirmed.
@@ -88,7 +88,7 @@ kind_of_fault fault = kinds.Protocol
 abbrev pub confirmed_by : List Action → SessionState → SessionState
 confirmed_by acts s = record { phase = s.phase; known = s.known; fault = s.fault; confirmed = s.confirmed || confirms acts }
 
--- What follows the messages that were heard: where no message is whole any more, the acknowledgements that are due.
+-- What follows the messages that were received: where no message is whole any more, the acknowledgements that are due.
 -- An error message closes, and a fault parts, both without the acknowledgements.
 abbrev pub Concludes : SessionState → Course → Result (Unit {0}) Halt → List Action → List Action → SessionState → Type 0
 Concludes s c (Ok _) given acts e = (acts ≡ given ++ acks_given c) × (e ≡ confirmed_by acts (going s (acks_sent c)))
@@ -98,13 +98,13 @@ Concludes s c (Err (halts.Fault fault)) given acts e =
     × (e ≡ confirmed_by acts (record { phase = phases.Ended; known = s.known; fault = Some fault; confirmed = s.confirmed }))
 Concludes s c (Err halts.Memory) given acts e = ⊥
 
--- The course c was fed bytes: its messages are heard one after another, after these first actions.
+-- The course c was fed bytes: its messages are received one after another, after these first actions.
 abbrev pub ReceivesBytes : SessionState → Course → List Action → List Action → SessionState → Type 0
 ReceivesBytes s c first acts e =
     (result : Result (Unit {0}) Halt)
     × (given : List Action)
     × (mid : Course)
-    × HearsAll c result given mid
+    × ReceivesAll c result given mid
     × Concludes s mid result (first ++ given) acts e
 
 -- ---- New

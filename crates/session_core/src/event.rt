@@ -16,7 +16,7 @@ pub enum Event {
     ReadFault,
     /// Nothing else is to be done: a batch may be copied.
     Turn,
-    /// The answer to `Copy`: of the table of that id this batch was copied. It tells of that table alone and isn't empty,
+    /// The answer to `Copy`: of the table of that id this batch was copied. All its updates are of that table, and it isn't empty,
     /// which the session doesn't check.
     Copied(u64, Batch),
     /// The answer to `Copy`: the table of that id has nothing to teach.

@@ -1,4 +1,4 @@
-//! Why no message is heard any more.
+//! Why no message is received any more.
 
 ghost use Rattle.std.specs.Prelude.{◌≡◌};
 ghost use Rattle.session_core.specs.declared.halt.Halt.TheVariants as halts;
@@ -7,7 +7,7 @@ ghost use Rattle.session_core.specs.Courses.{halt_of};
 use learner::Fault;
 use table_types::Memory;
 
-/// Why no message is heard any more.
+/// Why no message is received any more.
 #[derive(Clone, Copy, Debug, PartialEq, Eq)]
 pub(crate) enum Halt {
     /// The remote peer sent an error message.

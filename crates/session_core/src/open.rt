@@ -14,8 +14,8 @@ use crate::course::Course;
 use crate::due::Due;
 use crate::error::SessionError;
 use crate::event::Event;
-use crate::hearing::push_control;
 use crate::phase::Phase;
+use crate::receiving::push_control;
 use crate::session::Session;
 use crate::share::{all_quiet, any_out};
 use known_state::Known;
@@ -87,7 +87,7 @@ impl Session {
         if !course.none_due() {
             return Err(SessionError::Unasked);
         }
-        Ok(self.hear(course, bytes.as_slice(), Vec::new(self.alloc))?)
+        Ok(self.receive(course, bytes.as_slice(), Vec::new(self.alloc))?)
     }
 
     /// A batch of the table of that id was copied.

@@ -20,8 +20,8 @@ use crate::course::Course;
 use crate::error::SessionError;
 use crate::event::Event;
 use crate::halt::Halt;
-use crate::hearing::control_text;
 use crate::phase::{Greeter, Phase};
+use crate::receiving::control_text;
 use crate::state::State;
 use known_state::Known;
 use learner::Fault;
@@ -335,7 +335,7 @@ impl Session {
             Status::Code(code, used) => {
                 if code == 200 {
                     let actions = request(self.alloc)?;
-                    self.hear(course, after(bytes.as_slice(), used), actions)
+                    self.receive(course, after(bytes.as_slice(), used), actions)
                 } else {
                     only(self.alloc, Action::Close)
                 }
@@ -362,14 +362,14 @@ impl Session {
             }
             Answer::Accepted(_, used) => {
                 let actions = welcome(self.alloc)?;
-                self.hear(course, after(bytes.as_slice(), used), actions)
+                self.receive(course, after(bytes.as_slice(), used), actions)
             }
             Answer::Refused(code, _) => turn_away(self.alloc, code),
         }
     }
 
-    /// Hears the messages in these bytes, after these first actions.
-    pub(crate) fn hear(
+    /// Receives the messages in these bytes, after these first actions.
+    pub(crate) fn receive(
         &mut self,
         course: Course,
         bytes: &[u8],
@@ -380,24 +380,24 @@ impl Session {
         ensures stays { OnErr result (self.new ≡ self.old) }
     {
         let (mut course, mut actions) = (course, first);
-        let heard = course.hear_bytes(self.alloc, bytes, &mut actions);
-        self.conclude(course, heard, actions)
+        let received = course.receive_bytes(self.alloc, bytes, &mut actions);
+        self.conclude(course, received, actions)
     }
 
-    /// What follows the messages that were heard.
+    /// What follows the messages that were received.
     fn conclude(
         &mut self,
         course: Course,
-        heard: Result<(), Halt>,
+        received: Result<(), Halt>,
         given: Vec<Action>,
     ) -> Result<Vec<Action>, Memory>
         requires { self.old.phase ≡ phases.Ended }
-        ensures goes { IfOk result (λ acts. Concludes self.old course heard given.items acts.items self.new) }
-        ensures memory { IfOk result (λ _. heard ≢ Err halts.Memory) }
+        ensures goes { IfOk result (λ acts. Concludes self.old course received given.items acts.items self.new) }
+        ensures memory { IfOk result (λ _. received ≢ Err halts.Memory) }
         ensures stays { OnErr result (self.new ≡ self.old) }
     {
         let mut actions = given;
-        match heard {
+        match received {
             Ok(()) => {
                 let mut course = course;
                 course.send_acks(self.alloc, &mut actions)?;

@@ -12,7 +12,7 @@ use Rattle.table_types.specs.declared.key.Key.{Key}
 use Rattle.table_types.specs.Keys.{key_cmp}
 use Rattle.table_types.specs.KeyOrder.{key_cmp_total}
 use Rattle.table_types.specs.Rows.{StoredRow}
-use Rattle.table_types.proofs.KeyLaws.{exact_keys, one_key}
+use Rattle.table_types.proofs.EqualKeysAreOne.{exact_keys, one_key}
 use Rattle.table_rows.specs.Rows.{IsFirstToEnd, end_cmp, ends_cmp, row_at}
 use Rattle.table_cell.specs.declared.events.CellEvent.{CellEvent}
 use Rattle.table_cell.specs.declared.events.CellEvent.TheVariants as events

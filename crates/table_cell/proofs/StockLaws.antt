@@ -13,7 +13,7 @@ use Rattle.table_types.specs.declared.key.Key.{Key}
 use Rattle.table_types.specs.Keys.{key_cmp}
 use Rattle.table_types.specs.KeyOrder.{key_cmp_total}
 use Rattle.table_types.specs.Rows.{StoredRow}
-use Rattle.table_types.proofs.KeyLaws.{exact_keys, key_cmp-same, one_key}
+use Rattle.table_types.proofs.EqualKeysAreOne.{exact_keys, key_cmp-same, one_key}
 use Rattle.table_rows.specs.Rows.{AreLive, IsFirstToEnd, end_cmp, is_live, row_at, rows_without}
 use Rattle.update_numbers.specs.Numbers.{without as numbers_without, above}
 use Rattle.table_cell.specs.Machine.{without}

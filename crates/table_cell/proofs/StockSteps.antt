@@ -10,7 +10,7 @@ use Rattle.std.specs.Ordering.{is_eq, nat_cmp}
 use Rattle.table_types.specs.declared.key.Key.{Key}
 use Rattle.table_types.specs.Keys.{key_cmp}
 use Rattle.table_types.specs.Rows.{StoredRow}
-use Rattle.table_types.proofs.KeyLaws.{one_key}
+use Rattle.table_types.proofs.EqualKeysAreOne.{one_key}
 use Rattle.table_rows.specs.Rows.{AreLive, IsFirstToEnd, is_live, row_at, rows_without}
 use Rattle.update_numbers.specs.Index.{pairs_without}
 use Rattle.update_numbers.specs.Numbers.{Numbering, above, dropped, given, pushed, without as numbers_without}

@@ -22,7 +22,7 @@ fn batch_of(definition: &TableDef, updates: Vec<Update>) -> Batch
     requires { IsBatchFor (definition.now ∷ []) updates.items }
     ensures { result ≡ updates.items }
 {
-    Batch::of_table(definition, updates).unwrap()
+    Batch::of_fitting(updates)
 }
 
 impl Table {
@@ -174,7 +174,7 @@ impl TableCell {
     {
         let full = self.is_history_full();
         if let Some(error) = self.table.copy_refusal(full, session, kind, limit, now) {
-            self.table.pass_learned(session, kind);
+            self.table.pass_learned(session, kind, error);
             return Err(error);
         }
         let Ok(batch) = copy(
@@ -205,7 +205,7 @@ impl TableCell {
     {
         let full = self.is_history_full();
         if let Some(error) = self.table.copy_refusal(full, session, kind, limit, now) {
-            self.table.pass_learned(session, kind);
+            self.table.pass_learned(session, kind, error);
             return Err(error);
         }
         let Ok(pair) = copy_pair(

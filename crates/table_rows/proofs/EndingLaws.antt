@@ -8,7 +8,7 @@ use Rattle.std.proofs.lemmas.Map.Views.{tells_apart}
 use Rattle.table_types.specs.declared.key.Key.{Key}
 use Rattle.table_types.specs.Keys.{key_cmp}
 use Rattle.table_types.specs.Rows.{StoredRow}
-use Rattle.table_types.proofs.KeyLaws.{exact_keys, key_cmp-same, one_key}
+use Rattle.table_types.proofs.EqualKeysAreOne.{exact_keys, key_cmp-same, one_key}
 use Rattle.table_rows.specs.declared.ending.Ending.{Ending}
 use Rattle.table_rows.specs.Endings.{Agree, IsOlder, are_same, ending_cmp, ending_of, is_among_without, later_cmp}
 

@@ -16,7 +16,7 @@ use Rattle.table_types.specs.declared.key.Key.{Key}
 use Rattle.table_types.specs.Keys.{key_cmp}
 use Rattle.table_types.specs.KeyOrder.{key_cmp_total}
 use Rattle.table_types.specs.Rows.{StoredRow}
-use Rattle.table_types.proofs.KeyLaws.{exact_keys}
+use Rattle.table_types.proofs.EqualKeysAreOne.{exact_keys}
 use Rattle.table_rows.specs.declared.ending.Ending.{Ending}
 use Rattle.table_rows.specs.EndingOrder.{ending_cmp_total}
 use Rattle.table_rows.specs.Endings.{AreIndexed, end_or_last, ending_cmp, ending_of, is_among, later_cmp}

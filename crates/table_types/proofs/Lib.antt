@@ -1,6 +1,6 @@
-pub mod TableLemmas
-pub mod BatchLaws
-pub mod ShapeLaws
-pub mod KindLaws
-pub mod KeyLaws
+pub mod KeptTypesRise
+pub mod BatchIsFaultless
+pub mod OneTableByShape
+pub mod KindRoundTrip
+pub mod EqualKeysAreOne
 pub mod ByteOrder

@@ -56,7 +56,7 @@ impl CellList {
         }
     }
 
-    /// These cells, and one more behind them.
+    /// These cells, and one more after them.
     pub(crate) fn with(self, alloc: Global, cell: Cell) -> Result<CellList, Memory>
         ensures { IfOk result (λ cells. cells ≡ self ++ cell ∷ []) }
     {

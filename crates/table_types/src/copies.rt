@@ -1,6 +1,6 @@
 //! What a table copies for a peer, and what a peer's acknowledgement settles.
 
-/// Which rows a batch is to tell of.
+/// Which rows a batch is to teach.
 #[derive(Clone, Copy, Debug, PartialEq, Eq)]
 pub enum CopyKind {
     /// This node's own rows.

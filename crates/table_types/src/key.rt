@@ -161,7 +161,7 @@ impl Key {
     }
 }
 
-/// A key that is equal to any. It isn't inlined, so that integers are told by one test before it.
+/// A key that is equal to any. It isn't inlined, so that integers are told apart by one test before it.
 #[inline(never)]
 fn copy_of(alloc: Global, key: &Key) -> Result<Key, Memory>
     ensures { IfOk result (λ copy. copy ≡ key.now) }

@@ -36,6 +36,6 @@ pub use name::{Name, is_name};
 pub use roster::{Roster, RosterError, has_id, is_same_name, table_at};
 pub use rotation::{read_rate, rotate};
 pub use row::{Cell, Row, are_same_cells};
-pub use slot_ids::is_slot;
+pub use slot_ids::{SLOT_COUNT, is_slot};
 pub use table_def::{DefError, TableDef};
 pub use update::{Update, Value, are_same_updates, are_same_values};

@@ -18,11 +18,11 @@ use Rattle.known_state.specs.State.{State, Named}
 use Rattle.known_state.specs.Cost.{Knowledge, knowledge_after, written_field}
 use Rattle.known_state.specs.Requests.{Asked, asked, requests_of}
 use Rattle.known_state.specs.Plans.{Asking, at_start, after_requests, AreLinked, keeps_next, kept_over, links, names_in}
-use Rattle.known_state.proofs.RosterLemmas.{name_itself}
+use Rattle.known_state.proofs.RosterNamesDiffer.{name_itself}
 use Rattle.known_state.proofs.LinkPlaces.{after-append}
 use Rattle.known_state.proofs.NamesToKeep.{names_to_keep}
 use Rattle.known_state.proofs.SlotsNeeded.{turned}
-use Rattle.teach_writer.specs.Naming.{is_that_name, lowest_from, starts_at_first, starts_after, first_mark, marks_after, retains_next, IsRetainedOver, IsNamed}
+use Rattle.teach_writer.specs.Naming.{is_that_name, lowest_from, starts_at_first, starts_after, first_mark, marks_after, keeps_next_update, IsRetainedOver, IsNamed}
 use Rattle.teach_writer.specs.Retained.{retained_at, Retains, IsFree, IsNameField}
 use Rattle.teach_writer.specs.NextRequests.{IsRetainedFirst, HasRoomFor, IsNotRetained, kept_next, retained_after, index_after}
 use Rattle.teach_writer.specs.Sending.{slot_of, is_stored, IsSent, AreSent}
@@ -42,13 +42,13 @@ AreSlots starts = (name : List ℕ) (slot : ℕ) → starts name ≡ Some slot �
 -- after an update whose name went through a slot, which retained no other name and is now retained for that name alone
 marked_after : (retained : List Bool) (starts : List ℕ → Option ℕ) (slots after : List (Option (List ℕ))) (u : Update) (us : List Update) (name : List ℕ) (slot : ℕ) (mark : Bool) (marks : List Bool) → u.name ≡ Some name → is_slot slot ≡ true → length retained ≡ 128 → AreMarked retained starts slots (u ∷ us) (mark ∷ marks) → slot_at after slot ≡ Some name
     → ((other : ℕ) → is_slot other ≡ true → (other ≡ slot → ⊥) → slot_at after other ≡ slot_at slots other)
-    → ((other : ℕ) (n : List ℕ) → (other ≡ slot → ⊥) → starts n ≡ Some other → retains_next n (u ∷ us) (mark ∷ marks) ≡ true → is_same_name name n ≡ false)
-    → ((n : List ℕ) → starts n ≡ Some slot → is_same_name name n ≡ false → retains_next n (u ∷ us) (mark ∷ marks) ≡ true → ⊥)
-    → AreMarked (slice_set retained (slot - 1) (retains_next name us marks)) (starts_after starts (Some name) (Some slot)) after us marks
+    → ((other : ℕ) (n : List ℕ) → (other ≡ slot → ⊥) → starts n ≡ Some other → keeps_next_update n (u ∷ us) (mark ∷ marks) ≡ true → is_same_name name n ≡ false)
+    → ((n : List ℕ) → starts n ≡ Some slot → is_same_name name n ≡ false → keeps_next_update n (u ∷ us) (mark ∷ marks) ≡ true → ⊥)
+    → AreMarked (slice_set retained (slot - 1) (keeps_next_update name us marks)) (starts_after starts (Some name) (Some slot)) after us marks
 marked_after retained starts slots after u us name slot mark marks is slotted long are here stays unlike alone = (first, second)
   where
     flag : Bool
-    flag = retains_next name us marks
+    flag = keeps_next_update name us marks
 
     next : List Bool
     next = slice_set retained (slot - 1) flag
@@ -71,7 +71,7 @@ marked_after retained starts slots after u us name slot mark marks is slotted lo
           (over.0, start_other starts name over.0 slot differs ∙ over.1, sym (retains_other u us mark marks name over.0 is differs) ∙ over.2)
     ]
 
-    second : (n : List ℕ) (other : ℕ) → is_slot other ≡ true → starts_after starts (Some name) (Some slot) n ≡ Some other → retains_next n us marks ≡ true → Retains next after other n
+    second : (n : List ℕ) (other : ℕ) → is_slot other ≡ true → starts_after starts (Some name) (Some slot) n ≡ Some other → keeps_next_update n us marks ≡ true → Retains next after other n
     second n other is_other start retains = by (is_same_name name n) refl
       where
         by : (t : Bool) → is_same_name name n ≡ t → Retains next after other n
@@ -79,11 +79,11 @@ marked_after retained starts slots after u us name slot mark marks is slotted lo
             let one : name ≡ n = one_name name n e in
             let both : Some slot ≡ Some other = sym (start_same starts name n slot e) ∙ start in
             let same : slot ≡ other = cc in
-            let retains_name : flag ≡ true = subst (λ (x : List ℕ). retains_next x us marks ≡ true) (sym one) retains in
+            let retains_name : flag ≡ true = subst (λ (x : List ℕ). keeps_next_update x us marks ≡ true) (sym one) retains in
             subst (λ (x : List ℕ). Retains next after other x) one (subst (λ (p : ℕ). Retains next after p name) same (set ∙ retains_name, (slotted, here)))
         by false e =
             let began : starts n ≡ Some other = sym (start_other starts name n slot e) ∙ start in
-            let over : retains_next n (u ∷ us) (mark ∷ marks) ≡ true = retains_other u us mark marks name n is e ∙ retains in
+            let over : keeps_next_update n (u ∷ us) (mark ∷ marks) ≡ true = retains_other u us mark marks name n is e ∙ retains in
             let was = are.1 n other is_other began over in
             elim (cases_eq other slot) [
               | inl same ↦ absurd (alone n (began ∙ ap (λ (p : ℕ). Some p) same) e over)
@@ -96,7 +96,7 @@ IsMarkedStep next starts after u us marks stored name field left = IsNamed start
 
 -- one that is kept
 held_marked : (retained : List Bool) (starts : List ℕ → Option ℕ) (slots after : List (Option (List ℕ))) (u : Update) (us : List Update) (stored : Bool) (name : List ℕ) (slot : ℕ) (mark : Bool) (marks : List Bool) → u.name ≡ Some name → length retained ≡ 128 → AreMarked retained starts slots (u ∷ us) (mark ∷ marks) → Retains retained slots slot name → after ≡ slots
-    → IsMarkedStep (slice_set retained (slot - 1) (retains_next name us marks)) starts after u us (mark ∷ marks) stored (Some name) (names.Held slot) marks
+    → IsMarkedStep (slice_set retained (slot - 1) (keeps_next_update name us marks)) starts after u us (mark ∷ marks) stored (Some name) (names.Held slot) marks
 held_marked retained starts slots after u us stored name slot mark marks is long are retains stay = (
   subst (λ (m : Bool). IsNamed starts (u ∷ us) (m ∷ marks) stored (Some name) (names.Held slot)) (sym marked) begun,
   marked_after retained starts slots after u us name slot mark marks is retains.1.0 long are (ap (λ (ss : List (Option (List ℕ))). slot_at ss slot) stay ∙ retains.1.1) (λ other is_other apart. ap (λ (ss : List (Option (List ℕ))). slot_at ss other) stay)
@@ -113,9 +113,9 @@ held_marked retained starts slots after u us stored name slot mark marks is long
     begun = subst (λ (n : List ℕ). starts n ≡ Some slot) one over.1
 
     marked : mark ≡ true
-    marked = sym (retains_same u us mark marks name name is (name_itself name)) ∙ subst (λ (n : List ℕ). retains_next n (u ∷ us) (mark ∷ marks) ≡ true) one over.2
+    marked = sym (retains_same u us mark marks name name is (name_itself name)) ∙ subst (λ (n : List ℕ). keeps_next_update n (u ∷ us) (mark ∷ marks) ≡ true) one over.2
 
-    alone : (n : List ℕ) → starts n ≡ Some slot → is_same_name name n ≡ false → retains_next n (u ∷ us) (mark ∷ marks) ≡ true → ⊥
+    alone : (n : List ℕ) → starts n ≡ Some slot → is_same_name name n ≡ false → keeps_next_update n (u ∷ us) (mark ∷ marks) ≡ true → ⊥
     alone n start differs next =
         let both : Some n ≡ Some name = sym (are.1 n slot retains.1.0 start next).1.1 ∙ retains.1.1 in
         let same : n ≡ name = cc in
@@ -133,13 +133,13 @@ unmarked retained starts slots u us name true marks is are slotted linked none =
 
 -- one that isn't
 written_marked : (retained : List Bool) (starts : List ℕ → Option ℕ) (slots after : List (Option (List ℕ))) (u : Update) (us : List Update) (stored : Bool) (name written : List ℕ) (slot : ℕ) (marks : List Bool) → u.name ≡ Some name → length retained ≡ 128 → length slots ≡ 128 → AreMarked retained starts slots (u ∷ us) (false ∷ marks) → written ≡ name → IsFree retained slot → ((other : ℕ) → IsFree retained other → slot ≤ other) → after ≡ slice_set slots (slot - 1) (Some name)
-    → IsMarkedStep (slice_set retained (slot - 1) (retains_next name us marks)) starts after u us (false ∷ marks) stored (Some name) (names.Written slot written) marks
+    → IsMarkedStep (slice_set retained (slot - 1) (keeps_next_update name us marks)) starts after u us (false ∷ marks) stored (Some name) (names.Written slot written) marks
 written_marked retained starts slots after u us stored name written slot marks is long many are same_name free lowest put = (
   (same_name, (free.0, λ over. closed over.0 over.1 over.2), λ other is_open. lowest other (is_open.0, unflagged other is_open.0 is_open.1 (retained_at retained other) refl)),
   marked_after retained starts slots after u us name slot false marks is free.0 long are here stays unlike (λ n start differs next. closed n start next),
 )
   where
-    closed : (n : List ℕ) → starts n ≡ Some slot → retains_next n (u ∷ us) (false ∷ marks) ≡ true → ⊥
+    closed : (n : List ℕ) → starts n ≡ Some slot → keeps_next_update n (u ∷ us) (false ∷ marks) ≡ true → ⊥
     closed n start next = let bad : true ≡ false = sym (are.1 n slot free.0 start next).0 ∙ free.1 in cc
 
     unflagged : (other : ℕ) → is_slot other ≡ true → (IsRetainedOver starts (u ∷ us) (false ∷ marks) other → ⊥) → (t : Bool) → retained_at retained other ≡ t → retained_at retained other ≡ false
@@ -155,7 +155,7 @@ written_marked retained starts slots after u us stored name written slot marks i
         get_or-set_other_slot : (other : ℕ) → is_slot other ≡ true → (other ≡ slot → ⊥) → slot_at (slice_set slots (slot - 1) (Some name)) other ≡ slot_at slots other
         get_or-set_other_slot other is_other apart = get_or-set_other slots (slot - 1) (other - 1) (Some name) None (places_apart other slot is_other free.0 apart)
 
-    unlike : (other : ℕ) (n : List ℕ) → (other ≡ slot → ⊥) → starts n ≡ Some other → retains_next n (u ∷ us) (false ∷ marks) ≡ true → is_same_name name n ≡ false
+    unlike : (other : ℕ) (n : List ℕ) → (other ≡ slot → ⊥) → starts n ≡ Some other → keeps_next_update n (u ∷ us) (false ∷ marks) ≡ true → is_same_name name n ≡ false
     unlike other n apart start next = at (is_same_name name n) refl
       where
         at : (t : Bool) → is_same_name name n ≡ t → is_same_name name n ≡ false
@@ -178,7 +178,7 @@ IsMarkFor starts (Some name) marks = (mark : Bool) × (later : List Bool) × (ma
 
 -- an update that is sent as the slots retain their names is sent as its mark says
 one_marked : (retained : List Bool) (starts : List ℕ → Option ℕ) (slots after : List (Option (List ℕ))) (u : Update) (us : List Update) (stored flag : Bool) (field : NameField) (name asked : Option (List ℕ)) (marks : List Bool) → u.name ≡ asked → length retained ≡ 128 → length slots ≡ 128 → AreMarked retained starts slots (u ∷ us) marks → AreSlots starts → IsMarkFor starts asked marks → IsNameField retained slots stored asked field → Named slots field name after
-    → ((n : List ℕ) → asked ≡ Some n → flag ≡ retains_next n us (marks_after asked marks))
+    → ((n : List ℕ) → asked ≡ Some n → flag ≡ keeps_next_update n us (marks_after asked marks))
     → IsMarkedStep (retained_after retained (slot_of field) flag) starts after u us marks stored asked field (marks_after asked marks)
 one_marked retained starts slots after u us stored flag names.NotStored name None marks is long many are slotted mark named moved flagged = nameless_marked retained starts slots after u us stored names.NotStored marks is are named moved.1
 one_marked retained starts slots after u us stored flag names.NoName name None marks is long many are slotted mark named moved flagged = nameless_marked retained starts slots after u us stored names.NoName marks is are named moved.1
@@ -196,7 +196,7 @@ one_marked retained starts slots after u us stored flag names.NotStored name (So
 one_marked retained starts slots after u us stored flag names.NoName name (Some n) marks is long many are slotted mark named moved flagged = absurd named
 one_marked retained starts slots after u us stored flag (names.Held slot) name (Some n) marks is long many are slotted (mark, later, marks_are, linked) named (bytes, held, sent, stay) flagged =
     let marked : AreMarked retained starts slots (u ∷ us) (mark ∷ later) = subst (λ (l : List Bool). AreMarked retained starts slots (u ∷ us) l) marks_are are in
-    let flag_is : flag ≡ retains_next n us later = flagged n refl ∙ ap (λ (l : List Bool). retains_next n us (marks_after (Some n) l)) marks_are in
+    let flag_is : flag ≡ keeps_next_update n us later = flagged n refl ∙ ap (λ (l : List Bool). keeps_next_update n us (marks_after (Some n) l)) marks_are in
     subst (λ (l : List Bool). IsMarkedStep (slice_set retained (slot - 1) flag) starts after u us l stored (Some n) (names.Held slot) (marks_after (Some n) l)) (sym marks_are)
     (subst (λ (b : Bool). IsMarkedStep (slice_set retained (slot - 1) b) starts after u us (mark ∷ later) stored (Some n) (names.Held slot) later) (sym flag_is)
     (held_marked retained starts slots after u us stored n slot mark later is long marked named stay))
@@ -205,7 +205,7 @@ one_marked retained starts slots after u us stored flag (names.Written slot writ
     let none : mark ≡ false = unmarked retained starts slots u us n mark later is marked slotted linked named.1 in
     let so : marks ≡ false ∷ later = marks_are ∙ ap (λ (b : Bool). b ∷ later) none in
     let closed : AreMarked retained starts slots (u ∷ us) (false ∷ later) = subst (λ (l : List Bool). AreMarked retained starts slots (u ∷ us) l) so are in
-    let flag_is : flag ≡ retains_next n us later = flagged n refl ∙ ap (λ (l : List Bool). retains_next n us (marks_after (Some n) l)) so in
+    let flag_is : flag ≡ keeps_next_update n us later = flagged n refl ∙ ap (λ (l : List Bool). keeps_next_update n us (marks_after (Some n) l)) so in
     subst (λ (l : List Bool). IsMarkedStep (slice_set retained (slot - 1) flag) starts after u us l stored (Some n) (names.Written slot written) (marks_after (Some n) l)) (sym so)
     (subst (λ (b : Bool). IsMarkedStep (slice_set retained (slot - 1) b) starts after u us (false ∷ later) stored (Some n) (names.Written slot written) later) (sym flag_is)
     (written_marked retained starts slots after u us stored n written slot later is long many closed named.0 named.2 named.3 (moved.1 ∙ ap (λ (x : List ℕ). slice_set slots (slot - 1) (Some x)) named.0)))
@@ -227,7 +227,7 @@ free_or_full (true ∷ flags) = elim (free_or_full flags) [
 
 -- a name that is retained in one of the first slots
 abbrev IsOver : (List ℕ → Option ℕ) → List Update → List Bool → ℕ → List ℕ → Type 0
-IsOver starts us marks n name = (slot : ℕ) × (slot ≤ n) × (starts name ≡ Some slot) × (retains_next name us marks ≡ true)
+IsOver starts us marks n name = (slot : ℕ) × (slot ≤ n) × (starts name ≡ Some slot) × (keeps_next_update name us marks ≡ true)
 
 -- where all slots are retained, so many names differ and are retained
 names_over : (starts : List ℕ → Option ℕ) (us : List Update) (marks : List Bool) → ((slot : ℕ) → is_slot slot ≡ true → IsRetainedOver starts us marks slot) → (n : ℕ) → n ≤ 128
@@ -251,7 +251,7 @@ names_over starts us marks over (suc n) le =
     further (x ∷ xs) all = ((all.0.0, omega (arith, all.0.1), all.0.2, all.0.3), further xs all.1)
 
 -- whether a name's next request is kept goes by the requests
-pub retains_keeps : (roster : List Definition) (k : Knowledge) (us : List Update) (marks : List Bool) (name : List ℕ) → retains_next name us marks ≡ keeps_next name (requests_of roster k us) marks
+pub retains_keeps : (roster : List Definition) (k : Knowledge) (us : List Update) (marks : List Bool) (name : List ℕ) → keeps_next_update name us marks ≡ keeps_next name (requests_of roster k us) marks
 retains_keeps roster k [] marks name = refl
 retains_keeps roster k (u ∷ us) marks name = by u.name refl marks (λ left. retains_keeps roster (knowledge_after k u) us left name)
   where
@@ -262,11 +262,11 @@ retains_keeps roster k (u ∷ us) marks name = by u.name refl marks (λ left. re
     none_left [] = refl
     none_left (r ∷ rs) = refl
 
-    pass : (b : Bool) → retains_next name us [] ≡ false → cond b false (retains_next name us []) ≡ false
+    pass : (b : Bool) → keeps_next_update name us [] ≡ false → cond b false (keeps_next_update name us []) ≡ false
     pass true h = refl
     pass false h = h
 
-    by : (asked_name : Option (List ℕ)) → u.name ≡ asked_name → (marks : List Bool) → ((left : List Bool) → retains_next name us left ≡ keeps_next name rest left) → retains_next name (u ∷ us) marks ≡ keeps_next name (requests_of roster k (u ∷ us)) marks
+    by : (asked_name : Option (List ℕ)) → u.name ≡ asked_name → (marks : List Bool) → ((left : List Bool) → keeps_next_update name us left ≡ keeps_next name rest left) → keeps_next_update name (u ∷ us) marks ≡ keeps_next name (requests_of roster k (u ∷ us)) marks
     by None e marks later = rw e (later marks)
     by (Some n) e [] later = rw e (pass (is_same_name n name) (later [] ∙ none_left rest))
     by (Some n) e (mark ∷ marks) later = rw e (ap (λ (b : Bool). cond (is_same_name n name) mark b) (later marks))
@@ -370,7 +370,7 @@ slot_of_named retained slots stored (Some name) (names.Written slot written) nam
 
 -- the flag at the index of an update's request
 flag_at : (roster : List Definition) (k : Knowledge) (u : Update) (left : List Update) (rs done : List Asked) (keep kept marks : List Bool) (starts : List ℕ → Option ℕ) (index : ℕ) (n : List ℕ) → u.name ≡ Some n → rs ≡ done ++ requests_of roster k (u ∷ left) → keep ≡ kept ++ marks → length done ≡ index → length kept ≡ index → IsMarkFor starts u.name marks
-    → get_or (kept_next rs keep) index false ≡ retains_next n left (marks_after u.name marks)
+    → get_or (kept_next rs keep) index false ≡ keeps_next_update n left (marks_after u.name marks)
 flag_at roster k u left rs done keep kept marks starts index n is rs_is keep_is so_far kept_so_far mark =
     let m = subst (λ (o : Option (List ℕ)). IsMarkFor starts o marks) is mark in
     let r : Asked = record { name = n; read_cost = r_of.read_cost; write_cost = r_of.write_cost } in
@@ -381,7 +381,7 @@ flag_at roster k u left rs done keep kept marks starts index n is rs_is keep_is 
     let flag : get_or (kept_next (done ++ r ∷ rest) (kept ++ m.0 ∷ m.1)) (length done) false ≡ keeps_next n rest m.1 = kept_next-at done rest r kept m.1 m.0 (kept_so_far ∙ sym so_far) in
     let later : marks_after u.name marks ≡ m.1 = ap (λ (o : Option (List ℕ)). marks_after o marks) is ∙ ap (marks_after (Some n)) m.2 in
     ap (λ (p : ℕ). get_or (kept_next rs keep) p false) (sym so_far) ∙ ap (λ (l : List Asked). get_or (kept_next l keep) (length done) false) all ∙ ap (λ (l : List Bool). get_or (kept_next (done ++ r ∷ rest) l) (length done) false) marks_all
-    ∙ flag ∙ sym (retains_keeps roster (knowledge_after k u) left m.1 n) ∙ ap (retains_next n left) (sym later)
+    ∙ flag ∙ sym (retains_keeps roster (knowledge_after k u) left m.1 n) ∙ ap (keeps_next_update n left) (sym later)
   where
     r_of : Asked
     r_of = one (asked roster k u (Some n))
@@ -402,7 +402,7 @@ way_step roster s mid after us left u rs keep next bytes more retained index fie
     let mark = mark_first roster k starts asking u left u.name marks refl long linked begun in
     let ahead = advanced roster k u u.name (slot_of field) starts asking rest marks slotted.0 slotted.1 long linked begun slots in
     let flag : Bool = get_or next index false in
-    let flag_is : (n : List ℕ) → u.name ≡ Some n → flag ≡ retains_next n left (marks_after u.name marks) =
+    let flag_is : (n : List ℕ) → u.name ≡ Some n → flag ≡ keeps_next_update n left (marks_after u.name marks) =
     λ n is. ap (λ (l : List Bool). get_or l index false) next_is ∙ flag_at roster k u left rs done keep kept marks starts index n is rs_is keep_is so_far kept_so_far mark in
     let step = one_marked retained starts mid.slots after.slots u left (is_stored roster u) flag field moved.0 u.name marks refl long_flags many are slots mark named moved.1 flag_is in
     let then : after_requests (at_start held) (done ++ asked roster k u u.name) ≡ after_requests asking (asked roster k u u.name) = after-append (at_start held) done (asked roster k u u.name) in (
@@ -461,7 +461,7 @@ way_room roster s mid us left u rs keep bytes retained index (ms, starts, k, don
         let first : requests_of roster k (u ∷ left) ≡ r ∷ rest = ap (λ (o : Option (List ℕ)). asked roster k u o ++ rest) is in
         let whole : rs ≡ done ++ (r ∷ rest) = rs_is ∙ ap (λ (l : List Asked). done ++ l) first in
         let marks_all : keep ≡ kept ++ (false ∷ later) = keep_is ∙ ap (λ (l : List Bool). kept ++ l) marks_are in
-        let keeps : (name : List ℕ) → retains_next name (u ∷ left) marks ≡ keeps_next name (r ∷ rest) (false ∷ later) =
+        let keeps : (name : List ℕ) → keeps_next_update name (u ∷ left) marks ≡ keeps_next name (r ∷ rest) (false ∷ later) =
         λ name. retains_keeps roster k (u ∷ left) marks name ∙ ap (λ (l : List Asked). keeps_next name l marks) first ∙ ap (keeps_next name (r ∷ rest)) marks_are in
         let fits = names_to_keep held done rest r kept later names.0 (kept_so_far ∙ sym so_far) names.2 (each (r ∷ rest) (false ∷ later) keeps names.0 names.3) in
         let all : length names.0 ≤ kept_over (links held rs keep) (length done + 1) =
@@ -473,7 +473,7 @@ way_room roster s mid us left u rs keep bytes retained index (ms, starts, k, don
         of [] = record { name = n; read_cost = 0; write_cost = 0 }
         of (x ∷ xs) = x
 
-        each : (ls : List Asked) (ms : List Bool) → ((name : List ℕ) → retains_next name (u ∷ left) marks ≡ keeps_next name ls ms) → (names : List (List ℕ)) → AllByRecursion (IsOver starts (u ∷ left) marks 128) names
+        each : (ls : List Asked) (ms : List Bool) → ((name : List ℕ) → keeps_next_update name (u ∷ left) marks ≡ keeps_next name ls ms) → (names : List (List ℕ)) → AllByRecursion (IsOver starts (u ∷ left) marks 128) names
             → AllByRecursion (λ name. (is_some ((after_requests (at_start held) done).last name) ≡ true) × (keeps_next name ls ms ≡ true)) names
         each ls ms keeps [] all = tt
         each ls ms keeps (x ∷ xs) all = ((sym (begun x) ∙ ap is_some all.0.2, sym (keeps x) ∙ all.0.3), each ls ms keeps xs all.1)
@@ -498,7 +498,7 @@ way_room roster s mid us left u rs keep bytes retained index (ms, starts, k, don
 
 -- a name that a slot retains has its request kept
 retained_marked : (retained : List Bool) (starts : List ℕ → Option ℕ) (slots : List (Option (List ℕ))) (u : Update) (us : List Update) (name : List ℕ) (slot : ℕ) (mark : Bool) (marks : List Bool) → u.name ≡ Some name → AreMarked retained starts slots (u ∷ us) (mark ∷ marks) → Retains retained slots slot name → mark ≡ true
-retained_marked retained starts slots u us name slot mark marks is are retains = sym (retains_same u us mark marks name name is (name_itself name)) ∙ subst (λ (n : List ℕ). retains_next n (u ∷ us) (mark ∷ marks) ≡ true) one over.2
+retained_marked retained starts slots u us name slot mark marks is are retains = sym (retains_same u us mark marks name name is (name_itself name)) ∙ subst (λ (n : List ℕ). keeps_next_update n (u ∷ us) (mark ∷ marks) ≡ true) one over.2
   where
     over : IsRetainedOver starts (u ∷ us) (mark ∷ marks) slot
     over = are.0 slot retains.1.0 retains.0
@@ -506,7 +506,7 @@ retained_marked retained starts slots u us name slot mark marks is are retains =
     one : over.0 ≡ name
     one = let both : Some over.0 ≡ Some name = sym (are.1 over.0 slot retains.1.0 over.1 over.2).1.1 ∙ retains.1.1 in cc
 
--- the mark behind so many
+-- the mark after so many
 mark_behind : (kept marks : List Bool) (mark : Bool) (index : ℕ) → length kept ≡ index → get_or (kept ++ mark ∷ marks) index false ≡ mark
 mark_behind [] marks mark zero many = refl
 mark_behind [] marks mark (suc index) many = absurd (omega arith)
@@ -586,7 +586,7 @@ way_start roster s us k rs keep retained is_kept rs_is long linked many long_fla
         within : (i : ℕ) → i < 128 → is_slot (1 + i) ≡ true
         within i lt = grind (arith, nat_tests)
 
-    kept_next_is : (name : List ℕ) → is_kept name ≡ retains_next name us keep
+    kept_next_is : (name : List ℕ) → is_kept name ≡ keeps_next_update name us keep
     kept_next_is name = keeps name ∙ ap (λ (l : List Asked). keeps_next name l keep) rs_is ∙ sym (retains_keeps roster k us keep name)
 
     first : (slot : ℕ) → is_slot slot ≡ true → retained_at retained slot ≡ true → IsRetainedOver (starts_at_first s.slots) us keep slot
@@ -604,7 +604,7 @@ way_start roster s us k rs keep retained is_kept rs_is long linked many long_fla
         slot_of_place : (j : ℕ) → j < 128 → is_slot (suc j) ≡ true
         slot_of_place j lt = grind (arith, nat_tests)
 
-    second : (name : List ℕ) (slot : ℕ) → is_slot slot ≡ true → starts_at_first s.slots name ≡ Some slot → retains_next name us keep ≡ true → Retains retained s.slots slot name
+    second : (name : List ℕ) (slot : ℕ) → is_slot slot ≡ true → starts_at_first s.slots name ≡ Some slot → keeps_next_update name us keep ≡ true → Retains retained s.slots slot name
     second name slot is found next =
         let at = lowest_is s.slots 1 name slot found in
         let holds : slot_at s.slots slot ≡ Some name = ap (λ (n : ℕ). get_or s.slots (n - 1) None) at.1 ∙ ap (λ (n : ℕ). get_or s.slots n None) (less at.0) ∙ at.3 in

@@ -15,8 +15,8 @@ use Rattle.peers_msg.specs.declared.message.Message.TheVariants as messages
 use Rattle.peers_msg.specs.Received.{selected_table}
 use Rattle.known_state.specs.State.{State, Teaches, Named}
 use Rattle.known_state.specs.Requests.{mark_of, reads_of}
-use Rattle.known_state.proofs.RosterLemmas.{name_itself}
-use Rattle.teach_writer.specs.Naming.{is_that_name, lowest_from, starts_after, marks_after, retains_next, IsRetainedOver, IsNamed}
+use Rattle.known_state.proofs.RosterNamesDiffer.{name_itself}
+use Rattle.teach_writer.specs.Naming.{is_that_name, lowest_from, starts_after, marks_after, keeps_next_update, IsRetainedOver, IsNamed}
 use Rattle.teach_writer.specs.Retained.{retained_at, Retains}
 use Rattle.teach_writer.specs.Sending.{is_table, selection, slot_of, is_stored, update_sent, IsSent, AreSent}
 
@@ -50,13 +50,13 @@ start_apart starts name n a b is_a is_b apart = at (is_same_name name n) refl
 
 -- ---- what is retained, after one update
 
-pub retains_same : (u : Update) (us : List Update) (mark : Bool) (marks : List Bool) (name n : List ℕ) → u.name ≡ Some name → is_same_name name n ≡ true → retains_next n (u ∷ us) (mark ∷ marks) ≡ mark
+pub retains_same : (u : Update) (us : List Update) (mark : Bool) (marks : List Bool) (name n : List ℕ) → u.name ≡ Some name → is_same_name name n ≡ true → keeps_next_update n (u ∷ us) (mark ∷ marks) ≡ mark
 retains_same u us mark marks name n is same = rw (is, same) refl
 
-pub retains_other : (u : Update) (us : List Update) (mark : Bool) (marks : List Bool) (name n : List ℕ) → u.name ≡ Some name → is_same_name name n ≡ false → retains_next n (u ∷ us) (mark ∷ marks) ≡ retains_next n us marks
+pub retains_other : (u : Update) (us : List Update) (mark : Bool) (marks : List Bool) (name n : List ℕ) → u.name ≡ Some name → is_same_name name n ≡ false → keeps_next_update n (u ∷ us) (mark ∷ marks) ≡ keeps_next_update n us marks
 retains_other u us mark marks name n is other = rw (is, other) refl
 
-pub retains_none : (u : Update) (us : List Update) (marks : List Bool) (n : List ℕ) → u.name ≡ None → retains_next n (u ∷ us) marks ≡ retains_next n us marks
+pub retains_none : (u : Update) (us : List Update) (marks : List Bool) (n : List ℕ) → u.name ≡ None → keeps_next_update n (u ∷ us) marks ≡ keeps_next_update n us marks
 retains_none u us marks n none = rw none refl
 
 pub start_same : (starts : List ℕ → Option ℕ) (name n : List ℕ) (slot : ℕ) → is_same_name name n ≡ true → starts_after starts (Some name) (Some slot) n ≡ Some slot
@@ -71,7 +71,7 @@ start_other starts name n slot other = rw other refl
 abbrev pub AreMarked : List Bool → (List ℕ → Option ℕ) → List (Option (List ℕ)) → List Update → List Bool → Type 0
 AreMarked retained starts slots us marks =
     ((slot : ℕ) → is_slot slot ≡ true → retained_at retained slot ≡ true → IsRetainedOver starts us marks slot)
-    × ((name : List ℕ) (slot : ℕ) → is_slot slot ≡ true → starts name ≡ Some slot → retains_next name us marks ≡ true → Retains retained slots slot name)
+    × ((name : List ℕ) (slot : ℕ) → is_slot slot ≡ true → starts name ≡ Some slot → keeps_next_update name us marks ≡ true → Retains retained slots slot name)
 
 -- a slot that isn't the update's retains its name after the update where it did before
 pub flag_stays : (retained next : List Bool) (retains : Bool) (slot other : ℕ) → next ≡ slice_set retained (slot - 1) retains → is_slot slot ≡ true → is_slot other ≡ true → (other ≡ slot → ⊥) → retained_at next other ≡ retained_at retained other

@@ -15,10 +15,10 @@ use Rattle.known_state.specs.LastNumbers.{keeps_last, last_of}
 use Rattle.known_state.specs.Known.{KnownState, AreOwn}
 use Rattle.known_state.specs.Cost.{knowledge_of, is_selected, selection_cost}
 use Rattle.known_state.proofs.LesserKnowledge.{KnowsLess, with_selected}
-use Rattle.known_state.proofs.KnownLemmas.{table_at-id, table_at-passes, define_selects}
-use Rattle.known_state.proofs.RosterLemmas.{roster_names, still_received, two_names}
-use Rattle.known_state.proofs.StepLemmas.{selected-found}
-use Rattle.known_state.proofs.CostLaws.{last-kept}
+use Rattle.known_state.proofs.ReceivedIsOwn.{table_at-id, table_at-passes, define_selects}
+use Rattle.known_state.proofs.RosterNamesDiffer.{roster_names, still_received, two_names}
+use Rattle.known_state.proofs.FitsOrIsRefused.{selected-found}
+use Rattle.known_state.proofs.KnowingMoreCostsLess.{last-kept}
 use Rattle.teach_writer.specs.Sending.{is_table, selection}
 use Rattle.teach_writer.proofs.UpdateStepsAreLegal.{found_is_own}
 

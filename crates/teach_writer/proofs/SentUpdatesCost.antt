@@ -28,13 +28,13 @@ use Rattle.known_state.proofs.LesserKnowledge.{KnowsLess, with_selected}
 use Rattle.known_state.specs.Requests.{Asked, asked, requests_of, read_savings}
 use Rattle.known_state.specs.Plans.{Plan, Accepts, all_links, bound, kept_savings, links, names_in}
 use Rattle.known_state.specs.Shortest.{Shortest}
-use Rattle.known_state.proofs.BatchLemmas.{name_of_fits}
-use Rattle.known_state.proofs.FullLaws.{full_is_cost}
-use Rattle.known_state.proofs.LinkLaws.{reads_save}
-use Rattle.known_state.proofs.PlanLaws.{accepted_shortest}
-use Rattle.known_state.proofs.ShortestLaws.{size_of_stream}
-use Rattle.known_state.proofs.CostLaws.{framed_longer, sent_shorter, selection_falls, last-put, name_alike, read_alike, read_shorter}
-use Rattle.known_state.proofs.KnownLemmas.{table_at-id}
+use Rattle.known_state.proofs.BatchIsOfRoster.{name_of_fits}
+use Rattle.known_state.proofs.FullIsCost.{full_is_cost}
+use Rattle.known_state.proofs.SavingsAreBounded.{reads_save}
+use Rattle.known_state.proofs.AcceptedIsShortest.{accepted_shortest}
+use Rattle.known_state.proofs.ShortestByBytes.{size_of_stream}
+use Rattle.known_state.proofs.KnowingMoreCostsLess.{framed_longer, sent_shorter, selection_falls, last-put, name_alike, read_alike, read_shorter}
+use Rattle.known_state.proofs.ReceivedIsOwn.{table_at-id}
 use Rattle.known_state.proofs.StepPays.{name_fitting, moved_last, is_there, own_stays}
 use Rattle.price_checker.specs.Verdicts.{Says}
 use Rattle.price_checker.specs.declared.verdict.Verdict.TheVariants as verdicts

@@ -19,11 +19,11 @@ use Rattle.known_state.specs.State.{State, Step, Teaches, IsOwn, Legal, resolved
 use Rattle.known_state.specs.Effects.{refusal_of}
 use Rattle.known_state.specs.LastNumbers.{last_of}
 use Rattle.known_state.specs.Known.{KnownState, AreOwn, switch_refusal, update_refusal, IsTakenBy}
-use Rattle.known_state.proofs.KnownLemmas.{table_at-id, table_at-passes, define_selects}
-use Rattle.known_state.proofs.StepLemmas.{has_id-table_at, selected-id, selected-found, update_fits_received}
-use Rattle.known_state.proofs.ResolvingLemmas.{named_so}
+use Rattle.known_state.proofs.ReceivedIsOwn.{table_at-id, table_at-passes, define_selects}
+use Rattle.known_state.proofs.FitsOrIsRefused.{has_id-table_at, selected-id, selected-found, update_fits_received}
+use Rattle.known_state.proofs.NamedAsResolved.{named_so}
 use Rattle.known_state.specs.Cost.{number_sent, sent_as}
-use Rattle.known_state.proofs.BatchLemmas.{row_of_fits, life_of_fits}
+use Rattle.known_state.proofs.BatchIsOfRoster.{row_of_fits, life_of_fits}
 use Rattle.teach_writer.specs.Sending.{is_table, selection}
 
 -- a table that is received is the roster's of its id

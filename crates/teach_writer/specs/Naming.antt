@@ -1,5 +1,5 @@
 -- Through which slots the names of a lesson go (profile). A request is an update with a name; each has a mark, whether it is
--- retained. A request has a link where its name was requested before, or stands in a slot at the start.
+-- kept. A request has a link where its name was requested before, or stands in a slot at the start.
 use Rattle.std.specs.Prelude.{◌≡◌, ◌≤◌, ℕ, ◌+◌, Bool, true, false, List, [], ◌∷◌, Option, Some, None, if◌then◌else◌}
 use Rattle.table_types.specs.declared.update.Update.{Update}
 use Rattle.table_types.specs.Rosters.{is_same_name}
@@ -35,15 +35,15 @@ marks_after None marks = marks
 marks_after (Some name) [] = []
 marks_after (Some name) (mark ∷ marks) = marks
 
--- whether the next request for a name is retained
-abbrev pub retains_next : List ℕ → List Update → List Bool → Bool
-retains_next name [] marks = false
-retains_next name (u ∷ us) marks = if is_that_name name u.name then first_mark marks else retains_next name us (marks_after u.name marks)
+-- whether the next request for a name is kept
+abbrev pub keeps_next_update : List ℕ → List Update → List Bool → Bool
+keeps_next_update name [] marks = false
+keeps_next_update name (u ∷ us) marks = if is_that_name name u.name then first_mark marks else keeps_next_update name us (marks_after u.name marks)
 
--- A name is retained over the first of these updates in that slot: it is the very slot that a retained link will
--- read, which began before and ends after.
+-- A name is retained over the first of these updates in that slot: it is the very slot that a kept request will
+-- read, whose link began before and ends after.
 abbrev pub IsRetainedOver : (List ℕ → Option ℕ) → List Update → List Bool → ℕ → Type 0
-IsRetainedOver starts us marks slot = (name : List ℕ) × (starts name ≡ Some slot) × (retains_next name us marks ≡ true)
+IsRetainedOver starts us marks slot = (name : List ℕ) × (starts name ≡ Some slot) × (keeps_next_update name us marks ≡ true)
 
 -- that slot may be written there: no name is retained in it
 abbrev pub IsOpen : (List ℕ → Option ℕ) → List Update → List Bool → ℕ → Type 0

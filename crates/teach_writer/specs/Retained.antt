@@ -1,6 +1,6 @@
 -- Which slots of the dictionary retain their names, as lessons are made (profile).
 use Rattle.std.specs.Prelude.{◌≡◌, ◌≤◌, ℕ, ◌-◌, Bool, true, false, List, replicate, slice_index_or, Option, Some, None}
-use Rattle.table_types.specs.SlotIds.{is_slot}
+use Rattle.table_types.specs.SlotIds.{slot_count, is_slot}
 use Rattle.dict_slots.specs.Slots.{Holds}
 use Rattle.peers_msg.specs.declared.name_field.NameField.{NameField}
 use Rattle.peers_msg.specs.declared.name_field.NameField.TheVariants as names
@@ -8,7 +8,7 @@ use Rattle.known_state.specs.Cost.{written_field}
 
 -- no slot's name is retained
 abbrev pub none_retained : List Bool
-none_retained = replicate 128 false
+none_retained = replicate slot_count false
 
 -- whether the name that a slot, 1 to 128, holds is retained for a later update, whose request is kept
 abbrev pub retained_at : List Bool → ℕ → Bool

@@ -62,7 +62,7 @@ AreSent roster s starts (u ∷ us) marks ms e =
     × AreSent roster mid (starts_after starts u.name (slot_of field)) us (marks_after u.name marks) rest e
     × (ms ≡ first ++ rest)
 
--- The bytes go through the updates in order, and retain the requests that are marked so: they spell messages that send one
+-- The bytes go through the updates in order, and read the requests that are marked as kept: they spell messages that send one
 -- update after another, and nothing else, from the known state to the state e.
 abbrev pub GoesThrough : KnownState → List Update → List Bool → List ℕ → State → Type 0
 GoesThrough k us marks bytes e =

@@ -2,7 +2,7 @@
 
 ghost use Rattle.std.specs.Prelude.{◌≡◌, ◌↔◌, ℕ, true, IsTrue, List, IfOk, length};
 ghost use Rattle.known_state.specs.Plans.{keeps_next};
-ghost use Rattle.table_types.specs.SlotIds.{is_slot};
+ghost use Rattle.table_types.specs.SlotIds.{slot_count, is_slot};
 ghost use Rattle.teach_writer.specs.Retained.{retained_at};
 ghost use Rattle.teach_writer.specs.NextRequests.{is_kept, is_first_kept, kept_next, IsRetainedFirst};
 
@@ -93,8 +93,8 @@ fn is_retained_first(slots: &Slots, first: &BTreeMap<&[u8], NextRequest>, slot: 
 pub fn retained_first(slots: &Slots, first: &BTreeMap<&[u8], NextRequest>) -> Retained
     ensures retained { (slot : ℕ) → is_slot slot ≡ true →
         (retained_at result slot ≡ true) ↔ IsRetainedFirst slots.now (λ name. is_first_kept first.now name) slot }
-    ensures count { length result ≡ 128 }
-    ensures slots { length slots.now ≡ 128 }
+    ensures count { length result ≡ slot_count }
+    ensures slots { length slots.now ≡ slot_count }
 {
     let mut retained = Retained::none();
     for index in 0..slots.len() {

@@ -1,9 +1,9 @@
 //! Lessons by a plan.
 
-ghost use Rattle.std.specs.Prelude.{◌≡◌, ◌<◌, ◌≤◌, ◌+◌, ℕ, true, false, IfOk, IfSome, List, length, slice_index_or};
+ghost use Rattle.std.specs.Prelude.{◌-◌, ◌≡◌, ◌<◌, ◌≤◌, ◌+◌, ℕ, true, false, IfOk, IfSome, List, length, slice_index_or};
 ghost use Rattle.table_types.specs.Batches.{IsBatchFor};
 ghost use Rattle.table_types.specs.Rosters.{roster_fault};
-ghost use Rattle.table_types.specs.SlotIds.{is_slot};
+ghost use Rattle.table_types.specs.SlotIds.{slot_count, is_slot};
 ghost use Rattle.peers_msg.specs.declared.message.Message.{Message};
 ghost use Rattle.peers_msg.specs.Spelling.{stream_of};
 ghost use Rattle.known_state.specs.Cost.{full, knowledge_of};
@@ -94,7 +94,7 @@ fn send_updates(
     requires requests { requests.now ≡ requests_of known.now.roster (knowledge_of known.now.state) batch.now }
     requires keep { length keep.now ≡ length requests.now }
     requires linked { AreLinked (at_start (names_in known.now.state.slots)) requests.now keep.now }
-    requires room { (place : ℕ) → kept_over (links (names_in known.now.state.slots) requests.now keep.now) place ≤ 127 }
+    requires room { (place : ℕ) → kept_over (links (names_in known.now.state.slots) requests.now keep.now) place ≤ slot_count - 1 }
     ensures order { IfOk result (λ sent. GoesThrough known.now batch.now keep.now sent.0.items sent.1.state) }
     ensures roster { IfOk result (λ sent. sent.1.roster ≡ known.now.roster) }
 {

@@ -2,31 +2,32 @@
 
 ghost use Rattle.std.specs.Prelude.{◌≡◌, ◌≤◌, ◌-◌, ℕ, true, false, IsTrue, ◌↔◌, Some, IfSome, IsNone, option_copied, length, slice_set};
 ghost use Rattle.dict_slots.specs.Slots.{slot_at};
-ghost use Rattle.table_types.specs.SlotIds.{is_slot};
+ghost use Rattle.table_types.specs.SlotIds.{slot_count, is_slot};
 ghost use Rattle.teach_writer.specs.Retained.{none_retained, Retains, IsFree};
 
 use dict_slots::Slots;
 use std::marker::Model;
-use table_types::Name;
+use table_types::{Name, SLOT_COUNT};
 
 /// Which slots of the dictionary hold a name that is retained for a later update, whose request is kept.
 #[derive(Debug, Drop)]
 pub struct Retained {
-    flags: [bool; 128],
+    flags: [bool; SLOT_COUNT],
 }
 
 impl Model for Retained {
     ghost use Rattle.std.specs.Prelude.{◌≡◌, Bool, List, length};
+    ghost use Rattle.table_types.specs.SlotIds.{slot_count};
 
     ghost Value = { List Bool };
 
     ghost view = { λ k. k.flags };
 
-    ghost invariant = { λ k. length k.flags ≡ 128 };
+    ghost invariant = { λ k. length k.flags ≡ slot_count };
 }
 
 /// The lowest slot that is free, if one is.
-fn lowest_free(flags: &[bool; 128]) -> Option<u8>
+fn lowest_free(flags: &[bool; SLOT_COUNT]) -> Option<u8>
     ensures found { IfSome result (λ slot. IsFree flags.now slot) }
     ensures lowest { IfSome result (λ slot. (other : ℕ) → IsFree flags.now other → slot ≤ other) }
     ensures absent { IsNone result → (slot : ℕ) → IsFree flags.now slot → ⊥ }
@@ -39,10 +40,10 @@ fn lowest_free(flags: &[bool; 128]) -> Option<u8>
     None
 }
 
-fn holds(slot: Option<&Name>, name: &Name) -> bool
-    ensures { IsTrue result ↔ (option_copied slot.entry ≡ Some name.now) }
+fn is_held_name(held: Option<&Name>, name: &Name) -> bool
+    ensures { IsTrue result ↔ (option_copied held.entry ≡ Some name.now) }
 {
-    match slot {
+    match held {
         Some(held) => held.is_same(name),
         None => false,
     }
@@ -52,10 +53,10 @@ impl Retained {
     /// No slot's name is retained.
     pub fn none() -> Retained
         ensures none { result ≡ none_retained }
-        ensures count { length result ≡ 128 }
+        ensures count { length result ≡ slot_count }
     {
         Retained {
-            flags: [false; 128],
+            flags: [false; SLOT_COUNT],
         }
     }
 
@@ -64,7 +65,7 @@ impl Retained {
         requires { is_slot slot ≡ true }
         ensures { IsTrue result ↔ Retains self.now slots.now slot name.now }
     {
-        self.flags[usize::from(slot) - 1] && holds(slots.name(slot), name)
+        self.flags[usize::from(slot) - 1] && is_held_name(slots.name(slot), name)
     }
 
     /// A slot in which this name is retained, by what the slots hold: none where its request isn't kept. The likely one is
@@ -91,7 +92,7 @@ impl Retained {
         }
         for (index, retained) in self.flags.iter().enumerate() {
             let slot = index as u8 + 1;
-            if *retained && holds(slots.name(slot), name) {
+            if *retained && is_held_name(slots.name(slot), name) {
                 return Some(slot);
             }
         }
@@ -114,7 +115,7 @@ impl Retained {
     pub fn set(&mut self, slot: u8, retained: bool)
         requires { is_slot slot ≡ true }
         ensures set { self.new ≡ slice_set self.old (slot - 1) retained }
-        ensures count { length self.new ≡ 128 }
+        ensures count { length self.new ≡ slot_count }
     {
         self.flags[usize::from(slot) - 1] = retained;
     }

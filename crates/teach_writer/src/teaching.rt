@@ -2,6 +2,7 @@
 
 ghost use Rattle.std.specs.Prelude.{◌≡◌, ◌≤◌, ◌+◌, IfOk, List, length};
 ghost use Rattle.table_types.specs.Batches.{IsBatchFor};
+ghost use Rattle.table_types.specs.SlotIds.{slot_count};
 ghost use Rattle.peers_msg.specs.declared.message.Message.{Message};
 ghost use Rattle.peers_msg.specs.Spelling.{stream_of};
 ghost use Rattle.known_state.specs.Cost.{full};
@@ -19,12 +20,12 @@ use dict_slots::Slots;
 use known_state::{Known, Request};
 use retention_flow::plan;
 use std::alloc::Global;
-use table_types::{Batch, Memory, Name};
+use table_types::{Batch, Memory, Name, SLOT_COUNT};
 
 /// The names that the slots hold, slot by slot. One that several slots hold is there as often.
 fn names_held(alloc: Global, slots: &Slots) -> Result<Vec<Name>, Memory>
     ensures names { IfOk result (λ names. names.items ≡ names_in slots.now) }
-    ensures few { IfOk result (λ names. length names.items ≤ 128) }
+    ensures few { IfOk result (λ names. length names.items ≤ slot_count) }
 {
     let mut names = Vec::new(alloc);
     for index in 0..slots.len() {
@@ -38,8 +39,8 @@ fn names_held(alloc: Global, slots: &Slots) -> Result<Vec<Name>, Memory>
 /// The names held of which a plan of these requests has to know: those that the slots hold, slot by slot, and none where there
 /// are no requests.
 fn names_to_plan(alloc: Global, slots: &Slots, requests: &[Request]) -> Result<Vec<Name>, Memory>
-    ensures enough { IfOk result (λ names. (plan : Plan) → Accepts 128 names.items requests.now plan → Accepts 128 (names_in slots.now) requests.now plan) }
-    ensures few { IfOk result (λ names. length names.items ≤ 128) }
+    ensures enough { IfOk result (λ names. (plan : Plan) → Accepts slot_count names.items requests.now plan → Accepts slot_count (names_in slots.now) requests.now plan) }
+    ensures few { IfOk result (λ names. length names.items ≤ slot_count) }
 {
     if requests.is_empty() {
         return Ok(Vec::new(alloc));
@@ -67,11 +68,6 @@ pub fn teach(alloc: Global, known: &Known, batch: &Batch) -> Result<Lesson, Teac
 {
     let requests = known.costs(alloc, batch)?;
     let held = names_to_plan(alloc, known.slots(), requests.as_slice())?;
-    let plan = plan(
-        alloc,
-        usize::from(Slots::COUNT),
-        held.as_slice(),
-        requests.as_slice(),
-    )?;
+    let plan = plan(alloc, SLOT_COUNT, held.as_slice(), requests.as_slice())?;
     Ok(teach_by(alloc, known, batch, requests.as_slice(), plan)?)
 }

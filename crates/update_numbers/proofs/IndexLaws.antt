@@ -7,7 +7,7 @@ use Rattle.std.specs.Cmp.{nat_cmp_is}
 use Rattle.std.specs.declared.cmp.Ordering.TheVariants.{Equal}
 use Rattle.table_types.specs.declared.key.Key.{Key}
 use Rattle.table_types.specs.Keys.{key_cmp}
-use Rattle.table_types.proofs.KeyLaws.{key_cmp-same, one_key}
+use Rattle.table_types.proofs.EqualKeysAreOne.{key_cmp-same, one_key}
 use Rattle.update_numbers.specs.Index.{Agree}
 
 pub one_number : (a b : ℕ) → is_eq (nat_cmp a b) ≡ true → a ≡ b

@@ -6,7 +6,7 @@ use std::alloc::Global;
 use std::process::Abort;
 use std::sync::Wait;
 use table_cell::TrackError;
-use table_shards::{Audit, AuditError, Receipt, Seat, ShardError, Shards, Unlocked};
+use table_shards::{Audit, AuditError, Seat, ShardError, Shards, Unlocked};
 use table_types::Key;
 
 /// Tables under their locks, and their only seat, which is there while nobody uses it.
@@ -43,7 +43,7 @@ impl Round {
         track_at(rt, &self.shards, lock, &mut self.seat, table, key)
     }
 
-    /// Why that is refused.
+    /// Why that is refused. `None` where it isn't.
     pub fn refusal<R: Wait>(
         &mut self,
         rt: &R,
@@ -51,12 +51,15 @@ impl Round {
         table: u64,
         key: Key,
     ) -> Option<ShardError<TrackError>> {
-        self.track_at(rt, lock, table, key)?.err()
+        match self.track_at(rt, lock, table, key) {
+            Some(Err(refusal)) => Some(refusal),
+            _ => None,
+        }
     }
 
-    /// The receipts that the seat has of a table.
-    pub fn receipts(&self, table: u64) -> Option<&[Receipt]> {
-        Some(self.seat.as_ref()?.receipts(table))
+    /// How many receipts the seat has of a table.
+    pub fn receipts(&self, table: u64) -> Option<usize> {
+        Some(self.seat.as_ref()?.receipts(table).len())
     }
 
     /// The tables without their locks, and a list of the seat alone.

@@ -45,31 +45,41 @@ fn changed<R: Abort>(rt: &R, alloc: Global) -> TableCell {
     cell
 }
 
+/// What is found wrong with the seats' receipts of all events.
+fn fault(cell: &TableCell, seats: &[Seat]) -> Option<u32> {
+    compare(cell, 0, seats)
+}
+
+/// A new table, and one of one event, with the seat that tracked three times and with one of others.
+fn are_compared<R: Abort>(rt: &R, alloc: Global, seats: &[Seat], strangers: &[Seat]) {
+    let new = cell(alloc, &T1).expect(rt, "a table");
+    let changed = changed(rt, alloc);
+    assert!(rt; fault(&new, seats) == Some(1));
+    assert!(rt; fault(&changed, strangers) == Some(0));
+    assert!(rt; fault(&new, strangers) == None);
+}
+
 #[test]
 fn receipts_are_compared(rt: HostRuntime) {
     let alloc = rt.alloc();
     let (_tables, seats) = tracked(&rt, alloc).unlock(&rt, alloc);
     let (_others, strangers) = fresh(&rt, alloc).unlock(&rt, alloc);
-    let new = cell(alloc, &T1).expect(&rt, "a table");
-    let changed = changed(&rt, alloc);
-    assert!(rt; compare(&new, 0, seats.as_slice()) == Some(1));
-    assert!(rt; compare(&changed, 0, strangers.as_slice()) == Some(0));
-    assert!(rt; compare(&new, 0, strangers.as_slice()) == None);
+    are_compared(&rt, alloc, seats.as_slice(), strangers.as_slice());
 }
 
-/// Whether a track of the seat's, of which these tables have less events, is refused, and leaves no receipt.
-fn is_ahead<R: Wait>(rt: &R, mine: &mut Round, others: &mut Round) -> Option<bool> {
+/// A track of the seat's, of which these tables have less events, is refused, and leaves no receipt.
+fn is_ahead<R: Abort + Wait>(rt: &R, mine: &mut Round, others: &mut Round) {
     others.seat = mine.seat.take();
-    let refusal = others.refusal(rt, 1, 1, Key::Int(7))?;
-    let ahead = ShardError::SeatAhead { seen: 3, found: 0 };
-    Some(refusal == ahead && others.receipts(1)?.len() == 3)
+    let refusal = others.refusal(rt, 1, 1, Key::Int(7));
+    assert!(rt; refusal == Some(ShardError::SeatAhead { seen: 3, found: 0 }));
+    assert!(rt; others.receipts(1) == Some(3));
 }
 
 #[test]
 fn a_seat_of_other_tables_is_ahead(rt: HostRuntime) {
     let mut mine = tracked(&rt, rt.alloc());
     let mut others = fresh(&rt, rt.alloc());
-    assert!(rt; is_ahead(&rt, &mut mine, &mut others) == Some(true));
+    is_ahead(&rt, &mut mine, &mut others);
 }
 
 /// Whether the audit has `t1` with three events, the one seat, and its receipts of the three tracks, the last of which was
@@ -158,40 +168,49 @@ fn a_seat_that_is_there_twice_is_missed(rt: HostRuntime) {
 }
 
 /// Another table's id is no table's: no lock is lent for it, and a track of it leaves no receipt.
-fn refuses_a_stranger<R: Wait>(rt: &R, round: &mut Round) -> Option<bool> {
-    let refusal = round.refusal(rt, 1, 9, Key::Int(7))?;
-    let no_receipt = round.receipts(9)?.is_empty();
-    Some(refusal == ShardError::NoTable && no_receipt && round.shards.cell(9).is_none())
+fn refuses_a_stranger<R: Abort + Wait>(rt: &R, round: &mut Round) {
+    let refusal = round.refusal(rt, 1, 9, Key::Int(7));
+    assert!(rt; refusal == Some(ShardError::NoTable));
+    assert!(rt; round.receipts(9) == Some(0));
+    assert!(rt; round.shards.cell(9).is_none());
 }
 
-/// A purge of a table without rows is answered, and leaves a receipt.
-fn purges<R: Wait>(rt: &R, shards: &Shards, seat: Seat) -> Option<bool> {
-    let mut locked = shards.cell(1)?.lock(rt);
+/// A purge of a table without rows is answered.
+fn purges<R: Abort + Wait>(rt: &R, shards: &Shards, seat: Seat) -> Seat {
+    let lock = shards.cell(1).expect(rt, "a lock");
+    let mut locked = lock.lock(rt);
     let (seat, purged) = held::purge(&mut locked, seat, 1, Moment::least());
-    Some(purged.ok()? == 0 && seat.receipts(1).len() == 1 && seat.seen(1) == 1)
+    assert!(rt; purged == Ok(0));
+    seat
 }
 
+/// The purge leaves a receipt.
 #[test]
 fn another_table_leaves_no_receipt(rt: HostRuntime) {
     let mut round = fresh(&rt, rt.alloc());
-    assert!(rt; refuses_a_stranger(&rt, &mut round) == Some(true));
+    refuses_a_stranger(&rt, &mut round);
     let seat = round.seat.take().expect(&rt, "the seat");
-    assert!(rt; purges(&rt, &round.shards, seat) == Some(true));
+    let seat = purges(&rt, &round.shards, seat);
+    assert!(rt; seat.receipts(1).len() == 1 && seat.seen(1) == 1);
+}
+
+/// A key that the table refuses.
+fn text<R: Abort>(rt: &R, alloc: Global) -> Key {
+    Key::Str(Items::new(Vec::from_slice(alloc, b"a").ok().expect(rt, "memory")))
 }
 
 /// A refused call between two that are answered.
-fn refused_between<R: Wait>(rt: &R, alloc: Global, round: &mut Round) -> Option<bool> {
-    let first = round.track(rt, 1, 7);
-    let text = Key::Str(Items::new(Vec::from_slice(alloc, b"a").ok()?));
-    let refusal = round.refusal(rt, 1, 1, text)?;
-    let second = round.track(rt, 1, 7);
-    let refused = refusal == ShardError::Cell(TrackError::WrongKey);
-    Some(first == Some(1) && refused && second == Some(2) && round.receipts(1)?.len() == 2)
+fn refused_between<R: Abort + Wait>(rt: &R, alloc: Global, round: &mut Round) {
+    assert!(rt; round.track(rt, 1, 7) == Some(1));
+    let refusal = round.refusal(rt, 1, 1, text(rt, alloc));
+    assert!(rt; refusal == Some(ShardError::Cell(TrackError::WrongKey)));
+    assert!(rt; round.track(rt, 1, 7) == Some(2));
+    assert!(rt; round.receipts(1) == Some(2));
 }
 
 #[test]
 fn a_refusal_leaves_no_receipt(rt: HostRuntime) {
     let mut round = fresh(&rt, rt.alloc());
-    assert!(rt; refused_between(&rt, rt.alloc(), &mut round) == Some(true));
+    refused_between(&rt, rt.alloc(), &mut round);
     assert!(rt; round.fault(&rt, rt.alloc()) == None);
 }

@@ -3,7 +3,7 @@ use Rattle.peers_msg.proofs.DataLimits.{row_small}
 use Rattle.table_types.specs.Tables.{Definition}
 use Rattle.table_types.specs.Updates.{fits}
 use Rattle.table_types.specs.Rosters.{table_at}
-use Rattle.known_state.proofs.BatchLemmas.{row_of_fits}
+use Rattle.known_state.proofs.BatchIsOfRoster.{row_of_fits}
 use Rattle.known_state.proofs.costs.add_update.Goals as goal
 
 pub nameless_size-requires : goal.nameless_size-requires

@@ -1,4 +1,4 @@
-use Rattle.known_state.proofs.EffectLemmas.{effect_steps, no_other, refused_steps}
+use Rattle.known_state.proofs.EffectsAreSteps.{effect_steps, no_other, refused_steps}
 use Rattle.known_state.proofs.effect.effects_are_steps.Goals as goal
 
 pub returns-clause-step : goal.returns-clause-step

@@ -1,4 +1,4 @@
-use Rattle.known_state.proofs.LastNumbersLemmas.{put_here}
+use Rattle.known_state.proofs.LastNumberPutHere.{put_here}
 use Rattle.std.proofs.Common.{arith}
 use Rattle.known_state.proofs.last_numbers.set_last.Goals as goal
 

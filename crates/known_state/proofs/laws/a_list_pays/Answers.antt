@@ -1,4 +1,4 @@
-use Rattle.known_state.proofs.FullLaws.{list_pays_full}
+use Rattle.known_state.proofs.FullIsCost.{list_pays_full}
 use Rattle.known_state.proofs.laws.a_list_pays.Goals as goal
 
 pub returns : goal.returns

@@ -1,4 +1,4 @@
-use Rattle.known_state.proofs.FullLaws.{full_is_cost}
+use Rattle.known_state.proofs.FullIsCost.{full_is_cost}
 use Rattle.known_state.proofs.laws.full_adds_up.Goals as goal
 
 pub returns : goal.returns

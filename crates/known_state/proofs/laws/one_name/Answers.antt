@@ -1,4 +1,4 @@
-use Rattle.known_state.proofs.ResolvingLemmas.{named_by, named_so}
+use Rattle.known_state.proofs.NamedAsResolved.{named_by, named_so}
 use Rattle.known_state.proofs.laws.one_name.Goals as goal
 
 pub returns-clause-names : goal.returns-clause-names

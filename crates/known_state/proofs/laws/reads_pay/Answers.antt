@@ -1,4 +1,4 @@
-use Rattle.known_state.proofs.ReadLaws.{reads_pay, marks_fit}
+use Rattle.known_state.proofs.ReadsPay.{reads_pay, marks_fit}
 use Rattle.known_state.proofs.laws.reads_pay.Goals as goal
 
 pub returns-clause-pay : goal.returns-clause-pay

@@ -1,4 +1,4 @@
-use Rattle.known_state.proofs.RefusalLaws.{no_step}
+use Rattle.known_state.proofs.RefusedIsNoStep.{no_step}
 use Rattle.known_state.proofs.laws.refused_is_no_step.Goals as goal
 
 pub returns : goal.returns

@@ -1,4 +1,4 @@
-use Rattle.known_state.proofs.FittingLaws.{steps_fit}
+use Rattle.known_state.proofs.LegalMessagesFit.{steps_fit}
 use Rattle.known_state.proofs.laws.steps_fit.Goals as goal
 
 pub returns : goal.returns

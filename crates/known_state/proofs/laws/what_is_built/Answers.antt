@@ -1,4 +1,4 @@
-use Rattle.known_state.proofs.BuiltLaws.{built_tables, built_last_numbers}
+use Rattle.known_state.proofs.BuiltAsGiven.{built_tables, built_last_numbers}
 use Rattle.known_state.proofs.laws.what_is_built.Goals as goal
 
 pub returns-clause-tables : goal.returns-clause-tables

@@ -1,4 +1,4 @@
-use Rattle.known_state.proofs.InStepLaws.{known_enough}
+use Rattle.known_state.proofs.TeacherAndLearnerInStep.{known_enough}
 use Rattle.known_state.proofs.laws.what_is_known_is_enough.Goals as goal
 
 pub returns : goal.returns

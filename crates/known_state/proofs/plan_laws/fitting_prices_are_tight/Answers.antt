@@ -1,4 +1,4 @@
-use Rattle.known_state.proofs.LinkLaws.{tight}
+use Rattle.known_state.proofs.SavingsAreBounded.{tight}
 use Rattle.known_state.proofs.plan_laws.fitting_prices_are_tight.Goals as goal
 
 pub returns : goal.returns

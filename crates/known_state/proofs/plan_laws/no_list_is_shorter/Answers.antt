@@ -1,4 +1,4 @@
-use Rattle.known_state.proofs.PlanLaws.{links_pay, none_below_bound}
+use Rattle.known_state.proofs.AcceptedIsShortest.{links_pay, none_below_bound}
 use Rattle.known_state.proofs.plan_laws.no_list_is_shorter.Goals as goal
 
 pub returns-clause-reads : goal.returns-clause-reads

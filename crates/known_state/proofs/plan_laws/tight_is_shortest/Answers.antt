@@ -1,4 +1,4 @@
-use Rattle.known_state.proofs.PlanLaws.{tight_shortest}
+use Rattle.known_state.proofs.AcceptedIsShortest.{tight_shortest}
 use Rattle.known_state.proofs.plan_laws.tight_is_shortest.Goals as goal
 
 pub returns : goal.returns

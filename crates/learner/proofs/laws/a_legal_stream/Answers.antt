@@ -1,5 +1,5 @@
-use Rattle.learner.proofs.LessonLaws.{taught, taught_in_pieces}
-use Rattle.learner.proofs.StreamLaws.{stream_faultless}
+use Rattle.learner.proofs.LegalStreamIsTaught.{taught, taught_in_pieces}
+use Rattle.learner.proofs.NoFaultOnTheWay.{stream_faultless}
 use Rattle.learner.proofs.laws.a_legal_stream.Goals as goal
 
 pub returns-clause-whole : goal.returns-clause-whole

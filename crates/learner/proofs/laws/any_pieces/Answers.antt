@@ -1,4 +1,4 @@
-use Rattle.learner.proofs.PieceLaws.{two, whole, same_fed}
+use Rattle.learner.proofs.SameHoweverCut.{two, whole, same_fed}
 use Rattle.learner.proofs.laws.any_pieces.Goals as goal
 
 pub returns-clause-two : goal.returns-clause-two

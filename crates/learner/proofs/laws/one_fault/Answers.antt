@@ -1,4 +1,4 @@
-use Rattle.learner.proofs.FaultLaws.{same_stop, it_comes, closed_then}
+use Rattle.learner.proofs.SameFaultHoweverCut.{same_stop, it_comes, closed_then}
 use Rattle.learner.proofs.MomentFaults.{same_fault_in_time}
 use Rattle.learner.proofs.laws.one_fault.Goals as goal
 

@@ -1,4 +1,4 @@
-use Rattle.learner.proofs.PutLaws.{here, other_keys, other_tables}
+use Rattle.learner.proofs.PutChangesOneRow.{here, other_keys, other_tables}
 use Rattle.learner.proofs.laws.others_stay.Goals as goal
 
 pub returns-clause-here : goal.returns-clause-here

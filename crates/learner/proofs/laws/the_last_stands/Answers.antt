@@ -1,4 +1,4 @@
-use Rattle.learner.proofs.PutLaws.{last_stands, others_stay_all}
+use Rattle.learner.proofs.PutChangesOneRow.{last_stands, others_stay_all}
 use Rattle.learner.proofs.laws.the_last_stands.Goals as goal
 
 pub returns-clause-last : goal.returns-clause-last

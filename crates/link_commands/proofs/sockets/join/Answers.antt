@@ -6,15 +6,15 @@ use Rattle.link_commands.proofs.sockets.join.Goals as goal
 
 pub returns-clause-printed : goal.returns-clause-printed
 returns-clause-printed g c = λ rows.
-    let told = c.reported.ensures.printed rows in
-    let found = of_ok _ c.joined-met.result told.0 told.1 c.joined-met.ensures.printed in
-    (found.0, told.0.text.items, subst (λ (e : Ending). IsJoined found.0 c.args.link e told.0.text.items) told.2 found.1, told.3)
+    let printed = c.reported.ensures.printed rows in
+    let found = of_ok _ c.joined-met.result printed.0 printed.1 c.joined-met.ensures.printed in
+    (found.0, printed.0.text.items, subst (λ (e : Ending). IsJoined found.0 c.args.link e printed.0.text.items) printed.2 found.1, printed.3)
 
 pub returns-clause-device : goal.returns-clause-device
 returns-clause-device g c = λ device.
     elim (c.reported.ensures.device device) [
       | inl same ↦ inl same
-      | inr told ↦
-          let found = of_ok _ c.joined-met.result told.0 told.1 c.joined-met.ensures.printed in
-          inr (found.0, told.0.ending, told.0.text.items, found.1, told.2)
+      | inr printed ↦
+          let found = of_ok _ c.joined-met.result printed.0 printed.1 c.joined-met.ensures.printed in
+          inr (found.0, printed.0.ending, printed.0.text.items, found.1, printed.2)
     ]

@@ -1,5 +1,5 @@
 use Rattle.std.proofs.Common.{inr, sym}
-use Rattle.link_commands.proofs.EndingLaws.{rows_no_device, rows_told}
+use Rattle.link_commands.proofs.EndingLaws.{rows_no_device, rows_printed}
 use Rattle.link_commands.proofs.sockets.reported.Goals as goal
 
 pub returns-in-Ok-clause-printed : goal.returns-in-Ok-clause-printed
@@ -9,7 +9,7 @@ returns-in-Ok-clause-printed g c = λ rows.
 
 pub returns-in-Ok-clause-silent : goal.returns-in-Ok-clause-silent
 returns-in-Ok-clause-silent g c = λ none other.
-    absurd (rows_told c.in-Ok.report.ending c.print.result c.in-Ok.report.reported (c.print.ensures.ends other) none)
+    absurd (rows_printed c.in-Ok.report.ending c.print.result c.in-Ok.report.reported (c.print.ensures.ends other) none)
 
 pub returns-in-Ok-clause-device : goal.returns-in-Ok-clause-device
 returns-in-Ok-clause-device g c = λ device. inr (c.in-Ok.report, c.in-Ok.is, c.print.ensures.device device)

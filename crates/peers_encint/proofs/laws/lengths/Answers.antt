@@ -1,4 +1,4 @@
-use Rattle.peers_encint.proofs.SpellingLaws.{longer, within, table}
+use Rattle.peers_encint.proofs.OneSpelling.{longer, within, table}
 use Rattle.peers_encint.proofs.laws.lengths.Goals as goal
 
 pub returns-clause-longer : goal.returns-clause-longer

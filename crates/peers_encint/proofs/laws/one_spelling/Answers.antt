@@ -1,4 +1,4 @@
-use Rattle.peers_encint.proofs.SpellingLaws.{spelled, one_spelling, apart, bytes}
+use Rattle.peers_encint.proofs.OneSpelling.{spelled, one_spelling, apart, bytes}
 use Rattle.peers_encint.proofs.laws.one_spelling.Goals as goal
 
 pub returns-clause-spelled : goal.returns-clause-spelled

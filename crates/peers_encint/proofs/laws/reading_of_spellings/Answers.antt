@@ -1,4 +1,4 @@
-use Rattle.peers_encint.proofs.ReadingLaws.{again, takes, stays}
+use Rattle.peers_encint.proofs.ReadAsSpelled.{again, takes, stays}
 use Rattle.peers_encint.proofs.laws.reading_of_spellings.Goals as goal
 
 pub returns-clause-again : goal.returns-clause-again

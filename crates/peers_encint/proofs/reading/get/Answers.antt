@@ -1,7 +1,7 @@
 use Rattle.std.proofs.Common.{sym, subst, ◌∙◌, arith}
 use Rattle.peers_encint.specs.declared.reading.Read.{Read}
 use Rattle.peers_encint.specs.Integers.{Reads}
-use Rattle.peers_encint.proofs.ReadingLaws.{reads, right_answer}
+use Rattle.peers_encint.proofs.ReadAsSpelled.{reads, right_answer}
 use Rattle.peers_encint.proofs.reading.get.Goals as goal
 
 pub returns-clause-read : goal.returns-clause-read

@@ -1,5 +1,5 @@
 use Rattle.std.proofs.Common.{◌≡◌, ◌+◌, ◌<◌, length, Some, ◌∙◌, arith}
-use Rattle.peers_encint.proofs.ReadingSteps.{counted, counted-more, counted-last, counted-ninth, added-more, whole_of-last}
+use Rattle.peers_encint.proofs.ReadingLoop.{counted, counted-more, counted-last, counted-ninth, added-more, whole_of-last}
 use Rattle.peers_encint.proofs.reading.read_long.Goals as goal
 use Rattle.peers_encint.proofs.reading.read_long.Goals.{then-later-index-lt128-via-then-later-index-lt128, then-later-index-lt128-via-else-later-index-lt128+then-index-eq8}
 

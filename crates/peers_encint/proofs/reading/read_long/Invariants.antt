@@ -1,6 +1,6 @@
 use Rattle.std.proofs.Common.{◌≡◌, ◌+◌, ◌*◌, ◌^◌, ◌<◌, ◌≤◌, take}
 use Rattle.peers_encint.specs.Integers.{added_from, tail_length}
-use Rattle.peers_encint.proofs.ReadingSteps.{counted}
+use Rattle.peers_encint.proofs.ReadingLoop.{counted}
 use Rattle.peers_encint.proofs.reading.read_long.Given as goal
 
 -- the bytes so far are added, and none of them ends the number

@@ -1,6 +1,6 @@
 use Rattle.std.proofs.Common.{◌≡◌, ◌+◌, ◌-◌, suc, arith}
-use Rattle.peers_encint.proofs.TailLaws.{length-tail_of-last, length-tail_of-more, some_tail, short_tail}
-use Rattle.peers_encint.proofs.SpellingLaws.{length-low, length-high}
+use Rattle.peers_encint.proofs.OneTail.{length-tail_of-last, length-tail_of-more, some_tail, short_tail}
+use Rattle.peers_encint.proofs.OneSpelling.{length-low, length-high}
 use Rattle.peers_encint.proofs.spelling.len.Goals as goal
 
 pub returns-then-n-lt240-clause-exact : goal.returns-then-n-lt240-clause-exact

@@ -1,6 +1,6 @@
 use Rattle.std.proofs.Common.{sym, subst, List, ℕ, arith}
 use Rattle.peers_encint.specs.Integers.{SpellsInteger}
-use Rattle.peers_encint.proofs.SpellingLaws.{spelled}
+use Rattle.peers_encint.proofs.OneSpelling.{spelled}
 use Rattle.peers_encint.proofs.spelling.put.Goals as goal
 
 pub returns-clause-means : goal.returns-clause-means

@@ -1,7 +1,7 @@
 use Rattle.std.proofs.Common.{◌≡◌, ◌+◌, ◌-◌, drop, sym, ap, ◌∙◌, arith, rules}
 use Rattle.std.proofs.lemmas.List.{drop-set-lt, drop-drop}
-use Rattle.peers_encint.proofs.TailLaws.{tail_of-end, tail_of-last}
-use Rattle.peers_encint.proofs.SpellingSteps.{first_byte, later_byte, written-low, written-first, written-more, written-last, left-more}
+use Rattle.peers_encint.proofs.OneTail.{tail_of-end, tail_of-last}
+use Rattle.peers_encint.proofs.SpellingLoop.{first_byte, later_byte, written-low, written-first, written-more, written-last, left-more}
 use Rattle.peers_encint.proofs.spelling.write.Goals as goal
 
 pub returns-then-n-lt240-clause-spelled : goal.returns-then-n-lt240-clause-spelled

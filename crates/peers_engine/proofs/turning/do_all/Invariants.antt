@@ -5,12 +5,12 @@ use Rattle.session_core.specs.declared.event.Event.{Event}
 use Rattle.peers_engine.specs.Doing.{Acts, asked, worker}
 use Rattle.peers_engine.proofs.turning.do_all.Given as goal
 
--- the actions so far are done, their answers told, and what these ask for kept
+-- the actions so far are done, their answers given, and what these ask for kept
 abbrev pub invariant-loop-action : goal.invariant-loop-action
 invariant-loop-action g l = record {
-  done : (told : List (Event × List Action)) × (out : List ℕ)
-      × Acts (worker l.fn.session l.fn.seat l.context.number l.context.moment) l.yielded told out (worker l.session l.seat l.context.number l.context.moment)
-      × (l.given.items ≡ asked told)
+  done : (answers : List (Event × List Action)) × (out : List ℕ)
+      × Acts (worker l.fn.session l.fn.seat l.context.number l.context.moment) l.yielded answers out (worker l.session l.seat l.context.number l.context.moment)
+      × (l.given.items ≡ asked answers)
       × Appends (g.W.Write.contents l.fn.output) (g.W.Write.contents l.output) out;
   seat : l.seat.number ≡ l.fn.seat.number;
 }

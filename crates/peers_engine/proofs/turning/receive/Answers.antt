@@ -12,7 +12,7 @@ returns-in-Ok-Some-clause-failed g c =
     (λ error halts. read_fails (worker c.args.session.now c.args.seat c.args.context.now.number c.args.context.now.moment) c.react.new.session c.in-Ok-Some.field-0 c.in-Ok-Some.event error
     (g.R.Read.remaining c.args.input.now) (g.R.Read.remaining c.read_event.new.input)
     (g.W.Write.contents c.args.output.now) (g.W.Write.contents c.react.new.output)
-    c.in-Ok-Some.field-0-is c.in-Ok-Some.ensures.heard halts)
+    c.in-Ok-Some.field-0-is c.in-Ok-Some.ensures.received halts)
     c.react.ensures.failed
 
 pub returns-in-Err-clause-failed : goal.returns-in-Err-clause-failed

@@ -1,5 +1,5 @@
 use Rattle.std.proofs.Common.{◌++◌, List, ℕ, sym, ap, ◌∙◌, arith}
-use Rattle.peers_encint.proofs.SpellingLaws.{spelling-low, length-low}
+use Rattle.peers_encint.proofs.OneSpelling.{spelling-low, length-low}
 use Rattle.peers_msg.proofs.encoding.append_integer.Goals as goal
 
 pub push_reserved-requires : goal.push_reserved-requires

@@ -1,7 +1,7 @@
 use Rattle.std.proofs.Common.{ℕ, ◌+◌, ◌++◌, ◌-◌, ◌/◌, List, length, vec_len, sym, ◌∙◌, subst, arith}
 use Rattle.peers_encint.specs.Integers.{spelling}
-use Rattle.peers_encint.proofs.SpellingLaws.{within}
-use Rattle.peers_encint.proofs.SpellingSteps.{first_byte, later_byte}
+use Rattle.peers_encint.proofs.OneSpelling.{within}
+use Rattle.peers_encint.proofs.SpellingLoop.{first_byte, later_byte}
 use Rattle.peers_msg.proofs.AppendedIntegers.{Remains, remains-first, remains-room, remains-more, remains-last}
 use Rattle.peers_msg.proofs.encoding.append_long.Goals as goal
 

@@ -1,4 +1,4 @@
-use Rattle.peers_msg.proofs.CallLaws.{read_in_pieces, called_spelled}
+use Rattle.peers_msg.proofs.CallsReadInPieces.{read_in_pieces, called_spelled}
 use Rattle.peers_msg.proofs.laws.any_calls.Goals as goal
 
 pub returns-clause-pieces : goal.returns-clause-pieces

@@ -1,5 +1,5 @@
 use Rattle.peers_msg.proofs.CuttingIndependence.{whole}
-use Rattle.peers_msg.proofs.CuttingLaws.{same_end, same_breach}
+use Rattle.peers_msg.proofs.SameEndHoweverCut.{same_end, same_breach}
 use Rattle.peers_msg.proofs.laws.any_cutting.Goals as goal
 
 pub returns-clause-whole : goal.returns-clause-whole

@@ -1,4 +1,4 @@
-use Rattle.peers_msg.proofs.ListLaws.{read_spelled, spelled_read}
+use Rattle.peers_msg.proofs.StreamRoundTrip.{read_spelled, spelled_read}
 use Rattle.peers_msg.proofs.laws.lists_are_read.Goals as goal
 
 pub returns-clause-spelled : goal.returns-clause-spelled

@@ -1,4 +1,4 @@
-use Rattle.peers_msg.proofs.ReceivedLaws.{distinct-received, distinct-resumed, distinct-own}
+use Rattle.peers_msg.proofs.ReceivedTablesRise.{distinct-received, distinct-resumed, distinct-own}
 use Rattle.peers_msg.proofs.laws.tables_stay_distinct.Goals as goal
 
 pub returns-clause-step : goal.returns-clause-step

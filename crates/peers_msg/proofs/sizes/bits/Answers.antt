@@ -2,7 +2,7 @@ use Rattle.std.proofs.Common.{◌≡◌, ◌^◌, None, arith, ap, ℕ}
 use Rattle.table_types.specs.DataTypes.{id_of}
 use Rattle.table_types.specs.declared.data_type.DataType.TheVariants.{ServerId}
 use Rattle.std.specs.Prelude.{slice_index_or}
-use Rattle.peers_msg.proofs.SizeLaws.{bit_fits}
+use Rattle.peers_msg.proofs.DataLengths.{bit_fits}
 use Rattle.peers_msg.proofs.sizes.bits.Goals as goal
 
 pub overflow_add-bits : goal.overflow_add-bits

@@ -1,5 +1,5 @@
 use Rattle.std.proofs.Common.{arith}
-use Rattle.peers_msg.proofs.SizeLaws.{name_grows}
+use Rattle.peers_msg.proofs.DataLengths.{name_grows}
 use Rattle.peers_msg.proofs.sizes.name_sizes.Goals as goal
 
 pub returns-clause-less : goal.returns-clause-less

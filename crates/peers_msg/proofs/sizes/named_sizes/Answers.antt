@@ -1,5 +1,5 @@
 use Rattle.std.proofs.Common.{arith}
-use Rattle.peers_msg.proofs.SizeLaws.{framed_grows}
+use Rattle.peers_msg.proofs.DataLengths.{framed_grows}
 use Rattle.peers_msg.proofs.sizes.named_sizes.Goals as goal
 
 pub returns-clause-less : goal.returns-clause-less

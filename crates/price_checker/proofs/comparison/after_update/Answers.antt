@@ -1,5 +1,5 @@
 use Rattle.std.proofs.Common.{◌≡◌, ◌<◌, true, false, length, get_or, rules, sym, ◌∙◌}
-use Rattle.price_checker.proofs.ComparisonLemmas.{same_so_far, apart_from_here}
+use Rattle.price_checker.proofs.ComparisonGoesOn.{same_so_far, apart_from_here}
 use Rattle.price_checker.proofs.comparison.after_update.Goals as goal
 
 pub returns-in-Some : goal.returns-in-Some

@@ -1,7 +1,7 @@
 use Rattle.std.proofs.Common.{ℕ, List, drop, subst, arith}
 use Rattle.price_checker.specs.Readings.{IsNext}
 use Rattle.price_checker.specs.declared.reading.Next.{Next}
-use Rattle.price_checker.proofs.StreamLemmas.{read-more, to_the_end}
+use Rattle.price_checker.proofs.StreamIsReadOn.{read-more, to_the_end}
 use Rattle.price_checker.proofs.reading.read.Goals as goal
 
 pub loop-place-preserved : goal.loop-place-preserved

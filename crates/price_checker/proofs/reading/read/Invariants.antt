@@ -1,5 +1,5 @@
 use Rattle.std.proofs.Common.{length, ◌-◌}
-use Rattle.price_checker.proofs.StreamLemmas.{IsReadTo}
+use Rattle.price_checker.proofs.StreamIsReadOn.{IsReadTo}
 use Rattle.price_checker.proofs.reading.read.Given as goal
 
 abbrev pub invariant-loop-place : goal.invariant-loop-place

@@ -17,4 +17,4 @@ returns c =
     let held = names_in c.args.slots.now in
     let found : c.as_slice.result.now ≡ links held rs (take (length rs) (replicate 512 true)) = c.as_slice.ensures.links ∙ c.find_links-links.ensures.links in
     let all : c.as_slice.result.now ≡ all_links held rs = found ∙ ap (links held rs) (all_marks rs 512 c.requires.requests) in
-    c.bound.ensures ∙ ap (λ (slots : ℕ). bound slots c.as_slice.result.now c.args.prices.now) c.from.ensures ∙ ap (λ (ls : List Link). bound 128 ls c.args.prices.now) all
+    c.bound.ensures ∙ ap (λ (ls : List Link). bound 128 ls c.args.prices.now) all

@@ -4,7 +4,7 @@ use Rattle.price_checker.specs.declared.comparison.Comparison.{Comparison}
 use Rattle.price_checker.specs.declared.reading.Reading.{Reading}
 use Rattle.price_checker.specs.Readings.{Compares, IsReading}
 use Rattle.price_checker.specs.Verdicts.{AreApartFrom}
-use Rattle.price_checker.proofs.VerdictLemmas.{ends_early}
+use Rattle.price_checker.proofs.FoundAsSaid.{ends_early}
 use Rattle.price_checker.proofs.verifying.said.Goals as goal
 
 pub returns-in-Legal-Same : goal.returns-in-Legal-Same

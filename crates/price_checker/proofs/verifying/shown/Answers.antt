@@ -4,7 +4,7 @@ use Rattle.known_state.specs.Cost.{knowledge_of}
 use Rattle.price_checker.specs.NamedUpdates.{named_count}
 use Rattle.price_checker.specs.Verdicts.{requests, ArePrices}
 use Rattle.price_checker.proofs.NamedRequests.{requests-named}
-use Rattle.price_checker.proofs.VerdictLemmas.{of_error, some_above}
+use Rattle.price_checker.proofs.FoundAsSaid.{of_error, some_above}
 use Rattle.price_checker.proofs.verifying.shown.Goals as goal
 
 pub returns-then-prices-named_count-clause-shown : goal.returns-then-prices-named_count-clause-shown

@@ -11,7 +11,7 @@ use Rattle.price_checker.specs.declared.verdict.Verdict.TheVariants as verdicts
 use Rattle.price_checker.specs.Verdicts.{Carries, Says, IsNotLegal, IsNotCarried}
 use Rattle.price_checker.proofs.OneVerdict.{says_one, not_legal, not_carried}
 use Rattle.price_checker.proofs.ShortestIsSaid.{shortest_said}
-use Rattle.price_checker.proofs.VerdictLemmas.{of_answer}
+use Rattle.price_checker.proofs.FoundAsSaid.{of_answer}
 use Rattle.price_checker.proofs.verifying.verify.Goals as goal
 
 pub returns-clause-exactly : goal.returns-clause-exactly

@@ -27,7 +27,7 @@ loop-node-preserved c =
           let one = c.lesser-least.ensures.both by two.0 in
           elim (cases_lt node c.loop-node.node) [
             | inl before ↦ c.loop-node.invariant.slack by one.0 node before
-            | inr behind ↦
+            | inr beyond ↦
                 let here : c.loop-node.node ≡ node = omega arith in
                 subst (λ (n : ℕ). IsSlackAt c.args.heights.now c.args.room.now arcs (is_reached c.args.steps.now) by n) here
                 (c.over_place.ensures.right by one.1, c.over_place.ensures.left by one.1, c.over_arc.ensures.slack by two.1)

@@ -1,7 +1,7 @@
 use Rattle.std.proofs.Common.{◌≡◌, ◌∙◌, ℕ, List, length, subst, sym}
 use Rattle.known_state.specs.Plans.{Plan}
 use Rattle.known_state.specs.Shortest.{Shortest}
-use Rattle.known_state.proofs.ShortestLaws.{same_bytes}
+use Rattle.known_state.proofs.ShortestByBytes.{same_bytes}
 use Rattle.peers_msg.specs.Spelling.{stream_of}
 use Rattle.price_checker.specs.Verdicts.{Says}
 use Rattle.price_checker.specs.declared.verdict.Verdict.TheVariants as verdicts

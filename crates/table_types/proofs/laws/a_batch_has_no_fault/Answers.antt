@@ -1,4 +1,4 @@
-use Rattle.table_types.proofs.BatchLaws.{batch_without_fault, batch_has_no_fault}
+use Rattle.table_types.proofs.BatchIsFaultless.{batch_without_fault, batch_has_no_fault}
 use Rattle.table_types.proofs.laws.a_batch_has_no_fault.Goals as goal
 
 pub returns-clause-only : goal.returns-clause-only

@@ -1,5 +1,5 @@
 use Rattle.std.proofs.Common.{arith}
-use Rattle.table_types.proofs.ShapeLaws.{some_left}
+use Rattle.table_types.proofs.OneTableByShape.{some_left}
 use Rattle.table_types.proofs.shapes.are_same_types.Goals as goal
 
 pub returns-in_default : goal.returns-in_default

@@ -1,8 +1,8 @@
 use Rattle.std.proofs.Common.{◌≡◌, true, Some, refl, rules}
 use Rattle.table_types.specs.SlotIds.{is_slot}
 use Rattle.table_types.specs.Updates.{stores_name}
-use Rattle.known_state.proofs.BatchLemmas.{name_of_fits}
-use Rattle.known_state.proofs.RequestLemmas.{named-stores}
+use Rattle.known_state.proofs.BatchIsOfRoster.{name_of_fits}
+use Rattle.known_state.proofs.CostsAddUp.{named-stores}
 use Rattle.teach_writer.proofs.sending.name_field.Goals as goal
 
 pub returns-in-Some-find-clause-fits : goal.returns-in-Some-find-clause-fits

@@ -19,8 +19,8 @@ use Rattle.teach_writer.specs.NextRequests.{HasRoomFor, IsNotRetained}
 use Rattle.teach_writer.specs.Sending.{IsSent, is_stored, selection, update_sent}
 use Rattle.teach_writer.proofs.MarksAreReads.{selection_slots}
 use Rattle.teach_writer.proofs.UpdateStepsAreLegal.{sent_taken, sent_carries, stream-one, stream-append}
-use Rattle.known_state.proofs.KnownLemmas.{table_at-id}
-use Rattle.known_state.proofs.BatchLemmas.{row_of_fits}
+use Rattle.known_state.proofs.ReceivedIsOwn.{table_at-id}
+use Rattle.known_state.proofs.BatchIsOfRoster.{row_of_fits}
 use Rattle.teach_writer.proofs.sending.write_update.Goals as goal
 
 pub update_sent-requires : goal.update_sent-requires

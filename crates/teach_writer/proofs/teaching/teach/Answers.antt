@@ -1,7 +1,7 @@
 use Rattle.std.proofs.Common.{◌≡◌, List, length, ◌∙◌, ap, arith}
 use Rattle.known_state.specs.Cost.{knowledge_of}
 use Rattle.known_state.specs.Requests.{Asked, requests_of}
-use Rattle.known_state.proofs.RequestLemmas.{few-asked}
+use Rattle.known_state.proofs.CostsAddUp.{few-asked}
 use Rattle.teach_writer.proofs.teaching.teach.Goals as goal
 
 pub plan-requires-clause-requests : goal.plan-requires-clause-requests

@@ -1,6 +1,6 @@
 use Rattle.std.proofs.Common.{List, ℕ, Some, ap, ◌∙◌}
 use Rattle.known_state.specs.Knowing.{known_so_far}
-use Rattle.known_state.proofs.KnowledgeLemmas.{followed}
+use Rattle.known_state.proofs.KnowledgeFollowsUpdates.{followed}
 use Rattle.known_state.proofs.knowledge.KnowledgeSoFar.follow.Goals as goal
 
 pub returns-clause-followed : goal.returns-clause-followed

@@ -2,7 +2,7 @@ use Rattle.std.proofs.Common.{◌≡◌, ap, subst, sym, ◌∙◌}
 use Rattle.peers_msg.specs.Received.{Received, resumed}
 use Rattle.known_state.specs.State.{State}
 use Rattle.known_state.specs.Known.{AreOwn}
-use Rattle.known_state.proofs.KnownLemmas.{AreOwn-resumed}
+use Rattle.known_state.proofs.ReceivedIsOwn.{AreOwn-resumed}
 use Rattle.known_state.proofs.known.Known.build.Goals as goal
 
 pub invariant_of-result : goal.invariant_of-result

@@ -5,8 +5,8 @@ use Rattle.table_types.specs.Tables.{Definition}
 use Rattle.known_state.specs.Cost.{cost_from, knowledge_of, selection_cost, written_cost}
 use Rattle.known_state.specs.Knowing.{known_so_far}
 use Rattle.known_state.specs.Requests.{asked, requests_of}
-use Rattle.known_state.proofs.FullLaws.{full_is_cost}
-use Rattle.known_state.proofs.RequestLemmas.{costed-more, few-asked}
+use Rattle.known_state.proofs.FullIsCost.{full_is_cost}
+use Rattle.known_state.proofs.CostsAddUp.{costed-more, few-asked}
 use Rattle.known_state.proofs.known.Known.costing.Goals as goal
 
 pub loop-update-preserved : goal.loop-update-preserved

@@ -1,7 +1,7 @@
 use Rattle.std.proofs.Common.{ap}
 use Rattle.table_types.specs.Tables.{Definition}
 use Rattle.known_state.specs.declared.effect.Effect.TheVariants as effects
-use Rattle.known_state.proofs.StepLemmas.{define_fits}
+use Rattle.known_state.proofs.FitsOrIsRefused.{define_fits}
 use Rattle.known_state.proofs.LegalEffects.{taken_define}
 use Rattle.known_state.proofs.known.Known.define.Goals as goal
 

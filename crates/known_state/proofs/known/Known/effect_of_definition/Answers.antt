@@ -1,5 +1,5 @@
 use Rattle.std.proofs.Common.{refl}
-use Rattle.known_state.proofs.StepLemmas.{define_fits}
+use Rattle.known_state.proofs.FitsOrIsRefused.{define_fits}
 use Rattle.known_state.proofs.LegalEffects.{taken_define}
 use Rattle.known_state.proofs.known.Known.effect_of_definition.Goals as goal
 

@@ -1,5 +1,5 @@
 use Rattle.std.proofs.Common.{refl, arith}
-use Rattle.known_state.proofs.StepLemmas.{switch_fits}
+use Rattle.known_state.proofs.FitsOrIsRefused.{switch_fits}
 use Rattle.known_state.proofs.LegalEffects.{taken_switch}
 use Rattle.known_state.proofs.known.Known.effect_of_switch.Goals as goal
 

@@ -3,7 +3,7 @@ use Rattle.peers_msg.specs.Received.{Received}
 use Rattle.peers_msg.specs.OwnTables.{own_part}
 use Rattle.known_state.specs.State.{State}
 use Rattle.known_state.specs.Known.{AreOwn}
-use Rattle.known_state.proofs.KnownPartLaws.{AreOwn-own}
+use Rattle.known_state.proofs.KnownIsOwn.{AreOwn-own}
 use Rattle.known_state.proofs.known.Known.of_learner.Goals as goal
 
 pub invariant_of-result : goal.invariant_of-result

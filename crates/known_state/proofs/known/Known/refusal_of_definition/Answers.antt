@@ -1,5 +1,5 @@
 use Rattle.std.proofs.Common.{refl, rules}
-use Rattle.known_state.proofs.KnownPartLaws.{own_is}
+use Rattle.known_state.proofs.KnownIsOwn.{own_is}
 use Rattle.known_state.proofs.LegalEffects.{not_own}
 use Rattle.known_state.proofs.known.Known.refusal_of_definition.Goals as goal
 

@@ -1,6 +1,6 @@
 use Rattle.std.proofs.Common.{sym, rules}
 use Rattle.known_state.proofs.Unrefused.{switch_taken}
-use Rattle.known_state.proofs.StepLemmas.{foreign_switch, undefined_switch}
+use Rattle.known_state.proofs.FitsOrIsRefused.{foreign_switch, undefined_switch}
 use Rattle.known_state.proofs.known.Known.refusal_of_switch.Goals as goal
 
 pub returns-in_default : goal.returns-in_default

@@ -1,6 +1,6 @@
 use Rattle.std.proofs.Common.{sym, subst}
 use Rattle.known_state.specs.LastNumbers.{AreRising}
-use Rattle.known_state.proofs.RisingLemmas.{rising-filter}
+use Rattle.known_state.proofs.LastNumbersRise.{rising-filter}
 use Rattle.known_state.proofs.last_numbers.LastNumbers.define.Goals as goal
 
 pub invariant_of-self : goal.invariant_of-self

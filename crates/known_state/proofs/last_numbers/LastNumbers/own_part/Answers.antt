@@ -1,7 +1,7 @@
 use Rattle.std.proofs.Common.{◌≡◌, ℕ, ◌++◌, ◌≤◌, drop, length, List, [], sym, ap, ◌∙◌, subst, arith}
 use Rattle.std.proofs.lemmas.List.{append-nil, drop_all}
 use Rattle.known_state.specs.LastNumbers.{own_last_numbers, AreRising}
-use Rattle.known_state.proofs.RisingLemmas.{rising-filter}
+use Rattle.known_state.proofs.LastNumbersRise.{rising-filter}
 use Rattle.known_state.proofs.last_numbers.LastNumbers.own_part.Goals as goal
 
 pub invariant_of-result : goal.invariant_of-result

@@ -1,4 +1,4 @@
-use Rattle.known_state.proofs.RisingLemmas.{rising-put_or_not}
+use Rattle.known_state.proofs.LastNumbersRise.{rising-put_or_not}
 use Rattle.known_state.proofs.last_numbers.LastNumbers.set.Goals as goal
 
 pub invariant_of-self : goal.invariant_of-self

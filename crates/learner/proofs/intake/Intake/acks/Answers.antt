@@ -5,7 +5,7 @@ use Rattle.table_types.specs.Tables.{Definition}
 use Rattle.peers_msg.specs.Received.{AreDistinct}
 use Rattle.learner.specs.Acks.{AreRisingAcks}
 use Rattle.learner.specs.Intake.{ack_of}
-use Rattle.learner.proofs.AckLaws.{acks_rise}
+use Rattle.learner.proofs.AcksRise.{acks_rise}
 use Rattle.learner.proofs.intake.Intake.acks.Goals as goal
 
 pub returns-clause-rising : goal.returns-clause-rising

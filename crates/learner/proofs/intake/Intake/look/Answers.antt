@@ -6,7 +6,7 @@ use Rattle.peers_msg.specs.Fitting.{fits}
 use Rattle.peers_msg.specs.BorrowedMessages.{owned_message}
 use Rattle.learner.specs.Intake.{Taking, IsRefused, Stops}
 use Rattle.learner.specs.Front.{stopped}
-use Rattle.learner.proofs.IntakeLemmas.{refused_stops}
+use Rattle.learner.proofs.TakingOneMessage.{refused_stops}
 use Rattle.learner.proofs.intake.Intake.look.Goals as goal
 
 pub returns-in-Err-shown : goal.returns-in-Err-shown

@@ -1,4 +1,4 @@
-use Rattle.learner.proofs.IntakeLemmas.{shown_taken}
+use Rattle.learner.proofs.TakingOneMessage.{shown_taken}
 use Rattle.learner.proofs.intake.Intake.next.Goals as goal
 
 pub returns-in_ok-pass-in-Ok-Some-clause-next : goal.returns-in_ok-pass-in-Ok-Some-clause-next

@@ -1,8 +1,8 @@
 use Rattle.std.proofs.Common.{◌≡◌, length, List, sym, ap, ◌∙◌, arith}
 use Rattle.table_types.specs.Tables.{Definition}
 use Rattle.learner.specs.Intake.{Taking}
-use Rattle.learner.proofs.RowLemmas.{no_rows, all_shelved, length_shelved}
-use Rattle.learner.proofs.LearningLemmas.{begins_so}
+use Rattle.learner.proofs.RowsStandByTable.{no_rows, all_shelved, length_shelved}
+use Rattle.learner.proofs.LearningGoesOn.{begins_so}
 use Rattle.learner.proofs.learner.Learner.new.Goals as goal
 
 pub invariant_of-result : goal.invariant_of-result

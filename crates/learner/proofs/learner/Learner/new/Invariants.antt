@@ -1,5 +1,5 @@
 use Rattle.std.proofs.Common.{◌≡◌, ◌++◌, drop}
-use Rattle.learner.proofs.RowLemmas.{no_rows}
+use Rattle.learner.proofs.RowsStandByTable.{no_rows}
 use Rattle.learner.proofs.learner.Learner.new.Given as goal
 
 abbrev pub invariant-loop : goal.invariant-loop

@@ -3,7 +3,7 @@ use Rattle.table_types.specs.declared.key.Key.{Key}
 use Rattle.table_types.specs.Rows.{StoredRow}
 use Rattle.learner.specs.declared.learner.NewRow.{NewRow}
 use Rattle.learner.specs.NewRows.{AreRowsOf}
-use Rattle.learner.proofs.RowLemmas.{put_none}
+use Rattle.learner.proofs.RowsStandByTable.{put_none}
 use Rattle.learner.proofs.learner.Learner.put.Goals as goal
 
 pub returns-in-Some-clause-put : goal.returns-in-Some-clause-put

@@ -5,7 +5,7 @@ use Rattle.table_types.specs.Rows.{StoredRow}
 use Rattle.learner.specs.Learning.{Learning}
 use Rattle.learner.specs.NewRows.{AreRowsOf}
 use Rattle.learner.specs.Rows.{put_all}
-use Rattle.learner.proofs.RowLemmas.{put_new}
+use Rattle.learner.proofs.RowsStandByTable.{put_new}
 use Rattle.learner.proofs.learner.Learner.put_at.Goals as goal
 
 pub returns-clause-put : goal.returns-clause-put

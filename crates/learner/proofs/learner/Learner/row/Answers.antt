@@ -3,7 +3,7 @@ use Rattle.std.specs.Option.{option_copied}
 use Rattle.table_types.specs.Tables.{Definition}
 use Rattle.learner.specs.Rows.{index_of, row_at, rows_at}
 use Rattle.learner.specs.Learning.{Learning}
-use Rattle.learner.proofs.RowLemmas.{table_rows_within, rows_placed, rows_unplaced}
+use Rattle.learner.proofs.RowsStandByTable.{table_rows_within, rows_placed, rows_unplaced}
 use Rattle.learner.proofs.learner.Learner.row.Goals as goal
 
 pub index-requires : goal.index-requires

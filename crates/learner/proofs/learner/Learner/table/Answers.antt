@@ -2,7 +2,7 @@ use Rattle.std.proofs.Common.{◌≡◌, Some, None, List, sym, ap, subst, ◌�
 use Rattle.table_types.specs.Tables.{Definition}
 use Rattle.learner.specs.Rows.{index_of, rows_at}
 use Rattle.learner.specs.Learning.{Learning}
-use Rattle.learner.proofs.RowLemmas.{table_rows_within, rows_placed, rows_unplaced}
+use Rattle.learner.proofs.RowsStandByTable.{table_rows_within, rows_placed, rows_unplaced}
 use Rattle.learner.proofs.learner.Learner.table.Goals as goal
 
 pub index-requires : goal.index-requires

@@ -1,6 +1,6 @@
 use Rattle.std.proofs.Common.{◌≡◌, rules, sym, subst}
 use Rattle.peers_msg.specs.Received.{AreDistinct, defined}
-use Rattle.peers_msg.proofs.ReceivedLaws.{distinct-defined}
+use Rattle.peers_msg.proofs.ReceivedTablesRise.{distinct-defined}
 use Rattle.peers_msg.proofs.received.Received.define.Goals as goal
 
 pub invariant_of-self-2 : goal.invariant_of-self-2

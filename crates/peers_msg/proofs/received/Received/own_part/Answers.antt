@@ -4,7 +4,7 @@ use Rattle.std.specs.Prelude.{filter}
 use Rattle.table_types.specs.Tables.{Definition}
 use Rattle.peers_msg.specs.Received.{AreDistinct}
 use Rattle.peers_msg.specs.OwnTables.{is_own}
-use Rattle.peers_msg.proofs.ReceivedLaws.{distinct-filter}
+use Rattle.peers_msg.proofs.ReceivedTablesRise.{distinct-filter}
 use Rattle.peers_msg.proofs.received.Received.own_part.Goals as goal
 
 pub invariant_of-result : goal.invariant_of-result

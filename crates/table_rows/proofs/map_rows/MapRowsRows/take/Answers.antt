@@ -1,6 +1,6 @@
 use Rattle.std.proofs.Common.{◌≡◌, false, cond, sym, ap, ◌∙◌}
 use Rattle.table_types.specs.declared.key.Key.{Key}
-use Rattle.table_types.proofs.KeyLaws.{exact_keys}
+use Rattle.table_types.proofs.EqualKeysAreOne.{exact_keys}
 use Rattle.table_rows.specs.declared.ending.Ending.{Ending}
 use Rattle.table_rows.specs.Endings.{are_same, ending_of, is_among, row_of}
 use Rattle.table_rows.proofs.EndingLaws.{taken_agree}

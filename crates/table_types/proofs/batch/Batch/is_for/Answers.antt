@@ -1,5 +1,5 @@
 use Rattle.std.proofs.Common.{rules}
-use Rattle.table_types.proofs.BatchLaws.{is_for}
+use Rattle.table_types.proofs.BatchIsFaultless.{is_for}
 use Rattle.table_types.proofs.batch.Batch.is_for.Goals as goal
 
 pub returns : goal.returns

@@ -1,7 +1,7 @@
 use Rattle.std.proofs.Common.{◌≡◌, ◌≤◌, None, length, rules, sym, ap, ◌∙◌, List}
 use Rattle.table_types.specs.declared.update.Update.{Update}
 use Rattle.table_types.specs.Batches.{faults_from}
-use Rattle.table_types.proofs.BatchLaws.{batch_of_parts}
+use Rattle.table_types.proofs.BatchIsFaultless.{batch_of_parts}
 use Rattle.table_types.proofs.batch.Batch.new.Goals as goal
 
 pub returns-clause-made : goal.returns-clause-made

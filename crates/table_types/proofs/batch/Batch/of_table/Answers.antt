@@ -2,7 +2,7 @@ use Rattle.std.proofs.Common.{◌≡◌, ◌≤◌, ◌∷◌, [], None, length,
 use Rattle.table_types.specs.declared.update.Update.{Update}
 use Rattle.table_types.specs.Tables.{Definition}
 use Rattle.table_types.specs.Batches.{faults_from}
-use Rattle.table_types.proofs.BatchLaws.{batch_of_parts}
+use Rattle.table_types.proofs.BatchIsFaultless.{batch_of_parts}
 use Rattle.table_types.proofs.batch.Batch.of_table.Goals as goal
 
 pub returns-clause-made : goal.returns-clause-made

@@ -1,5 +1,5 @@
 use Rattle.table_types.specs.Shapes.{is_same_definition}
-use Rattle.table_types.proofs.ShapeLaws.{definition_same, said_so, same_definition}
+use Rattle.table_types.proofs.OneTableByShape.{definition_same, said_so, same_definition}
 use Rattle.table_types.proofs.table_def.TableDef.is_same.Goals as goal
 
 pub returns-clause-equal : goal.returns-clause-equal

@@ -1,5 +1,5 @@
 use Rattle.table_types.specs.Shapes.{is_shape_of}
-use Rattle.table_types.proofs.ShapeLaws.{means_shape, said_so, shape_means}
+use Rattle.table_types.proofs.OneTableByShape.{means_shape, said_so, shape_means}
 use Rattle.table_types.proofs.table_def.TableDef.is_shape_of.Goals as goal
 
 pub returns-clause-equal : goal.returns-clause-equal

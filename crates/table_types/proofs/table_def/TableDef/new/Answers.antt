@@ -1,5 +1,5 @@
 use Rattle.std.proofs.Common.{arith, rules}
-use Rattle.table_types.proofs.TableLemmas.{made_is_definition}
+use Rattle.table_types.proofs.KeptTypesRise.{made_is_definition}
 use Rattle.table_types.proofs.table_def.TableDef.new.Goals as goal
 
 pub invariant_of-result : goal.invariant_of-result

@@ -1,0 +1,104 @@
+-- The messages that are whole are received up to an end.
+use Rattle.std.proofs.Common.{◌≡◌, ℕ, zero, suc, ◌<◌, Bool, true, false, List, [], ◌∷◌, ◌++◌, length, Some, Result, Ok, Err, refl, sym, subst, arith, inl, inr}
+use Rattle.peers_msg.specs.Integers.{IsBytes}
+use Rattle.peers_msg.specs.declared.control.Control.{Control}
+use Rattle.peers_msg.specs.declared.control.Control.TheVariants as controls
+use Rattle.learner.specs.declared.taken.Taken.{Taken}
+use Rattle.learner.specs.declared.taken.Taken.TheVariants as taken
+use Rattle.learner.specs.Intake.{Taking, Gives, rows_of}
+use Rattle.learner.proofs.SameHoweverCut.{left_good}
+use Rattle.session_core.specs.declared.action.Action.{Action}
+use Rattle.session_core.specs.declared.action.Action.TheVariants as actions
+use Rattle.session_core.specs.declared.halt.Halt.{Halt}
+use Rattle.session_core.specs.declared.halt.Halt.TheVariants as halts
+use Rattle.session_core.specs.declared.phase.Phase.TheVariants as phases
+use Rattle.session_core.specs.Courses.{Course, AreReceived, acknowledged, acks_given, acks_sent, message_received, is_failure, requested, said}
+use Rattle.session_core.specs.Sessions.{SessionState, ReceivesBytes, confirmed_by, ended, going, kind_of_fault}
+use Rattle.session_core.proofs.IntakeGoesOn.{Does, does}
+use Rattle.session_core.proofs.StepIsUnique.{Ends}
+
+-- ---- what receiving leaves of the intake
+
+requested_intake : (waits : Bool) (c : Course) → (requested waits c).1.intake ≡ c.intake
+requested_intake true c = refl
+requested_intake false c = refl
+
+said_intake : (c : Course) (control : Control) → (said c control).1.intake ≡ c.intake
+said_intake c controls.ResyncRequest = requested_intake _ c
+said_intake c controls.ResyncFinished = refl
+said_intake c controls.ResyncPartial = refl
+said_intake c controls.ResyncConfirmed = refl
+said_intake c controls.Heartbeat = refl
+
+acknowledged_intake : (out : Bool) (c : Course) (table number : ℕ) → (acknowledged out c table number).1.intake ≡ c.intake
+acknowledged_intake true c table number = refl
+acknowledged_intake false c table number = refl
+
+received_intake : (c : Course) (t : Taken) → (message_received c t).1.intake ≡ c.intake
+received_intake c (taken.Row u) = refl
+received_intake c taken.Passed = refl
+received_intake c (taken.Said control) = said_intake c control
+received_intake c (taken.Acked table number) = acknowledged_intake _ c table number
+received_intake c (taken.Failed kind) = refl
+
+-- what is left unread are bytes
+pub received_good : (c e : Course) (ts : List Taken) (acts : List Action) → IsBytes c.intake.unread → AreReceived c ts acts e → IsBytes e.intake.unread
+received_good c e [] acts good (none, here) = subst (λ (x : Course). IsBytes x.intake.unread) (sym here) good
+received_good c e (t ∷ ts) acts good (mid, rest, (whole, (m, takes, answers), then), all, later) =
+    let left : IsBytes mid.intake.unread = left_good c.intake mid.intake m (rows_of t) good takes in
+    received_good (message_received mid t).1 e ts rest (subst (λ (x : Taking). IsBytes x.unread) (sym (received_intake mid t)) left) later
+
+-- ---- up to an end
+
+abbrev AreAllReceived : Course → Type 0
+AreAllReceived c = (ts : List Taken) × (acts : List Action) × (m : Course) × (end : Result (Unit {0}) Halt) × AreReceived c ts acts m × Ends m end
+
+-- courses with fewer bytes are all received
+abbrev IsLater : ℕ → Type 0
+IsLater n = (d : Course) → length d.intake.unread < n → IsBytes d.intake.unread → AreAllReceived d
+
+received_first : (c : Course) (n : ℕ) (t : Taken) (e : Taking) → IsLater n → is_failure t ≡ false → Gives c.intake (Ok t) e → length e.unread < n → IsBytes e.unread → AreAllReceived c
+received_first c n t e later whole gives few good =
+    let mid : Course = record c { intake = e } in
+    let same = sym (received_intake mid t) in
+    let rest = later (message_received mid t).1 (subst (λ (x : Taking). length x.unread < n) same few) (subst (λ (x : Taking). IsBytes x.unread) same good) in
+    (t ∷ rest.0, (message_received mid t).0 ++ rest.1, rest.2, rest.3, (mid, rest.1, (whole, gives, refl), refl, rest.4), rest.5)
+
+received_by : (c : Course) (n : ℕ) (t : Taken) (e : Taking) → IsLater n → Gives c.intake (Ok t) e → length e.unread < n → IsBytes e.unread → AreAllReceived c
+received_by c n (taken.Row u) e later gives few good = received_first c n (taken.Row u) e later refl gives few good
+received_by c n taken.Passed e later gives few good = received_first c n taken.Passed e later refl gives few good
+received_by c n (taken.Said control) e later gives few good = received_first c n (taken.Said control) e later refl gives few good
+received_by c n (taken.Acked table number) e later gives few good = received_first c n (taken.Acked table number) e later refl gives few good
+received_by c n (taken.Failed kind) e later gives few good = ([], [], c, Err halts.Failed, (refl, refl), (kind, e, gives))
+
+received_from : (c : Course) (n : ℕ) → IsLater n → length c.intake.unread < suc n → Does c.intake → AreAllReceived c
+received_from c n later few (inl waits) = ([], [], c, Ok tt, (refl, refl), waits)
+received_from c n later few (inr (inl (t, e, gives, fewer, good))) = received_by c n t e later gives (omega (arith, few, fewer)) good
+received_from c n later few (inr (inr (fault, e, wanted, stops))) = ([], [], c, Err (halts.Fault fault), (refl, refl), (wanted, e, stops))
+
+received_out : (n : ℕ) (c : Course) → length c.intake.unread < n → IsBytes c.intake.unread → AreAllReceived c
+received_out zero c few good = absurd (omega (arith, few))
+received_out (suc n) c few good = received_from c n (received_out n) few (does c.intake good)
+
+-- ---- what follows
+
+concluded : (s : SessionState) (c m : Course) (first given : List Action) (ts : List Taken) (end : Result (Unit {0}) Halt) → AreReceived c ts given m → Ends m end → (acts : List Action) × (e : SessionState) × ReceivesBytes s c first acts e
+concluded s c m first given ts (Ok _) receives ends =
+    let acts : List Action = (first ++ given) ++ acks_given m in
+    (acts, confirmed_by acts (going s (acks_sent m)), (Ok tt, given, m, (ts, receives, ends), (refl, refl)))
+concluded s c m first given ts (Err halts.Failed) receives ends =
+    let acts : List Action = (first ++ given) ++ (actions.Close ∷ []) in
+    (acts, confirmed_by acts (ended s), (Err halts.Failed, given, m, (ts, m, receives, ends), (refl, refl)))
+concluded s c m first given ts (Err (halts.Fault fault)) receives ends =
+    let acts : List Action = (first ++ given) ++ (actions.Part (kind_of_fault fault) ∷ []) in (
+      acts,
+      confirmed_by acts (record { phase = phases.Ended; known = s.known; fault = Some fault; confirmed = s.confirmed }),
+      (Err (halts.Fault fault), given, m, (ts, m, receives, ends), (refl, refl)),
+    )
+concluded s c m first given ts (Err halts.Memory) receives ends = absurd ends
+
+-- bytes that come to a course are received
+pub received_some : (s : SessionState) (c : Course) (first : List Action) → IsBytes c.intake.unread → (acts : List Action) × (e : SessionState) × ReceivesBytes s c first acts e
+received_some s c first good =
+    let out = received_out (suc (length c.intake.unread)) c (omega arith) good in
+    concluded s c out.2 first out.1 out.0 out.3 out.4 out.5

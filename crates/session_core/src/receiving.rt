@@ -1,0 +1,181 @@
+//! What the remote peer's messages do to the course of a session.
+
+ghost use Rattle.std.specs.Prelude.{◌≡◌, ◌≢◌, ◌<◌, ◌∷◌, ◌++◌, [], List, Ok, Err, Some, None, IfOk, IfErr, IfSome, IsSome, OnOk, OnErr, length};
+ghost use Rattle.learner.specs.declared.taken.Taken.{Taken};
+ghost use Rattle.learner.specs.Intake.{IntakeNext};
+ghost use Rattle.peers_msg.specs.Spelling.{stream_of};
+ghost use Rattle.session_core.specs.declared.action.Action.{Action};
+ghost use Rattle.session_core.specs.declared.halt.Halt.TheVariants as halts;
+ghost use Rattle.session_core.specs.Shares.{any_out, is_out};
+ghost use Rattle.session_core.specs.Actions.{control_text, sends_control, sends_acks};
+ghost use Rattle.session_core.specs.Courses.{Course, course_fed, requested, acknowledged, said, message_received, is_failure, Receives, AreReceived, IsHalted, ReceivesAll, acks_sent, acks_given};
+
+use crate::action::{Action, push};
+use crate::course::Course;
+use crate::due::Due;
+use crate::halt::Halt;
+use crate::share::{any_out, is_out};
+use learner::Taken;
+use peers_msg::{Control, Message, append};
+use std::alloc::Global;
+use table_types::{Items, Memory};
+
+/// The bytes of a control message.
+pub(crate) fn control_text(alloc: Global, control: Control) -> Result<Items<u8>, Memory>
+    ensures { IfOk result (λ bytes. bytes ≡ control_text control) }
+{
+    let mut bytes = Vec::with_capacity(alloc, 2)?;
+    bytes.push(0)?;
+    bytes.push(control as u8)?;
+    Ok(Items::new(bytes))
+}
+
+/// Adds that a control message is to be sent.
+pub(crate) fn push_control(
+    alloc: Global,
+    actions: &mut Vec<Action>,
+    control: Control,
+) -> Result<(), Memory>
+    ensures { OnOk result (actions.new.items ≡ actions.old.items ++ (sends_control control ∷ [])) }
+{
+    push(actions, Action::Send(control_text(alloc, control)?))
+}
+
+/// The bytes of messages one after another.
+fn stream_of(alloc: Global, messages: &[Message]) -> Result<Items<u8>, Memory>
+    ensures { IfOk result (λ bytes. bytes ≡ stream_of messages.now) }
+{
+    let mut bytes = Vec::new(alloc);
+    for message in messages {
+        append(&mut bytes, message)?;
+    }
+    Ok(Items::new(bytes))
+}
+
+/// Adds that these acknowledgements are to be sent, if there are any.
+fn push_acks(alloc: Global, actions: &mut Vec<Action>, acks: &[Message]) -> Result<(), Memory>
+    ensures { OnOk result (actions.new.items ≡ actions.old.items ++ sends_acks acks.now) }
+{
+    if acks.is_empty() {
+        return Ok(());
+    }
+    push(actions, Action::Send(stream_of(alloc, acks)?))
+}
+
+impl Course {
+    /// Receives a request for a resync.
+    fn request(&mut self, actions: &mut Vec<Action>) -> Result<(), Memory>
+        ensures actions { OnOk result (actions.new.items ≡ actions.old.items ++ (requested (any_out self.old.shares) self.old).0) }
+        ensures course { OnOk result (self.new ≡ (requested (any_out self.old.shares) self.old).1) }
+    {
+        if any_out(self.shares.as_slice()) {
+            self.waits = true;
+            Ok(())
+        } else {
+            self.begin_teaching(actions)
+        }
+    }
+
+    /// Receives an acknowledgement.
+    fn acknowledge(
+        &mut self,
+        table: u64,
+        number: u32,
+        actions: &mut Vec<Action>,
+    ) -> Result<(), Memory>
+        ensures actions { OnOk result (actions.new.items ≡ actions.old.items ++ (acknowledged (is_out table self.old.shares) self.old table number).0) }
+        ensures course { OnOk result (self.new ≡ (acknowledged (is_out table self.old.shares) self.old table number).1) }
+    {
+        if is_out(self.shares.as_slice(), table) {
+            push(actions, Action::Ack { table, number })?;
+            self.due.push(Due::Ack(table))?;
+        }
+        Ok(())
+    }
+
+    /// Receives a control message.
+    fn receive_control(
+        &mut self,
+        alloc: Global,
+        control: Control,
+        actions: &mut Vec<Action>,
+    ) -> Result<(), Memory>
+        ensures actions { OnOk result (actions.new.items ≡ actions.old.items ++ (said self.old control).0) }
+        ensures course { OnOk result (self.new ≡ (said self.old control).1) }
+    {
+        match control {
+            Control::ResyncRequest => self.request(actions),
+            Control::ResyncFinished | Control::ResyncPartial => {
+                push_control(alloc, actions, Control::ResyncConfirmed)
+            }
+            Control::ResyncConfirmed | Control::Heartbeat => Ok(()),
+        }
+    }
+
+    /// Receives a message.
+    fn receive(
+        &mut self,
+        alloc: Global,
+        taken: Taken,
+        actions: &mut Vec<Action>,
+    ) -> Result<(), Memory>
+        ensures actions { OnOk result (actions.new.items ≡ actions.old.items ++ (message_received self.old taken).0) }
+        ensures course { OnOk result (self.new ≡ (message_received self.old taken).1) }
+    {
+        match taken {
+            Taken::Row(update) => push(actions, Action::Learn(update)),
+            Taken::Said(control) => self.receive_control(alloc, control, actions),
+            Taken::Acked { table, number } => self.acknowledge(table, number, actions),
+            Taken::Passed | Taken::Failed(_) => Ok(()),
+        }
+    }
+
+    /// Takes the message at the front; `None` while it isn't whole.
+    fn next(&mut self) -> Result<Option<Taken>, Halt>
+        ensures receives { IfOk result (λ found. IfSome found (λ taken. Receives self.old taken self.new)) }
+        ensures waits { result ≡ Ok None → (self.new ≡ self.old) × IntakeNext self.old.intake (Ok None) self.old.intake }
+        ensures halted { IfErr result (λ halt. IsHalted self.old halt) }
+        ensures fewer { IfOk result (λ found. IsSome found → length self.new.intake.unread < length self.old.intake.unread) }
+    {
+        match self.intake.next()? {
+            Some(Taken::Failed(_)) => Err(Halt::Failed),
+            found => Ok(found),
+        }
+    }
+
+    /// Receives the messages that are whole, and adds what they ask for, up to the first that halts.
+    fn receive_all(&mut self, alloc: Global, actions: &mut Vec<Action>) -> Result<(), Halt>
+        ensures { result ≢ Err halts.Memory → (given : List Action) × ReceivesAll self.old result given self.new × (actions.new.items ≡ actions.old.items ++ given) }
+    {
+        while let Some(taken) = self.next()? {
+            self.receive(alloc, taken, actions)?;
+        }
+        Ok(())
+    }
+
+    /// Takes bytes and receives the messages that are whole then, and adds what they ask for, up to the first that halts.
+    pub(crate) fn receive_bytes(
+        &mut self,
+        alloc: Global,
+        bytes: &[u8],
+        actions: &mut Vec<Action>,
+    ) -> Result<(), Halt>
+        ensures { result ≢ Err halts.Memory → (given : List Action) × ReceivesAll (course_fed self.old bytes.now) result given self.new × (actions.new.items ≡ actions.old.items ++ given) }
+    {
+        self.intake.feed(bytes)?;
+        self.receive_all(alloc, actions)
+    }
+
+    /// Adds that the acknowledgements that are due are to be sent.
+    pub(crate) fn send_acks(
+        &mut self,
+        alloc: Global,
+        actions: &mut Vec<Action>,
+    ) -> Result<(), Memory>
+        ensures actions { OnOk result (actions.new.items ≡ actions.old.items ++ acks_given self.old) }
+        ensures course { OnOk result (self.new ≡ acks_sent self.old) }
+    {
+        let acks = self.intake.acks()?;
+        push_acks(alloc, actions, acks.as_slice())
+    }
+}
