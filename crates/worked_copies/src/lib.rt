@@ -1,7 +1,5 @@
-//! Worked examples of what a table hands out, and of its sessions.
+//! Worked examples of what a table hands out that no script can say.
 #![tactic(auto)]
 
 #[cfg(test)]
-mod copies;
-#[cfg(test)]
-mod sessions;
+mod pairs;
