@@ -90,6 +90,8 @@ impl From<AllocError> for Refusal {
 }
 
 /// What words choose, as the parser of command lines reads them.
+// It isn't inlined, so that the parser's part of the stack is given back before a subcommand runs.
+#[inline(never)]
 pub fn read_words<'a>(alloc: Global, words: &'a [&'a str]) -> Result<Options, Refusal>
     ensures ok { IfOk result (λ chosen. Meets (subcommand_of program (texts words.now)) chosen × (faults_of (texts words.now) ≡ [])) }
     ensures refused { IfErr result (λ refusal. cause_of refusal ≡ OptionsError.Words → (chosen : Options) → ChoosesPlainly (texts words.now) chosen → ⊥) }
