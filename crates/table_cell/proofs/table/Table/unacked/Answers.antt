@@ -1,4 +1,4 @@
-use Rattle.std.proofs.Common.{◌≡◌, ◌∷◌, ◌++◌, [], ◌<◌, true, List, length, refl, sym, ap, subst, ◌∙◌, arith}
+use Rattle.std.proofs.Common.{◌≡◌, ◌∷◌, ◌<◌, true, List, length, sym, ap, subst, ◌∙◌, arith}
 use Rattle.std.specs.Prelude.{filter, map, take}
 use Rattle.std.specs.List.{AllByRecursion}
 use Rattle.table_types.specs.declared.key.Key.{Key}
@@ -22,18 +22,18 @@ loop-key-init c =
           (all_filter (EntryFits c.args.self.now.definition c.args.now) (is_above c.copy_start.result) c.args.self.now.rows (later_sound c.args.self.now c.args.now c.requires.sound c.requires.later)),
     )
 
-pub loop-key-preserved-in-Continue-branch-2 : goal.loop-key-preserved-in-Continue-branch-2
-loop-key-preserved-in-Continue-branch-2 c =
+pub loop-key-preserved-in_ok-push : goal.loop-key-preserved-in_ok-push
+loop-key-preserved-in_ok-push c =
     let due : is_due c.args.kind c.args.now (c.in-Some.key.now, c.in-Some.row.now) ≡ true = sym c.tells_of.ensures ∙ c.if-tells_of.true in
-    let pushed : c.push_update.new.updates.items ≡ c.loop-key.updates.items ++ update_of c.args.self.now.definition c.args.now (c.in-Some.key.now, c.in-Some.row.now) ∷ [] =
-    subst (λ (s : TableState). c.push_update.new.updates.items ≡ c.loop-key.updates.items ++ update_of s.definition c.args.now (c.in-Some.key.now, c.in-Some.row.now) ∷ []) c.self.view_is c.in_ok-push_update.ensures in
+    let told : c.in_ok-update_of.field-0 ≡ update_of c.args.self.now.definition c.args.now (c.in-Some.key.now, c.in-Some.row.now) =
+    subst (λ (s : TableState). c.in_ok-update_of.field-0 ≡ update_of s.definition c.args.now (c.in-Some.key.now, c.in-Some.row.now)) c.self.view_is c.in_ok-update_of.ensures in
     let below : length c.loop-key.updates.items < c.args.limit = omega (arith, c.if-len-limit.false, c.len.ensures, c.loop-key.updates.ok.0) in
     let left : AllByRecursion (EntryFits c.args.self.now.definition c.args.now) ((c.in-Some.key.now, c.in-Some.row.now) ∷ c.next.new.self) =
     subst (λ (l : List (Key × StoredRow)). AllByRecursion (EntryFits c.args.self.now.definition c.args.now) l) c.in-Some.ensures.steps c.loop-key.invariant.1 in (
-      one_done (update_of c.args.self.now.definition c.args.now) c.loop-key.updates.items c.push_update.new.updates.items
+      one_done (update_of c.args.self.now.definition c.args.now) c.loop-key.updates.items c.push.new.self.items
           (take c.args.limit (map (update_of c.args.self.now.definition c.args.now) (filter (is_unacked c.args.kind c.args.number c.args.now) c.args.self.now.rows)))
-          c.args.limit (c.in-Some.key.now, c.in-Some.row.now) (update_of c.args.self.now.definition c.args.now (c.in-Some.key.now, c.in-Some.row.now))
+          c.args.limit (c.in-Some.key.now, c.in-Some.row.now) c.in_ok-update_of.field-0
           (filter (is_due c.args.kind c.args.now) c.loop-key.key-iterator) (filter (is_due c.args.kind c.args.now) c.next.new.self)
-          pushed refl (next_due c.args.kind c.args.now (c.in-Some.key.now, c.in-Some.row.now) c.loop-key.key-iterator c.next.new.self c.in-Some.ensures.steps due) below c.loop-key.invariant.0,
+          c.in_ok-push.ensures.items told (next_due c.args.kind c.args.now (c.in-Some.key.now, c.in-Some.row.now) c.loop-key.key-iterator c.next.new.self c.in-Some.ensures.steps due) below c.loop-key.invariant.0,
       left.1,
     )
