@@ -22,7 +22,7 @@ fn batch_of(definition: &TableDef, updates: Vec<Update>) -> Batch
     requires { IsBatchFor (definition.now ∷ []) updates.items }
     ensures { result ≡ updates.items }
 {
-    Batch::of_fitting(updates)
+    Batch::of_table(definition, updates).unwrap()
 }
 
 impl Table {

@@ -158,7 +158,7 @@ impl Table {
         requires later { self.now.latest ≤ now }
         ensures { IfOk result (λ updates. updates.items ≡ take limit (map (update_of self.now.definition now) (filter (is_unacked kind number now) self.now.rows))) }
     {
-        let mut updates = Vec::with_capacity(self.alloc, limit.min(self.stock.len()))?;
+        let mut updates = Vec::new(self.alloc);
         for (key, row) in self.stock.above(self.copy_start(kind, number)) {
             if updates.len() >= limit {
                 break;
