@@ -1,9 +1,8 @@
 //! Updates that are taught together.
 
-ghost use Rattle.std.specs.Prelude.{◌≡◌, ◌↔◌, ◌+◌, ◌≤◌, ◌∷◌, [], List, None, IfOk, IfErr, IsTrue, Some, length, option_copied};
+ghost use Rattle.std.specs.Prelude.{◌≡◌, ◌↔◌, ◌+◌, ◌≤◌, ◌∷◌, [], None, IfOk, IfErr, IsTrue, Some, length, option_copied};
 ghost use Rattle.table_types.specs.Batches.{fault_in, batch_fault, faults_from, IsBatchFor};
 ghost use Rattle.table_types.specs.Rosters.{table_at};
-ghost use Rattle.table_types.specs.Tables.{Definition};
 
 use crate::items::Items;
 use crate::memory::Memory;
@@ -129,16 +128,6 @@ impl Batch {
         Ok(Batch {
             updates: Items::new(updates),
         })
-    }
-
-    /// The batch of these updates, in this order, which are known to be one for some roster: nothing is tested.
-    pub fn of_fitting(updates: Vec<Update>) -> Batch
-        requires { (roster : List Definition) × IsBatchFor roster updates.items }
-        ensures { result ≡ updates.items }
-    {
-        Batch {
-            updates: Items::new(updates),
-        }
     }
 
     /// Whether the batch is one for that roster, for whatever roster or table it was made.
