@@ -3,3 +3,5 @@
 
 #[cfg(test)]
 mod growth;
+#[cfg(test)]
+mod wide;
