@@ -1,4 +1,9 @@
+mod AloneWords
 mod Choices
+mod GivenLaws
+mod MeetingWords
+mod NamesApart
+mod Numbers
+mod PlainWords
 mod RoundWords
 mod TurnedWords
-mod Numbers

@@ -1,12 +1,12 @@
 -- What the parser reads as a number is the number that a text writes.
-use Rattle.std.proofs.Common.{◌≡◌, ◌<◌, ◌≤◌, ◌^◌, ℕ, List, arith, refl, sym, ap, subst, ◌∙◌}
+use Rattle.std.proofs.Common.{◌≡◌, ◌<◌, ◌≤◌, ◌^◌, ℕ, List, arith, refl, sym, ap, ◌∙◌}
 use Rattle.std.specs.Prelude.{Option, None, Some, Result, Ok, Err}
-use Rattle.std.specs.Str.Parse.{ParsesUnsigned, digits_value, without_leading_plus}
+use Rattle.std.specs.Str.Parse.{ParsesUnsigned}
 use Rattle.clap.specs.Matches.{ReadsOne, one_text}
-use Rattle.clap.specs.Words.{Row, one_of, rows_of}
+use Rattle.clap.specs.Words.{Row, rows_of}
 use Rattle.clap.specs.declared.parser.matches.Found.{Found}
 use Rattle.clap.proofs.WalkLemmas.{one_text-rows}
-use Rattle.peers_node.specs.CommandLine.{HasNumber, IsNumber}
+use Rattle.peers_node.specs.CommandLine.{HasNumber}
 
 none_some : (n : ℕ) → None ≡ Some n → ⊥
 none_some n is = absurd (cc)

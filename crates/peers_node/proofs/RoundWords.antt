@@ -1,15 +1,14 @@
 -- The parser takes the words of `round` with its options in the order of the help, and meets them.
-use Rattle.std.proofs.Common.{◌≡◌, ◌==◌, ◌&&◌, ◌<◌, ◌≤◌, ◌^◌, ℕ, Bool, List, [], ◌∷◌, ◌∙◌, ap, ap₂, arith, codes, refl, sym, subst, pos, true, false, inl, inr}
-use Rattle.std.specs.Prelude.{Some, None, Option}
+use Rattle.std.proofs.Common.{◌≡◌, ◌==◌, ◌&&◌, ◌<◌, ◌≤◌, ◌^◌, ℕ, Bool, List, [], ◌∷◌, ◌∙◌, ap, arith, codes, refl, sym, subst, pos, true, false, inl, inr}
+use Rattle.std.specs.Prelude.{Some, None}
 use Rattle.std.specs.Str.{bytes_eq}
 use Rattle.std.specs.List.{list_all}
 use Rattle.clap.specs.Lexer.{long_of, short_of}
-use Rattle.clap.specs.Words.{Rule, Row, Text, one_of, is_simple, new_app, rows_of, subcommand_of, takes, with_rule}
-use Rattle.clap.specs.Simple.{App, Shape, built, built_leaf, entered, inherited, is_ready, names_of}
-use Rattle.clap.specs.Takes.{default_passes, is_valid, entered_passes, level_passes, built_takes, settle_passes, turn_passes, walk_passes}
-use Rattle.clap.specs.Walk.{Held, Names, Walk, Waiting, arg_by_id, finished, idle, nothing_held, option, option_word, stop_after, walk, walk_from, walked}
+use Rattle.clap.specs.Words.{Rule, Row, Text, one_of, subcommand_of, takes}
+use Rattle.clap.specs.Simple.{Shape, built, built_leaf, inherited, names_of}
+use Rattle.clap.specs.Takes.{default_passes, is_valid, level_passes, settle_passes, turn_passes, walk_passes}
+use Rattle.clap.specs.Walk.{Held, Names, Walk, Waiting, arg_by_id, finished, idle, nothing_held, option, option_word, walk, walk_from, walked}
 use Rattle.clap.specs.Lexer.{without_minus}
-use Rattle.clap.specs.Values.{Accepts}
 use Rattle.clap.specs.ValueTests.{accepts}
 use Rattle.std.specs.Prelude.{FitsSigned, ◌≤ℤ◌}
 use Rattle.std.specs.Int.{w64}
@@ -21,7 +20,8 @@ use Rattle.clap.specs.declared.parser.matches.ValueSource.TheVariants.{CommandLi
 use Rattle.clap.specs.declared.builder.value_parser.Reading.TheVariants as reading
 use Rattle.clap.specs.declared.builder.value_parser.ValueParser.TheVariants as vp
 use Rattle.clap.proofs.OnLiterals.{clap_on_literals}
-use Rattle.peers_node.specs.CommandLine.{HasNumber, HasOptions, IsNumber, Meets, program, rounds, top}
+use Rattle.peers_node.specs.CommandLine.{Meets, program, rounds, top}
+use Rattle.peers_node.specs.GivenWords.{IsNumber}
 use Rattle.peers_node.specs.declared.choice.Options.TheVariants as choices
 use Rattle.std.specs.Str.Parse.{digits_value, without_leading_plus}
 

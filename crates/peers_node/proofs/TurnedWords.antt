@@ -7,7 +7,8 @@ use Rattle.clap.specs.Takes.{default_passes, is_valid, level_passes, settle_pass
 use Rattle.clap.specs.Walk.{Walk, finished, idle, nothing_held, walk, walk_from, walked}
 use Rattle.clap.specs.Lexer.{without_minus}
 use Rattle.clap.proofs.OnLiterals.{clap_on_literals}
-use Rattle.peers_node.specs.CommandLine.{IsNumber, Meets, program}
+use Rattle.peers_node.specs.CommandLine.{Meets, program}
+use Rattle.peers_node.specs.GivenWords.{IsNumber}
 use Rattle.peers_node.specs.declared.choice.Options.TheVariants as choices
 use Rattle.peers_node.proofs.RoundWords.{as_written, both, goes_on, held_with, leaf, no_hyphen, nothing_is_no_number, number_passes, number_row, passes_step, stopped_at, taken, threads, threads_in, tracks, tracks_in, value_met, value_passes_by, waits_at}
 

@@ -1,2 +1,3 @@
+pub mod Choices
 pub mod CommandLine
-pub mod Links
+pub mod GivenWords

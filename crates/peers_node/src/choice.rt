@@ -1,7 +1,9 @@
 //! What a command line asks for.
 
+use link_commands::Link;
+
 /// The subcommand that was chosen, with its options.
-#[derive(Clone, Copy, Debug, PartialEq, Eq)]
+#[derive(Debug, Drop)]
 pub enum Options {
     /// Read a scene and write its lesson.
     Lesson,
@@ -18,4 +20,8 @@ pub enum Options {
         /// How often each of them tracks, 1 to 1,000.
         tracks: u32,
     },
+    /// Read a scene, wait for another node to connect, and teach it the rows.
+    Serve(Link),
+    /// Read a scene, connect to a node that serves, and take its rows.
+    Join(Link),
 }

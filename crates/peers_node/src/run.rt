@@ -1,8 +1,8 @@
 //! From the words of the command line to the exit status.
 
 use crate::choice::Options;
-use crate::command_line::{Refusal, choice_of, read_words};
-use crate::links::{Side, read_link, side_of};
+use crate::command_line::{Refusal, read_words};
+use crate::given_words::choice_of;
 use crate::options_error::OptionsError;
 use link_commands::{join, serve};
 use peers_devices::{Counting, Faults, write_all};
@@ -32,10 +32,7 @@ pub fn status<R: Threads + Wait + Sync + Net<Listener = TcpListener, Stream = Tc
     let mut errors = Counting::new(rt.stderr());
     match arguments(rt) {
         Ok(arguments) => match texts(alloc, arguments.as_slice()) {
-            Ok(words) => match side_of(words.as_slice()) {
-                Some(side) => met(rt, runner, side, words.as_slice(), &mut errors),
-                None => dispatched(rt, runner, words.as_slice(), &mut errors),
-            },
+            Ok(words) => dispatched(rt, runner, words.as_slice(), &mut errors),
             Err(_) => Ending::Memory.said(alloc, &mut errors).status(),
         },
         Err(OptionsError::Words) => said("error: an argument isn't text\n", &mut errors),
@@ -81,54 +78,23 @@ fn dispatched<
             let size = RoundSize { threads, tracks };
             round(runner, alloc, size, &mut output, errors).status()
         }
+        Ok(Options::Serve(link)) => serve(
+            runner,
+            alloc,
+            link,
+            &mut input,
+            &mut output,
+            errors,
+        ).status(),
+        Ok(Options::Join(link)) => join(
+            runner,
+            alloc,
+            link,
+            &mut input,
+            &mut output,
+            errors,
+        ).status(),
         Err(refusal) => refused(alloc, words, &refusal, errors),
-    }
-}
-
-/// Meets another node, as these words say.
-fn met<'a, R: Wait + Net<Listener = TcpListener, Stream = TcpStream>, E: Write + Faults>(
-    rt: &HostRuntime,
-    runner: &R,
-    side: Side,
-    words: &'a [&'a str],
-    errors: &mut E,
-) -> u8 {
-    let alloc = rt.alloc();
-    let mut input = Counting::new(rt.stdin());
-    let mut output = Counting::new(rt.stdout());
-    match (side, read_link(alloc, words)) {
-        (Side::Serve, Ok(link)) => serve(
-            runner,
-            alloc,
-            link,
-            &mut input,
-            &mut output,
-            errors,
-        ).status(),
-        (Side::Join, Ok(link)) => join(
-            runner,
-            alloc,
-            link,
-            &mut input,
-            &mut output,
-            errors,
-        ).status(),
-        (_, Err(refusal)) => no_link(alloc, &refusal, errors),
-    }
-}
-
-/// Says why there is no link.
-fn no_link<E: Write + Faults>(alloc: Global, refusal: &Refusal, errors: &mut E) -> u8 {
-    match (refusal.cause(), refusal) {
-        (OptionsError::Memory, _) => Ending::Memory.said(alloc, errors).status(),
-        (OptionsError::Words, Refusal::NoCommand) => said(
-            "error: a name is 1 to 255 bytes without NUL\n",
-            errors,
-        ),
-        (OptionsError::Words, Refusal::Parser(_)) => match refusal.text(alloc) {
-            Ok(text) => said(text.as_str(), errors),
-            Err(_) => said(NO_COMMAND_LINE, errors),
-        },
     }
 }
 

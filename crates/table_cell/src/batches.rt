@@ -7,7 +7,6 @@ ghost use Rattle.table_cell.specs.declared.events.CellReply.TheVariants as repli
 ghost use Rattle.table_cell.specs.Histories.{Copies, IsLatestBatch, batch_in, first_of, latest_batch};
 ghost use Rattle.table_cell.specs.Machine.{Step, copy_refusal, unacked};
 ghost use Rattle.table_cell.specs.Soundness.{IsSound};
-ghost use Rattle.table_types.specs.Batches.{IsBatchFor};
 
 use crate::cell::TableCell;
 use crate::copying::last_number;
@@ -15,15 +14,7 @@ use crate::errors::{CopyError, StrangeBatch};
 use crate::events::{CellEvent, CellReply};
 use crate::table::Table;
 use std::collections::BTreeMap;
-use table_types::{Batch, CopyKind, Memory, Moment, TableDef, Update};
-
-/// The batch of these updates, which are one for that table.
-fn batch_of(definition: &TableDef, updates: Vec<Update>) -> Batch
-    requires { IsBatchFor (definition.now ∷ []) updates.items }
-    ensures { result ≡ updates.items }
-{
-    Batch::of_table(definition, updates).unwrap()
-}
+use table_types::{Batch, CopyKind, Memory, Moment};
 
 impl Table {
     /// The batch that a copy gives.
@@ -40,7 +31,7 @@ impl Table {
         ensures { IfOk result (λ batch. batch ≡ unacked self.now session kind now limit) }
     {
         let updates = self.unacked(self.acknowledged(session), kind, limit, now)?;
-        Ok(batch_of(&self.definition, updates))
+        Ok(Batch::of_fitting(updates))
     }
 }
 
@@ -174,7 +165,7 @@ impl TableCell {
     {
         let full = self.is_history_full();
         if let Some(error) = self.table.copy_refusal(full, session, kind, limit, now) {
-            self.table.pass_learned(session, kind);
+            self.table.pass_learned(session, kind, error);
             return Err(error);
         }
         let Ok(batch) = copy(
@@ -205,7 +196,7 @@ impl TableCell {
     {
         let full = self.is_history_full();
         if let Some(error) = self.table.copy_refusal(full, session, kind, limit, now) {
-            self.table.pass_learned(session, kind);
+            self.table.pass_learned(session, kind, error);
             return Err(error);
         }
         let Ok(pair) = copy_pair(

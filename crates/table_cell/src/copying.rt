@@ -1,6 +1,6 @@
 //! Rows copied for a session.
 
-ghost use Rattle.std.specs.Prelude.{◌≡◌, ◌≤◌, ◌&&◌, IfOk, filter, map, option_map, slice_get, take, true};
+ghost use Rattle.std.specs.Prelude.{◌≡◌, ◌≤◌, ◌&&◌, ◌∷◌, ◌++◌, [], IfOk, OnOk, filter, map, option_map, slice_get, take, true};
 ghost use Rattle.std.specs.List.{list_all};
 ghost use Rattle.table_types.specs.declared.data_type.Shape.{Shape};
 ghost use Rattle.table_types.specs.Changes.{cell_types};
@@ -15,8 +15,8 @@ ghost use Rattle.table_cell.specs.Telling.{life_left, update_of, value_of, value
 use crate::table::{Table, is_live};
 use std::alloc::Global;
 use table_types::{
-    Cell, CopyKind, DataType, Items, Key, Memory, Moment, Row, Shape, TableDef, Update, Value,
-    rotate,
+    Cell, CopyKind, DataType, Items, Key, Memory, Moment, Name, Row, Shape, TableDef, Update,
+    Value, rotate,
 };
 
 /// Whether a copy of that kind tells of a row.
@@ -101,6 +101,16 @@ fn life_left(row: &Row, expire: u32, now: Moment) -> u32
     }
 }
 
+/// An equal name, or none where the row has none.
+fn name_of(alloc: Global, row: &Row) -> Result<Option<Name>, Memory>
+    ensures { IfOk result (λ name. name ≡ row.now.name) }
+{
+    match row.name() {
+        Some(name) => Ok(Some(name.copy(alloc)?)),
+        None => Ok(None),
+    }
+}
+
 /// What tells of a row.
 fn update_of(
     alloc: Global,
@@ -114,10 +124,7 @@ fn update_of(
     ensures { IfOk result (λ update. update ≡ update_of definition.now now (key.now, row.now)) }
 {
     let values = values_of(alloc, definition.types(), row.cells(), now)?;
-    let name = match row.name() {
-        Some(name) => Some(name.copy(alloc)?),
-        None => None,
-    };
+    let name = name_of(alloc, row)?;
     Ok(Update {
         table: definition.id(),
         number: row.number(),
@@ -126,6 +133,37 @@ fn update_of(
         values: Items::new(values),
         name,
     })
+}
+
+/// Puts what tells of a row after these updates.
+// An integer key is made in an arm of its own: moved on from where both kinds of keys meet, it takes several times as long.
+fn push_update(
+    alloc: Global,
+    updates: &mut Vec<Update>,
+    definition: &TableDef,
+    key: &Key,
+    row: &Row,
+    now: Moment,
+) -> Result<(), Memory>
+    requires defined { is_definition definition.now ≡ true }
+    requires fits { EntryFits definition.now now (key.now, row.now) }
+    ensures { OnOk result (updates.new.items ≡ updates.old.items ++ update_of definition.now now (key.now, row.now) ∷ []) }
+{
+    let Key::Int(number) = key else {
+        updates.push(update_of(alloc, definition, key, row, now)?)?;
+        return Ok(());
+    };
+    let values = values_of(alloc, definition.types(), row.cells(), now)?;
+    let name = name_of(alloc, row)?;
+    updates.push(Update {
+        table: definition.id(),
+        number: row.number(),
+        life: Some(life_left(row, definition.expire(), now)),
+        key: Key::Int(*number),
+        values: Items::new(values),
+        name,
+    })?;
+    Ok(())
 }
 
 impl Table {
@@ -158,13 +196,13 @@ impl Table {
         requires later { self.now.latest ≤ now }
         ensures { IfOk result (λ updates. updates.items ≡ take limit (map (update_of self.now.definition now) (filter (is_unacked kind number now) self.now.rows))) }
     {
-        let mut updates = Vec::new(self.alloc);
+        let mut updates = Vec::with_capacity(self.alloc, limit.min(self.stock.len()))?;
         for (key, row) in self.stock.above(self.copy_start(kind, number)) {
             if updates.len() >= limit {
                 break;
             }
             if tells_of(kind, row, now) {
-                updates.push(update_of(self.alloc, &self.definition, key, row, now)?)?;
+                push_update(self.alloc, &mut updates, &self.definition, key, row, now)?;
             }
         }
         Ok(updates)

@@ -4,6 +4,7 @@ ghost use Rattle.std.specs.Prelude.{◌≡◌, ℕ, filter};
 ghost use Rattle.table_cell.specs.Cells.{IsLearnedRun};
 ghost use Rattle.table_cell.specs.Machine.{is_unacked};
 
+use crate::errors::CopyError;
 use crate::stock::Stock;
 use crate::table::Table;
 use table_rows::Rows;
@@ -33,7 +34,8 @@ impl<R: Rows> Stock<R> {
 }
 
 impl Table {
-    /// A run of learned rows that begins at that number or below it, found from the one that is known.
+    /// The run of learned rows that is kept where a push from that number finds nothing: the one that is known, as far as it
+    /// goes now, if the number lies in it; and else that which begins at the number, unless the known one ends higher.
     #[tactic(auto, using(crate::proofs::LearnedLaws::run_joined))]
     fn learned_from(&self, number: u32) -> LearnedRun
         ensures { IsLearnedRun result.after result.last self.now.next self.now.rows }
@@ -48,20 +50,26 @@ impl Table {
                 };
             }
         }
+        let found = self.stock.last_learned(number);
+        if found < last {
+            return self.learned_run;
+        }
         LearnedRun {
             after: number,
-            last: self.stock.last_learned(number),
+            last: found,
         }
     }
 
-    /// Goes over the learned rows above what a session has acknowledged, so that no push of it goes over them again. The
-    /// table stays as it is. Takes no memory.
-    pub(crate) fn pass_learned(&mut self, session: u32, kind: CopyKind)
+    /// Where a push is refused since it finds nothing, goes over the learned rows above what the session has acknowledged,
+    /// so that pushes that begin among them don't go over them again. The table stays as it is. Takes no memory.
+    pub(crate) fn pass_learned(&mut self, session: u32, kind: CopyKind, error: CopyError)
         ensures { self.new ≡ self.old }
     {
-        match kind {
-            CopyKind::Push => self.learned_run = self.learned_from(self.acknowledged(session)),
-            CopyKind::Resync => {}
+        match (kind, error) {
+            (CopyKind::Push, CopyError::Nothing) => {
+                self.learned_run = self.learned_from(self.acknowledged(session));
+            }
+            _ => {}
         }
     }
 

@@ -1,6 +1,6 @@
 //! The rows of a table with their numbers.
 
-ghost use Rattle.std.specs.Prelude.{◌≡◌, ◌≤◌, ◌<◌, ◌+◌, ◌^◌, [], ◌∷◌, ◌++◌, nat_lt, not, filter, length, IfNone, IfOk, IfSome, OnErr, OnOk, option_copied, option_map, slice_get};
+ghost use Rattle.std.specs.Prelude.{◌≡◌, ◌≤◌, ◌<◌, ◌+◌, ◌^◌, [], ◌∷◌, ◌++◌, nat_lt, not, filter, length, IfNone, IfOk, IfSome, OnErr, OnOk, option_copied};
 ghost use Rattle.std.specs.Bool.{OnFalse, OnTrue};
 ghost use Rattle.std.specs.List.Sorted.{IsStrictlySortedBy};
 ghost use Rattle.std.specs.Map.{keys_of};
@@ -175,13 +175,6 @@ impl<R: Rows> Stock<R> {
         let before = self.len();
         self.drop_ended(now);
         before - self.len()
-    }
-
-    /// The first row above that number, in rising number, with its key. Takes no memory.
-    pub(crate) fn first_above(&self, number: u32) -> Option<(&Key, &Row)>
-        ensures { option_map (λ e. (e.0.now, e.1.now)) result ≡ slice_get (filter (λ e. nat_lt number e.1.number) self.now.rows) 0 }
-    {
-        self.above(number).next()
     }
 
     /// The rows above that number with their keys, in rising number. Takes no memory.

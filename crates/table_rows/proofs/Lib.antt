@@ -1,2 +1,3 @@
 pub mod EndingLaws
+pub mod ListLaws
 pub mod RowLaws

@@ -2,8 +2,10 @@
 #![tactic(auto)]
 
 mod ending;
+mod list_rows;
 mod map_rows;
 mod rows;
 
+pub use list_rows::ListRows;
 pub use map_rows::MapRows;
 pub use rows::Rows;

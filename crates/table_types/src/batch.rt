@@ -1,11 +1,14 @@
 //! Updates that are taught together.
 
-ghost use Rattle.std.specs.Prelude.{◌≡◌, ◌↔◌, ◌+◌, ◌≤◌, ◌∷◌, [], None, IfOk, IfErr, IsTrue, Some, length, option_copied};
+ghost use Rattle.std.specs.Prelude.{◌≡◌, ◌↔◌, ◌+◌, ◌++◌, ◌≤◌, ◌∷◌, [], List, None, IfOk, IfErr, IsTrue, OnOk, Some, length, option_copied};
 ghost use Rattle.table_types.specs.Batches.{fault_in, batch_fault, faults_from, IsBatchFor};
 ghost use Rattle.table_types.specs.Rosters.{table_at};
+ghost use Rattle.table_types.specs.Tables.{Definition};
 
 use crate::items::Items;
+use crate::key::Key;
 use crate::memory::Memory;
+use crate::name::Name;
 use crate::roster::Roster;
 use crate::table_def::TableDef;
 use crate::update::{Update, are_same_updates};
@@ -93,6 +96,28 @@ fn fault_of_table(table: &TableDef, updates: &[Update]) -> Option<BatchError>
     None
 }
 
+/// Puts an equal update after these.
+// An integer key is made in an arm of its own: moved on from where both kinds of keys meet, it takes several times as long.
+fn push_copy(alloc: Global, updates: &mut Vec<Update>, update: &Update) -> Result<(), Memory>
+    ensures { OnOk result (updates.new.items ≡ updates.old.items ++ update.now ∷ []) }
+{
+    let Key::Int(number) = &update.key else {
+        updates.push(update.copy(alloc)?)?;
+        return Ok(());
+    };
+    let name = Name::copy_of(alloc, &update.name)?;
+    let values = update.values.copy(alloc)?;
+    updates.push(Update {
+        table: update.table,
+        number: update.number,
+        life: update.life,
+        key: Key::Int(*number),
+        values,
+        name,
+    })?;
+    Ok(())
+}
+
 impl Batch {
     /// The most updates of a batch.
     pub const MOST: usize = 512;
@@ -130,6 +155,16 @@ impl Batch {
         })
     }
 
+    /// The batch of these updates, in this order, which are known to be one for some roster: nothing is tested.
+    pub fn of_fitting(updates: Vec<Update>) -> Batch
+        requires { (roster : List Definition) × IsBatchFor roster updates.items }
+        ensures { result ≡ updates.items }
+    {
+        Batch {
+            updates: Items::new(updates),
+        }
+    }
+
     /// Whether the batch is one for that roster, for whatever roster or table it was made.
     pub fn is_for(&self, roster: &Roster) -> bool
         ensures { IsTrue result ↔ IsBatchFor roster.now self.now }
@@ -158,7 +193,7 @@ impl Batch {
     {
         let mut updates = Vec::with_capacity(alloc, self.updates.len())?;
         for update in self.updates.as_slice() {
-            updates.push(update.copy(alloc)?)?;
+            push_copy(alloc, &mut updates, update)?;
         }
         Ok(Batch {
             updates: Items::new(updates),

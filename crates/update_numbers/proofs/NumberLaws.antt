@@ -123,10 +123,6 @@ remove_in_front (e ∷ es) fs number k at = by (is_eq (nat_cmp number e.0)) refl
     by true here front = rw here refl
     by false other front = rw other (ap (λ (rest : List (ℕ × Key)). e ∷ rest) (front (sym (rw other refl) ∙ at)))
 
-pub below_more : (es : List (ℕ × Key)) (number : ℕ) → AllByRecursion (λ e. e.0 < number) es → AllByRecursion (λ e. e.0 < number + 1) es
-below_more [] number below = tt
-below_more (e ∷ es) number below = (omega (arith, below.0), below_more es number below.1)
-
 pub below_without : (key : Key) (es : List (ℕ × Key)) (number : ℕ) → AllByRecursion (λ e. e.0 < number) es → AllByRecursion (λ e. e.0 < number) (without key es)
 below_without key [] number below = tt
 below_without key (e ∷ es) number below = by (is_of key e) refl (below_without key es number below.1)
@@ -153,9 +149,6 @@ module _ (by_number : List (ℕ × Key)) (by_key : List (Key × ℕ)) (next : �
     pub without_none : without key by_number ≡ by_number
     without_none = all_without key by_number (none_of by_number by_key index.rising index.agree key none)
 
-    pub placed_first : (after : List (ℕ × Key)) → after ≡ insert_entry nat_cmp by_number next key → after ≡ without key by_number ++ (next, key) ∷ []
-    placed_first after inserted = inserted ∙ insert_last by_number next key index.below ∙ ap (λ (es : List (ℕ × Key)). es ++ (next, key) ∷ []) (sym without_none)
-
   -- a key that has one
   module _ (older : ℕ) (has : number_at by_key key ≡ Some older) where
     pub had_one : list_any (is_of key) by_number ≡ true
@@ -163,13 +156,6 @@ module _ (by_number : List (ℕ × Key)) (by_key : List (Key × ℕ)) (next : �
 
     pub without_one : remove_entry (is_at (nat_cmp older)) by_number ≡ without key by_number
     without_one = remove_without key older by_number index.rising (one_of by_number by_key index.rising index.agree key older has)
-
-    pub placed_again : (between after : List (ℕ × Key)) → between ≡ insert_entry nat_cmp by_number next key → after ≡ remove_entry (is_at (nat_cmp older)) between → after ≡ without key by_number ++ (next, key) ∷ []
-    placed_again between after inserted removed =
-        removed
-        ∙ ap (λ (es : List (ℕ × Key)). remove_entry (is_at (nat_cmp older)) es) (inserted ∙ insert_last by_number next key index.below)
-        ∙ remove_in_front by_number ((next, key) ∷ []) older key (index.agree.numbered older key has)
-        ∙ ap (λ (es : List (ℕ × Key)). es ++ (next, key) ∷ []) without_one
 
   pub below_placed : (after : List (ℕ × Key)) → after ≡ without key by_number ++ (next, key) ∷ [] → AllByRecursion (λ e. e.0 < next + 1) after
   below_placed after placed = rw placed (below_append (without key by_number) next key (below_without key by_number next index.below))

@@ -52,8 +52,3 @@ pub record IsKept (by_number : List (ℕ × Key)) (by_key : List (Key × ℕ)) (
   pub keys : (k : Key) → number_at by_key_now k ≡ cond (is_eq (key_cmp key k)) (Some number) (number_at by_key k)
   pub placed : (n : ℕ) → key_at by_number_now n ≡ cond (is_eq (nat_cmp number n)) (Some key) (key_at by_number n)
   pub rising : IsStrictlySortedBy nat_cmp (keys_of by_number_now)
-
--- a number is reserved for some key
-abbrev pub AreReserved : ℕ → Option ℕ → List (ℕ × Key) → List (Key × ℕ) → Type 0
-AreReserved number older by_number_now by_key_now =
-    (by_number : List (ℕ × Key)) × (by_key : List (Key × ℕ)) × (key : Key) × IsKept by_number by_key number key older by_number_now by_key_now

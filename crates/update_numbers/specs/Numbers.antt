@@ -32,8 +32,3 @@ dropped key ns = record { pairs = without key ns.pairs; next = ns.next }
 -- the pairs above a number
 abbrev pub above : ℕ → List (ℕ × Key) → List (ℕ × Key)
 above number pairs = filter (λ pair. nat_lt number pair.0) pairs
-
--- a number that is reserved for a key: the numbers without it, and with it in place of the key's older one
-pub record Reservation : Type 0 where
-  pub before : Numbering
-  pub after : Numbering

@@ -6,5 +6,5 @@ mod numbers;
 mod rising;
 
 pub use numbered_keys::NumberedKeys;
-pub use numbers::{NumberError, Numbers, Reserved};
+pub use numbers::{NumberError, Numbers};
 pub use rising::Rising;

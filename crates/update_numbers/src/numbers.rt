@@ -1,19 +1,16 @@
 //! Numbers of updates.
 
-ghost use Rattle.std.specs.Prelude.{◌≡◌, ℕ, ◌↔◌, ◌≤◌, ◌<◌, ◌^◌, [], cond, Err, IfErr, IfOk, IsSome, OnOk, OnErr, length, option_map, slice_get, take};
+ghost use Rattle.std.specs.Prelude.{◌≡◌, ℕ, ◌↔◌, ◌≤◌, ◌<◌, ◌^◌, [], Err, IfOk, OnOk, OnErr, take};
 ghost use Rattle.std.specs.List.{AllByRecursion, list_any};
 ghost use Rattle.std.specs.List.Sorted.{IsStrictlySortedBy};
 ghost use Rattle.std.specs.Map.{keys_of};
-ghost use Rattle.std.specs.Ordering.{is_eq, nat_cmp};
-ghost use Rattle.table_types.specs.declared.key.Key.{Key};
-ghost use Rattle.table_types.specs.Keys.{key_cmp};
+ghost use Rattle.std.specs.Ordering.{nat_cmp};
 ghost use Rattle.update_numbers.specs.declared.numbers.NumberError.TheVariants as errors;
 ghost use Rattle.update_numbers.specs.Numbers.{above, dropped, given, is_of};
-ghost use Rattle.update_numbers.specs.Index.{AreIndexed, IsKept, key_at, key_without, number_at, pairs_without};
+ghost use Rattle.update_numbers.specs.Index.{AreIndexed, IsKept, key_at, key_without, pairs_without};
 
 use std::alloc::Global;
 use std::collections::BTreeMap;
-use std::collections::btree_map::Range;
 use std::marker::Model;
 use std::ops::Bound;
 use table_types::{Key, Memory};
@@ -51,28 +48,6 @@ impl Model for Numbers {
     ghost invariant = { λ a. AreIndexed a.by_number.entries a.by_key.entries a.next };
 }
 
-/// A number that a key has besides its older one, until it is given to the key or let go.
-#[derive(Drop)]
-pub struct Reserved {
-    alloc: Global,
-    by_number: BTreeMap<u32, Key>,
-    by_key: BTreeMap<Key, u32>,
-    number: u32,
-    older: Option<u32>,
-}
-
-impl Model for Reserved {
-    ghost use Rattle.std.specs.Prelude.{◌+◌, Some};
-    ghost use Rattle.update_numbers.specs.Index.{AreReserved, pairs_without};
-    ghost use Rattle.update_numbers.specs.Numbers.{Reservation};
-
-    ghost Value = { Reservation };
-
-    ghost view = { λ a. record { before = record { pairs = pairs_without (Some a.number) a.by_number.entries; next = a.number }; after = record { pairs = pairs_without a.older a.by_number.entries; next = a.number + 1 } } };
-
-    ghost invariant = { λ a. AreReserved a.number a.older a.by_number.entries a.by_key.entries };
-}
-
 /// Puts a key at a number above all others, and answers the one that it had. After `Memory` nothing has changed.
 fn keep(
     alloc: Global,
@@ -108,66 +83,6 @@ fn drop_older(by_number: &mut BTreeMap<u32, Key>, older: Option<u32>)
     }
 }
 
-/// Gives a key that has a number the one that it had before, if it had one, or else none. Takes no memory.
-fn give_back(by_key: &mut BTreeMap<Key, u32>, key: Key, older: Option<u32>)
-    requires { IsSome (number_at by_key.old.entries key) }
-    ensures { (k : Key) → number_at by_key.new.entries k ≡ cond (is_eq (key_cmp key k)) older (number_at by_key.old.entries k) }
-{
-    match older {
-        Some(number) => match by_key.insert(key, number) {
-            // A key that is there is never refused.
-            Ok(_) | Err(_) => {}
-        },
-        None => {
-            by_key.remove(&key);
-        }
-    }
-}
-
-impl Reserved {
-    /// The key takes the number in place of its older one. Takes no memory.
-    pub fn commit(self) -> Numbers
-        ensures { result ≡ self.after }
-    {
-        let Reserved {
-            alloc,
-            mut by_number,
-            by_key,
-            number,
-            older,
-        } = self;
-        drop_older(&mut by_number, older);
-        Numbers {
-            alloc,
-            by_number,
-            by_key,
-            next: u64::from(number) + 1,
-        }
-    }
-
-    /// All is as before the number was reserved. Takes no memory.
-    pub fn release(self) -> Numbers
-        ensures { result ≡ self.before }
-    {
-        let Reserved {
-            alloc,
-            mut by_number,
-            mut by_key,
-            number,
-            older,
-        } = self;
-        if let Some(key) = by_number.remove(&number) {
-            give_back(&mut by_key, key, older);
-        }
-        Numbers {
-            alloc,
-            by_number,
-            by_key,
-            next: u64::from(number),
-        }
-    }
-}
-
 impl Numbers {
     /// No numbers given yet, and `first` given next. Takes no memory.
     pub fn new(alloc: Global, first: u32) -> Numbers
@@ -190,13 +105,6 @@ impl Numbers {
         ensures below { AllByRecursion (λ pair. pair.0 < self.now.next) self.now.pairs }
     {
         self.next
-    }
-
-    /// How many keys have a number.
-    pub fn len(&self) -> usize
-        ensures { result ≡ length self.now.pairs }
-    {
-        self.by_number.len()
     }
 
     /// Gives a key the next number in place of its older one.
@@ -223,42 +131,6 @@ impl Numbers {
         Ok(number)
     }
 
-    /// Reserves the next number for a key, with all memory that giving it takes.
-    pub fn reserve(self, key: &Key) -> Result<Reserved, (NumberError, Numbers)>
-        ensures reserved { IfOk result (λ reserved. reserved ≡ record { before = self; after = given key.now self }) }
-        ensures left { OnOk result (self.next < 2 ^ 32) }
-        ensures spent { IfErr result (λ refused. (refused.0 ≡ errors.Spent) ↔ (2 ^ 32 ≤ self.next)) }
-        ensures stays { IfErr result (λ refused. refused.1 ≡ self) }
-    {
-        let Ok(number) = u32::try_from(self.next) else {
-            return Err((NumberError::Spent, self));
-        };
-        let Numbers {
-            alloc,
-            mut by_number,
-            mut by_key,
-            next,
-        } = self;
-        match keep(alloc, &mut by_number, &mut by_key, number, key) {
-            Ok(older) => Ok(Reserved {
-                alloc,
-                by_number,
-                by_key,
-                number,
-                older,
-            }),
-            Err(_) => {
-                let numbers = Numbers {
-                    alloc,
-                    by_number,
-                    by_key,
-                    next,
-                };
-                Err((NumberError::Memory, numbers))
-            }
-        }
-    }
-
     /// Drops the number of a key, and answers whether it had one. Takes no memory.
     pub fn drop_key(&mut self, key: &Key) -> bool
         ensures had { result ≡ list_any (is_of key.now) self.old.pairs }
@@ -271,29 +143,13 @@ impl Numbers {
         true
     }
 
-    /// The first number above that one, with its key. Takes no memory.
-    pub fn first_above(&self, number: u32) -> Option<(u32, &Key)>
-        ensures { option_map (λ pair. (pair.0, pair.1.now)) result ≡ slice_get (above number self.now.pairs) 0 }
-    {
-        let mut pairs = self.all_above(number);
-        let (number, key) = pairs.next()?;
-        Some((*number, key))
-    }
-
-    /// The numbers above that one, with their keys, in rising number. Takes no memory.
-    pub fn all_above(&self, number: u32) -> Range<'_, u32, Key>
-        ensures { result ≡ above number self.now.pairs }
-    {
-        self.by_number
-            .range((Bound::Excluded(number), Bound::Unbounded))
-    }
-
     /// The first numbers above that one, with equal keys, in rising number: all of them, and no more than `limit`.
     pub fn above(&self, number: u32, limit: usize) -> Result<Vec<(u32, Key)>, Memory>
         ensures { IfOk result (λ pairs. pairs.items ≡ take limit (above number self.now.pairs)) }
     {
         let mut found = Vec::new(self.alloc);
-        for (number, key) in self.all_above(number) {
+        let range = (Bound::Excluded(number), Bound::Unbounded);
+        for (number, key) in self.by_number.range(range) {
             if found.len() == limit {
                 break;
             }

@@ -1,8 +1,7 @@
 //! One list of calls over both holders of rows.
 
-use crate::list_rows::ListRows;
 use std::alloc::Global;
-use table_rows::{MapRows, Rows};
+use table_rows::{ListRows, MapRows, Rows};
 use table_types::{Cell, Key, Memory, Moment, Row};
 
 /// The least moment.

@@ -32,6 +32,6 @@ loop-action-preserved g c =
       done = one_more (worker c.args.session.now c.args.seat c.args.context.now.number c.args.context.now.moment) (worker c.loop-action.session c.loop-action.seat c.args.context.now.number c.args.context.now.moment) c.give_answer.new.session c.do_action-back.result.0 c.known.result.now c.loop-action.yielded
           c.loop-action.given.items c.give_answer.new.given.items c.in-Some.action c.in-Ok.answer c.do_action-back.result.1
           (contents c.args.output.now) (contents c.loop-action.output) (contents c.do_action-back.new.output)
-          c.known.ensures c.loop-action.invariant.done c.do_action-back.ensures.done c.in-Ok.is c.in_default.ensures.answers;
+          c.known.ensures c.loop-action.invariant.done c.do_action-back.ensures.done c.in-Ok.is c.in_default.ensures.given;
       seat = c.do_action-back.ensures.seat ∙ c.loop-action.invariant.seat;
     }

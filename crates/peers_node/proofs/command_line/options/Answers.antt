@@ -1,6 +1,11 @@
 use Rattle.std.proofs.Common.{◌≡◌, ◌∙◌, sym}
 use Rattle.peers_node.specs.declared.options_error.OptionsError.TheVariants.{Words}
+use Rattle.peers_node.specs.GivenWords.{texts}
+use Rattle.peers_node.proofs.PlainWords.{plainly_chosen}
 use Rattle.peers_node.proofs.command_line.options.Goals as goal
+
+pub returns-clause-words : goal.returns-clause-words
+returns-clause-words c = λ _ chosen plainly. c.choice_of.ensures.none c.in-None.is chosen (plainly_chosen (texts c.args.words.now) chosen plainly)
 
 pub returns-in-Words-clause-words : goal.returns-in-Words-clause-words
 returns-in-Words-clause-words c = λ refused.

@@ -1,7 +1,10 @@
-use Rattle.std.proofs.Common.{sym, ◌≡◌, ◌∙◌, ap, refl, subst, true}
+use Rattle.std.proofs.Common.{sym, ◌∙◌, ap, subst}
 use Rattle.clap.specs.Words.{fault_of, is_simple, is_simple_and_free, kind_of, subcommand_of, takes}
-use Rattle.peers_node.specs.CommandLine.{Meets, texts}
-use Rattle.peers_node.proofs.Choices.{choice_met, choice_taken, memory_refuses_no_word, program_is_free, program_is_simple}
+use Rattle.peers_node.specs.Choices.{options_of}
+use Rattle.peers_node.specs.CommandLine.{Meets, program}
+use Rattle.peers_node.specs.GivenWords.{texts}
+use Rattle.peers_node.proofs.Choices.{memory_refuses_no_word, program_is_free, program_is_simple}
+use Rattle.peers_node.proofs.PlainWords.{choice_met, choice_taken}
 use Rattle.peers_node.proofs.command_line.read_words.Goals as goal
 
 pub returns-in-Ok-clause-refused : goal.returns-in-Ok-clause-refused
@@ -23,6 +26,7 @@ returns-in-Some-clause-ok c =
     let simple = ap is_simple c.in_ok-command.ensures ∙ program_is_simple in
     let free = ap is_simple_and_free c.in_ok-command.ensures ∙ program_is_free in
     let rows = (c.in-Ok.ensures.matches simple).1 ∙ ap (λ app. subcommand_of app words) c.in_ok-command.ensures in (
-      subst (λ met. Meets met c.in-Some.chosen) rows c.in-Some.ensures.some,
+      subst (λ chosen. Meets (subcommand_of program words) chosen) (sym c.in_ok-owned-in-Some.ensures)
+          (subst (λ met. Meets met (options_of c.in-Some.choice)) rows c.in-Some.ensures.some),
       ap (λ app. fault_of app words) (sym c.in_ok-command.ensures) ∙ c.in-Ok.ensures.kinds free,
     )

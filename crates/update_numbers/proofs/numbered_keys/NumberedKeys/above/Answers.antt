@@ -1,4 +1,4 @@
-use Rattle.std.proofs.Common.{◌≡◌, ap, rules, ◌∙◌}
+use Rattle.std.proofs.Common.{ap, rules, ◌∙◌}
 use Rattle.update_numbers.specs.Numbers.{Numbering, above}
 use Rattle.update_numbers.specs.Rising.{rising}
 use Rattle.update_numbers.proofs.RisingLaws.{above_rising}

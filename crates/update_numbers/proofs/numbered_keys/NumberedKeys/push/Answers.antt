@@ -1,4 +1,4 @@
-use Rattle.std.proofs.Common.{◌≡◌, ◌≤◌, ◌<◌, ◌+◌, ◌^◌, ◌∷◌, ◌++◌, ◌∙◌, [], ap, arith, refl}
+use Rattle.std.proofs.Common.{◌≡◌, ◌+◌, ◌∷◌, ◌++◌, ◌∙◌, [], ap, arith}
 use Rattle.update_numbers.specs.Numbers.{Numbering}
 use Rattle.update_numbers.specs.Rising.{rising}
 use Rattle.update_numbers.proofs.NumberLaws.{below_append, numbering}

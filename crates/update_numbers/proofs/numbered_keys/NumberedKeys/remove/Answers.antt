@@ -1,5 +1,5 @@
-use Rattle.std.proofs.Common.{◌≡◌, Some, ap, ◌∙◌}
-use Rattle.update_numbers.specs.Index.{key_at, pairs_without}
+use Rattle.std.proofs.Common.{ap, ◌∙◌}
+use Rattle.update_numbers.specs.Index.{key_at}
 use Rattle.update_numbers.specs.Numbers.{Numbering}
 use Rattle.update_numbers.specs.Rising.{rising}
 use Rattle.update_numbers.proofs.NumberLaws.{numbering}

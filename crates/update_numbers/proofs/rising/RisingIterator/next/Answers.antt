@@ -1,4 +1,4 @@
-use Rattle.std.proofs.Common.{◌≡◌, ap, sym, rules, ◌∙◌}
+use Rattle.std.proofs.Common.{ap, sym, rules, ◌∙◌}
 use Rattle.update_numbers.specs.Rising.{rising}
 use Rattle.update_numbers.proofs.RisingLaws.{rising_end}
 use Rattle.update_numbers.proofs.rising.RisingIterator.next.Goals as goal

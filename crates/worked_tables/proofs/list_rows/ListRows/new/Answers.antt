@@ -1,5 +1,0 @@
-use Rattle.worked_tables.proofs.ListLaws.{rising_none}
-use Rattle.worked_tables.proofs.list_rows.ListRows.new.Goals as goal
-
-pub invariant_of-result : goal.invariant_of-result
-invariant_of-result c = rising_none c.new.result.items c.new.ensures.items

@@ -1,7 +1,0 @@
-use Rattle.std.proofs.Common.{◌<◌, IfSome, length, slice_get, take}
-use Rattle.worked_tables.specs.Places.{IsAfterNone}
-use Rattle.worked_tables.proofs.list_rows.first_place.Given as goal
-
--- the first of those seen
-abbrev pub invariant-loop-index : goal.invariant-loop-index
-invariant-loop-index l = (l.first < length l.rows) × IfSome (slice_get l.rows l.first) (IsAfterNone (take l.index l.rows))

@@ -1,6 +1,0 @@
-use Rattle.std.proofs.Common.{take}
-use Rattle.worked_tables.specs.Places.{IsPast}
-use Rattle.worked_tables.proofs.list_rows.place.Given as goal
-
-abbrev pub invariant-loop-index : goal.invariant-loop-index
-invariant-loop-index l = IsPast l.key (take l.index l.rows)
