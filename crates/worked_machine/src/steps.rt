@@ -6,7 +6,7 @@ use learner::Fault;
 use peers_msg::ErrorKind;
 use session_core::{Action, Event, Session, SessionError, State};
 use std::alloc::Global;
-use table_types::{Batch, CopyKind, Items, Moment, Settled, Value};
+use table_types::{Batch, CopyKind, Items, Moment, Roster, Settled, Update, Value};
 
 /// An event.
 pub enum Given {
@@ -54,8 +54,15 @@ static UPDATES: [UpdateParts; 1] = [UpdateParts {
     name: b"",
 }];
 
+/// The batch of these updates.
+fn batch_for(roster: &Roster, updates: Vec<Update>) -> Option<Batch> {
+    Batch::new(roster, updates).ok()
+}
+
 fn batch(alloc: Global) -> Option<Batch> {
-    Batch::new(&alone(alloc, &T1)?, updates(alloc, UPDATES.as_slice())?).ok()
+    let updates = updates(alloc, UPDATES.as_slice())?;
+    let roster = alone(alloc, &T1)?;
+    batch_for(&roster, updates)
 }
 
 fn event(alloc: Global, given: &Given) -> Option<Event> {
@@ -104,17 +111,32 @@ fn are_asked(actions: &[Action], asked: &[Asked]) -> bool {
     true
 }
 
-fn is_step(alloc: Global, session: &mut Session, step: &Step) -> Option<bool> {
-    let event = event(alloc, &step.given)?;
-    let actions = session.on(event, Moment::least()).ok()?;
-    Some(are_asked(actions.as_slice(), step.asked) && session.state() == step.state)
+/// What the session answers to an event. It says nothing of what `on` promises, so that the proof of a caller needn't go
+/// through it.
+fn answer(
+    alloc: Global,
+    session: &mut Session,
+    given: &Given,
+) -> Option<Result<Vec<Action>, SessionError>> {
+    let event = event(alloc, given)?;
+    Some(session.on(event, Moment::least()))
+}
+
+/// Whether the session makes a step.
+fn is_step(alloc: Global, session: &mut Session, step: &Step) -> bool {
+    match answer(alloc, session, &step.given) {
+        Some(Ok(actions)) => {
+            are_asked(actions.as_slice(), step.asked) && session.state() == step.state
+        }
+        _ => false,
+    }
 }
 
 /// Whether the session makes these steps, one run after another.
 fn runs(alloc: Global, session: &mut Session, steps: &[&[Step]]) -> bool {
     for run in steps {
         for step in *run {
-            if is_step(alloc, session, step) != Some(true) {
+            if !is_step(alloc, session, step) {
                 return false;
             }
         }
@@ -124,12 +146,9 @@ fn runs(alloc: Global, session: &mut Session, steps: &[&[Step]]) -> bool {
 
 /// Whether the session refuses the event for that, and is over then.
 fn refuses(alloc: Global, session: &mut Session, given: &Given, error: SessionError) -> bool {
-    match event(alloc, given) {
-        Some(event) => match session.on(event, Moment::least()) {
-            Ok(_) => false,
-            Err(found) => found == error && session.state() == State::Ended,
-        },
-        None => false,
+    match answer(alloc, session, given) {
+        Some(Err(found)) => found == error && session.state() == State::Ended,
+        _ => false,
     }
 }
 
