@@ -6,7 +6,7 @@ ghost use Rattle.std.specs.Prelude.{◌≤◌};
 
 use example_parts::{KeyParts, T1, UpdateParts, definition, update};
 use std::alloc::Global;
-use table_cell::{CopyError, Reply, TableCell, TrackError};
+use table_cell::{Reply, TableCell, TrackError};
 use table_types::{Batch, Cell, Change, CopyKind, DataType, Key, Moment, Row, Update, Value};
 
 /// The moment so many milliseconds after the least one.
@@ -47,11 +47,6 @@ pub fn added(cell: &mut TableCell, key: u32, more: u64, later: u32) -> Option<(u
     Some((reply.number, count(&reply.row)?))
 }
 
-/// Why the count of a key isn't added to.
-pub fn refusal(cell: &mut TableCell, key: u32, later: u32) -> Option<TrackError> {
-    add(cell, key, 1, later)?.err()
-}
-
 /// The number, the life and the count of the only update of a batch.
 pub fn only(batch: &Batch) -> Option<(u32, u32, u64)> {
     let [update] = batch.updates() else {
@@ -78,8 +73,8 @@ pub fn has(cell: &TableCell, rows: &[(u32, u64)]) -> Option<bool> {
 }
 
 /// An update of `t1` that a peer numbered 9: key 7 has 5, and lives for so many milliseconds.
-pub fn told(alloc: Global, life: u32) -> Option<Update> {
-    let mut told = update(
+pub fn received(alloc: Global, life: u32) -> Option<Update> {
+    let mut received = update(
         alloc,
         &UpdateParts {
             table: 1,
@@ -90,22 +85,11 @@ pub fn told(alloc: Global, life: u32) -> Option<Update> {
             name: b"",
         },
     )?;
-    told.life = Some(life);
-    Some(told)
+    received.life = Some(life);
+    Some(received)
 }
 
-/// Learns that update in session 1 at the least moment, and gives the number and the count that are answered.
-pub fn taught(alloc: Global, cell: &mut TableCell, life: u32) -> Option<(u32, u64)> {
-    let reply = cell.learn(1, told(alloc, life)?, Moment::least()).ok()?;
-    Some((reply.number, count(&reply.row)?))
-}
-
-/// The number, the life and the count of the only row that a copy for session 1 tells of.
+/// The number, the life and the count of the only row of a copy for session 1.
 pub fn copied(cell: &mut TableCell, kind: CopyKind, later: u32) -> Option<(u32, u32, u64)> {
     only(&cell.copy(1, kind, 512, at(later)?).ok()?)
-}
-
-/// Why nothing is copied for session 1.
-pub fn not_copied(cell: &mut TableCell, kind: CopyKind, later: u32) -> Option<CopyError> {
-    cell.copy(1, kind, 512, at(later)?).err()
 }

@@ -25,7 +25,7 @@ TakesNone (Serve link) = ⊥
 TakesNone (Join link) = ⊥
 TakesNone chosen = Unit {0}
 
--- the same with names of its own
+-- the link of these words, with names of its own
 abbrev pub link_of : LinkWords → Link
 link_of words = record { turns = words.turns; port = words.port; name = words.name.now; peer = words.peer.now }
 

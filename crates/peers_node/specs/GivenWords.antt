@@ -123,13 +123,13 @@ LinksInOrder (turns ∷ most ∷ port ∷ place ∷ name ∷ own ∷ peer ∷ ot
     × (name ≡ codes "--name") × IsNameAlone link.name own × (peer ≡ codes "--peer") × IsNameAlone link.peer other
 LinksInOrder _ link = ⊥
 
--- or in either order
+-- the words are the options of a round in either order
 abbrev pub RoundsPlainly : List (List ℕ) → ℕ → ℕ → Type 0
 RoundsPlainly (first ∷ value ∷ second ∷ other ∷ []) threads tracks =
     GivesInOrder first value second other threads tracks ⊎ GivesInOrder second other first value threads tracks
 RoundsPlainly _ threads tracks = ⊥
 
--- the words are the options of this choice, each in a word of its own: those of a round in any order, those of a link in that of the help
+-- the words are the options of this choice, each text in a word of its own: those of a round in any order, those of a link in that of the help
 abbrev pub GivesPlainly : List (List ℕ) → Options → Type 0
 GivesPlainly words (Round threads tracks) = RoundsPlainly words threads tracks
 GivesPlainly words (Serve link) = LinksInOrder words link

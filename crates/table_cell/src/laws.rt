@@ -17,7 +17,7 @@ pub fn a_run_goes_on()
     ensures made { (c e : CellState) (event : CellEvent) (reply : CellReply) → IsReplayed c → Made c event reply e → IsReplayed e }
 {}
 
-/// From a state an event has one answer and leads to one state; so a history leads to one state.
+/// From a state an event has no more than one answer and leads to no more than one state; so a history leads to no more than one.
 pub fn a_step_is_unique()
     ensures step { (s e f : TableState) (event : CellEvent) (a b : CellReply) → Step s event a e → Step s event b f → (a ≡ b) × (e ≡ f) }
     ensures run { (s e f : TableState) (hs : List (CellEvent × CellReply)) → Replays s hs e → Replays s hs f → e ≡ f }
@@ -33,7 +33,8 @@ pub fn batches_are_kept()
     ensures { (c : CellState) → IsReplayed c → Kept c }
 {}
 
-/// Each step leaves a sound table sound, and so does a whole run. A new table is sound.
+/// Each step leaves a sound table sound, if its moment, where it has one, is below 2^63, and so does a whole run of such. A new table is
+/// sound.
 pub fn a_table_stays_sound()
     ensures step { (s e : TableState) (event : CellEvent) (reply : CellReply) → IsTimely event → IsSound s → Step s event reply e → IsSound e }
     ensures run { (s e : TableState) (hs : List (CellEvent × CellReply)) → AreTimely hs → IsSound s → Replays s hs e → IsSound e }
@@ -41,7 +42,8 @@ pub fn a_table_stays_sound()
         IsSound (new_table d size nopurge first) }
 {}
 
-/// One event more, where the history has room for it, leaves a table with its history sound. A new one is sound.
+/// One event more, where the history has room for it and its moment, if it has one, is below 2^63, leaves a table with its history sound.
+/// A new one is sound.
 pub fn a_cell_stays_sound()
     ensures step { (c e : CellState) (event : CellEvent) (reply : CellReply) → IsTimely event → is_history_full c ≡ false →
         IsSoundCell c → Made c event reply e → IsSoundCell e }

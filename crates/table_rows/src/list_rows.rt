@@ -11,7 +11,7 @@ use std::marker::Model;
 use std::mem;
 use table_types::{Key, Memory, Moment, Row};
 
-/// The rows of a table in a list, in rising key. Each call goes over the whole list.
+/// The rows of a table in a list, in rising key. Each call but `len` may go over the whole list.
 #[derive(Drop)]
 pub struct ListRows {
     alloc: Global,

@@ -3,7 +3,7 @@
 
 ghost use Rattle.std.specs.Prelude.{◌≤◌};
 
-use example_cells::{add, added, cell, copied, count, has, told};
+use example_cells::{add, added, cell, copied, count, has, received};
 use std::alloc::Global;
 use table_cell::{LearnError, Reply, TableCell, TrackError};
 use table_types::{CopyKind, Moment, Settled};
@@ -75,9 +75,9 @@ fn has_at_last(cell: &TableCell, rows: &[(u32, u64)]) -> Option<bool> {
 /// The number and the count that key 7 is answered at 5, which a peer tells; the update is made once more where memory
 /// was wanted for it.
 fn learned(alloc: Global, cell: &mut TableCell) -> Option<Result<(u32, u64), LearnError>> {
-    let update = match told(alloc, 10_000) {
+    let update = match received(alloc, 10_000) {
         Some(update) => update,
-        None => told(alloc, 10_000)?,
+        None => received(alloc, 10_000)?,
     };
     Some(match cell.learn(1, update, Moment::least()) {
         Ok(reply) => Ok((reply.number, count(&reply.row).unwrap_or(0))),

@@ -160,7 +160,7 @@ fn tracks(
 }
 
 /// An update of a text's row: gpc0 has 5, and the server's name is there.
-fn told(alloc: Global) -> Option<Update> {
+fn received(alloc: Global) -> Option<Update> {
     update(
         alloc,
         &UpdateParts {
@@ -176,7 +176,7 @@ fn told(alloc: Global) -> Option<Update> {
 
 /// The number that is answered to that update, if the row is as it is to be.
 fn taught(alloc: Global, cell: &mut TableCell) -> Result<Option<u32>, LearnError> {
-    let Some(update) = told(alloc) else {
+    let Some(update) = received(alloc) else {
         return Err(LearnError::Memory);
     };
     let reply = cell.learn(1, update, Moment::least())?;
@@ -194,8 +194,8 @@ fn learns(alloc: Global, cell: &mut TableCell) -> bool {
     last == Ok(Some(1)) && cell.events() == 5
 }
 
-/// Whether an update tells of the row with that number, which has no counts but the server's name.
-fn is_told(update: &Update, number: u32) -> bool {
+/// Whether an update is of the row with that number, which has no counts but the server's name.
+fn is_of_row(update: &Update, number: u32) -> bool {
     match update.values.as_slice() {
         [Value::Count(0), Value::Count(0)] => {
             update.number == number && is_called(update.name.as_ref(), SERVER)
@@ -210,7 +210,7 @@ fn copied(cell: &mut TableCell) -> Result<bool, CopyError> {
     let [first, second, third] = batch.updates() else {
         return Ok(false);
     };
-    Ok(is_told(first, 1) && is_told(second, 2) && is_told(third, 3))
+    Ok(is_of_row(first, 1) && is_of_row(second, 2) && is_of_row(third, 3))
 }
 
 fn copies(cell: &mut TableCell) -> bool {
