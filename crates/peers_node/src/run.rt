@@ -1,17 +1,18 @@
 //! From the words of the command line to the exit status.
+ghost use Rattle.std.specs.Prelude.{◌≤◌};
 
 use crate::choice::Options;
 use crate::command_line::{Refusal, read_words};
 use crate::given_words::choice_of;
 use crate::options_error::OptionsError;
-use link_commands::{join, serve};
+use link_commands::{Link, join, serve};
 use peers_devices::{Counting, Faults, write_all};
 use round_command::{RoundSize, round};
 use scene_commands::{Ending, check, learn, lesson};
 use script_commands::table;
 use std::alloc::{AllocError, Global};
 use std::env;
-use std::io::{ErrorKind, Write};
+use std::io::{ErrorKind, Read, Write};
 use std::net::{Net, TcpListener, TcpStream};
 use std::sync::Wait;
 use std::thread::Threads;
@@ -59,7 +60,8 @@ fn texts<'a>(alloc: Global, arguments: &'a [String]) -> Result<Vec<&'a str>, All
     Ok(words)
 }
 
-/// Runs what these words choose.
+/// Runs what these words choose. Each subcommand runs in a function that isn't inlined, so that the stack holds the part of one
+/// alone.
 #[tactic(auto, using(crate::proofs::Choices::few_threads))]
 fn dispatched<
     'a,
@@ -70,32 +72,81 @@ fn dispatched<
     let mut input = Counting::new(rt.stdin());
     let mut output = Counting::new(rt.stdout());
     match read_words(alloc, words) {
-        Ok(Options::Lesson) => lesson(alloc, &mut input, &mut output, errors).status(),
-        Ok(Options::Check) => check(alloc, &mut input, &mut output, errors).status(),
+        Ok(Options::Lesson) => run_lesson(alloc, &mut input, &mut output, errors),
+        Ok(Options::Check) => run_check(alloc, &mut input, &mut output, errors),
         Ok(Options::Learn) => learn(alloc, &mut input, &mut output, errors).status(),
-        Ok(Options::Table) => table(alloc, &mut input, &mut output, errors).status(),
+        Ok(Options::Table) => run_table(alloc, &mut input, &mut output, errors),
         Ok(Options::Round { threads, tracks }) => {
             let size = RoundSize { threads, tracks };
-            round(runner, alloc, size, &mut output, errors).status()
+            run_round(runner, alloc, size, &mut output, errors)
         }
-        Ok(Options::Serve(link)) => serve(
-            runner,
-            alloc,
-            link,
-            &mut input,
-            &mut output,
-            errors,
-        ).status(),
-        Ok(Options::Join(link)) => join(
-            runner,
-            alloc,
-            link,
-            &mut input,
-            &mut output,
-            errors,
-        ).status(),
+        Ok(Options::Serve(link)) => run_serve(runner, alloc, link, &mut input, &mut output, errors),
+        Ok(Options::Join(link)) => run_join(runner, alloc, link, &mut input, &mut output, errors),
         Err(refusal) => refused(alloc, words, &refusal, errors),
     }
+}
+
+#[inline(never)]
+fn run_lesson<I: Read + Faults, O: Write + Faults, E: Write + Faults>(
+    alloc: Global,
+    input: &mut I,
+    output: &mut O,
+    errors: &mut E,
+) -> u8 {
+    lesson(alloc, input, output, errors).status()
+}
+
+#[inline(never)]
+fn run_check<I: Read + Faults, O: Write + Faults, E: Write + Faults>(
+    alloc: Global,
+    input: &mut I,
+    output: &mut O,
+    errors: &mut E,
+) -> u8 {
+    check(alloc, input, output, errors).status()
+}
+
+#[inline(never)]
+fn run_table<I: Read + Faults, O: Write + Faults, E: Write + Faults>(
+    alloc: Global,
+    input: &mut I,
+    output: &mut O,
+    errors: &mut E,
+) -> u8 {
+    table(alloc, input, output, errors).status()
+}
+
+#[inline(never)]
+fn run_round<R: Threads + Wait + Sync, O: Write + Faults, E: Write + Faults>(
+    runner: &R,
+    alloc: Global,
+    size: RoundSize,
+    output: &mut O,
+    errors: &mut E,
+) -> u8
+    requires { size.threads ≤ 8 }
+{
+    round(runner, alloc, size, output, errors).status()
+}
+
+#[inline(never)]
+fn run_serve<
+    R: Wait + Net<Listener = TcpListener, Stream = TcpStream>,
+    I: Read + Faults,
+    O: Write + Faults,
+    E: Write + Faults,
+>(runner: &R, alloc: Global, link: Link, input: &mut I, output: &mut O, errors: &mut E) -> u8 {
+    serve(runner, alloc, link, input, output, errors).status()
+}
+
+#[inline(never)]
+fn run_join<
+    R: Wait + Net<Listener = TcpListener, Stream = TcpStream>,
+    I: Read + Faults,
+    O: Write + Faults,
+    E: Write + Faults,
+>(runner: &R, alloc: Global, link: Link, input: &mut I, output: &mut O, errors: &mut E) -> u8 {
+    join(runner, alloc, link, input, output, errors).status()
 }
 
 /// Says why words are refused. Want of memory is the cause only where they are a command line.
