@@ -1,0 +1,444 @@
+# Checks of the subcommands that meet another node, and of far sides that are no nodes. They stand in a file of their own, which
+# bin/test reads.
+
+# --- Two nodes
+
+# free_port: a port of 127.0.0.1 at which nobody listens.
+free_port() {
+    python3 -c 'import socket; s = socket.socket(); s.bind(("127.0.0.1", 0)); print(s.getsockname()[1])'
+}
+
+# listens PORT: waits at most ten seconds until somebody listens there.
+listens() {
+    local tries entry
+    printf -v entry ' 0100007F:%04X 00000000:0000 0A ' "$1"
+    for ((tries = 0; tries < 200; tries++)); do
+        ! grep -q "$entry" /proc/net/tcp || return 0
+        sleep 0.05
+    done
+    return 1
+}
+
+# start serve|join PORT TURNS: starts a node. The one that serves reads $scratch/served, and the one that joins waits for its scene.
+start() {
+    case $1 in
+        serve)
+            timeout 60 "$program" serve --turns "$3" --port "$2" --name b --peer a \
+                <"$scratch/served" >"$scratch/serve.output" 2>"$scratch/serve.errors" &
+            server=$! ;;
+        join)
+            timeout 60 "$program" join --turns "$3" --port "$2" --name a --peer b \
+                <"$scratch/scenes" >"$scratch/join.output" 2>"$scratch/join.errors" &
+            joiner=$! ;;
+    esac
+}
+
+# meet FIRST SECOND: two nodes that are started in that order. The one that joins is given its scene when the other listens.
+meet() {
+    local port
+    port=$(free_port)
+    rm -f "$scratch/scenes"
+    mkfifo "$scratch/scenes"
+    start "$1" "$port" 1000
+    start "$2" "$port" 1000
+    listens "$port" || fail "nobody listens at port $port"
+    cat "$scratch/joined" >"$scratch/scenes"
+    wait "$server"; served=$?
+    wait "$joiner"; joined=$?
+}
+
+# kept serve|join STATUS: the rows that a node printed after its turns, without the moments that go by its turns.
+kept() {
+    slurp "$scratch/$1.errors"; errors=$text
+    if [ "$2" -eq 0 ] && [ -z "$errors" ] && head -n 1 "$scratch/$1.output" | grep -qx 'turns [1-9][0-9]*'; then pass; else
+        fail "$1: status $2, $(head -n 1 "$scratch/$1.output"), $errors"
+    fi
+    sed 1d "$scratch/$1.output" >"$scratch/$1.rows"
+}
+
+# without_moments: rows without their ends and the starts of their rates.
+without_moments() {
+    sed -E 's|^(row [0-9]+) [0-9]+ |\1 END |; s| [0-9]+/| START/|g' "$1"
+}
+
+# same_rows NAME: the one that serves has just the rows of NAME.rows, and the one that joins the same, which end and began as many
+# milliseconds later as there were turns.
+same_rows() {
+    kept serve "$served"
+    kept join "$joined"
+    if cmp -s "$scratch/serve.rows" "$1.rows"; then pass; else fail "serve: the rows of $1.rows"; diff "$1.rows" "$scratch/serve.rows"; fi
+    if cmp -s <(without_moments "$scratch/join.rows") <(without_moments "$1.rows"); then pass; else
+        fail "join: the rows of $1.rows"
+        diff <(without_moments "$1.rows") <(without_moments "$scratch/join.rows")
+    fi
+}
+
+both_orders() {
+    grep '^table ' "$scratch/served" >"$scratch/joined"
+    meet serve join
+    same_rows "$1"
+    meet join serve
+    same_rows "$1"
+}
+
+# answer_to BYTES PORT: sends bytes over a connection, and keeps all that is answered until it is closed as `answer`, with a full
+# stop behind it. Bytes from 0 to 9 are shown as digits.
+answer_to() {
+    answer=$({
+        exec 3<>"/dev/tcp/127.0.0.1/$2" && printf '%b' "$1" >&3
+        { timeout 10 cat <&3 && printf .; } | tr '\000-\011' '0-9'
+    } 2>/dev/null)
+}
+
+# serve_to LINES BYTES STATUS WHAT ERRORS: what comes over a connection, all that is answered to it, and how `serve` ends; its rows
+# stay.
+serve_to() {
+    local port answer
+    port=$(free_port)
+    start serve "$port" 100
+    listens "$port" || fail "nobody listens at port $port"
+    answer_to "$1" "$port"
+    wait "$server"; served=$?
+    slurp "$scratch/serve.errors"
+    sed 1d "$scratch/serve.output" >"$scratch/serve.rows"
+    if [ "$answer" = "$2." ] && [ "$served" -eq "$3" ] && [ "$text" = "$5" ] && cmp -s "$scratch/serve.rows" "$scratch/wanted"; then pass; else
+        fail "$4: status $served, answer $answer, $text"
+        cat "$scratch/serve.output"
+    fi
+}
+
+# What comes that isn't a node's: the answer, the status, the line, and the rows, which stay.
+strangers() {
+    local hello='HAProxyS 2.1\nb\na 1 1\n'
+    printf 'row 1 4294997296 7 5\nrow 1 4294997296 8 240\n' >"$scratch/wanted"
+    cp examples/two-updates.scene "$scratch/served"
+    serve_to 'HAProxyS 2.0\nb\na 1 1\n' $'502\n' 0 'another version' ''
+    serve_to 'HAProxyS 2.1\nc\na 1 1\n' $'503\n' 0 'another remote name' ''
+    serve_to 'HAProxyS 2.1\nb\nc 1 1\n' $'504\n' 0 'a stranger' ''
+    serve_to 'GET / HTTP/1.1\n\n\n' $'501\n' 0 'another protocol' ''
+    serve_to "$hello"'\x0A\x83\x01\x09' $'200\n10' 1 'a switch to no table' $'fault NoTable\n'
+    serve_to "$hello"'\x0A\x82\xF1\xF1\x06' $'200\n11' 1 'a message that is too large' $'fault SizeLimit\n'
+    serve_to "$hello"'\x01\x00' $'200\n' 0 'an error message' ''
+}
+
+# --- A far side that is no node
+
+# What the far side is told, a line each, and what it answers. `port`: a port at which nobody listens. `listen WORD..` and
+# `connect PORT WORD..`: it plays the other side of one connection, and answers with all that came over it, in hexadecimal,
+# after the port at which it listens. The words are done in turn: hexadecimal is sent; `<N` reads N bytes; `end` sends no
+# more; `pause` waits a little; `leave` closes the connection, and `reset` resets it. In the end it reads until nothing comes.
+far_side() {
+    python3 -c 'if True:
+        import socket, struct, sys, time
+
+        def listener():
+            made = socket.socket()
+            made.bind(("127.0.0.1", 0))
+            made.settimeout(10)
+            return made
+
+        def connected(port):
+            for _ in range(1000):
+                try:
+                    return socket.create_connection(("127.0.0.1", port))
+                except ConnectionRefusedError:
+                    time.sleep(0.01)
+            raise TimeoutError
+
+        def read(peer, count):
+            came = b""
+            while len(came) < count:
+                part = peer.recv(count - len(came))
+                if not part:
+                    break
+                came += part
+            return came
+
+        def played(peer, words):
+            came = b""
+            try:
+                for word in words:
+                    if word[0] == "<":
+                        came += read(peer, int(word[1:]))
+                    elif word == "end":
+                        peer.shutdown(socket.SHUT_WR)
+                    elif word == "pause":
+                        time.sleep(0.1)
+                    elif word == "narrow":
+                        peer.setsockopt(socket.SOL_SOCKET, socket.SO_RCVBUF, 4096)
+                    elif word == "reset":
+                        peer.setsockopt(socket.SOL_SOCKET, socket.SO_LINGER, struct.pack("ii", 1, 0))
+                        return came.hex().upper()
+                    elif word == "leave":
+                        return came.hex().upper()
+                    else:
+                        peer.sendall(bytes.fromhex(word))
+                return (came + read(peer, 1 << 20)).hex().upper()
+            except OSError as error:
+                return came.hex().upper() + " " + type(error).__name__
+
+        def answer(kind, words):
+            if kind == "port":
+                print(listener().getsockname()[1], flush=True)
+                return
+            if kind == "listen":
+                made = listener()
+                made.listen()
+                print(made.getsockname()[1], flush=True)
+                peer, _ = made.accept()
+            else:
+                peer = connected(int(words.pop(0)))
+            peer.settimeout(10)
+            with peer:
+                came = played(peer, words)
+            print(came, flush=True)
+
+        for line in sys.stdin:
+            kind, *words = line.split()
+            try:
+                answer(kind, words)
+            except OSError as error:
+                print(type(error).__name__, flush=True)
+    '
+}
+
+# tell WORD..: tells the far side what to do. It answers a line at a time.
+tell() {
+    echo "$@" >&"${FAR[1]}"
+}
+
+# far_from serve|join WORDS: the words are done by a far side of a node that has $scratch/served. What came over the connection is
+# `came`, and how the node ended are `status`, $scratch/NODE.output and $scratch/NODE.errors.
+far_from() {
+    local port
+    came=
+    if [ "$1" = serve ]; then
+        tell port
+        read -r -t 20 port <&"${FAR[0]}"
+        start serve "$port" 100
+        tell connect "$port" "$2"
+    else
+        tell listen "$2"
+        read -r -t 20 port <&"${FAR[0]}"
+        timeout 60 "$program" join --turns 100 --port "$port" --name a --peer b \
+            <"$scratch/served" >"$scratch/join.output" 2>"$scratch/join.errors" &
+        server=$!
+    fi
+    read -r -t 20 came <&"${FAR[0]}"
+    wait "$server"; status=$?
+}
+
+# far serve|join WHAT WORDS CAME STATUS LINE ROWS: what comes to a node, all that it answers, and how it ends. It prints its rows,
+# whose moments go by its turns, unless a device failed.
+far() {
+    local rows came
+    far_from "$1" "$3"
+    slurp "$scratch/$1.errors"
+    rows=$(sed '1s/^turns [1-9][0-9]*$/turns/' "$scratch/$1.output" | without_moments -)
+    if [ "$came" = "${4// /}" ] && [ "$status" -eq "$5" ] && [ "$text" = "$6" ] && [ "$rows" = "$7" ]; then pass; else
+        fail "$1: $2: status $status, came $came, $text"
+        cat "$scratch/$1.output"
+    fi
+}
+
+# hex TEXT: its bytes in hexadecimal.
+hex() {
+    printf '%b' "$1" | od -An -v -tx1 | tr -d ' \n' | tr a-f A-F
+}
+
+# What a node that joins is told in place of a status, and what comes after it.
+far_answers() {
+    local code text
+    cp examples/two-updates.scene "$scratch/served"
+    for code in 300 501 502 503 504; do far join "status $code" "$(hex "$code\n")" "$HELLO" 0 '' turns; done
+    for text in 'OK\n' '20\n' '2000\n' '0200\n' '200 \n' ' 200\n' '-200\n' '\n' 'HAProxyS 2.1\na\nb 1 1\n' 'HTTP/1.1 200 OK\r\n\r\n'; do
+        far join "no status: $text" "$(hex "$text")" "$HELLO" 0 '' turns
+    done
+    far join 'a status line that is too long' "$(repeat 1026 3)" "$HELLO" 0 '' turns
+    far join 'a message before the status' "0004$ACCEPTED" "$HELLO" 0 '' turns
+    for text in '' 2 20 200 '200\r'; do far join "ends after '$text'" "$(hex "$text") end" "$HELLO" 0 '' turns; done
+    far join 'leaves before its status' '<21 leave' "$HELLO" 0 '' turns
+    far join 'resets before its status' '<21 reset' "$HELLO" 4 $'device\n' ''
+    far join 'a status in pieces' '32 pause 30 pause 300D pause 0A0A8301 pause 09' "$HELLO 0000 0100" 1 $'fault NoTable\n' turns
+    far join 'resets after its status' "$ACCEPTED <23 reset" "$HELLO 0000" 4 $'device\n' ''
+}
+
+# What it is told once it was let in, where a lesson of two updates comes as well. It acknowledges it by its second update.
+far_lessons() {
+    local text length wanted rows ack=0A84050100000002 both=$'turns\nrow 1 END 7 5\nrow 1 END 8 240'
+    far join 'a resync, finished' "$ACCEPTED${LESSON}0001" "$HELLO 0000 0003 $ack" 0 '' "$both"
+    far join 'a resync, in part' "$ACCEPTED${LESSON}0002" "$HELLO 0000 0003 $ack" 0 '' "$both"
+    far join 'resets after a lesson' "$ACCEPTED$LESSON <31 reset" "$HELLO 0000 $ack" 4 $'device\n' ''
+    far join 'leaves after a lesson' "$ACCEPTED$LESSON <31 leave" "$HELLO 0000 $ack" 0 '' "$both"
+    for text in 0100 0101; do far join "a lesson and the error message $text" "$ACCEPTED$LESSON$text" "$HELLO 0000" 0 '' "$both"; done
+    far join 'a lesson after an error message' "${ACCEPTED}0100$LESSON" "$HELLO 0000" 0 '' turns
+    far join 'messages that ask for nothing' "${ACCEPTED}000400030502474505800200FF$LESSON end" "$HELLO 0000 $ack" 0 '' "$both"
+    far join 'acknowledgements of nothing' "${ACCEPTED}0A840501000000090A840501000000090A84050900000001$LESSON end" "$HELLO 0000 $ack" 0 '' "$both"
+    far join 'a request before a lesson' "${ACCEPTED}0000 <25 ${LESSON}0001" "$HELLO 0000 0002 0003 $ack" 0 '' "$both"
+    far join 'bytes of 255' "$ACCEPTED$(repeat 200 F)" "$HELLO 0000 0100" 1 $'fault BadInteger\n' turns
+    for ((length = 0; length <= 42; length++)); do
+        wanted="$HELLO 0000" rows=turns
+        [ "$length" -lt 29 ] || { wanted+=' 0A84050100000001'; rows+=$'\nrow 1 END 7 5'; }
+        [ "$length" -lt 42 ] || { wanted=${wanted%1}2; rows+=$'\nrow 1 END 8 240'; }
+        far join "a lesson that ends after $length bytes" "$ACCEPTED${LESSON:0:2 * length} end" "$wanted" 0 '' "$rows"
+    done
+}
+
+# What a node that serves is told in place of a hello.
+far_hellos() {
+    local length text rows=$'turns\nrow 1 END 7 5\nrow 1 END 8 240'
+    for ((length = 0; length < 21; length++)); do
+        far serve "a hello that ends after $length bytes" "${HELLO:0:2 * length} end" '' 0 '' "$rows"
+    done
+    far serve 'resets in its hello' "${HELLO:0:20} pause reset" '' 4 $'device\n' ''
+    for text in 'haproxys 2.1\nb\na 1 1\n' 'HAProxyS\nb\na 1 1\n' 'HAProxyS 2.1\nb\na 1\n' 'HAProxyS 2.1\nb\na 1 x\n' 'HAProxyS 2.1\nb\n 1 1\n' \
+        'HAProxyS 2.1\nb\na 1 1 1\n' '\n\n\n' "HAProxyS 2.1\nb\n$(repeat 256 a) 1 1\n" "$(repeat 513 H)" '\0\0\n\n\n'; do
+        far serve "no hello: ${text:0:40}" "$(hex "$text")" "$(hex '501\n')" 0 '' "$rows"
+    done
+    for text in 'HAProxyS 2.0\nb\na 1 1\n' 'HAProxyS 3.1\nb\na 1 1\n' 'HAProxyS  2.1\nb\na 1 1\n' 'HAProxyS 2.10\nc\nc 1 1\n'; do
+        far serve "another version: $text" "$(hex "$text")" "$(hex '502\n')" 0 '' "$rows"
+    done
+    for text in 'HAProxyS 2.1\n\na 1 1\n' 'HAProxyS 2.1\nbb\na 1 1\n' "HAProxyS 2.1\n$(repeat 512 b)\nc 1 1\n"; do
+        far serve "another name: ${text:0:40}" "$(hex "$text")" "$(hex '503\n')" 0 '' "$rows"
+    done
+    far serve 'no peer' "$(hex 'HAProxyS 2.1\nb\nb 1 1\n')" "$(hex '504\n')" 0 '' "$rows"
+    far serve 'a hello with CR' "$(hex 'HAProxyS 2.1\r\nb\r\na 1 1\r\n')0100" "$ACCEPTED" 0 '' "$rows"
+    far serve 'a hello in pieces' "${HELLO:0:8} pause ${HELLO:8:20} pause ${HELLO:28}0100" "$ACCEPTED" 0 '' "$rows"
+}
+
+# What it is told once it let the far side in, and has taught it its rows. They are taught in the second turn and those after it,
+# and each turn is a millisecond after the one before.
+far_requests() {
+    local rows=$'turns\nrow 1 END 7 5\nrow 1 END 8 240' ack=0A84050100000002
+    local taught=${ACCEPTED}${LESSON//7530/752E} again=0A850D000000010000752B00000007050A860A0000752B00000008F000
+    far serve 'a resync' "${HELLO}0000 <46 $ack <2 0003 end" "$taught 0001" 0 '' "$rows"
+    far serve 'a resync that is read late' "${HELLO}0000 pause pause <46 $ack <2 0003 end" "$taught 0001" 0 '' "$rows"
+    far serve 'leaves in a resync' "${HELLO}0000 <46 leave" "$taught" 0 '' "$rows"
+    far serve 'resets in a resync' "${HELLO}0000 <46 reset" "$taught" 4 $'device\n' ''
+    far serve 'reads nothing of a resync' "${HELLO}0000 pause leave" '' 4 $'device\n' ''
+    far serve 'an acknowledgement ahead' "${HELLO}0000 <46 0A84050100000003" "$taught 0100" 0 '' "$rows"
+    far serve 'acknowledgements of a stranger, of a part, and twice' \
+        "${HELLO}0000 <46 0A840509000000090A840501000000010A84050100000001 pause $ack <2 ${ack}0003 end" "$taught 0001" 0 '' "$rows"
+    far serve 'a request in a resync' "${HELLO}0000 <46 0000 pause $ack <29 $ack <2 0003 end" "$taught $again 0001" 0 '' "$rows"
+    far serve 'a fault in a resync' "${HELLO}0000 <46 0A830109" "$taught 0100" 1 $'fault NoTable\n' "$rows"
+    far serve 'an error message in a resync' "${HELLO}0000 <46 0101" "$taught" 0 '' "$rows"
+    far serve 'bytes of 255' "$HELLO$(repeat 200 F)" "$ACCEPTED 0100" 1 $'fault BadInteger\n' "$rows"
+}
+
+# A far side that asks for a resync and then reads nothing, until it leaves: its lesson has 4 MB, which is more than a connection with a
+# narrow far side holds, so that a write of the node waits, and then fails.
+far_that_stops_reading() {
+    awk 'BEGIN {
+        for (i = 0; i < 8180; i++) long = long "k"
+        print "table 1 t1 string 8192 0 gpc0"
+        for (i = 1; i <= 512; i++) print "update 1 " i " 0 =" long i " 5"
+    }' >"$scratch/served"
+    far serve 'stops reading' "narrow ${HELLO}0000 <4 pause pause pause pause pause leave" "$ACCEPTED" 4 $'device\n' ''
+    cp examples/two-updates.scene "$scratch/served"
+}
+
+# Each stream of examples/faults.tsv, sent to both nodes: none acknowledges what it learned before a fault of the same bytes.
+far_faults() {
+    local before= rows= acks= fault why bytes more last wanted id number line ending
+    while IFS=$'\t' read -r fault why bytes more last; do
+        case $fault in
+            '' | '#'*) continue ;;
+            scene) printf '%b' "$why" >"$scratch/served"; continue ;;
+            before)
+                before=${bytes#-}
+                rows=$(printf 'turns\n%b' "${more#-}" | without_moments -)
+                acks=$(printf '%b' "${last#-}" | while read -r _ id number; do printf '0A8405%02X%08X' "$id" "$number"; done)
+                continue ;;
+        esac
+        bytes=$before$bytes wanted=0100 line="fault $fault"$'\n' ending=1
+        case $fault in
+            SizeLimit) wanted=0101 ;;
+            none) wanted=$acks line= ending=0 ;;
+        esac
+        far join "$fault: $why" "$ACCEPTED${bytes// /} end" "$HELLO 0000 $wanted" "$ending" "$line" "$rows"
+        far serve "$fault: $why" "$HELLO${bytes// /} end" "$ACCEPTED $wanted" "$ending" "$line" "$rows"
+    done <examples/faults.tsv
+}
+
+# The far side's hello and that of `join` are the same bytes here: each has a peer of the other's name.
+far_sides() {
+    local HELLO ACCEPTED LESSON=0A820A01027431020404F0C40D0A850D000000010000753000000007050A860A0000753000000008F000
+    HELLO=$(hex 'HAProxyS 2.1\nb\na 1 1\n')
+    ACCEPTED=$(hex '200\n')
+    coproc FAR { far_side; }
+    far_answers
+    far_lessons
+    far_hellos
+    far_requests
+    far_that_stops_reading
+    far_faults
+    kill "$FAR_PID"
+    wait "$FAR_PID" 2>/dev/null
+}
+
+two_nodes() {
+    local port server joiner served joined words
+    cp examples/two-updates.scene "$scratch/served"
+    printf 'row 1 4294997296 7 5\nrow 1 4294997296 8 240\n' >"$scratch/two.rows"
+    both_orders "$scratch/two"
+    cp examples/nodes/all-kinds.scene "$scratch/served"
+    both_orders examples/nodes/all-kinds
+    { echo 'table 1 t1 integer 4 0 gpc0'; repeat_lines 512 'update 1 1 0 %d 5'; } >"$scratch/served"
+    awk 'BEGIN { for (i = 0; i < 512; i++) printf "row 1 - %d 5\n", i }' >"$scratch/many.rows"
+    both_orders "$scratch/many"
+    strangers
+    cp examples/two-updates.scene "$scratch/served"
+    port=$(free_port)
+    run join --turns 5 --port "$port" --name a --peer b <examples/two-updates.scene
+    ends 'join: nobody listens' 4 '' $'device\n'
+    run join --peer=- --name=--x --port="$port" --turns=5 -- <examples/two-updates.scene
+    ends 'join: options in another order' 4 '' $'device\n'
+    start serve "$port" 5
+    listens "$port" || fail "nobody listens at port $port"
+    run serve --turns 5 --port "$port" --name b --peer a <examples/two-updates.scene
+    ends 'serve: the port is taken' 4 '' $'device\n'
+    kill "$server"
+    wait "$server" 2>/dev/null
+    run serve --turns 5 --port "$port" --name b --peer a </dev/null
+    ends 'serve: no table' 1 '' $'scene: refused\n'
+    refuses '?*' : serve
+    refuses '?*' : serve --turns 0 --port 1 --name b --peer a
+    refuses '?*' : serve --turns 1000001 --port 1 --name b --peer a
+    refuses '?*' : join --turns 1 --port 0 --name a --peer b
+    refuses '?*' : join --turns 1 --port 65536 --name a --peer b
+    refuses '?*' : join --turns 1 --port 1 --name a
+    refuses '*name*' : join --turns 1 --port 1 --name '' --peer b
+    refuses '*name*' : join --turns=1 --port=1 --name=a --peer=
+    refuses '*name*' : join --turns 1 --port 1 --name "$(repeat 256 n)" --peer b
+    refuses '?*' : join --turns 1 --port 1 --name --x --peer b
+    refuses '*--port*' : join --turns 1 --port 1 --name a --peer b --port 1
+    refuses '*more*' : serve --turns 1 --port 1 --name b --peer a more
+    refuses '*--turns*' : serve --help
+    refuses '*--turns*' : join --turns=0 --port=1 --name=a --peer=b
+    refuses '*--turns*' : join --turns=1000001 --port=1 --name=a --peer=b
+    refuses '*--port*' : serve --turns=1 --port=0 --name=a --peer=b
+    refuses '*--port*' : serve --turns=1 --port=65536 --name=a --peer=b
+    refuses '*--turns*' : serve --port=1 --name=a --peer=b
+    refuses '*--port*' : serve --turns=1 --name=a --peer=b
+    refuses '*--name*' : serve --turns=1 --port=1 --peer=b
+    refuses '*--peer*' : serve --turns=1 --port=1 --name=a
+    refuses '*--name*' : join --name=a --turns 1 --port 1 --name=b --peer=b
+    refuses '*--peer*' : join --peer=a --turns 1 --port 1 --peer b --name=b
+    refuses '*-b*' : join --turns 1 --port 1 --name a --peer -b
+    refuses '*--threads*' : join --turns 1 --port 1 --name a --peer b --threads 1
+    refuses '?*' : join --turns 1 --port 1 --name a --peer b -- --
+    refuses '?*' : join --turns 1 --port 1 --name a --peer --
+    for words in '--turns 5 --port PORT --name a --peer b' '--peer b --name a --port PORT --turns 5' '--turns=5 --port=PORT --name=a --peer=b' \
+        '--port PORT --turns=+5 --peer=b --name a --' '--name=a=b --peer = --turns 5 --port PORT' '--name - --peer --peer= --turns 5'; do
+        case $words in
+            *PORT*) joins_nobody ${words//PORT/$port} ;;
+            *) refuses '?*' : join $words ;;
+        esac
+    done
+}
+
+# joins_nobody WORD..: a command line of join, at whose port nobody listens.
+joins_nobody() {
+    run join "$@" <examples/two-updates.scene
+    ends "the command line 'join $*'" 4 '' $'device\n'
+}

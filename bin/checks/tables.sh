@@ -1,0 +1,110 @@
+# Checks of the subcommands that change a table: scripts and rounds. They stand in a file of their own, which bin/test reads.
+
+# --- Scripts
+
+answers_of() {
+    run table <"$1.script"
+    slurp "$1.answers"
+    ends "table of $1.script" 0 "$text" ''
+}
+
+# No file of answers may be without its script.
+scripts() {
+    local file name
+    for file in examples/scripts/*; do
+        name=${file%.*}
+        case $file in
+            *.script) needs "$file" "$name.answers"; answers_of "$name" ;;
+            *.answers) needs "$file" "$name.script" ;;
+            *) fail "$file is no part of an example" ;;
+        esac
+    done
+}
+
+short_scripts() {
+    local begin= answer lines
+    while IFS=$'\t' read -r answer lines; do
+        case $answer in
+            '' | '#'*) continue ;;
+            begin) begin=${lines#-}; continue ;;
+        esac
+        [ "$lines" != - ] || lines=
+        printf '%b' "$begin$lines" >"$scene"
+        answers table "$answer" "$begin$lines"
+    done <examples/script-lines.tsv
+}
+
+# A million changes of one row, in 1 GB: their answers are counted, and the last of all answers are shown.
+last_of_a_million() {
+    in_kilobytes 1048576 table >"$scratch/answers" && wc -l <"$scratch/answers" && tail -n 9 "$scratch/answers"
+}
+
+# A history of 1,000,000 events is full. Each of its events can be read. The script takes at most 10 s.
+million_tracks() {
+    local began took
+    { echo 'table 1 t1 integer 4 30000 gpc0'
+        repeat_lines 1000001 'track 0 4294967296 1 add gpc0 1'
+        printf '%s\n' 'open 1' 'purge 4294967296' events rows 'event 1000000' 'event 1000001'; } >"$scene"
+    began=${EPOCHREALTIME/./}
+    keep last_of_a_million <"$scene"
+    took=$((${EPOCHREALTIME/./} - began))
+    ends 'table of a script of 1,000,001 changes' 0 "1000008
+reply 1000000 4294997296 1 1000000 local
+HistoryFull
+HistoryFull
+HistoryFull
+events 1000000 room 0
+rows 1
+row 1000000 4294997296 1 1000000 local
+track 0 4294967296 1 add gpc0 1 = reply 1000000 4294997296 1 1000000 local
+none
+" ''
+    if [ "$took" -le 10000000 ]; then pass; else fail "1,000,001 changes took $took microseconds"; fi
+}
+
+# --- Rounds
+
+# round_of THREADS TRACKS: the row of each thread has counted what it tracked.
+round_of() {
+    run round --threads "$1" --tracks "$2"
+    ends "a round of $1 threads that track $2 times" 0 "$(
+        echo 'audit ok'
+        for ((key = 1; key <= $1; key++)); do echo "row 1 - $key $2"; done)"$'\n' ''
+}
+
+# A round of three threads that track 1,000 times each takes less than a second.
+quick_round() {
+    local began=${EPOCHREALTIME/./} took
+    round_of 3 1000
+    took=$((${EPOCHREALTIME/./} - began))
+    if [ "$took" -lt 1000000 ]; then pass; else fail "a round of 3 threads that track 1000 times took $took microseconds"; fi
+}
+
+# A round with 2 MB less each time, until the program can't be loaded any more: it is whole, no thread is to be had, or memory
+# lacks. The first two come.
+round_in_less_and_less() {
+    local kilobytes whole=0 threadless=0
+    for ((kilobytes = 131072; kilobytes > 0; kilobytes -= 2048)); do
+        keep in_kilobytes "$kilobytes" round --threads 2 --tracks 3
+        case $status in
+            0) whole=$((whole + 1)); ends "a round in $kilobytes KB" 0 $'audit ok\nrow 1 - 1 3\nrow 1 - 2 3\n' '' ;;
+            4) threadless=$((threadless + 1)); ends "a round in $kilobytes KB" 4 '' $'device\n' ;;
+            127) break ;;
+            *) ends "a round in $kilobytes KB" 3 '' $'memory\n' ;;
+        esac
+    done
+    if [ "$whole" -gt 0 ] && [ "$threadless" -gt 0 ]; then pass; else fail "a round in less and less memory: $whole whole, $threadless without a thread"; fi
+}
+
+rounds() {
+    local times
+    round_of 2 3
+    round_of 1 1
+    for ((times = 0; times < 10; times++)); do round_of 8 1000; done
+    quick_round
+    run round --tracks=3 --threads=2
+    ends 'a round with the options the other way round' 0 $'audit ok\nrow 1 - 1 3\nrow 1 - 2 3\n' ''
+    round_in_less_and_less
+    keep output_is_full round --threads 2 --tracks 3
+    ends 'a round: standard output is full' 4 '' $'device\n'
+}
