@@ -275,6 +275,7 @@ far_lessons() {
     far join 'messages that ask for nothing' "${ACCEPTED}000400030502474505800200FF$LESSON end" "$HELLO 0000 $ack" 0 '' "$both"
     far join 'acknowledgements of nothing' "${ACCEPTED}0A840501000000090A840501000000090A84050900000001$LESSON end" "$HELLO 0000 $ack" 0 '' "$both"
     far join 'a request before a lesson' "${ACCEPTED}0000 <25 ${LESSON}0001" "$HELLO 0000 0002 0003 $ack" 0 '' "$both"
+    far join 'a request in a lesson' "$ACCEPTED${LESSON:0:58}0000${LESSON:58} end" "$HELLO 0000 $ack ${LESSON//7530/752F}" 0 '' "$both"
     far join 'bytes of 255' "$ACCEPTED$(repeat 200 F)" "$HELLO 0000 0100" 1 $'fault BadInteger\n' turns
     for ((length = 0; length <= 42; length++)); do
         wanted="$HELLO 0000" rows=turns

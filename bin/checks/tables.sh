@@ -62,6 +62,23 @@ none
     if [ "$took" -le 10000000 ]; then pass; else fail "1,000,001 changes took $took microseconds"; fi
 }
 
+# The answer to the last of a million changes of as many rows, in 1 GB, how many answers there are, and how many events.
+last_of_as_many_rows() {
+    in_kilobytes 1048576 table >"$scratch/answers" && wc -l <"$scratch/answers" && tail -n 2 "$scratch/answers"
+}
+
+# A table of 1,000,000 rows, each with a key of its own.
+million_rows() {
+    { echo 'table 1 t1 integer 4 30000 gpc0'
+        repeat_lines 1000000 'track 0 4294967296 %d add gpc0 1'
+        echo events; } >"$scene"
+    keep last_of_as_many_rows <"$scene"
+    ends 'table of a script of 1,000,000 rows' 0 "1000001
+reply 1000000 4294997296 999999 1 local
+events 1000000 room 0
+" ''
+}
+
 # --- Rounds
 
 # round_of THREADS TRACKS: the row of each thread has counted what it tracked.
