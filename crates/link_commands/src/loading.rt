@@ -15,9 +15,6 @@ use table_types::{Memory, Moment, TableDef, Update};
 /// The number of the node's session in its tables.
 pub(crate) const SESSION: u32 = 1;
 
-/// How many rows a table keeps at most.
-const MOST_ROWS: usize = 1_000_000;
-
 /// Why a table can't be opened to the session. A new one refuses it for want of memory alone.
 fn open_ending(error: OpenError) -> Ending
     ensures { IsEarly result }
@@ -43,7 +40,7 @@ fn open_cell(alloc: Global, definition: TableDef) -> Result<TableCell, Ending>
     ensures opened { IfOk result (λ cell. Opens (new_cell definition 1000000 false 1) 1 (Ok tt) cell) }
     ensures early { IfErr result IsEarly }
 {
-    let mut cell = TableCell::new(alloc, definition, MOST_ROWS, false, 1)?;
+    let mut cell = TableCell::new(alloc, definition, TableCell::MOST_ROWS, false, 1)?;
     match cell.open_session(SESSION) {
         Ok(()) => Ok(cell),
         Err(error) => Err(open_ending(error)),

@@ -14,9 +14,6 @@ pub(crate) const TABLE: u64 = 1;
 /// The one session of the table.
 pub(crate) const SESSION: u32 = 1;
 
-/// The most rows that the table has.
-const SIZE: usize = 1_000_000;
-
 /// The definition of the table: `t1`, of integers, with gpc0, whose rows have no end.
 pub(crate) fn definition(alloc: Global) -> Result<TableDef, RoundFailure>
     ensures { IfOk result (λ definition. definition.id ≡ 1) }
@@ -38,5 +35,6 @@ pub(crate) fn roster(alloc: Global) -> Result<Roster, RoundFailure> {
 pub(crate) fn new_table(alloc: Global) -> Result<TableCell, RoundFailure>
     ensures { IfOk result (λ cell. begun cell ≡ (1, 0)) }
 {
-    Ok(TableCell::new(alloc, definition(alloc)?, SIZE, false, 1)?)
+    let most = TableCell::MOST_ROWS;
+    Ok(TableCell::new(alloc, definition(alloc)?, most, false, 1)?)
 }

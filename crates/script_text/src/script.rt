@@ -5,6 +5,7 @@ ghost use Rattle.script_text.specs.Scripts.{IsLineOf, IsScript, line_count};
 use crate::calls::{Call, call_of};
 use line_words::{LineError, SceneError, cut, number_from_one, set_once, table_of, words_of};
 use std::alloc::Global;
+use table_cell::TableCell;
 use table_types::TableDef;
 
 /// What a script says.
@@ -130,7 +131,7 @@ impl Script {
         }
         match (kind, words) {
             (b"size", [size]) => {
-                let size = number_from_one(size, 1_000_000).ok_or(LineError::Refused)?;
+                let size = number_from_one(size, TableCell::MOST_ROWS as u32).ok_or(LineError::Refused)?;
                 set_once(&mut self.size, size)
             }
             (b"first", [first]) => {

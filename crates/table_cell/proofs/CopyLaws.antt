@@ -3,7 +3,7 @@ use Rattle.std.proofs.Common.{◌≡◌, ℕ, zero, suc, Bool, true, false, List
 use Rattle.std.specs.Prelude.{filter, is_some, map, option_map, slice_get, take, nat_eq, nat_lt, Result, Ok, Err, IfErr, IsOk, if◌then◌else◌, ◌==◌}
 use Rattle.table_types.specs.declared.key.Key.{Key}
 use Rattle.table_types.specs.Rows.{StoredRow}
-use Rattle.table_cell.specs.Telling.{update_of}
+use Rattle.table_cell.specs.Copying.{update_of}
 use Rattle.std.proofs.lemmas.Bool.{cond-true, cond-false}
 use Rattle.table_types.specs.declared.update.Update.{Update}
 use Rattle.table_types.specs.declared.copies.CopyKind.{CopyKind}
@@ -71,7 +71,7 @@ pub none_mapped : {A B : Type 0} (f : A → B) (o : Option A) → is_some o ≡ 
 none_mapped f None none = refl
 none_mapped f (Some a) none = absurd (true≢false none)
 
--- nothing is told of
+-- nothing is copied
 pub nothing_unacked : (s : TableState) (session : ℕ) (kind : CopyKind) (now limit : ℕ) (progress : Progress) → progress_of session s ≡ Some progress
     → slice_get (filter (is_unacked kind progress.acknowledged now) s.rows) 0 ≡ None → nat_eq (length (unacked s session kind now limit)) 0 ≡ true
 nothing_unacked s session kind now limit progress at none =

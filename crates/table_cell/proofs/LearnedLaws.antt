@@ -9,7 +9,7 @@ use Rattle.table_types.specs.Keys.{key_cmp}
 use Rattle.table_types.specs.Rows.{StoredRow}
 use Rattle.table_types.specs.declared.copies.CopyKind.TheVariants as kinds
 use Rattle.table_rows.specs.Rows.{IsFirstToEnd, is_live}
-use Rattle.table_cell.specs.Machine.{TableState, Leaves, has_room, is_told, is_unacked, without}
+use Rattle.table_cell.specs.Machine.{TableState, Leaves, has_room, is_copied, is_unacked, without}
 use Rattle.table_cell.specs.Soundness.{NumbersRise}
 use Rattle.table_cell.specs.Cells.{IsLearnedRun, IsLearnedWithin, last_learned}
 use Rattle.table_cell.proofs.RowsLaws.{all_end, all_filter, all_so, rise_bound, rise_each}
@@ -79,16 +79,16 @@ one_passed : (after last number now : ℕ) (e : Key × StoredRow) → after ≤ 
 one_passed after last number now e from below learned = elim (cases_Bool (nat_lt last e.1.number)) [
   | inl past ↦
       let over : nat_lt number e.1.number ≡ true = lt-ltb number e.1.number (omega (arith, below, ltb-true last e.1.number past)) in
-      ap (λ b. b && is_told kinds.Push e.1 && is_live now e.1) (over ∙ sym past)
-  | inr within ↦ none within ∙ sym (ap (λ b. b && is_told kinds.Push e.1 && is_live now e.1) within)
+      ap (λ b. b && is_copied kinds.Push e.1 && is_live now e.1) (over ∙ sym past)
+  | inr within ↦ none within ∙ sym (ap (λ b. b && is_copied kinds.Push e.1 && is_live now e.1) within)
 ]
   where
     none : nat_lt last e.1.number ≡ false → is_unacked kinds.Push number now e ≡ false
     none within = elim (cases_Bool (nat_lt number e.1.number)) [
       | inl over ↦
           let is : e.1.learned ≡ true = learned (omega (arith, from, ltb-true number e.1.number over)) (ltb-false last e.1.number within) in
-          ap (λ b. b && is_told kinds.Push e.1 && is_live now e.1) over ∙ ap (λ b. true && not b && is_live now e.1) is
-      | inr under ↦ ap (λ b. b && is_told kinds.Push e.1 && is_live now e.1) under
+          ap (λ b. b && is_copied kinds.Push e.1 && is_live now e.1) over ∙ ap (λ b. true && not b && is_live now e.1) is
+      | inr under ↦ ap (λ b. b && is_copied kinds.Push e.1 && is_live now e.1) under
     ]
 
 -- a push begins as well at the end of the run

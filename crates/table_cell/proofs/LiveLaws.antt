@@ -53,8 +53,8 @@ one_past now key row (e ∷ es) at ended = elim (cases_Bool (is_eq (key_cmp key 
     later true ended_later = ended_later
     later false ended_later = refl
 
-pub first_tells : (now : ℕ) (key : Key) (row : StoredRow) (rows : List (Key × StoredRow)) → IsFirstToEnd rows key → row_at key rows ≡ Some row → is_live now row ≡ list_all (λ e. is_live now e.1) rows
-first_tells now key row rows (first, at, order) found = elim (cases_Bool (is_live now row)) [
+pub first_answers : (now : ℕ) (key : Key) (row : StoredRow) (rows : List (Key × StoredRow)) → IsFirstToEnd rows key → row_at key rows ≡ Some row → is_live now row ≡ list_all (λ e. is_live now e.1) rows
+first_answers now key row rows (first, at, order) found = elim (cases_Bool (is_live now row)) [
   | inl live ↦ live ∙ sym (all_past now key row rows (subst (λ (r : StoredRow). AllByRecursion (λ (e : Key × StoredRow). is_gt (end_cmp (key, r) e) ≡ false) rows) (same_some first row (sym at ∙ found)) order) live)
   | inr ended ↦ ended ∙ sym (one_past now key row rows found ended)
 ]

@@ -26,8 +26,8 @@ use Rattle.table_cell.specs.declared.errors.AckError.TheVariants as unacknowledg
 use Rattle.std.specs.Ordering.{is_eq}
 use Rattle.std.proofs.lemmas.List.{length-append}
 use Rattle.table_types.specs.Keys.{key_cmp}
-use Rattle.table_cell.specs.Telling.{update_of}
-use Rattle.table_cell.specs.Machine.{TableState, Step, without, has_row, has_room, Leaves, stored, tracked, learned, if_live, live_row, progress_of, with_progress, no_progress, is_unacked, is_told, acknowledged_by, unacked, last_number, copied, acknowledging, is_of_table, copy_refusal, ack_refusal, is_out}
+use Rattle.table_cell.specs.Copying.{update_of}
+use Rattle.table_cell.specs.Machine.{TableState, Step, without, has_row, has_room, Leaves, stored, tracked, learned, if_live, live_row, progress_of, with_progress, no_progress, is_unacked, is_copied, acknowledged_by, unacked, last_number, copied, acknowledging, is_of_table, copy_refusal, ack_refusal, is_out}
 use Rattle.table_cell.specs.Histories.{Replays, new_table}
 use Rattle.table_cell.specs.Soundness.{CellsFit, EntryFits, NumbersRise, KeysDiffer, IsProgressBelow, IsTimely, AreTimely, IsSound}
 use Rattle.table_cell.proofs.RowsLaws.{some_none, not_false, all_filter, all_end, all_so, filter_shorter, rise_filter, rise_end, rise_bound, without_none, differ_filter, differ_end, without_shorter}
@@ -209,8 +209,8 @@ between_unacked d kind low now a next (e ∷ es) (first, rise) =
     let bound = rise_bound (e.1.number + 1) next es rise in
     cond_both (is_unacked kind low now e) (e ∷ filter (is_unacked kind low now) es) (filter (is_unacked kind low now) es) (λ (l : List (Key × StoredRow)). AllByRecursion (IsBetween low next) (map (update_of d now) l))
     (λ due.
-    let parts = and_parts (nat_lt low e.1.number && is_told kind e.1) (is_live now e.1) due in
-    let above = ltb-true low e.1.number ((and_parts (nat_lt low e.1.number) (is_told kind e.1) parts.0).0) in
+    let parts = and_parts (nat_lt low e.1.number && is_copied kind e.1) (is_live now e.1) due in
+    let above = ltb-true low e.1.number ((and_parts (nat_lt low e.1.number) (is_copied kind e.1) parts.0).0) in
     ((above, omega arith), rest))
     (λ _. rest)
 
@@ -304,8 +304,8 @@ ack_granted s session number granted = by (progress_of session s) refl
         (progress, at, ltb-false progress.taught number c.0)
 
 acknowledged_below : (next session number : ℕ) (progress : Progress) → number ≤ progress.taught → progress.acknowledged ≤ progress.taught → progress.taught < next → IsProgressBelow next (session, acknowledging number progress)
-acknowledged_below next session number progress told order below =
-    cond_both (nat_le number progress.acknowledged) progress (record progress { acknowledged = number }) (λ (m : Progress). IsProgressBelow next (session, m)) (λ _. (order, below)) (λ _. (told, below))
+acknowledged_below next session number progress sent order below =
+    cond_both (nat_le number progress.acknowledged) progress (record progress { acknowledged = number }) (λ (m : Progress). IsProgressBelow next (session, m)) (λ _. (order, below)) (λ _. (sent, below))
 
 pub step_sound : (s e : TableState) (event : CellEvent) (reply : CellReply) → IsTimely event → IsSound s → Step s event reply e → IsSound e
 step_sound s e (events.Track seat key change now) reply timely sound (granted, rest, leaves, answer, is) =

@@ -7,22 +7,22 @@ use Rattle.table_types.specs.declared.key.Key.{Key}
 use Rattle.table_types.specs.Rows.{StoredRow}
 use Rattle.table_types.specs.declared.copies.CopyKind.{CopyKind}
 use Rattle.table_rows.specs.Rows.{is_live}
-use Rattle.table_cell.specs.Machine.{is_told, is_unacked}
+use Rattle.table_cell.specs.Machine.{is_copied, is_unacked}
 
--- a copy of that kind at that moment tells of the row
+-- a copy of that kind at that moment has the row
 abbrev pub is_due : CopyKind → ℕ → Key × StoredRow → Bool
-is_due kind now e = is_told kind e.1 && is_live now e.1
+is_due kind now e = is_copied kind e.1 && is_live now e.1
 
 abbrev pub is_above : ℕ → Key × StoredRow → Bool
 is_above n e = nat_lt n e.1.number
 
 above_is : (kind : CopyKind) (n now : ℕ) (e : Key × StoredRow) → nat_lt n e.1.number ≡ true → is_unacked kind n now e ≡ is_due kind now e
-above_is kind n now e above = ap (λ b. b && is_told kind e.1 && is_live now e.1) above
+above_is kind n now e above = ap (λ b. b && is_copied kind e.1 && is_live now e.1) above
 
 below_is : (kind : CopyKind) (n now : ℕ) (e : Key × StoredRow) → nat_lt n e.1.number ≡ false → is_unacked kind n now e ≡ false
-below_is kind n now e below = ap (λ b. b && is_told kind e.1 && is_live now e.1) below
+below_is kind n now e below = ap (λ b. b && is_copied kind e.1 && is_live now e.1) below
 
--- what is told of the rows above a number
+-- what is copied of the rows above a number
 pub due_above : (kind : CopyKind) (n now : ℕ) (rows : List (Key × StoredRow)) → filter (is_due kind now) (filter (is_above n) rows) ≡ filter (is_unacked kind n now) rows
 due_above kind n now [] = refl
 due_above kind n now (x ∷ xs) = elim (cases_Bool (nat_lt n x.1.number)) [
@@ -44,7 +44,7 @@ due_above kind n now (x ∷ xs) = elim (cases_Bool (nat_lt n x.1.number)) [
       ∙ sym (cond-false (is_unacked kind n now x) (x ∷ filter (is_unacked kind n now) xs) (filter (is_unacked kind n now) xs) (below_is kind n now x below))
 ]
 
--- the next row, where it is told of and where it isn't
+-- the next row, where it is copied and where it isn't
 pub next_due : (kind : CopyKind) (now : ℕ) (e : Key × StoredRow) (all rest : List (Key × StoredRow)) → all ≡ e ∷ rest → is_due kind now e ≡ true → filter (is_due kind now) all ≡ e ∷ filter (is_due kind now) rest
 next_due kind now e all rest is due = ap (filter (is_due kind now)) is ∙ cond-true (is_due kind now e) (e ∷ filter (is_due kind now) rest) (filter (is_due kind now) rest) due
 
@@ -64,8 +64,8 @@ one_more f done limit e all rest is more =
 
 pub one_done : {A B : Type 0} (f : A → B) (done more x : List B) (limit : ℕ) (e : A) (b : B) (all rest : List A) → more ≡ done ++ b ∷ [] → b ≡ f e → all ≡ e ∷ rest → length done < limit
     → done ++ take (limit - length done) (map f all) ≡ x → more ++ take (limit - length more) (map f rest) ≡ x
-one_done {B = B} f done more x limit e b all rest longer told is below before =
-    let this : more ≡ done ++ f e ∷ [] = longer ∙ ap (λ (y : B). done ++ y ∷ []) told in
+one_done {B = B} f done more x limit e b all rest longer same is below before =
+    let this : more ≡ done ++ f e ∷ [] = longer ∙ ap (λ (y : B). done ++ y ∷ []) same in
     ap (λ (l : List B). l ++ take (limit - length l) (map f rest)) this ∙ one_more f done limit e all rest is below ∙ before
 
 pub none_done : {A B : Type 0} (f : A → B) (done : List B) (limit : ℕ) (all rest : List A) → done ≡ [] → all ≡ rest → done ++ take (limit - length done) (map f all) ≡ take limit (map f rest)

@@ -1,4 +1,4 @@
-pub mod Telling
+pub mod Copying
 pub mod Machine
 pub mod Histories
 pub mod Soundness

@@ -14,7 +14,7 @@ use Rattle.table_types.specs.Rows.{StoredRow, row_of}
 use Rattle.table_rows.specs.Rows.{row_at, is_live, IsFirstToEnd}
 use Rattle.table_types.specs.declared.change.Change.{Change}
 use Rattle.table_types.specs.Changes.{change_fits, tracked as tracked_row}
-use Rattle.table_cell.specs.Telling.{update_of}
+use Rattle.table_cell.specs.Copying.{update_of}
 use Rattle.table_types.specs.declared.copies.CopyKind.{CopyKind}
 use Rattle.table_types.specs.declared.copies.CopyKind.TheVariants as kinds
 use Rattle.table_types.specs.declared.copies.Settled.{Settled}
@@ -116,13 +116,13 @@ with_progress session f (e ∷ es) = if e.0 == session then (e.0, f e.1) ∷ es 
 -- ---- copies
 
 -- a push tells of the rows that aren't learned, and a resync of all
-abbrev pub is_told : CopyKind → StoredRow → Bool
-is_told kinds.Push row = not row.learned
-is_told kinds.Resync row = true
+abbrev pub is_copied : CopyKind → StoredRow → Bool
+is_copied kinds.Push row = not row.learned
+is_copied kinds.Resync row = true
 
 -- what a session has not acknowledged of that kind
 abbrev pub is_unacked : CopyKind → ℕ → ℕ → Key × StoredRow → Bool
-is_unacked kind number now e = nat_lt number e.1.number && is_told kind e.1 && is_live now e.1
+is_unacked kind number now e = nat_lt number e.1.number && is_copied kind e.1 && is_live now e.1
 
 -- the rows that a session has not acknowledged, in rising number, as updates, and no more than the limit
 abbrev pub unacked : TableState → ℕ → CopyKind → ℕ → ℕ → List Update

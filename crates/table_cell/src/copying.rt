@@ -8,20 +8,21 @@ ghost use Rattle.table_types.specs.Tables.{has_its_period, is_definition};
 ghost use Rattle.table_types.specs.Updates.{value_fits};
 ghost use Rattle.table_types.specs.Rotation.{turned};
 ghost use Rattle.table_rows.specs.Rows.{is_live};
-ghost use Rattle.table_cell.specs.Machine.{is_told, is_unacked, last_number};
+ghost use Rattle.table_cell.specs.Machine.{is_copied, is_unacked, last_number};
 ghost use Rattle.table_cell.specs.Soundness.{CellsFit, EndFits, EntryFits, IsSound};
-ghost use Rattle.table_cell.specs.Telling.{life_left, update_of, value_of, values_of};
+ghost use Rattle.table_cell.specs.Copying.{life_left, update_of, value_of, values_of};
 
-use crate::table::{Table, is_live};
+use crate::table::Table;
 use std::alloc::Global;
+use table_rows::is_live;
 use table_types::{
     Cell, CopyKind, DataType, Items, Key, Memory, Moment, Row, Shape, TableDef, Update, Value,
     rotate,
 };
 
-/// Whether a copy of that kind tells of a row.
-fn is_told(kind: CopyKind, row: &Row) -> bool
-    ensures { result ≡ is_told kind row.now }
+/// Whether a copy of that kind has a row.
+fn is_copied(kind: CopyKind, row: &Row) -> bool
+    ensures { result ≡ is_copied kind row.now }
 {
     match kind {
         CopyKind::Push => !row.is_learned(),
@@ -29,11 +30,11 @@ fn is_told(kind: CopyKind, row: &Row) -> bool
     }
 }
 
-/// Whether a copy of that kind at a moment tells of a row.
-fn tells_of(kind: CopyKind, row: &Row, now: Moment) -> bool
-    ensures { result ≡ (is_told kind row.now && is_live now row.now) }
+/// Whether a copy of that kind at a moment has a row.
+fn is_copied_at(kind: CopyKind, row: &Row, now: Moment) -> bool
+    ensures { result ≡ (is_copied kind row.now && is_live now row.now) }
 {
-    is_told(kind, row) && is_live(row, now)
+    is_copied(kind, row) && is_live(row, now)
 }
 
 /// The cell at a moment, if it is a rate that has a period.
@@ -46,7 +47,7 @@ fn turned(cell: Cell, period: Option<u32>, now: Moment) -> Cell
     }
 }
 
-/// The value that tells of a cell, which isn't older than a value can tell.
+/// The value of a cell, in an update at a moment; its period began no longer ago than a value can say.
 fn value_of(cell: Cell, now: Moment) -> Value
     requires { (shape : Shape) × (value_fits shape (value_of now cell) ≡ true) }
     ensures { result ≡ value_of now cell }
@@ -101,7 +102,7 @@ fn life_left(row: &Row, expire: u32, now: Moment) -> u32
     }
 }
 
-/// What tells of a row.
+/// The update of a row at a moment.
 fn update_of(
     alloc: Global,
     definition: &TableDef,
@@ -129,7 +130,7 @@ fn update_of(
 }
 
 impl Table {
-    /// The first row above that number that a copy of that kind would tell of, in rising number. Takes no memory.
+    /// The first row above that number that a copy of that kind would have, in rising number. Takes no memory.
     pub(crate) fn first_unacked(
         &self,
         number: u32,
@@ -139,14 +140,14 @@ impl Table {
         ensures { option_map (λ e. (e.0.now, e.1.now)) result ≡ slice_get (filter (is_unacked kind number now) self.now.rows) 0 }
     {
         for (key, row) in self.stock.above(self.copy_start(kind, number)) {
-            if tells_of(kind, row, now) {
+            if is_copied_at(kind, row, now) {
                 return Some((key, row));
             }
         }
         None
     }
 
-    /// The rows above that number that a copy of that kind tells of, in rising number, and no more than `limit`.
+    /// The updates of the rows above that number that a copy of that kind has, in rising number, and no more than `limit`.
     pub(crate) fn unacked(
         &self,
         number: u32,
@@ -163,7 +164,7 @@ impl Table {
             if updates.len() >= limit {
                 break;
             }
-            if tells_of(kind, row, now) {
+            if is_copied_at(kind, row, now) {
                 updates.push(update_of(self.alloc, &self.definition, key, row, now)?)?;
             }
         }

@@ -16,7 +16,7 @@ pub struct Reply {
 }
 
 impl Reply {
-    /// The reply that tells of a row, whose number it is.
+    /// The reply to a change that made a row.
     pub(crate) fn of(alloc: Global, row: &Row) -> Result<Reply, Memory>
         ensures { IfOk result (λ reply. reply ≡ reply_of row.now) }
     {
@@ -24,15 +24,6 @@ impl Reply {
             number: row.number(),
             row: row.copy(alloc)?,
         })
-    }
-
-    /// That reply twice.
-    pub(crate) fn pair_of(alloc: Global, row: &Row) -> Result<(Reply, Reply), Memory>
-        ensures { IfOk result (λ pair. (pair.0 ≡ reply_of row.now) × (pair.1 ≡ reply_of row.now)) }
-    {
-        let first = Reply::of(alloc, row)?;
-        let second = Reply::of(alloc, row)?;
-        Ok((first, second))
     }
 
     /// An equal reply.
@@ -73,7 +64,7 @@ pub enum CellEvent {
     Copy {
         /// The session.
         session: u32,
-        /// Which rows it tells of.
+        /// Which rows it has.
         kind: CopyKind,
         /// How many of them at most.
         limit: usize,

@@ -73,7 +73,7 @@ impl Table {
         }
     }
 
-    /// Above which number a copy of that kind begins where that one is acknowledged: it tells of no row between them.
+    /// Above which number a copy of that kind begins where that one is acknowledged: it has no row between them.
     pub(crate) fn copy_start(&self, kind: CopyKind, number: u32) -> u32
         ensures { (now : ℕ) → filter (is_unacked kind number now) self.now.rows ≡ filter (is_unacked kind result now) self.now.rows }
     {

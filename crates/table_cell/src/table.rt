@@ -14,7 +14,7 @@ use crate::progress::Progress;
 use crate::stock::Stock;
 use std::alloc::Global;
 use std::marker::Model;
-use table_rows::MapRows;
+use table_rows::{MapRows, is_live};
 use table_types::{Change, Key, Memory, Moment, Row, TableDef, Update};
 
 /// A stick table at a time: what it was made with, its rows, the latest moment, and the sessions that are open.
@@ -39,16 +39,6 @@ impl Model for Table {
     ghost view = { λ t. record { definition = t.definition; size = t.size; nopurge = t.nopurge; rows = t.stock.rows; next = t.stock.next; latest = t.latest; sessions = t.sessions.items } };
 
     ghost invariant = { λ t. IsLearnedRun t.learned_run.after t.learned_run.last t.stock.next t.stock.rows };
-}
-
-/// Whether a row is live at that moment.
-pub(crate) fn is_live(row: &Row, now: Moment) -> bool
-    ensures { result ≡ is_live now row.now }
-{
-    match row.ends() {
-        Some(end) => now.milliseconds() < end.milliseconds(),
-        None => true,
-    }
 }
 
 impl Table {
@@ -127,27 +117,27 @@ impl Table {
         self.stock.next() as u32
     }
 
-    /// The row that a change makes, under that number, which is the next one.
-    pub(crate) fn tracked(
-        &self,
-        number: u32,
-        key: &Key,
-        change: &Change,
-        now: Moment,
-    ) -> Result<Row, Memory>
-        requires { number ≡ self.now.next }
+    /// The row that a change makes, under the next number.
+    pub(crate) fn tracked(&self, key: &Key, change: &Change, now: Moment) -> Result<Row, Memory>
+        requires { self.now.next < 2 ^ 32 }
         ensures { IfOk result (λ row. row ≡ tracked self.now key.now change.now now) }
     {
         let live = self.live_row(key, now);
-        Row::tracked(self.alloc, &self.definition, live, change, number, now)
+        Row::tracked(self.alloc, &self.definition, live, change, self.next(), now)
     }
 
-    /// The row that an update teaches, under that number, which is the next one.
-    pub(crate) fn learned(&self, number: u32, update: &Update, now: Moment) -> Result<Row, Memory>
-        requires { number ≡ self.now.next }
+    /// The row that an update teaches, under the next number.
+    pub(crate) fn learned(&self, update: &Update, now: Moment) -> Result<Row, Memory>
+        requires { self.now.next < 2 ^ 32 }
         ensures { IfOk result (λ row. row ≡ learned self.now update.now now) }
     {
-        Row::learned_as(self.alloc, update, number, self.definition.expire(), now)
+        Row::learned_as(
+            self.alloc,
+            update,
+            self.next(),
+            self.definition.expire(),
+            now,
+        )
     }
 
     /// The key of the row that leaves where one of a new key is to be stored, if one does.

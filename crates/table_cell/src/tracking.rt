@@ -13,24 +13,6 @@ use crate::events::{CellEvent, CellReply, Reply};
 use crate::table::Table;
 use table_types::{Change, Key, Memory, Moment, Row, Update};
 
-impl Table {
-    /// The row that a change makes, under the next number.
-    fn new_tracked(&self, key: &Key, change: &Change, now: Moment) -> Result<Row, Memory>
-        requires { self.now.next < 2 ^ 32 }
-        ensures { IfOk result (λ row. row ≡ tracked self.now key.now change.now now) }
-    {
-        self.tracked(self.next(), key, change, now)
-    }
-
-    /// The row that an update teaches, under the next number.
-    fn new_learned(&self, update: &Update, now: Moment) -> Result<Row, Memory>
-        requires { self.now.next < 2 ^ 32 }
-        ensures { IfOk result (λ row. row ≡ learned self.now update.now now) }
-    {
-        self.learned(self.next(), update, now)
-    }
-}
-
 /// Stores the row that a change made, and puts the event into the history with the reply. After `Memory` nothing has changed.
 fn put_tracked(
     table: &mut Table,
@@ -94,6 +76,57 @@ fn put_learned(
     Ok(())
 }
 
+/// Tracks with the row that the change makes: the row is stored, and the event is in the history. After `Memory` nothing has
+/// changed.
+fn track_row(
+    table: &mut Table,
+    history: &mut Vec<(CellEvent, CellReply)>,
+    seat: u32,
+    key: Key,
+    change: Change,
+    now: Moment,
+    row: Row,
+) -> Result<Reply, Memory>
+    requires some { 1 ≤ table.old.size }
+    requires granted { track_refusal false table.old key change now ≡ None }
+    requires row { row ≡ tracked table.old key change now }
+    ensures step { IfOk result (λ reply. Step table.old (events.Track seat key change now) (replies.Track reply) table.new) }
+    ensures event { IfOk result (λ reply. history.new.items ≡ history.old.items ++ (events.Track seat key change now, replies.Track reply) ∷ []) }
+    ensures reply { IfOk result (λ reply. reply ≡ reply_of row) }
+    ensures stays { OnErr result (table.new ≡ table.old) }
+    ensures no_event { OnErr result (history.new.items ≡ history.old.items) }
+{
+    let kept = Reply::of(table.alloc, &row)?;
+    let reply = Reply::of(table.alloc, &row)?;
+    put_tracked(table, history, seat, key, change, now, row, kept)?;
+    Ok(reply)
+}
+
+/// Learns with the row that the update teaches: the row is stored, and the event is in the history. After `Memory` nothing has
+/// changed.
+fn learn_row(
+    table: &mut Table,
+    history: &mut Vec<(CellEvent, CellReply)>,
+    session: u32,
+    update: Update,
+    now: Moment,
+    row: Row,
+) -> Result<Reply, Memory>
+    requires some { 1 ≤ table.old.size }
+    requires granted { learn_refusal false table.old session update now ≡ None }
+    requires row { row ≡ learned table.old update now }
+    ensures step { IfOk result (λ reply. Step table.old (events.Learn session update now) (replies.Learn reply) table.new) }
+    ensures event { IfOk result (λ reply. history.new.items ≡ history.old.items ++ (events.Learn session update now, replies.Learn reply) ∷ []) }
+    ensures reply { IfOk result (λ reply. reply ≡ reply_of row) }
+    ensures stays { OnErr result (table.new ≡ table.old) }
+    ensures no_event { OnErr result (history.new.items ≡ history.old.items) }
+{
+    let kept = Reply::of(table.alloc, &row)?;
+    let reply = Reply::of(table.alloc, &row)?;
+    put_learned(table, history, session, update, now, row, kept)?;
+    Ok(reply)
+}
+
 /// Tracks: the row is stored, and the event is in the history. After `Memory` nothing has changed.
 fn track(
     table: &mut Table,
@@ -110,11 +143,8 @@ fn track(
     ensures stays { OnErr result (table.new ≡ table.old) }
     ensures no_event { OnErr result (history.new.items ≡ history.old.items) }
 {
-    let row = table.new_tracked(&key, &change, now)?;
-    let kept = Reply::of(table.alloc, &row)?;
-    let reply = Reply::of(table.alloc, &row)?;
-    put_tracked(table, history, seat, key, change, now, row, kept)?;
-    Ok(reply)
+    let row = table.tracked(&key, &change, now)?;
+    track_row(table, history, seat, key, change, now, row)
 }
 
 /// Learns: the row is stored, and the event is in the history. After `Memory` nothing has changed.
@@ -132,11 +162,8 @@ fn learn(
     ensures stays { OnErr result (table.new ≡ table.old) }
     ensures no_event { OnErr result (history.new.items ≡ history.old.items) }
 {
-    let row = table.new_learned(&update, now)?;
-    let kept = Reply::of(table.alloc, &row)?;
-    let reply = Reply::of(table.alloc, &row)?;
-    put_learned(table, history, session, update, now, row, kept)?;
-    Ok(reply)
+    let row = table.learned(&update, now)?;
+    learn_row(table, history, session, update, now, row)
 }
 
 /// Tracks: the row is stored, and the event is in the history, and the reply is given twice. After `Memory` nothing has changed.
@@ -156,11 +183,10 @@ fn track_pair(
     ensures stays { OnErr result (table.new ≡ table.old) }
     ensures no_event { OnErr result (history.new.items ≡ history.old.items) }
 {
-    let row = table.new_tracked(&key, &change, now)?;
-    let kept = Reply::of(table.alloc, &row)?;
-    let pair = Reply::pair_of(table.alloc, &row)?;
-    put_tracked(table, history, seat, key, change, now, row, kept)?;
-    Ok(pair)
+    let row = table.tracked(&key, &change, now)?;
+    let second = Reply::of(table.alloc, &row)?;
+    let first = track_row(table, history, seat, key, change, now, row)?;
+    Ok((first, second))
 }
 
 /// Learns: the row is stored, and the event is in the history, and the reply is given twice. After `Memory` nothing has changed.
@@ -179,11 +205,10 @@ fn learn_pair(
     ensures stays { OnErr result (table.new ≡ table.old) }
     ensures no_event { OnErr result (history.new.items ≡ history.old.items) }
 {
-    let row = table.new_learned(&update, now)?;
-    let kept = Reply::of(table.alloc, &row)?;
-    let pair = Reply::pair_of(table.alloc, &row)?;
-    put_learned(table, history, session, update, now, row, kept)?;
-    Ok(pair)
+    let row = table.learned(&update, now)?;
+    let second = Reply::of(table.alloc, &row)?;
+    let first = learn_row(table, history, session, update, now, row)?;
+    Ok((first, second))
 }
 
 impl TableCell {

@@ -8,4 +8,4 @@ mod rows;
 
 pub use list_rows::ListRows;
 pub use map_rows::MapRows;
-pub use rows::Rows;
+pub use rows::{Rows, is_live};

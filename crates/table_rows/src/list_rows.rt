@@ -1,10 +1,10 @@
 //! Rows in a list.
 
 ghost use Rattle.std.specs.Prelude.{◌≡◌, [], IfErr, IfNone, IfOk, IfSome};
-ghost use Rattle.table_rows.specs.Rows.{end_cmp, ends_cmp, is_live};
+ghost use Rattle.table_rows.specs.Rows.{end_cmp, ends_cmp};
 ghost use Rattle.table_rows.specs.Places.{IsFirstAt, IsGap, IsThere};
 
-use crate::rows::Rows;
+use crate::rows::{Rows, is_live};
 use std::alloc::Global;
 use std::cmp::Ordering;
 use std::marker::Model;
@@ -83,16 +83,6 @@ fn first_place(rows: &[(Key, Row)]) -> Option<usize>
         }
     }
     Some(first)
-}
-
-/// Whether a row is live at a moment.
-fn is_live(row: &Row, now: Moment) -> bool
-    ensures { result ≡ is_live now row.now }
-{
-    match row.ends() {
-        Some(end) => now.milliseconds() < end.milliseconds(),
-        None => true,
-    }
 }
 
 impl ListRows {

@@ -11,6 +11,16 @@ ghost use Rattle.table_rows.specs.Rows.{AreLive, IsFirstToEnd, is_live, row_at, 
 
 use table_types::{Key, Memory, Moment, Row};
 
+/// Whether a row is live at a moment: whether it ends after it, or lives for ever.
+pub fn is_live(row: &Row, now: Moment) -> bool
+    ensures { result ≡ is_live now row.now }
+{
+    match row.ends() {
+        Some(end) => now.milliseconds() < end.milliseconds(),
+        None => true,
+    }
+}
+
 /// Holds the rows of a table by their keys.
 pub trait Rows: Drop {
     /// The keys with their rows, in rising key.

@@ -3,7 +3,7 @@ use Rattle.std.specs.List.{list_all}
 use Rattle.table_types.specs.Changes.{cell_types}
 use Rattle.table_types.specs.Tables.{has_its_period}
 use Rattle.table_cell.specs.Soundness.{CellsFit}
-use Rattle.table_cell.specs.Telling.{values_of}
+use Rattle.table_cell.specs.Copying.{values_of}
 use Rattle.table_cell.proofs.copying.values_of.Given as goal
 
 abbrev pub invariant-loop-entry : goal.invariant-loop-entry

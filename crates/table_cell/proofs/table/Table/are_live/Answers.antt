@@ -6,11 +6,11 @@ use Rattle.table_rows.specs.Rows.{row_at}
 use Rattle.table_cell.specs.Machine.{TableState}
 use Rattle.std.specs.List.{list_all}
 use Rattle.table_rows.specs.Rows.{is_live}
-use Rattle.table_cell.proofs.LiveLaws.{first_tells}
+use Rattle.table_cell.proofs.LiveLaws.{first_answers}
 use Rattle.table_cell.proofs.table.Table.are_live.Goals as goal
 
 pub returns-in-Some-row : goal.returns-in-Some-row
 returns-in-Some-row c =
     let found : row_at c.in-Some.first.now c.self.inside.stock.rows ≡ Some c.in-Some-row.row.now = sym c.row.ensures ∙ ap option_copied c.in-Some-row.is in
     subst (λ (s : TableState). c.is_live.result ≡ list_all (λ (e : Key × StoredRow). is_live c.args.now e.1) s.rows) c.self.view_is
-    (c.is_live.ensures ∙ first_tells c.args.now c.in-Some.first.now c.in-Some-row.row.now c.self.inside.stock.rows c.in-Some.ensures.first found)
+    (c.is_live.ensures ∙ first_answers c.args.now c.in-Some.first.now c.in-Some-row.row.now c.self.inside.stock.rows c.in-Some.ensures.first found)

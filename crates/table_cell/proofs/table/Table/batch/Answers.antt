@@ -2,7 +2,7 @@ use Rattle.std.proofs.Common.{◌≡◌, ◌∷◌, [], List, sym, ap, subst, �
 use Rattle.std.specs.Prelude.{filter, map, take}
 use Rattle.table_types.specs.declared.update.Update.{Update}
 use Rattle.table_types.specs.Batches.{IsBatchFor}
-use Rattle.table_cell.specs.Telling.{update_of}
+use Rattle.table_cell.specs.Copying.{update_of}
 use Rattle.table_cell.specs.Machine.{TableState, is_unacked, unacked}
 use Rattle.table_cell.proofs.BatchLaws.{copied_batch}
 use Rattle.table_cell.proofs.table.Table.batch.Goals as goal

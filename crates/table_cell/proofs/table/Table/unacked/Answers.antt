@@ -3,7 +3,7 @@ use Rattle.std.specs.Prelude.{filter, map, take}
 use Rattle.std.specs.List.{AllByRecursion}
 use Rattle.table_types.specs.declared.key.Key.{Key}
 use Rattle.table_types.specs.Rows.{StoredRow}
-use Rattle.table_cell.specs.Telling.{update_of}
+use Rattle.table_cell.specs.Copying.{update_of}
 use Rattle.table_cell.specs.Machine.{TableState, is_unacked}
 use Rattle.table_cell.specs.Soundness.{EntryFits}
 use Rattle.table_cell.proofs.RowsLaws.{all_filter}
@@ -24,8 +24,8 @@ loop-key-init c =
 
 pub loop-key-preserved-in_ok-push : goal.loop-key-preserved-in_ok-push
 loop-key-preserved-in_ok-push c =
-    let due : is_due c.args.kind c.args.now (c.in-Some.key.now, c.in-Some.row.now) ≡ true = sym c.tells_of.ensures ∙ c.if-tells_of.true in
-    let told : c.in_ok-update_of.field-0 ≡ update_of c.args.self.now.definition c.args.now (c.in-Some.key.now, c.in-Some.row.now) =
+    let due : is_due c.args.kind c.args.now (c.in-Some.key.now, c.in-Some.row.now) ≡ true = sym c.is_copied_at.ensures ∙ c.if-is_copied_at.true in
+    let same : c.in_ok-update_of.field-0 ≡ update_of c.args.self.now.definition c.args.now (c.in-Some.key.now, c.in-Some.row.now) =
     subst (λ (s : TableState). c.in_ok-update_of.field-0 ≡ update_of s.definition c.args.now (c.in-Some.key.now, c.in-Some.row.now)) c.self.view_is c.in_ok-update_of.ensures in
     let below : length c.loop-key.updates.items < c.args.limit = omega (arith, c.if-len-limit.false, c.len.ensures, c.loop-key.updates.ok.0) in
     let left : AllByRecursion (EntryFits c.args.self.now.definition c.args.now) ((c.in-Some.key.now, c.in-Some.row.now) ∷ c.next.new.self) =
@@ -34,6 +34,6 @@ loop-key-preserved-in_ok-push c =
           (take c.args.limit (map (update_of c.args.self.now.definition c.args.now) (filter (is_unacked c.args.kind c.args.number c.args.now) c.args.self.now.rows)))
           c.args.limit (c.in-Some.key.now, c.in-Some.row.now) c.in_ok-update_of.field-0
           (filter (is_due c.args.kind c.args.now) c.loop-key.key-iterator) (filter (is_due c.args.kind c.args.now) c.next.new.self)
-          c.in_ok-push.ensures.items told (next_due c.args.kind c.args.now (c.in-Some.key.now, c.in-Some.row.now) c.loop-key.key-iterator c.next.new.self c.in-Some.ensures.steps due) below c.loop-key.invariant.0,
+          c.in_ok-push.ensures.items same (next_due c.args.kind c.args.now (c.in-Some.key.now, c.in-Some.row.now) c.loop-key.key-iterator c.next.new.self c.in-Some.ensures.steps due) below c.loop-key.invariant.0,
       left.1,
     )

@@ -3,7 +3,7 @@ use Rattle.std.specs.Prelude.{filter, map, take}
 use Rattle.std.specs.List.{AllByRecursion}
 use Rattle.table_cell.specs.Machine.{is_unacked}
 use Rattle.table_cell.specs.Soundness.{EntryFits}
-use Rattle.table_cell.specs.Telling.{update_of}
+use Rattle.table_cell.specs.Copying.{update_of}
 use Rattle.table_cell.proofs.UnackedLaws.{is_due}
 use Rattle.table_cell.proofs.table.Table.unacked.Given as goal
 

@@ -1,5 +1,5 @@
--- What an update tells of a row (HAProxy, doc/peers-v2.0.txt, "Update Messages"; that a row that lives for ever has a
--- life of 0, and that the periods of a rate turn in what is told alone, are the profile's choices).
+-- A row as an update (HAProxy, doc/peers-v2.0.txt, "Update Messages"; that a row that lives for ever has a life of 0, and
+-- that the periods of a rate turn in the update alone, are the profile's choices).
 use Rattle.std.specs.Prelude.{ℕ, ◌-◌, List, map, Option, Some, None}
 use Rattle.std.specs.List.{zip}
 use Rattle.table_types.specs.declared.key.Key.{Key}
