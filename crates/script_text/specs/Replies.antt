@@ -22,7 +22,7 @@ settled_name settled.All = codes "all"
 settled_name settled.Some = codes "some"
 settled_name settled.Older = codes "older"
 
--- a word, and a number behind it
+-- a word, and a number after it
 abbrev pub count_text : List ℕ → ℕ → List ℕ
 count_text word count = word ++ decimal count
 

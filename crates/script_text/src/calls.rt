@@ -39,7 +39,7 @@ pub enum Call {
     Copy {
         /// The session.
         session: u32,
-        /// Which rows the batch is to tell of.
+        /// Which rows the batch is to have.
         kind: CopyKind,
         /// How many of them at most: 1 to 512.
         limit: usize,
