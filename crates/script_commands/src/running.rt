@@ -14,6 +14,9 @@ use std::alloc::Global;
 use table_cell::TableCell;
 use table_types::Batch;
 
+/// How many rows a table stores at most where a script doesn't say it.
+const MOST_ROWS: u32 = TableCell::MOST_ROWS as u32;
+
 /// A table whose calls are being made, the batches that it has given, and the lines of its answers.
 #[derive(Drop)]
 struct Run {
@@ -36,10 +39,7 @@ pub(crate) fn printed(alloc: Global, script: Script) -> Result<Vec<u8>, Ending>
         calls,
         refused,
     } = script;
-    let size = match size {
-        Some(size) => size as usize,
-        None => TableCell::MOST_ROWS,
-    };
+    let size = size.unwrap_or(MOST_ROWS) as usize;
     let cell = TableCell::new(alloc, table, size, nopurge.is_some(), first.unwrap_or(1))?;
     let mut run = Run {
         cell,
