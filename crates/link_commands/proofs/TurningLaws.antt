@@ -7,14 +7,16 @@ use Rattle.std.specs.Io.KnownBytes.{Appends, Consumes}
 use Rattle.session_core.specs.declared.event.Event.{Event}
 use Rattle.session_core.specs.declared.state.State.TheVariants as states
 use Rattle.table_shards.specs.Receipts.{SeatState}
+use Rattle.table_types.specs.Rows.{later_by}
 use Rattle.session_core.specs.Sessions.{SessionState, state_of}
 use Rattle.peers_engine.specs.declared.errors.EngineError.{EngineError}
 use Rattle.peers_engine.specs.declared.errors.Turned.{Turned}
 use Rattle.peers_engine.specs.declared.errors.Turned.TheVariants as turned
-use Rattle.peers_engine.specs.Doing.{Worker}
+use Rattle.peers_engine.specs.Doing.{Worker, worker}
 use Rattle.peers_engine.specs.Turns.{IsRead, StopsTurn, TakesTurn}
 use Rattle.scene_commands.specs.declared.ending.Ending.{Ending}
 use Rattle.scene_commands.specs.declared.ending.Ending.TheVariants as endings
+use Rattle.link_commands.specs.Loading.{loaded_at}
 use Rattle.link_commands.specs.Turning.{GoesOn, Plays, Rests, Takes, ending_after, turn_after}
 
 -- so many of the turns were made, in which that was received and sent, and the session goes on
@@ -163,3 +165,8 @@ pub both_ways : (w e : Worker) (gave : Result Turned EngineError) (from to a b :
     → OnErr gave (state_of e.session.phase ≡ states.Ended) → HasTaken w gave e from to a b
 both_ways w e (Ok gave) from to a b written closed stopped over = ok_way w e gave from to a b written closed
 both_ways w e (Err error) from to a b written closed stopped over = err_way w e error from to a b stopped over
+
+-- a turn at the moment that comes after so many turns is the turn after them
+pub taken_after : (before now : ℕ) (s e : SessionState) (seat back : SeatState) (gave : Result Turned EngineError) (from to a b : Option (List ℕ)) → now ≡ later_by (before + 1) loaded_at
+    → HasTaken (worker s seat 1 now) gave (worker e back 1 now) from to a b → HasTaken (turn_after before s seat) gave (turn_after before e back) from to a b
+taken_after before now s e seat back gave from to a b is taken = subst (λ (n : ℕ). HasTaken (worker s seat 1 n) gave (worker e back 1 n) from to a b) is taken
