@@ -1,12 +1,8 @@
-//! Worked examples of tables under their locks, of seats and audits: tests of public calls alone, and in `parts` what these
-//! and the examples of rounds begin with.
+//! Worked examples of tables under their locks, of seats and of audits. There is nothing here but tests.
 #![tactic(auto)]
 
 #[cfg(test)]
 mod locks;
-pub mod parts;
-#[cfg(test)]
-mod round;
 #[cfg(test)]
 mod seats;
 #[cfg(test)]

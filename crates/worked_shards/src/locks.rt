@@ -1,63 +1,8 @@
 //! Tables under locks of their own.
 
-use crate::parts::{comes, track};
-use crate::round::Round;
-use crate::swaps::T2;
-use example_parts::T1;
-use std::sync::Wait;
-use std::sync::atomic::{AtomicBool, Ordering};
-use std::thread;
-use std::thread::Threads;
-use std::time::Clock;
-use table_shards::{Seat, Shards};
-
-/// Holds the lock of `t1` until another thread says that it was answered. Answers whether it was.
-fn held_meanwhile<R: Wait + Clock>(
-    rt: &R,
-    shards: &Shards,
-    is_held: &AtomicBool,
-    is_answered: &AtomicBool,
-) -> bool {
-    let Some(lock) = shards.cell(1) else {
-        return false;
-    };
-    let locked = lock.lock(rt);
-    is_held.store(true, Ordering::SeqCst);
-    let came = comes(rt, is_answered);
-    came && locked.cell().events() == 0
-}
-
-/// Tracks key 7 of `t2` once the lock of `t1` is held. Answers whether the count is 1.
-fn tracked_meanwhile<R: Wait + Clock>(
-    rt: &R,
-    shards: &Shards,
-    seat: &mut Option<Seat>,
-    is_held: &AtomicBool,
-    is_answered: &AtomicBool,
-) -> bool {
-    let ready = comes(rt, is_held);
-    let counted = track(rt, shards, seat, 2, 7);
-    is_answered.store(true, Ordering::SeqCst);
-    ready && counted == Some(1)
-}
-
-/// While one thread holds the lock of `t1`, another's track of `t2` is answered.
-fn answered_meanwhile<R: Threads + Wait + Clock + Sync>(
-    rt: &R,
-    shards: &Shards,
-    seat: &mut Option<Seat>,
-) -> bool {
-    let (is_held, is_answered) = (AtomicBool::new(false), AtomicBool::new(false));
-    let (came, counted) = thread::join(
-        rt,
-        || held_meanwhile(rt, shards, &is_held, &is_answered),
-        || tracked_meanwhile(rt, shards, seat, &is_held, &is_answered),
-    );
-    came && counted
-}
+use example_shards::locks::are_apart;
 
 #[test]
 fn a_table_is_changed_while_another_is_locked(rt: HostRuntime) {
-    let mut round = Round::new(&rt, rt.alloc(), &[T1, T2]);
-    assert!(rt; answered_meanwhile(&rt, &round.shards, &mut round.seat));
+    assert!(rt; are_apart(&rt, rt.alloc()) == Some(true));
 }

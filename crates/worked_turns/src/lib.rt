@@ -1,11 +1,10 @@
-//! Worked examples of a session's turns, of the gate that they come to, and of two sessions whose bytes come in pieces: tests
-//! of public calls alone, and in `parts` what they and other examples begin with.
+//! Worked examples of a session's turns, of the gate that they come to, and of two sessions whose bytes come in pieces. There is
+//! nothing here but tests, and what is given and expected in them.
 #![tactic(auto)]
 
 #[cfg(test)]
 mod cuttings;
 #[cfg(test)]
 mod gates;
-pub mod parts;
 #[cfg(test)]
 mod turns;

@@ -1,21 +1,18 @@
 //! Turns of one side, of which the other's bytes are written out.
 
-use crate::parts::{Role, Side, Tables, Waiting, rows};
 use example_parts::{KeyParts, T1, TableParts, UpdateParts};
-use peers_devices::{Counting, Faults};
-use peers_engine::{EngineError, Fused, Open, Turned};
+use example_turns::{
+    Exchange, Failure, Role, Story, Tables, fails_to_read, fails_to_write, is_true,
+};
+use peers_engine::{EngineError, Turned};
 use session_core::{SessionError, State};
-use std::alloc::Global;
-use std::io::{Read, Write};
-use std::sync::Wait;
-use table_shards::Shards;
-use table_types::{Cell, Key, Row, Value};
+use table_types::Value;
 
 /// The hello of `a` to `b`.
 const HELLO: &[u8] = b"HAProxyS 2.1\nb\na 1 1\n";
 
 /// The hello, and that `a` asks for all rows.
-pub const HELLO_AND_REQUEST: &[u8] = b"HAProxyS 2.1\nb\na 1 1\n\x00\x00";
+const HELLO_AND_REQUEST: &[u8] = b"HAProxyS 2.1\nb\na 1 1\n\x00\x00";
 
 /// The lesson of two updates: 5 for key 7, and 240 for key 8.
 const LESSON: &[u8] =
@@ -60,7 +57,7 @@ const EMPTY: Tables = Tables {
 };
 
 /// `t1` with the two rows.
-pub const FILLED: Tables = Tables {
+const FILLED: Tables = Tables {
     tables: TABLE,
     rows: ROWS,
     are_full: false,
@@ -82,83 +79,6 @@ const UNOPENED: Tables = Tables {
     are_full: false,
     are_open: false,
 };
-
-/// A turn: what has come before it, what the side sends in it, and how it ends.
-#[derive(Drop)]
-struct Exchange {
-    comes: &'static [u8],
-    sends: &'static [u8],
-    ends: Result<Turned, EngineError>,
-}
-
-/// A side, its turns in two parts, and what comes of them: the session's state, and the keys and counts of its rows.
-#[derive(Drop)]
-struct Story {
-    tables: Tables,
-    role: Role,
-    opening: &'static [Exchange],
-    turns: &'static [Exchange],
-    state: State,
-    rows: &'static [(u32, u64)],
-}
-
-/// Whether a turn goes as it says.
-fn is_so<H: Wait>(rt: &H, alloc: Global, side: &mut Side, turn: &Exchange) -> Option<bool> {
-    let mut input = Waiting::new(turn.comes);
-    let mut output = Counting::new(Vec::new(alloc));
-    let turned = side.take_turn(rt, alloc, &mut input, &mut output, &Open)?;
-    Some(turned == turn.ends && output.into_inner().as_slice() == turn.sends)
-}
-
-/// Whether turns go as they say.
-fn are_so<H: Wait>(rt: &H, alloc: Global, side: &mut Side, turns: &[Exchange]) -> Option<bool> {
-    for turn in turns {
-        if !is_so(rt, alloc, side, turn)? {
-            return Some(false);
-        }
-    }
-    Some(true)
-}
-
-/// Whether a row has that count alone.
-fn has_count(row: &Row, expected: u64) -> bool {
-    match row.cells() {
-        [Cell::Count(count)] => *count == expected,
-        _ => false,
-    }
-}
-
-/// Whether these are rows of these keys and counts, and no others.
-fn are_rows(rows: &[(Key, Row)], expected: &[(u32, u64)]) -> bool {
-    if rows.len() != expected.len() {
-        return false;
-    }
-    for ((key, row), (number, count)) in rows.iter().zip(expected.iter()) {
-        if !key.is_same(&Key::Int(*number)) || !has_count(row, *count) {
-            return false;
-        }
-    }
-    true
-}
-
-/// Whether `t1` has such rows.
-fn has_rows<H: Wait>(rt: &H, shards: &Shards, expected: &[(u32, u64)]) -> Option<bool> {
-    let rows = rows(rt, shards, 1)?;
-    Some(are_rows(rows.as_slice(), expected))
-}
-
-/// Whether all of a story's turns go as they say, and end so.
-fn is_lived<H: Wait>(rt: &H, alloc: Global, side: &mut Side, story: &Story) -> Option<bool> {
-    let went = are_so(rt, alloc, side, story.opening)? && are_so(rt, alloc, side, story.turns)?;
-    let has_rows = has_rows(rt, &side.shards, story.rows)?;
-    Some(went && side.session.state() == story.state && has_rows)
-}
-
-/// The same of a new side.
-fn is_true<H: Wait>(rt: &H, alloc: Global, story: &Story) -> Option<bool> {
-    let mut side = story.tables.side(alloc, story.role)?;
-    is_lived(rt, alloc, &mut side, story)
-}
 
 /// `a` connects, and asks for all rows.
 const OPENING: &[Exchange] = &[
@@ -329,7 +249,7 @@ fn a_message_that_is_too_long(rt: HostRuntime) {
 }
 
 /// `b` accepts the hello, and is asked for its rows, which it is about to teach.
-static IS_ASKED: Story = Story {
+pub static IS_ASKED: Story = Story {
     tables: FILLED,
     role: Role::Accepts,
     opening: &[Exchange {
@@ -352,84 +272,40 @@ static HAS_ASKED: Story = Story {
     rows: &[],
 };
 
-/// A turn for which nothing has come, over a writer.
-fn wrote<H: Wait, W: Write + Faults>(
-    rt: &H,
-    alloc: Global,
-    side: &mut Side,
-    output: &mut W,
-) -> Option<Result<Turned, EngineError>> {
-    side.take_turn(rt, alloc, &mut Waiting::new(b""), output, &Open)
-}
-
-/// A turn over a writer that takes 20 bytes and then fails: whether these are the first ones of the lesson, and the turn ends so.
-fn writes_20<H: Wait>(rt: &H, alloc: Global, side: &mut Side) -> Option<bool> {
-    let mut output = Counting::new(Fused::new(Vec::new(alloc), 20));
-    let turned = wrote(rt, alloc, side, &mut output)?;
-    let written = output.into_inner().into_inner();
-    Some(turned == Err(EngineError::Write { sent: 20 }) && written.as_slice() == FIRST)
-}
-
-/// Whether the session has ended, and another turn says so.
-fn is_over<H: Wait>(rt: &H, alloc: Global, side: &mut Side) -> Option<bool> {
-    let has_ended = side.session.state() == State::Ended;
-    let says_so = is_so(rt, alloc, side, &OVER)?;
-    Some(has_ended && says_so)
-}
-
 /// The writer takes 20 bytes of the lesson, and then fails.
-fn cannot_write<H: Wait>(rt: &H, alloc: Global, side: &mut Side) -> Option<bool> {
-    let was_asked = is_lived(rt, alloc, side, &IS_ASKED)?;
-    let failed = writes_20(rt, alloc, side)?;
-    let is_over = is_over(rt, alloc, side)?;
-    Some(was_asked && failed && is_over)
-}
-
-/// The same of a new side.
-fn fails_to_write<H: Wait>(rt: &H, alloc: Global) -> Option<bool> {
-    let mut side = FILLED.side(alloc, Role::Accepts)?;
-    cannot_write(rt, alloc, &mut side)
-}
+static WRITE_FAILS: Failure = Failure {
+    before: &[],
+    left: 20,
+    turn: Exchange {
+        comes: b"",
+        sends: FIRST,
+        ends: Err(EngineError::Write { sent: 20 }),
+    },
+    after: OVER,
+};
 
 #[test]
 fn a_writer_that_fails(rt: HostRuntime) {
-    assert!(rt; fails_to_write(&rt, rt.alloc()) == Some(true));
-}
-
-/// A turn over a reader, in which nothing is sent.
-fn read<H: Wait, R: Read + Faults>(
-    rt: &H,
-    alloc: Global,
-    side: &mut Side,
-    input: &mut R,
-) -> Option<Result<Turned, EngineError>> {
-    let mut output = Counting::new(Vec::new(alloc));
-    let turned = side.take_turn(rt, alloc, input, &mut output, &Open)?;
-    if output.into_inner().is_empty() {
-        Some(turned)
-    } else {
-        None
-    }
+    assert!(rt; fails_to_write(&rt, rt.alloc(), &IS_ASKED, &WRITE_FAILS) == Some(true));
 }
 
 /// A read fails and isn't counted, another is counted.
-fn cannot_read<H: Wait>(rt: &H, alloc: Global, side: &mut Side) -> Option<bool> {
-    let has_asked = is_lived(rt, alloc, side, &HAS_ASKED)?;
-    let passed_over = read(rt, alloc, side, &mut Waiting::new(b""))?;
-    let mut input = Counting::new(Fused::new(LESSON, 0));
-    let turned = read(rt, alloc, side, &mut input)?;
-    let failed = passed_over == Ok(Turned::Going) && turned == Err(EngineError::Read);
-    let is_over = is_over(rt, alloc, side)?;
-    Some(has_asked && failed && is_over)
-}
-
-/// The same of a new side.
-fn fails_to_read<H: Wait>(rt: &H, alloc: Global) -> Option<bool> {
-    let mut side = EMPTY.side(alloc, Role::Connects)?;
-    cannot_read(rt, alloc, &mut side)
-}
+static READ_FAILS: Failure = Failure {
+    before: &[Exchange {
+        comes: b"",
+        sends: b"",
+        ends: Ok(Turned::Going),
+    }],
+    left: 0,
+    turn: Exchange {
+        comes: LESSON,
+        sends: b"",
+        ends: Err(EngineError::Read),
+    },
+    after: OVER,
+};
 
 #[test]
 fn a_reader_that_fails(rt: HostRuntime) {
-    assert!(rt; fails_to_read(&rt, rt.alloc()) == Some(true));
+    assert!(rt; fails_to_read(&rt, rt.alloc(), &HAS_ASKED, &READ_FAILS) == Some(true));
 }

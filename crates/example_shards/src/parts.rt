@@ -1,5 +1,5 @@
-//! What these examples and others have in common: tables with integer keys and gpc0 under their locks, a track that takes the
-//! seat from where it is kept and puts it back, and threads that wait for each other.
+//! What the examples have in common: tables with integer keys and gpc0 under their locks, a track that takes the seat from
+//! where it is kept and puts it back, and threads that wait for each other.
 
 use example_parts::{TableParts, definition};
 use std::alloc::Global;
@@ -15,12 +15,16 @@ use table_types::{Cell, Change, DataType, Key, Moment};
 const TURNS: u32 = 10_000;
 
 /// A new table.
-pub fn cell(alloc: Global, table: &TableParts) -> Option<TableCell> {
+pub(crate) fn cell(alloc: Global, table: &TableParts) -> Option<TableCell> {
     TableCell::new(alloc, definition(alloc, table)?, 10, false, 1).ok()
 }
 
 /// These tables under their locks, and seats.
-pub fn shards(alloc: Global, tables: &[TableParts], seats: u32) -> Option<(Shards, Vec<Seat>)> {
+pub(crate) fn shards(
+    alloc: Global,
+    tables: &[TableParts],
+    seats: u32,
+) -> Option<(Shards, Vec<Seat>)> {
     let mut cells = Vec::new(alloc);
     for table in tables {
         cells.push(cell(alloc, table)?).ok()?;
@@ -29,11 +33,11 @@ pub fn shards(alloc: Global, tables: &[TableParts], seats: u32) -> Option<(Shard
 }
 
 /// What a call of `held::track` answers.
-pub type Tracked = Result<Reply, ShardError<TrackError>>;
+pub(crate) type Tracked = Result<Reply, ShardError<TrackError>>;
 
 /// Adds 1 to gpc0 of the key of a table, which the locked cell may be or not, at the least moment. `None` where there is no
 /// such lock, or the seat isn't there.
-pub fn track_at<R: Wait>(
+pub(crate) fn track_at<R: Wait>(
     rt: &R,
     shards: &Shards,
     lock: u64,

@@ -1,9 +1,8 @@
-//! Tables under their locks, with the one seat from which a test works on them.
+//! Tables under their locks, with the one seat from which an example works on them.
 
 use crate::parts::{Tracked, shards, track, track_at};
 use example_parts::TableParts;
 use std::alloc::Global;
-use std::process::Abort;
 use std::sync::Wait;
 use table_cell::TrackError;
 use table_shards::{Audit, AuditError, Seat, ShardError, Shards, Unlocked};
@@ -11,29 +10,34 @@ use table_types::Key;
 
 /// Tables under their locks, and their only seat, which is there while nobody uses it.
 #[derive(Drop)]
-pub struct Round {
-    pub shards: Shards,
-    pub seat: Option<Seat>,
+pub(crate) struct Round {
+    pub(crate) shards: Shards,
+    pub(crate) seat: Option<Seat>,
 }
 
 /// What an audit answers.
-pub type Audited = Result<Audit, (AuditError, Unlocked, Vec<Seat>)>;
+pub(crate) type Audited = Result<Audit, (AuditError, Unlocked, Vec<Seat>)>;
+
+/// A list of that seat alone.
+fn alone(alloc: Global, seat: Option<Seat>) -> Option<Vec<Seat>> {
+    vec![in alloc; seat?].ok()
+}
 
 impl Round {
     /// A round of these tables.
-    pub fn new<R: Abort>(rt: &R, alloc: Global, tables: &[TableParts]) -> Round {
-        let (shards, mut seats) = shards(alloc, tables, 1).expect(rt, "tables and a seat");
+    pub(crate) fn new(alloc: Global, tables: &[TableParts]) -> Option<Round> {
+        let (shards, mut seats) = shards(alloc, tables, 1)?;
         let seat = seats.pop();
-        Round { shards, seat }
+        Some(Round { shards, seat })
     }
 
     /// Adds 1 to gpc0 of the key of a table, at the least moment, and answers the count.
-    pub fn track<R: Wait>(&mut self, rt: &R, table: u64, key: u32) -> Option<u64> {
+    pub(crate) fn track<R: Wait>(&mut self, rt: &R, table: u64, key: u32) -> Option<u64> {
         track(rt, &self.shards, &mut self.seat, table, key)
     }
 
     /// What the same of a table answers under the lock of one that may be another.
-    pub fn track_at<R: Wait>(
+    pub(crate) fn track_at<R: Wait>(
         &mut self,
         rt: &R,
         lock: u64,
@@ -44,7 +48,7 @@ impl Round {
     }
 
     /// Why that is refused. `None` where it isn't.
-    pub fn refusal<R: Wait>(
+    pub(crate) fn refusal<R: Wait>(
         &mut self,
         rt: &R,
         lock: u64,
@@ -58,30 +62,28 @@ impl Round {
     }
 
     /// How many receipts the seat has of a table.
-    pub fn receipts(&self, table: u64) -> Option<usize> {
+    pub(crate) fn receipts(&self, table: u64) -> Option<usize> {
         Some(self.seat.as_ref()?.receipts(table).len())
     }
 
     /// The tables without their locks, and a list of the seat alone.
-    pub fn unlock<R: Abort>(self, rt: &R, alloc: Global) -> (Unlocked, Vec<Seat>) {
-        let mut seats = Vec::new(alloc);
-        let seat = self.seat.expect(rt, "the seat");
-        seats.push(seat).ok().expect(rt, "memory");
-        let unlocked = self.shards.unlock(alloc).ok().expect(rt, "memory");
-        (unlocked, seats)
+    pub(crate) fn unlock(self, alloc: Global) -> Option<(Unlocked, Vec<Seat>)> {
+        let Round { shards, seat } = self;
+        let tables = shards.unlock(alloc).ok();
+        tables.zip(alone(alloc, seat))
     }
 
     /// An audit of the tables with the seat.
-    pub fn audit<R: Abort>(self, rt: &R, alloc: Global) -> Audited {
-        let (unlocked, seats) = self.unlock(rt, alloc);
-        unlocked.audit(seats)
+    pub(crate) fn audit(self, alloc: Global) -> Option<Audited> {
+        let (tables, seats) = self.unlock(alloc)?;
+        Some(tables.audit(seats))
     }
 
-    /// What an audit of the tables with the seat finds wrong.
-    pub fn fault<R: Abort>(self, rt: &R, alloc: Global) -> Option<AuditError> {
-        match self.audit(rt, alloc) {
-            Ok(_) => None,
-            Err((error, _, _)) => Some(error),
+    /// What such an audit finds wrong, if anything.
+    pub(crate) fn audited(self, alloc: Global) -> Option<Result<(), AuditError>> {
+        match self.audit(alloc)? {
+            Ok(_) => Some(Ok(())),
+            Err((error, _, _)) => Some(Err(error)),
         }
     }
 }

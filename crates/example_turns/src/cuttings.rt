@@ -1,0 +1,106 @@
+//! Two sessions over memory, each of which gets what the other sent in pieces of so many bytes.
+
+use crate::pipes::meet;
+use crate::sides::{Side, rows};
+use crate::tables::{Role, Tables};
+use std::alloc::Global;
+use std::sync::Wait;
+use table_shards::Shards;
+use table_types::{Key, Row, are_same_cells};
+
+/// The most turns of each side.
+const MOST_TURNS: u32 = 2_000;
+
+/// The longest piece.
+const MOST_BYTES: usize = 50;
+
+/// The tables of the side that teaches, those of the one that learns, and how many rows each of them has in the end.
+#[derive(Drop)]
+pub struct Meeting {
+    pub server: Tables,
+    pub joiner: Tables,
+    pub counts: &'static [(u64, usize)],
+}
+
+/// Whether two rows have the same key, end, cells and name.
+fn are_same(one: &(Key, Row), other: &(Key, Row)) -> bool {
+    one.0 == other.0
+        && one.1.ends() == other.1.ends()
+        && are_same_cells(one.1.cells(), other.1.cells())
+        && one.1.name() == other.1.name()
+}
+
+/// Whether these are as many rows, the same.
+fn are_alike(ours: &[(Key, Row)], theirs: &[(Key, Row)]) -> bool {
+    if ours.len() != theirs.len() {
+        return false;
+    }
+    for (row, taught) in ours.iter().zip(theirs.iter()) {
+        if !are_same(row, taught) {
+            return false;
+        }
+    }
+    true
+}
+
+/// Whether both sides have so many rows of a table, the same.
+fn share<H: Wait>(rt: &H, one: &Shards, other: &Shards, table: u64, count: usize) -> Option<bool> {
+    let (ours, theirs) = rows(rt, one, table).zip(rows(rt, other, table))?;
+    Some(ours.len() == count && are_alike(ours.as_slice(), theirs.as_slice()))
+}
+
+/// Whether both sides have so many rows of each table, the same.
+fn share_all<H: Wait>(
+    rt: &H,
+    one: &Shards,
+    other: &Shards,
+    counts: &[(u64, usize)],
+) -> Option<bool> {
+    for (table, count) in counts {
+        if !share(rt, one, other, *table, *count)? {
+            return Some(false);
+        }
+    }
+    Some(true)
+}
+
+/// Whether both sides end with the same rows where the bytes between them are cut so.
+fn agree<H: Wait>(
+    rt: &H,
+    alloc: Global,
+    joiner: &mut Side,
+    server: &mut Side,
+    meeting: &Meeting,
+    most: usize,
+) -> Option<bool> {
+    let _taught = meet(rt, alloc, joiner, server, most, MOST_TURNS)?;
+    share_all(rt, &server.shards, &joiner.shards, meeting.counts)
+}
+
+/// The same of a new joiner.
+fn join<H: Wait>(
+    rt: &H,
+    alloc: Global,
+    server: &mut Side,
+    meeting: &Meeting,
+    most: usize,
+) -> Option<bool> {
+    let mut joiner = meeting.joiner.side(alloc, Role::Connects)?;
+    agree(rt, alloc, &mut joiner, server, meeting, most)
+}
+
+/// The same of a new joiner and a new server.
+fn serve<H: Wait>(rt: &H, alloc: Global, meeting: &Meeting, most: usize) -> Option<bool> {
+    let mut server = meeting.server.side(alloc, Role::Accepts)?;
+    join(rt, alloc, &mut server, meeting, most)
+}
+
+/// Whether both sides end with the same rows, however the bytes between them are cut.
+pub fn end_alike<H: Wait>(rt: &H, alloc: Global, meeting: &Meeting) -> Option<bool> {
+    for most in 1..=MOST_BYTES {
+        if !serve(rt, alloc, meeting, most)? {
+            return Some(false);
+        }
+    }
+    Some(true)
+}
