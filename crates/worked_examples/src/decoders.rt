@@ -1,8 +1,7 @@
 //! Streams of messages, cut anywhere, and how a decoder reads them.
 
-use example_parts::{T1, alone};
-use peers_msg::{Breach, Decoder, Fault};
-use std::alloc::Global;
+use example_basics::decoders::{Stream, first_failing};
+use peers_msg::{Breach, Fault};
 
 /// Table 1 `t1`.
 const T1_DEFINED: &[u8] = &[
@@ -13,15 +12,6 @@ const T1_DEFINED: &[u8] = &[
 const ST_DEFINED: &[u8] = &[
     0x0A, 0x82, 0x0D, 3, 2, 0x73, 0x74, 6, 0x21, 0xF0, 0xF1, 0xFE, 0, 0xF0, 0xC4, 0x0D,
 ];
-
-/// A stream in parts, and how many messages are read of each, or what is wrong with it.
-struct Stream {
-    /// `t1` was defined and selected before.
-    resumed: bool,
-    parts: &'static [(&'static [u8], Result<usize, Fault>)],
-    /// How many bytes wait in the end, where nothing is wrong.
-    waiting: usize,
-}
 
 static STREAMS: [Stream; 16] = [
     // Two rows of `t1`.
@@ -197,63 +187,7 @@ static STREAMS: [Stream; 16] = [
     },
 ];
 
-fn decoder(alloc: Global, resumed: bool) -> Option<Decoder> {
-    if resumed {
-        Decoder::resume(alloc, &alone(alloc, &T1)?, &[1], Some(1)).ok()
-    } else {
-        Some(Decoder::new(alloc))
-    }
-}
-
-/// Reads the messages that are whole, and counts them, up to 4.
-fn messages(decoder: &mut Decoder) -> Result<usize, Fault> {
-    for count in 0..4 {
-        if decoder.next()?.is_none() {
-            return Ok(count);
-        }
-    }
-    Ok(4)
-}
-
-/// Feeds pieces of so many bytes, and answers how many messages were read.
-fn feed_pieces(decoder: &mut Decoder, part: &[u8], length: usize) -> Result<usize, Fault> {
-    let mut count: usize = 0;
-    for piece in part.chunks(length.max(1)) {
-        decoder.feed(piece)?;
-        count = count.saturating_add(messages(decoder)?);
-    }
-    Ok(count)
-}
-
-/// Whether nothing is fed or read any more.
-fn is_closed(decoder: &mut Decoder) -> bool {
-    messages(decoder) == Err(Fault::Closed) && decoder.feed(&[0]) == Err(Fault::Closed)
-}
-
-fn is_read(decoder: &mut Decoder, stream: &Stream, length: usize) -> bool {
-    for (part, answer) in stream.parts {
-        if feed_pieces(decoder, *part, length) != *answer {
-            return false;
-        }
-        if answer.is_err() {
-            return is_closed(decoder);
-        }
-    }
-    decoder.waiting() == stream.waiting
-}
-
-fn reads(alloc: Global, stream: &Stream, length: usize) -> Option<bool> {
-    Some(is_read(&mut decoder(alloc, stream.resumed)?, stream, length))
-}
-
 #[test]
 fn streams(rt: HostRuntime) {
-    for (place, stream) in STREAMS.iter().enumerate() {
-        for length in 1..=45 {
-            assert!(rt;
-                reads(rt.alloc(), stream, length) == Some(true),
-                "{place}, by {length}"
-            );
-        }
-    }
+    assert_eq!(rt; first_failing(rt.alloc(), &STREAMS, 45), None);
 }

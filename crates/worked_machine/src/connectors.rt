@@ -1,13 +1,13 @@
 //! What the peer `a` answers to what `b` sends it, where they share table `t1`.
 
-use crate::runs::{CONFIRMED, CONNECTED, connects};
-use crate::steps::{After, Asked, Given, PLAIN, Step};
+use crate::runs::{CONFIRMED, CONNECTED, PLAIN};
+use example_machine::{After, Asked, Given, Peer, Step, Story, first_failing};
 use learner::Fault;
 use peers_msg::{Breach, ErrorKind};
 use session_core::State;
 
 /// Two updates that come together are learned, and one acknowledgement takes both; then `b` ends the resync as partial.
-static TWO_UPDATES: [Step; 3] = [
+const TWO_UPDATES: &[Step] = &[
     Step {
         given: Given::Bytes(b""),
         asked: &[],
@@ -31,19 +31,8 @@ static TWO_UPDATES: [Step; 3] = [
     },
 ];
 
-#[test]
-fn two_updates(rt: HostRuntime) {
-    assert!(rt;
-        connects(
-            rt.alloc(),
-            &[CONNECTED.as_slice(), TWO_UPDATES.as_slice()],
-            &CONFIRMED
-        )
-    );
-}
-
 /// The hello is refused.
-static REFUSED: [Step; 2] = [
+const REFUSED: &[Step] = &[
     Step {
         given: Given::Opened,
         asked: &[Asked::Send(b"HAProxyS 2.1\nb\na 1 1\n")],
@@ -57,7 +46,7 @@ static REFUSED: [Step; 2] = [
 ];
 
 /// It is put off.
-static TRY_AGAIN: [Step; 2] = [
+const TRY_AGAIN: &[Step] = &[
     Step {
         given: Given::Opened,
         asked: &[Asked::Send(b"HAProxyS 2.1\nb\na 1 1\n")],
@@ -70,32 +59,47 @@ static TRY_AGAIN: [Step; 2] = [
     },
 ];
 
-#[test]
-fn refused(rt: HostRuntime) {
-    assert!(rt; connects(rt.alloc(), &[REFUSED.as_slice()], &PLAIN));
-    assert!(rt; connects(rt.alloc(), &[TRY_AGAIN.as_slice()], &PLAIN));
-}
-
 /// A switch to a table that isn't defined.
-static NO_TABLE: [Step; 1] = [Step {
+const NO_TABLE: &[Step] = &[Step {
     given: Given::Bytes(b"\x0A\x83\x01\x09"),
     asked: &[Asked::Part(ErrorKind::Protocol)],
     state: State::Ended,
 }];
 
-static FAULT: After = After {
+const FAULT: After = After {
     confirmed: false,
     fault: Some(Fault::Breach(Breach::NoTable)),
     refused: None,
 };
 
+static CONNECTORS: [Story; 4] = [
+    Story {
+        name: "two updates",
+        peer: Peer::Connector,
+        runs: &[CONNECTED, TWO_UPDATES],
+        after: &[CONFIRMED],
+    },
+    Story {
+        name: "refused",
+        peer: Peer::Connector,
+        runs: &[REFUSED],
+        after: &[PLAIN],
+    },
+    Story {
+        name: "put off",
+        peer: Peer::Connector,
+        runs: &[TRY_AGAIN],
+        after: &[PLAIN],
+    },
+    Story {
+        name: "no table",
+        peer: Peer::Connector,
+        runs: &[CONNECTED, NO_TABLE],
+        after: &[FAULT],
+    },
+];
+
 #[test]
-fn no_table(rt: HostRuntime) {
-    assert!(rt;
-        connects(
-            rt.alloc(),
-            &[CONNECTED.as_slice(), NO_TABLE.as_slice()],
-            &FAULT
-        )
-    );
+fn connectors(rt: HostRuntime) {
+    assert_eq!(rt; first_failing(rt.alloc(), &CONNECTORS), None);
 }

@@ -1,40 +1,33 @@
 //! How the session of `a`, who connects to `b`, ends in each of its states, and what it refuses there.
 
-use crate::runs::{CONNECTED, OVER, connects};
-use crate::steps::{After, Asked, Given, PLAIN, Step};
+use crate::runs::{CONNECTED, COPY, LESSON, OVER};
+use example_machine::{After, Asked, Given, Peer, Step, Story, first_failing};
 use session_core::{SessionError, State};
 use table_types::{CopyKind, Settled};
 
 /// The connection ends.
-static END: [Step; 1] = [Step {
+const END: &[Step] = &[Step {
     given: Given::End,
     asked: &[Asked::Close],
     state: State::Ended,
 }];
 
 /// It can't be read.
-static NOT_READ: [Step; 1] = [Step {
+const NOT_READ: &[Step] = &[Step {
     given: Given::ReadFault,
     asked: &[Asked::Close],
     state: State::Ended,
 }];
 
 /// It can't be written.
-static NOT_WRITTEN: [Step; 1] = [Step {
+const NOT_WRITTEN: &[Step] = &[Step {
     given: Given::WriteFault,
     asked: &[Asked::Close],
     state: State::Ended,
 }];
 
-#[test]
-fn before_the_hello(rt: HostRuntime) {
-    assert!(rt; connects(rt.alloc(), &[END.as_slice()], &OVER));
-    assert!(rt; connects(rt.alloc(), &[NOT_READ.as_slice()], &OVER));
-    assert!(rt; connects(rt.alloc(), &[NOT_WRITTEN.as_slice()], &OVER));
-}
-
 /// The hello is sent, and its status has begun; a turn waits for the rest.
-static GREETED: [Step; 3] = [
+const GREETED: &[Step] = &[
     Step {
         given: Given::Opened,
         asked: &[Asked::Send(b"HAProxyS 2.1\nb\na 1 1\n")],
@@ -52,110 +45,23 @@ static GREETED: [Step; 3] = [
     },
 ];
 
-#[test]
-fn in_the_hello(rt: HostRuntime) {
-    assert!(rt; connects(rt.alloc(), &[GREETED.as_slice(), END.as_slice()], &OVER));
-    assert!(rt;
-        connects(
-            rt.alloc(),
-            &[GREETED.as_slice(), NOT_READ.as_slice()],
-            &OVER
-        )
-    );
-    assert!(rt;
-        connects(
-            rt.alloc(),
-            &[GREETED.as_slice(), NOT_WRITTEN.as_slice()],
-            &OVER
-        )
-    );
-}
-
 /// The rest makes it no status that there is.
-static NO_STATUS: [Step; 1] = [Step {
+const NO_STATUS: &[Step] = &[Step {
     given: Given::Bytes(b"x0\n\x00\x00"),
     asked: &[Asked::Close],
     state: State::Ended,
 }];
 
-#[test]
-fn by_no_status(rt: HostRuntime) {
-    assert!(rt;
-        connects(
-            rt.alloc(),
-            &[GREETED.as_slice(), NO_STATUS.as_slice()],
-            &OVER
-        )
-    );
-}
-
-/// A copy was asked for.
-static COPY: [Step; 1] = [Step {
-    given: Given::Turn,
-    asked: &[Asked::Copy(1, CopyKind::Push)],
-    state: State::Ready,
-}];
-
-#[test]
-fn without_the_copy(rt: HostRuntime) {
-    let before = CONNECTED.as_slice();
-    assert!(rt;
-        connects(
-            rt.alloc(),
-            &[before, COPY.as_slice(), END.as_slice()],
-            &OVER
-        )
-    );
-    assert!(rt;
-        connects(
-            rt.alloc(),
-            &[before, COPY.as_slice(), NOT_READ.as_slice()],
-            &OVER
-        )
-    );
-    assert!(rt;
-        connects(
-            rt.alloc(),
-            &[before, COPY.as_slice(), NOT_WRITTEN.as_slice()],
-            &OVER
-        )
-    );
-}
-
-/// A batch is being taught.
-static LESSON: [Step; 1] = [Step {
-    given: Given::Copied(1),
-    asked: &[Asked::Teach],
-    state: State::Ready,
-}];
-
-#[test]
-fn within_the_lesson(rt: HostRuntime) {
-    let before = CONNECTED.as_slice();
-    assert!(rt;
-        connects(
-            rt.alloc(),
-            &[
-                before,
-                COPY.as_slice(),
-                LESSON.as_slice(),
-                NOT_WRITTEN.as_slice()
-            ],
-            &OVER
-        )
-    );
-}
-
 /// What asks for nothing: that the end of a resync was taken, that the peer is alive, and an acknowledgement where no batch
 /// is out.
-static NOTHING: [Step; 1] = [Step {
+const NOTHING: &[Step] = &[Step {
     given: Given::Bytes(b"\x00\x03\x00\x04\x0A\x84\x05\x01\x00\x00\x00\x01"),
     asked: &[],
     state: State::Ready,
 }];
 
 /// An error message after an update, which is learned; what comes after it isn't read.
-static FAILED: [Step; 1] = [Step {
+const FAILED: &[Step] = &[Step {
     given: Given::Bytes(
         b"\x0A\x82\x0A\x01\x02t1\x02\x04\x04\xF0\xC4\x0D\x0A\x85\x0D\x00\x00\x00\x01\x00\x00\x75\x30\x00\x00\x00\x07\x05\x01\x01\x00\x00",
     ),
@@ -163,19 +69,88 @@ static FAILED: [Step; 1] = [Step {
     state: State::Ended,
 }];
 
+static ENDINGS: [Story; 12] = [
+    Story {
+        name: "before the hello, by its end",
+        peer: Peer::Connector,
+        runs: &[END],
+        after: &[OVER],
+    },
+    Story {
+        name: "before the hello, by a failing read",
+        peer: Peer::Connector,
+        runs: &[NOT_READ],
+        after: &[OVER],
+    },
+    Story {
+        name: "before the hello, by a failing write",
+        peer: Peer::Connector,
+        runs: &[NOT_WRITTEN],
+        after: &[OVER],
+    },
+    Story {
+        name: "in the hello, by its end",
+        peer: Peer::Connector,
+        runs: &[GREETED, END],
+        after: &[OVER],
+    },
+    Story {
+        name: "in the hello, by a failing read",
+        peer: Peer::Connector,
+        runs: &[GREETED, NOT_READ],
+        after: &[OVER],
+    },
+    Story {
+        name: "in the hello, by a failing write",
+        peer: Peer::Connector,
+        runs: &[GREETED, NOT_WRITTEN],
+        after: &[OVER],
+    },
+    Story {
+        name: "by no status",
+        peer: Peer::Connector,
+        runs: &[GREETED, NO_STATUS],
+        after: &[OVER],
+    },
+    Story {
+        name: "without the copy, by its end",
+        peer: Peer::Connector,
+        runs: &[CONNECTED, COPY, END],
+        after: &[OVER],
+    },
+    Story {
+        name: "without the copy, by a failing read",
+        peer: Peer::Connector,
+        runs: &[CONNECTED, COPY, NOT_READ],
+        after: &[OVER],
+    },
+    Story {
+        name: "without the copy, by a failing write",
+        peer: Peer::Connector,
+        runs: &[CONNECTED, COPY, NOT_WRITTEN],
+        after: &[OVER],
+    },
+    Story {
+        name: "within the lesson, by a failing write",
+        peer: Peer::Connector,
+        runs: &[CONNECTED, COPY, LESSON, NOT_WRITTEN],
+        after: &[OVER],
+    },
+    Story {
+        name: "by an error message",
+        peer: Peer::Connector,
+        runs: &[CONNECTED, NOTHING, FAILED],
+        after: &[OVER],
+    },
+];
+
 #[test]
-fn by_an_error_message(rt: HostRuntime) {
-    assert!(rt;
-        connects(
-            rt.alloc(),
-            &[CONNECTED.as_slice(), NOTHING.as_slice(), FAILED.as_slice()],
-            &OVER
-        )
-    );
+fn endings(rt: HostRuntime) {
+    assert_eq!(rt; first_failing(rt.alloc(), &ENDINGS), None);
 }
 
 /// What can't come before the hello is sent, but for the bytes that `runs` has.
-static AT_FIRST: [After; 2] = [
+const AT_FIRST: &[After] = &[
     After {
         confirmed: false,
         fault: None,
@@ -189,7 +164,7 @@ static AT_FIRST: [After; 2] = [
 ];
 
 /// What can't come while the status is read.
-static IN_THE_HELLO: [After; 2] = [
+const IN_THE_HELLO: &[After] = &[
     After {
         confirmed: false,
         fault: None,
@@ -203,7 +178,7 @@ static IN_THE_HELLO: [After; 2] = [
 ];
 
 /// What can't come where nothing was asked for.
-static WITH_NOTHING_ASKED: [After; 5] = [
+const WITH_NOTHING_ASKED: &[After] = &[
     After {
         confirmed: false,
         fault: None,
@@ -232,7 +207,7 @@ static WITH_NOTHING_ASKED: [After; 5] = [
 ];
 
 /// What can't come before a copy of table 1 is answered.
-static WITH_A_COPY_ASKED: [After; 5] = [
+const WITH_A_COPY_ASKED: &[After] = &[
     After {
         confirmed: false,
         fault: None,
@@ -261,7 +236,7 @@ static WITH_A_COPY_ASKED: [After; 5] = [
 ];
 
 /// What can't come before the lesson is written.
-static WITH_A_LESSON_ASKED: [After; 4] = [
+const WITH_A_LESSON_ASKED: &[After] = &[
     After {
         confirmed: false,
         fault: None,
@@ -284,31 +259,40 @@ static WITH_A_LESSON_ASKED: [After; 4] = [
     },
 ];
 
-#[test]
-fn unasked(rt: HostRuntime) {
-    for after in &AT_FIRST {
-        assert!(rt; connects(rt.alloc(), &[], after));
-    }
-    for after in &IN_THE_HELLO {
-        assert!(rt; connects(rt.alloc(), &[GREETED.as_slice()], after));
-    }
-}
+static UNASKED: [Story; 5] = [
+    Story {
+        name: "unasked at first",
+        peer: Peer::Connector,
+        runs: &[],
+        after: AT_FIRST,
+    },
+    Story {
+        name: "unasked in the hello",
+        peer: Peer::Connector,
+        runs: &[GREETED],
+        after: IN_THE_HELLO,
+    },
+    Story {
+        name: "unasked with nothing asked",
+        peer: Peer::Connector,
+        runs: &[CONNECTED],
+        after: WITH_NOTHING_ASKED,
+    },
+    Story {
+        name: "unasked with a copy asked",
+        peer: Peer::Connector,
+        runs: &[CONNECTED, COPY],
+        after: WITH_A_COPY_ASKED,
+    },
+    Story {
+        name: "unasked with a lesson asked",
+        peer: Peer::Connector,
+        runs: &[CONNECTED, COPY, LESSON],
+        after: WITH_A_LESSON_ASKED,
+    },
+];
 
 #[test]
-fn unasked_when_open(rt: HostRuntime) {
-    for after in &WITH_NOTHING_ASKED {
-        assert!(rt; connects(rt.alloc(), &[CONNECTED.as_slice()], after));
-    }
-    for after in &WITH_A_COPY_ASKED {
-        assert!(rt; connects(rt.alloc(), &[CONNECTED.as_slice(), COPY.as_slice()], after));
-    }
-    for after in &WITH_A_LESSON_ASKED {
-        assert!(rt;
-            connects(
-                rt.alloc(),
-                &[CONNECTED.as_slice(), COPY.as_slice(), LESSON.as_slice()],
-                after
-            )
-        );
-    }
+fn unasked(rt: HostRuntime) {
+    assert_eq!(rt; first_failing(rt.alloc(), &UNASKED), None);
 }

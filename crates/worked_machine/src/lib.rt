@@ -1,4 +1,4 @@
-//! Sessions that were worked out by hand, event by event. There is nothing here but tests, of public calls alone.
+//! Stories of sessions that were worked out by hand, event by event, and one test for each table of them.
 #![tactic(auto)]
 
 #[cfg(test)]
@@ -11,7 +11,5 @@ mod endings;
 mod resyncs;
 #[cfg(test)]
 mod runs;
-#[cfg(test)]
-mod steps;
 #[cfg(test)]
 mod two_tables;

@@ -1,12 +1,12 @@
 //! Resyncs that the peer `a` teaches `b`, which asks again before they are over.
 
-use crate::runs::{CONNECTED, connects};
-use crate::steps::{Asked, Given, PLAIN, Step};
+use crate::runs::{CONNECTED, PLAIN};
+use example_machine::{Asked, Given, Peer, Step, Story, first_failing};
 use session_core::State;
 use table_types::{CopyKind, Settled};
 
 /// Two requests in one event; the table has nothing left to teach.
-static TWO_REQUESTS: [Step; 3] = [
+const TWO_REQUESTS: &[Step] = &[
     Step {
         given: Given::Bytes(b"\x00\x00\x00\x00"),
         asked: &[Asked::Reopen(1), Asked::Reopen(1)],
@@ -25,7 +25,7 @@ static TWO_REQUESTS: [Step; 3] = [
 ];
 
 /// A request during the next resync, while a batch is out: it waits for the acknowledgement, and the resync begins anew.
-static ASKED_AGAIN: [Step; 8] = [
+const ASKED_AGAIN: &[Step] = &[
     Step {
         given: Given::Bytes(b"\x00\x00"),
         asked: &[Asked::Reopen(1)],
@@ -68,17 +68,14 @@ static ASKED_AGAIN: [Step; 8] = [
     },
 ];
 
+static RESYNCS: [Story; 1] = [Story {
+    name: "asked again",
+    peer: Peer::Connector,
+    runs: &[CONNECTED, TWO_REQUESTS, ASKED_AGAIN],
+    after: &[PLAIN],
+}];
+
 #[test]
-fn asked_again(rt: HostRuntime) {
-    assert!(rt;
-        connects(
-            rt.alloc(),
-            &[
-                CONNECTED.as_slice(),
-                TWO_REQUESTS.as_slice(),
-                ASKED_AGAIN.as_slice()
-            ],
-            &PLAIN
-        )
-    );
+fn resyncs(rt: HostRuntime) {
+    assert_eq!(rt; first_failing(rt.alloc(), &RESYNCS), None);
 }

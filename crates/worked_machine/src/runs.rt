@@ -1,49 +1,19 @@
 //! Runs of sessions between the peers `a` and `b` that share table `t1`.
 
-use crate::steps::{After, Asked, Given, PLAIN, Step, makes};
-use example_parts::{T1, alone, named};
+use example_machine::{After, Asked, Given, Peer, Step, Story, first_failing};
 use learner::Fault;
-use peers_hello::Hello;
 use peers_msg::{Breach, ErrorKind};
-use session_core::{Session, SessionError, State};
-use std::alloc::Global;
-use table_types::{CopyKind, Roster, Settled};
+use session_core::{SessionError, State};
+use table_types::{CopyKind, Settled};
 
-/// The session of `b`, to which `a` connects.
-fn accepting(alloc: Global, up_to_date: bool) -> Option<Session> {
-    let own = named(alloc, b"b")?;
-    let mut peers = Vec::new(alloc);
-    peers.push(named(alloc, b"a")?).ok()?;
-    Session::accept(alloc, own, peers, alone(alloc, &T1)?, up_to_date).ok()
-}
+/// It confirmed nothing, has no fault, and isn't given another event.
+pub const PLAIN: After = After {
+    confirmed: false,
+    fault: None,
+    refused: None,
+};
 
-/// The session of `a`, who connects to `b` and shares these tables.
-pub fn connecting_with(alloc: Global, roster: Roster, up_to_date: bool) -> Option<Session> {
-    let hello = Hello {
-        remote: named(alloc, b"b")?,
-        local: named(alloc, b"a")?,
-        pid: 1,
-        relative: 1,
-    };
-    Session::connect(alloc, hello, roster, up_to_date).ok()
-}
-
-/// The same, which shares `t1`.
-pub fn connecting(alloc: Global, up_to_date: bool) -> Option<Session> {
-    connecting_with(alloc, alone(alloc, &T1)?, up_to_date)
-}
-
-/// Whether the session of `a`, which isn't up to date, makes these steps, and that can be read of it then.
-pub fn connects(alloc: Global, steps: &[&[Step]], after: &After) -> bool {
-    makes(alloc, connecting(alloc, false), steps, after)
-}
-
-/// Whether the session of `b` makes these steps, and that can be read of it then.
-fn accepts(alloc: Global, up_to_date: bool, steps: &[Step], after: &After) -> bool {
-    makes(alloc, accepting(alloc, up_to_date), &[steps], after)
-}
-
-static ACCEPTOR_RESYNC: [Step; 5] = [
+const ACCEPTOR_RESYNC: &[Step] = &[
     Step {
         given: Given::Bytes(b"HAProxyS 2.1\nb\na 1 1\n\x00\x00"),
         asked: &[Asked::Send(b"200\n"), Asked::Reopen(1)],
@@ -72,19 +42,14 @@ static ACCEPTOR_RESYNC: [Step; 5] = [
 ];
 
 /// Nothing comes any more.
-pub static OVER: After = After {
+pub const OVER: After = After {
     confirmed: false,
     fault: None,
     refused: Some((Given::Turn, SessionError::Ended)),
 };
 
-#[test]
-fn acceptor_resync(rt: HostRuntime) {
-    assert!(rt; accepts(rt.alloc(), true, ACCEPTOR_RESYNC.as_slice(), &OVER));
-}
-
 /// The same resync, where `b` isn't up to date.
-static ACCEPTOR_PARTIAL: [Step; 3] = [
+const ACCEPTOR_PARTIAL: &[Step] = &[
     Step {
         given: Given::Bytes(b"HAProxyS 2.1\nb\na 1 1\n\x00\x00"),
         asked: &[Asked::Send(b"200\n"), Asked::Reopen(1)],
@@ -102,13 +67,8 @@ static ACCEPTOR_PARTIAL: [Step; 3] = [
     },
 ];
 
-#[test]
-fn acceptor_partial(rt: HostRuntime) {
-    assert!(rt; accepts(rt.alloc(), false, ACCEPTOR_PARTIAL.as_slice(), &PLAIN));
-}
-
 /// A hello that is refused, whole and in pieces.
-static REFUSED: [Step; 2] = [
+const REFUSED: &[Step] = &[
     Step {
         given: Given::Bytes(b"HAProxyS 2.0\nb\n"),
         asked: &[],
@@ -121,13 +81,8 @@ static REFUSED: [Step; 2] = [
     },
 ];
 
-#[test]
-fn refused_hello(rt: HostRuntime) {
-    assert!(rt; accepts(rt.alloc(), true, REFUSED.as_slice(), &PLAIN));
-}
-
 /// From the beginning until messages go to and fro.
-pub static CONNECTED: [Step; 4] = [
+pub const CONNECTED: &[Step] = &[
     Step {
         given: Given::Turn,
         asked: &[],
@@ -150,18 +105,22 @@ pub static CONNECTED: [Step; 4] = [
     },
 ];
 
+/// A copy was asked for.
+pub const COPY: &[Step] = &[Step {
+    given: Given::Turn,
+    asked: &[Asked::Copy(1, CopyKind::Push)],
+    state: State::Ready,
+}];
+
+/// A batch is being taught.
+pub const LESSON: &[Step] = &[Step {
+    given: Given::Copied(1),
+    asked: &[Asked::Teach],
+    state: State::Ready,
+}];
+
 /// A request for a resync that waits until the batch that is out is acknowledged; then the end of the other's resync.
-static WAITING: [Step; 11] = [
-    Step {
-        given: Given::Turn,
-        asked: &[Asked::Copy(1, CopyKind::Push)],
-        state: State::Ready,
-    },
-    Step {
-        given: Given::Copied(1),
-        asked: &[Asked::Teach],
-        state: State::Ready,
-    },
+const WAITING: &[Step] = &[
     Step {
         given: Given::Written,
         asked: &[],
@@ -212,26 +171,15 @@ static WAITING: [Step; 11] = [
 ];
 
 /// It confirmed the end of the other's resync.
-pub static CONFIRMED: After = After {
+pub const CONFIRMED: After = After {
     confirmed: true,
     fault: None,
     refused: None,
 };
 
-#[test]
-fn a_request_waits(rt: HostRuntime) {
-    assert!(rt;
-        connects(
-            rt.alloc(),
-            &[CONNECTED.as_slice(), WAITING.as_slice()],
-            &CONFIRMED
-        )
-    );
-}
-
 /// A definition and an update are learned and acknowledged; then a message comes that is too large, after another
 /// update, which isn't acknowledged any more.
-static LEARNING: [Step; 2] = [
+const LEARNING: &[Step] = &[
     Step {
         given: Given::Bytes(
             b"\x0A\x82\x0A\x01\x02t1\x02\x04\x04\xF0\xC4\x0D\x0A\x85\x0D\x00\x00\x00\x01\x00\x00\x75\x30\x00\x00\x00\x07\x05",
@@ -251,37 +199,70 @@ static LEARNING: [Step; 2] = [
     },
 ];
 
-static TOO_LARGE: After = After {
+const TOO_LARGE: After = After {
     confirmed: false,
     fault: Some(Fault::Breach(Breach::SizeLimit)),
     refused: None,
 };
 
-#[test]
-fn learning(rt: HostRuntime) {
-    assert!(rt;
-        connects(
-            rt.alloc(),
-            &[CONNECTED.as_slice(), LEARNING.as_slice()],
-            &TOO_LARGE
-        )
-    );
-}
-
-static UNASKED: After = After {
+const UNASKED: After = After {
     confirmed: false,
     fault: None,
     refused: Some((Given::Nothing(1), SessionError::Unasked)),
 };
 
-static TOO_EARLY: After = After {
+const TOO_EARLY: After = After {
     confirmed: false,
     fault: None,
     refused: Some((Given::Bytes(b"200\n"), SessionError::Unasked)),
 };
 
+static RUNS: [Story; 7] = [
+    Story {
+        name: "acceptor's resync",
+        peer: Peer::Acceptor { up_to_date: true },
+        runs: &[ACCEPTOR_RESYNC],
+        after: &[OVER],
+    },
+    Story {
+        name: "acceptor's partial resync",
+        peer: Peer::Acceptor { up_to_date: false },
+        runs: &[ACCEPTOR_PARTIAL],
+        after: &[PLAIN],
+    },
+    Story {
+        name: "refused hello",
+        peer: Peer::Acceptor { up_to_date: true },
+        runs: &[REFUSED],
+        after: &[PLAIN],
+    },
+    Story {
+        name: "a request waits",
+        peer: Peer::Connector,
+        runs: &[CONNECTED, COPY, LESSON, WAITING],
+        after: &[CONFIRMED],
+    },
+    Story {
+        name: "learning",
+        peer: Peer::Connector,
+        runs: &[CONNECTED, LEARNING],
+        after: &[TOO_LARGE],
+    },
+    Story {
+        name: "unasked",
+        peer: Peer::Connector,
+        runs: &[CONNECTED],
+        after: &[UNASKED],
+    },
+    Story {
+        name: "too early",
+        peer: Peer::Connector,
+        runs: &[],
+        after: &[TOO_EARLY],
+    },
+];
+
 #[test]
-fn unasked(rt: HostRuntime) {
-    assert!(rt; connects(rt.alloc(), &[CONNECTED.as_slice()], &UNASKED));
-    assert!(rt; connects(rt.alloc(), &[], &TOO_EARLY));
+fn runs(rt: HostRuntime) {
+    assert_eq!(rt; first_failing(rt.alloc(), &RUNS), None);
 }

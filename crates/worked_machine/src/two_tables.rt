@@ -1,21 +1,12 @@
 //! A session of the peer `a`, who connects to `b`, is up to date, and shares the tables `t1` and `st` with it.
 
-use crate::runs::{CONNECTED, connecting_with};
-use crate::steps::{Asked, Given, PLAIN, Step, makes};
-use example_parts::{ST, T1, definition};
+use crate::runs::{CONNECTED, PLAIN};
+use example_machine::{Asked, Given, Peer, Step, Story, first_failing};
 use session_core::State;
-use std::alloc::Global;
-use table_types::{CopyKind, Roster};
-
-fn two_tables(alloc: Global) -> Option<Roster> {
-    let mut tables = Vec::new(alloc);
-    tables.push(definition(alloc, &T1)?).ok()?;
-    tables.push(definition(alloc, &ST)?).ok()?;
-    Roster::new(tables).ok()
-}
+use table_types::CopyKind;
 
 /// The tables are asked in turn, from the first again after the last.
-static IN_TURN: [Step; 6] = [
+const IN_TURN: &[Step] = &[
     Step {
         given: Given::Turn,
         asked: &[Asked::Copy(1, CopyKind::Push)],
@@ -49,7 +40,7 @@ static IN_TURN: [Step; 6] = [
 ];
 
 /// A resync goes on from the table after the one asked last, and ends when both tables have nothing left.
-static RESYNC: [Step; 5] = [
+const RESYNC: &[Step] = &[
     Step {
         given: Given::Bytes(b"\x00\x00"),
         asked: &[Asked::Reopen(1), Asked::Reopen(3)],
@@ -78,7 +69,7 @@ static RESYNC: [Step; 5] = [
 ];
 
 /// In the next resync each table is asked again.
-static RESYNC_AGAIN: [Step; 3] = [
+const RESYNC_AGAIN: &[Step] = &[
     Step {
         given: Given::Bytes(b"\x00\x00"),
         asked: &[Asked::Reopen(1), Asked::Reopen(3)],
@@ -96,25 +87,14 @@ static RESYNC_AGAIN: [Step; 3] = [
     },
 ];
 
-/// Whether that session makes these steps.
-fn makes_all(alloc: Global, steps: &[&[Step]]) -> bool {
-    match two_tables(alloc) {
-        Some(roster) => makes(alloc, connecting_with(alloc, roster, true), steps, &PLAIN),
-        None => false,
-    }
-}
+static TWO_TABLES: [Story; 1] = [Story {
+    name: "both in turn",
+    peer: Peer::ConnectorOfTwoTables,
+    runs: &[CONNECTED, IN_TURN, RESYNC, RESYNC_AGAIN],
+    after: &[PLAIN],
+}];
 
 #[test]
-fn both_in_turn(rt: HostRuntime) {
-    assert!(rt;
-        makes_all(
-            rt.alloc(),
-            &[
-                CONNECTED.as_slice(),
-                IN_TURN.as_slice(),
-                RESYNC.as_slice(),
-                RESYNC_AGAIN.as_slice()
-            ]
-        )
-    );
+fn two_tables(rt: HostRuntime) {
+    assert_eq!(rt; first_failing(rt.alloc(), &TWO_TABLES), None);
 }

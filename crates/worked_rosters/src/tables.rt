@@ -1,21 +1,14 @@
 //! Definitions of tables, rosters and batches, and the words for what tables store.
 
-use example_parts::{KeyParts, T1, TableParts, UpdateParts, alone, definition, update, updates};
-use std::alloc::Global;
-use table_types::{
-    Batch, BatchError, DataType, DefError, KeyKind, Roster, RosterError, TableDef, Update, Value,
-};
+use example_parts::{KeyParts, TableParts, UpdateParts};
+use example_rosters::batches::{batch_is_copied, fault_of_many};
+use example_rosters::definitions::{Parts, copy_stores};
+use example_rosters::rosters::{Called, roster_is_copied};
+use example_rosters::words::{first_no_data_type, first_no_key_kind};
+use example_rosters::{batches, definitions, rosters};
+use table_types::{BatchError, DataType, DefError, KeyKind, RosterError, Value};
 
 const COUNT: (DataType, Option<u32>) = (DataType::Gpc0, None);
-
-/// Id, name, kind and length of keys, and data types of a table, and what it is refused for.
-type Parts = (
-    u64,
-    &'static [u8],
-    (KeyKind, u64),
-    &'static [(DataType, Option<u32>)],
-    Option<DefError>,
-);
 
 static DEFINITIONS: [Parts; 8] = [
     (1, b"t1", (KeyKind::Integer, 4), &[COUNT], None),
@@ -64,22 +57,12 @@ static DEFINITIONS: [Parts; 8] = [
     ),
 ];
 
-/// What a table of these parts is refused for, if it is; `None` where memory was wanted.
-fn fault_of(alloc: Global, parts: &Parts) -> Option<Option<DefError>> {
-    let name = Vec::from_slice(alloc, parts.1).ok()?;
-    let types = Vec::from_slice(alloc, parts.3).ok()?;
-    Some(TableDef::new(alloc, parts.0, name, parts.2.0, parts.2.1, 30_000, types).err())
-}
-
 #[test]
 fn definitions_refused(rt: HostRuntime) {
-    for parts in &DEFINITIONS {
-        assert!(rt;
-            fault_of(rt.alloc(), parts) == Some(parts.4),
-            "{:?}",
-            parts.4
-        );
-    }
+    assert_eq!(rt;
+        definitions::first_refused_otherwise(rt.alloc(), &DEFINITIONS),
+        None
+    );
 }
 
 /// A table whose data types are given out of order.
@@ -102,47 +85,9 @@ static RISING: [(DataType, Option<u32>); 3] = [
     (DataType::ServerKey, None),
 ];
 
-/// Whether a copy of the table has these data types in this order.
-fn copy_stores(
-    alloc: Global,
-    table: &TableParts,
-    types: &[(DataType, Option<u32>)],
-) -> Option<bool> {
-    let table = definition(alloc, table)?;
-    let copy = table.copy(alloc).ok()?;
-    Some(copy.types() == types && copy.is_same(&table))
-}
-
 #[test]
 fn types_in_rising_id(rt: HostRuntime) {
     assert!(rt; copy_stores(rt.alloc(), &MIXED, &RISING) == Some(true));
-}
-
-/// A table of integers that stores gpc0.
-fn counting(alloc: Global, id: u64, name: &'static [u8]) -> Option<TableDef> {
-    let (kind, types) = (KeyKind::Integer, T1.types);
-    definition(
-        alloc,
-        &TableParts {
-            id,
-            name,
-            kind,
-            key_length: 4,
-            expire: 30_000,
-            types,
-        },
-    )
-}
-
-/// Ids and names of tables.
-type Called = &'static [(u64, &'static [u8])];
-
-fn tables(alloc: Global, called: Called) -> Option<Vec<TableDef>> {
-    let mut tables = Vec::new(alloc);
-    for (id, name) in called {
-        tables.push(counting(alloc, *id, *name)?).ok()?;
-    }
-    Some(tables)
 }
 
 static ROSTERS: [(Called, Option<RosterError>); 4] = [
@@ -155,49 +100,17 @@ static ROSTERS: [(Called, Option<RosterError>); 4] = [
     (&[(1, b"t1"), (2, b"t1")], Some(RosterError::RepeatedName)),
 ];
 
-fn roster_fault(alloc: Global, called: Called) -> Option<Option<RosterError>> {
-    Some(Roster::new(tables(alloc, called)?).err())
-}
-
 #[test]
 fn rosters_refused(rt: HostRuntime) {
-    for (called, fault) in &ROSTERS {
-        assert!(rt;
-            roster_fault(rt.alloc(), *called) == Some(*fault),
-            "{fault:?}"
-        );
-    }
-}
-
-fn roster(alloc: Global, called: Called) -> Option<Roster> {
-    Roster::new(tables(alloc, called)?).ok()
-}
-
-/// Whether table `id` of the roster has that name, or there is none where the name is empty.
-fn is_called(roster: &Roster, id: u64, name: &[u8]) -> bool {
-    match roster.table(id) {
-        Some(table) => table.name() == name,
-        None => name.is_empty(),
-    }
-}
-
-fn is_copied(alloc: Global, roster: &Roster) -> Option<bool> {
-    let copy = roster.copy(alloc).ok()?;
-    Some(
-        copy.tables().len() == 2
-            && is_called(&copy, 2, b"t1")
-            && is_called(&copy, 1, b"t2")
-            && is_called(&copy, 9, b""),
-    )
-}
-
-fn roster_is_copied(alloc: Global) -> Option<bool> {
-    is_copied(alloc, &roster(alloc, &[(2, b"t1"), (1, b"t2")])?)
+    assert_eq!(rt;
+        rosters::first_refused_otherwise(rt.alloc(), &ROSTERS),
+        None
+    );
 }
 
 #[test]
 fn roster_copied(rt: HostRuntime) {
-    assert!(rt; roster_is_copied(rt.alloc()) == Some(true));
+    assert!(rt; roster_is_copied(rt.alloc(), &[(2, b"t1"), (1, b"t2")], 9) == Some(true));
 }
 
 /// Updates of key 7 with lives of 30,000 ms at the most.
@@ -286,54 +199,18 @@ static BATCHES: [(&[UpdateParts], Option<BatchError>); 8] = [
     (&[FITS, TOO_LONG, NOWHERE], Some(BatchError::Misfit(1))),
 ];
 
-fn batch(alloc: Global, given: &[UpdateParts]) -> Option<Result<Batch, BatchError>> {
-    let updates = updates(alloc, given)?;
-    Some(Batch::new(&alone(alloc, &T1)?, updates))
-}
-
-fn batch_fault(alloc: Global, given: &[UpdateParts]) -> Option<Option<BatchError>> {
-    Some(batch(alloc, given)?.err())
-}
-
 #[test]
 fn batches_refused(rt: HostRuntime) {
-    for (given, fault) in &BATCHES {
-        assert!(rt;
-            batch_fault(rt.alloc(), *given) == Some(*fault),
-            "{fault:?}"
-        );
-    }
-}
-
-/// What a batch of one update, so many times, is refused for.
-fn fault_of_many(alloc: Global, one: &UpdateParts, times: u32) -> Option<Option<BatchError>> {
-    let mut many = Vec::new(alloc);
-    for _ in 0..times {
-        many.push(update(alloc, one)?).ok()?;
-    }
-    Some(Batch::new(&alone(alloc, &T1)?, many).err())
+    assert_eq!(rt;
+        batches::first_refused_otherwise(rt.alloc(), &BATCHES),
+        None
+    );
 }
 
 #[test]
 fn batches_of_many(rt: HostRuntime) {
     assert!(rt; fault_of_many(rt.alloc(), &FITS, 512) == Some(None));
     assert!(rt; fault_of_many(rt.alloc(), &NOWHERE, 513) == Some(Some(BatchError::TooMany)));
-}
-
-fn are_same(one: &[Update], other: &[Update]) -> bool {
-    for (one, other) in one.iter().zip(other) {
-        if !one.is_same(other) {
-            return false;
-        }
-    }
-    one.len() == other.len()
-}
-
-/// Whether a copy of the batch of these updates has the same ones.
-fn batch_is_copied(alloc: Global, given: &[UpdateParts]) -> Option<bool> {
-    let batch = batch(alloc, given)?.ok()?;
-    let copy = batch.copy(alloc).ok()?;
-    Some(copy.updates().len() == given.len() && are_same(copy.updates(), batch.updates()))
 }
 
 #[test]
@@ -365,19 +242,9 @@ static DATA_TYPES: [(u64, &str); 20] = [
     (19, "server_key"),
 ];
 
-/// Whether id and name are those of one data type.
-fn is_data_type(id: u64, name: &str) -> bool {
-    match (DataType::from_id(id), DataType::from_name(name)) {
-        (Some(one), Some(other)) => one == other && u64::from(one.id()) == id && one.name() == name,
-        _ => false,
-    }
-}
-
 #[test]
 fn data_types(rt: HostRuntime) {
-    for (id, name) in &DATA_TYPES {
-        assert!(rt; is_data_type(*id, *name), "{name}");
-    }
+    assert_eq!(rt; first_no_data_type(&DATA_TYPES), None);
     assert!(rt; DataType::from_id(20).is_none() && DataType::from_name("gpc").is_none());
 }
 
@@ -390,20 +257,8 @@ static KEY_KINDS: [(u64, &str); 5] = [
     (7, "binary"),
 ];
 
-/// Whether number and word are those of one kind.
-fn is_key_kind(number: u64, name: &str) -> bool {
-    match (KeyKind::from_number(number), KeyKind::from_name(name)) {
-        (Some(one), Some(other)) => one == other
-            && u64::from(one.number()) == number
-            && one.name() == name,
-        _ => false,
-    }
-}
-
 #[test]
 fn key_kinds(rt: HostRuntime) {
-    for (number, name) in &KEY_KINDS {
-        assert!(rt; is_key_kind(*number, *name), "{name}");
-    }
+    assert_eq!(rt; first_no_key_kind(&KEY_KINDS), None);
     assert!(rt; KeyKind::from_number(3).is_none() && KeyKind::from_name("ip").is_none());
 }

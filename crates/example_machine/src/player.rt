@@ -1,50 +1,14 @@
-//! Events of a session and what they ask for, written in short.
+//! Sessions that are given events, and whether they ask for what their stories say.
 
-use example_parts::{KeyParts, T1, UpdateParts, alone, updates};
+use crate::sessions::session;
+use crate::story::{After, Asked, Given, Step, Story};
+use example_parts::{KeyParts, KnownParts, T1, UpdateParts, alone, are_held, known, updates};
 use known_state::Known;
-use learner::Fault;
-use peers_msg::ErrorKind;
 use session_core::{Action, Event, Session, SessionError, State};
 use std::alloc::Global;
-use table_types::{Batch, CopyKind, Items, Moment, Roster, Settled, Update, Value};
+use table_types::{Batch, Items, Moment, Roster, Update, Value};
 
-/// An event.
-pub enum Given {
-    Opened,
-    Bytes(&'static [u8]),
-    End,
-    ReadFault,
-    Turn,
-    /// A batch of that table, always the same.
-    Copied(u64),
-    Nothing(u64),
-    /// With a known state in which nothing was received.
-    Written,
-    WriteFault,
-    Settled(u64, Settled),
-    Refused(u64),
-}
-
-/// An action.
-pub enum Asked {
-    Send(&'static [u8]),
-    /// Of that table, with that number.
-    Learn(u64, u32),
-    Ack(u64, u32),
-    Reopen(u64),
-    Copy(u64, CopyKind),
-    Teach,
-    Part(ErrorKind),
-    Close,
-}
-
-/// An event, what it asks for, and where the session stands then.
-pub struct Step {
-    pub given: Given,
-    pub asked: &'static [Asked],
-    pub state: State,
-}
-
+/// The updates of the batch that is taught.
 static UPDATES: [UpdateParts; 1] = [UpdateParts {
     table: 1,
     number: 1,
@@ -53,6 +17,15 @@ static UPDATES: [UpdateParts; 1] = [UpdateParts {
     values: &[Value::Count(5)],
     name: b"",
 }];
+
+/// What is known of the remote peer then.
+static TAUGHT: KnownParts = KnownParts {
+    table: T1,
+    selected: Some(1),
+    defined: &[1],
+    last: &[(1, 1)],
+    held: &[],
+};
 
 /// The batch of these updates.
 fn batch_for(roster: &Roster, updates: Vec<Update>) -> Option<Batch> {
@@ -74,7 +47,7 @@ fn event(alloc: Global, given: &Given) -> Option<Event> {
         Given::Turn => Event::Turn,
         Given::Copied(table) => Event::Copied(*table, batch(alloc)?),
         Given::Nothing(table) => Event::Nothing(*table),
-        Given::Written => Event::Written(Known::fresh(alloc, alone(alloc, &T1)?)),
+        Given::Written => Event::Written(known(alloc, &TAUGHT)?),
         Given::WriteFault => Event::WriteFault,
         Given::Settled(table, settled) => Event::Settled(*table, *settled),
         Given::Refused(table) => Event::Refused(*table),
@@ -111,6 +84,28 @@ fn are_asked(actions: &[Action], asked: &[Asked]) -> bool {
     true
 }
 
+/// Whether that is what is known once the batch was taught: `t1` as the roster has it is defined and selected, its last
+/// number is that of the update, and no slot holds a name.
+fn is_taught(known: &Known) -> bool {
+    let received = known.received();
+    let defined = match (received.selected_table(), known.roster().tables()) {
+        (Some(table), [own]) => table.id() == T1.id && table.is_same(own),
+        _ => false,
+    };
+    defined
+        && received.tables().len() == 1
+        && known.last_numbers().last(T1.id) == Some(1)
+        && are_held(known.slots(), &[])
+}
+
+/// Whether the session has kept what is known of the remote peer, where the event told it.
+fn is_kept(session: &Session, given: &Given) -> bool {
+    match given {
+        Given::Written => is_taught(session.known()),
+        _ => true,
+    }
+}
+
 /// What the session answers to an event. It says nothing of what `on` promises, so that the proof of a caller needn't go
 /// through it.
 fn answer(
@@ -126,15 +121,17 @@ fn answer(
 fn is_step(alloc: Global, session: &mut Session, step: &Step) -> bool {
     match answer(alloc, session, &step.given) {
         Some(Ok(actions)) => {
-            are_asked(actions.as_slice(), step.asked) && session.state() == step.state
+            are_asked(actions.as_slice(), step.asked)
+                && session.state() == step.state
+                && is_kept(session, &step.given)
         }
         _ => false,
     }
 }
 
 /// Whether the session makes these steps, one run after another.
-fn runs(alloc: Global, session: &mut Session, steps: &[&[Step]]) -> bool {
-    for run in steps {
+fn makes(alloc: Global, session: &mut Session, runs: &[&[Step]]) -> bool {
+    for run in runs {
         for step in *run {
             if !is_step(alloc, session, step) {
                 return false;
@@ -152,32 +149,46 @@ fn refuses(alloc: Global, session: &mut Session, given: &Given, error: SessionEr
     }
 }
 
-/// What can be read of a session when its steps are made, and the event that it refuses then.
-pub struct After {
-    pub confirmed: bool,
-    pub fault: Option<Fault>,
-    pub refused: Option<(Given, SessionError)>,
+/// Whether that can be read of the session, and it refuses the event.
+fn is_left(alloc: Global, session: &mut Session, after: &After) -> bool {
+    session.confirmed() == after.confirmed
+        && session.fault() == after.fault
+        && match &after.refused {
+            Some((given, error)) => refuses(alloc, session, given, *error),
+            None => true,
+        }
 }
 
-/// It confirmed nothing, has no fault, and isn't given another event.
-pub static PLAIN: After = After {
-    confirmed: false,
-    fault: None,
-    refused: None,
-};
-
-/// Whether the session makes these steps, and that can be read of it then.
-pub fn makes(alloc: Global, session: Option<Session>, steps: &[&[Step]], after: &After) -> bool {
-    match session {
+/// Whether a session makes the steps of the story, and is left so.
+fn is_played(alloc: Global, story: &Story, after: &After) -> bool {
+    match session(alloc, &story.peer) {
         Some(mut session) => {
-            runs(alloc, &mut session, steps)
-                && session.confirmed() == after.confirmed
-                && session.fault() == after.fault
-                && match &after.refused {
-                    Some((given, error)) => refuses(alloc, &mut session, given, *error),
-                    None => true,
-                }
+            makes(alloc, &mut session, story.runs) && is_left(alloc, &mut session, after)
         }
         None => false,
     }
+}
+
+/// The place of the first of the story's ends that its session doesn't come to, or 0 where it has none.
+fn failing_end(alloc: Global, story: &Story) -> Option<usize> {
+    for (place, after) in story.after.iter().enumerate() {
+        if !is_played(alloc, story, after) {
+            return Some(place);
+        }
+    }
+    if story.after.is_empty() {
+        Some(0)
+    } else {
+        None
+    }
+}
+
+/// The name of the first of these stories that isn't so, and the place in it of the end that its session doesn't come to.
+pub fn first_failing(alloc: Global, stories: &[Story]) -> Option<(&'static str, usize)> {
+    for story in stories {
+        if let Some(place) = failing_end(alloc, story) {
+            return Some((story.name, place));
+        }
+    }
+    None
 }
