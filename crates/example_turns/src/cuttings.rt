@@ -64,17 +64,21 @@ fn share_all<H: Wait>(
     Some(true)
 }
 
-/// Whether both sides end with the same rows where the bytes between them are cut so.
-fn agree<H: Wait>(
+/// What the second side sends to the first where the bytes between them are cut so, if both end with the same rows.
+fn agreed<H: Wait>(
     rt: &H,
     alloc: Global,
     joiner: &mut Side,
     server: &mut Side,
     meeting: &Meeting,
     most: usize,
-) -> Option<bool> {
-    let _taught = meet(rt, alloc, joiner, server, most, MOST_TURNS)?;
-    share_all(rt, &server.shards, &joiner.shards, meeting.counts)
+) -> Option<Vec<u8>> {
+    let sent = meet(rt, alloc, joiner, server, most, MOST_TURNS);
+    if share_all(rt, &server.shards, &joiner.shards, meeting.counts) == Some(true) {
+        sent
+    } else {
+        None
+    }
 }
 
 /// The same of a new joiner.
@@ -84,21 +88,34 @@ fn join<H: Wait>(
     server: &mut Side,
     meeting: &Meeting,
     most: usize,
-) -> Option<bool> {
+) -> Option<Vec<u8>> {
     let mut joiner = meeting.joiner.side(alloc, Role::Connects)?;
-    agree(rt, alloc, &mut joiner, server, meeting, most)
+    agreed(rt, alloc, &mut joiner, server, meeting, most)
 }
 
 /// The same of a new joiner and a new server.
-fn serve<H: Wait>(rt: &H, alloc: Global, meeting: &Meeting, most: usize) -> Option<bool> {
+fn serve<H: Wait>(rt: &H, alloc: Global, meeting: &Meeting, most: usize) -> Option<Vec<u8>> {
     let mut server = meeting.server.side(alloc, Role::Accepts)?;
     join(rt, alloc, &mut server, meeting, most)
 }
 
-/// Whether both sides end with the same rows, however the bytes between them are cut.
+/// Whether both sides end with the same rows where the bytes between them are cut so, and the second has sent these.
+fn sends<H: Wait>(
+    rt: &H,
+    alloc: Global,
+    meeting: &Meeting,
+    most: usize,
+    expected: &[u8],
+) -> Option<bool> {
+    let sent = serve(rt, alloc, meeting, most)?;
+    Some(sent.as_slice() == expected)
+}
+
+/// Whether the second side sends the same bytes, and both sides end with the same rows, however the bytes between them are cut.
 pub fn end_alike<H: Wait>(rt: &H, alloc: Global, meeting: &Meeting) -> Option<bool> {
-    for most in 1..=MOST_BYTES {
-        if !serve(rt, alloc, meeting, most)? {
+    let sent = serve(rt, alloc, meeting, MOST_BYTES)?;
+    for most in 1..MOST_BYTES {
+        if !sends(rt, alloc, meeting, most, sent.as_slice())? {
             return Some(false);
         }
     }

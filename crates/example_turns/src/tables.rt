@@ -12,6 +12,9 @@ use table_types::{Moment, Name, Roster};
 /// What the tables of a side are like.
 #[derive(Drop)]
 pub struct Tables {
+    /// The tables that the session shares.
+    pub roster: &'static [TableParts],
+    /// The tables under their locks.
     pub tables: &'static [TableParts],
     /// What they have learned.
     pub rows: &'static [UpdateParts],
@@ -33,7 +36,7 @@ pub enum Role {
 impl Tables {
     fn roster(&self, alloc: Global) -> Option<Roster> {
         let mut definitions = Vec::new(alloc);
-        for table in self.tables {
+        for table in self.roster {
             definitions.push(definition(alloc, table)?).ok()?;
         }
         Roster::new(definitions).ok()

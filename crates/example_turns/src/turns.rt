@@ -3,11 +3,13 @@
 use crate::sides::{Side, rows};
 use crate::tables::{Role, Tables};
 use crate::waiting::Waiting;
+use example_shards::track;
 use peers_devices::{Counting, Faults};
 use peers_engine::{EngineError, Open, Turned};
 use session_core::State;
 use std::alloc::Global;
 use std::io::Read;
+use std::mem;
 use std::sync::Wait;
 use table_shards::Shards;
 use table_types::{Cell, Key, Row};
@@ -90,10 +92,12 @@ fn are_rows(rows: &[(Key, Row)], expected: &[(u32, u64)]) -> bool {
     true
 }
 
-/// Whether `t1` has such rows.
-fn has_rows<H: Wait>(rt: &H, shards: &Shards, expected: &[(u32, u64)]) -> Option<bool> {
-    let rows = rows(rt, shards, 1)?;
-    Some(are_rows(rows.as_slice(), expected))
+/// Whether `t1` has such rows. Where it isn't there it has none.
+fn has_rows<H: Wait>(rt: &H, shards: &Shards, expected: &[(u32, u64)]) -> bool {
+    match rows(rt, shards, 1) {
+        Some(rows) => are_rows(rows.as_slice(), expected),
+        None => expected.is_empty(),
+    }
 }
 
 /// Whether all of a story's turns go as they say, and end so.
@@ -104,7 +108,7 @@ pub(crate) fn is_lived<H: Wait>(
     story: &Story,
 ) -> Option<bool> {
     let went = are_so(rt, alloc, side, story.opening)? && are_so(rt, alloc, side, story.turns)?;
-    let has_rows = has_rows(rt, &side.shards, story.rows)?;
+    let has_rows = has_rows(rt, &side.shards, story.rows);
     Some(went && side.session.state() == story.state && has_rows)
 }
 
@@ -112,4 +116,33 @@ pub(crate) fn is_lived<H: Wait>(
 pub fn is_true<H: Wait>(rt: &H, alloc: Global, story: &Story) -> Option<bool> {
     let mut side = story.tables.side(alloc, story.role)?;
     is_lived(rt, alloc, &mut side, story)
+}
+
+/// Whether the story goes as it says where the side's seat is the one from which a table `t1` of another side was changed.
+fn is_lived_from<H: Wait>(
+    rt: &H,
+    alloc: Global,
+    side: &mut Side,
+    other: &mut Side,
+    story: &Story,
+) -> Option<bool> {
+    let count = track(rt, &other.shards, &mut other.seat, 1, 9);
+    mem::swap(&mut side.seat, &mut other.seat);
+    Some(count == Some(1) && is_lived(rt, alloc, side, story)?)
+}
+
+/// Whether a story goes as it says with a new side whose seat has seen a later event of `t1` than the side's table has had: a change
+/// of that table among the others.
+pub fn is_true_ahead<H: Wait>(
+    rt: &H,
+    alloc: Global,
+    story: &Story,
+    other: &Tables,
+) -> Option<bool> {
+    let sides = story
+        .tables
+        .side(alloc, story.role)
+        .zip(other.side(alloc, story.role));
+    let (mut side, mut other) = sides?;
+    is_lived_from(rt, alloc, &mut side, &mut other, story)
 }

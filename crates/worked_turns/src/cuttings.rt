@@ -65,12 +65,14 @@ const NAMED: &[UpdateParts] = &[
 
 static OF_TWO_ROWS: Meeting = Meeting {
     server: Tables {
+        roster: &[T1],
         tables: &[T1],
         rows: ROWS,
         are_full: false,
         are_open: true,
     },
     joiner: Tables {
+        roster: &[T1],
         tables: &[T1],
         rows: &[],
         are_full: false,
@@ -86,12 +88,14 @@ fn two_rows_in_pieces(rt: HostRuntime) {
 
 static OF_THREE_TABLES: Meeting = Meeting {
     server: Tables {
+        roster: &[T1, IP, ST],
         tables: &[T1, IP, ST],
         rows: NAMED,
         are_full: false,
         are_open: true,
     },
     joiner: Tables {
+        roster: &[T1, IP, ST],
         tables: &[T1, IP, ST],
         rows: &[],
         are_full: false,

@@ -2,11 +2,11 @@
 
 use example_parts::{KeyParts, T1, TableParts, UpdateParts};
 use example_turns::{
-    Exchange, Failure, Role, Story, Tables, fails_to_read, fails_to_write, is_true,
+    Exchange, Failure, Role, Story, Tables, fails_to_read, fails_to_write, is_true, is_true_ahead,
 };
 use peers_engine::{EngineError, Turned};
 use session_core::{SessionError, State};
-use table_types::Value;
+use table_types::{DataType, KeyKind, Value};
 
 /// The hello of `a` to `b`.
 const HELLO: &[u8] = b"HAProxyS 2.1\nb\na 1 1\n";
@@ -48,8 +48,29 @@ pub const ROWS: &[UpdateParts] = &[
 
 const TABLE: &[TableParts] = &[T1];
 
+/// Table `t2`, which has another id than `t1`.
+const T2: TableParts = TableParts {
+    id: 2,
+    name: b"t2",
+    kind: KeyKind::Integer,
+    key_length: 4,
+    expire: 30_000,
+    types: &[(DataType::Gpc0, None)],
+};
+
+/// A table with the id and the name of `t1`, of texts.
+const OF_TEXTS: TableParts = TableParts {
+    id: 1,
+    name: b"t1",
+    kind: KeyKind::String,
+    key_length: 32,
+    expire: 30_000,
+    types: &[(DataType::Gpc0, None)],
+};
+
 /// `t1` without rows, in which the session is open.
 const EMPTY: Tables = Tables {
+    roster: TABLE,
     tables: TABLE,
     rows: &[],
     are_full: false,
@@ -58,6 +79,7 @@ const EMPTY: Tables = Tables {
 
 /// `t1` with the two rows.
 const FILLED: Tables = Tables {
+    roster: TABLE,
     tables: TABLE,
     rows: ROWS,
     are_full: false,
@@ -66,6 +88,7 @@ const FILLED: Tables = Tables {
 
 /// `t1` with room for one row.
 const NARROW: Tables = Tables {
+    roster: TABLE,
     tables: TABLE,
     rows: &[],
     are_full: true,
@@ -74,10 +97,29 @@ const NARROW: Tables = Tables {
 
 /// `t1`, in which the session isn't open.
 const UNOPENED: Tables = Tables {
+    roster: TABLE,
     tables: TABLE,
     rows: &[],
     are_full: false,
     are_open: false,
+};
+
+/// `t2` alone, where the session shares `t1`.
+const UNSHARED: Tables = Tables {
+    roster: TABLE,
+    tables: &[T2],
+    rows: &[],
+    are_full: false,
+    are_open: true,
+};
+
+/// A table of texts in the place of `t1`, which the session shares.
+const UNLIKE: Tables = Tables {
+    roster: TABLE,
+    tables: &[OF_TEXTS],
+    rows: &[],
+    are_full: false,
+    are_open: true,
 };
 
 /// `a` connects, and asks for all rows.
@@ -122,6 +164,13 @@ const OVER: Exchange = Exchange {
     ends: Err(EngineError::Session(SessionError::Ended)),
 };
 
+/// A turn in which a table refuses what its session asks for.
+const STRANGE: Exchange = Exchange {
+    comes: b"",
+    sends: b"",
+    ends: Err(EngineError::Strange),
+};
+
 static LEARNS: Story = Story {
     tables: EMPTY,
     role: Role::Connects,
@@ -156,9 +205,39 @@ static IS_STRANGE: Story = Story {
     tables: UNOPENED,
     role: Role::Connects,
     opening: OPENING,
+    turns: &[STRANGE, OVER],
+    state: State::Ended,
+    rows: &[],
+};
+
+#[test]
+fn a_session_that_is_not_open(rt: HostRuntime) {
+    assert!(rt; is_true(&rt, rt.alloc(), &IS_STRANGE) == Some(true));
+}
+
+/// Of the table from which it would be copied there is no lock.
+static HAS_NO_TABLE: Story = Story {
+    tables: UNSHARED,
+    role: Role::Connects,
+    opening: OPENING,
+    turns: &[STRANGE, OVER],
+    state: State::Ended,
+    rows: &[],
+};
+
+#[test]
+fn a_table_that_is_not_there(rt: HostRuntime) {
+    assert!(rt; is_true(&rt, rt.alloc(), &HAS_NO_TABLE) == Some(true));
+}
+
+/// The table has other keys than the session's definition of it says, and refuses the first row.
+static IS_UNLIKE: Story = Story {
+    tables: UNLIKE,
+    role: Role::Connects,
+    opening: OPENING,
     turns: &[
         Exchange {
-            comes: b"",
+            comes: LESSON,
             sends: b"",
             ends: Err(EngineError::Strange),
         },
@@ -169,8 +248,23 @@ static IS_STRANGE: Story = Story {
 };
 
 #[test]
-fn a_session_that_is_not_open(rt: HostRuntime) {
-    assert!(rt; is_true(&rt, rt.alloc(), &IS_STRANGE) == Some(true));
+fn a_table_of_another_shape(rt: HostRuntime) {
+    assert!(rt; is_true(&rt, rt.alloc(), &IS_UNLIKE) == Some(true));
+}
+
+/// The seat has seen more events of the table than it has had.
+static IS_AHEAD: Story = Story {
+    tables: EMPTY,
+    role: Role::Connects,
+    opening: OPENING,
+    turns: &[STRANGE, OVER],
+    state: State::Ended,
+    rows: &[],
+};
+
+#[test]
+fn a_seat_that_is_ahead(rt: HostRuntime) {
+    assert!(rt; is_true_ahead(&rt, rt.alloc(), &IS_AHEAD, &FILLED) == Some(true));
 }
 
 /// More is acknowledged than the batch that is out.
