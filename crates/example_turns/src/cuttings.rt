@@ -86,13 +86,17 @@ fn join<H: Wait>(
     most: usize,
 ) -> Option<bool> {
     let mut joiner = meeting.joiner.side(alloc, Role::Connects)?;
-    agree(rt, alloc, &mut joiner, server, meeting, most)
+    let agreed = agree(rt, alloc, &mut joiner, server, meeting, most);
+    drop(joiner);
+    agreed
 }
 
 /// The same of a new joiner and a new server.
 fn serve<H: Wait>(rt: &H, alloc: Global, meeting: &Meeting, most: usize) -> Option<bool> {
     let mut server = meeting.server.side(alloc, Role::Accepts)?;
-    join(rt, alloc, &mut server, meeting, most)
+    let agreed = join(rt, alloc, &mut server, meeting, most);
+    drop(server);
+    agreed
 }
 
 /// Whether both sides end with the same rows, however the bytes between them are cut.

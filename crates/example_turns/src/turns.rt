@@ -111,5 +111,7 @@ pub(crate) fn is_lived<H: Wait>(
 /// Whether a story goes as it says with a new side.
 pub fn is_true<H: Wait>(rt: &H, alloc: Global, story: &Story) -> Option<bool> {
     let mut side = story.tables.side(alloc, story.role)?;
-    is_lived(rt, alloc, &mut side, story)
+    let lived = is_lived(rt, alloc, &mut side, story);
+    drop(side);
+    lived
 }
