@@ -90,13 +90,17 @@ fn join<H: Wait>(
     most: usize,
 ) -> Option<Vec<u8>> {
     let mut joiner = meeting.joiner.side(alloc, Role::Connects)?;
-    agreed(rt, alloc, &mut joiner, server, meeting, most)
+    let sent = agreed(rt, alloc, &mut joiner, server, meeting, most);
+    drop(joiner);
+    sent
 }
 
 /// The same of a new joiner and a new server.
 fn serve<H: Wait>(rt: &H, alloc: Global, meeting: &Meeting, most: usize) -> Option<Vec<u8>> {
     let mut server = meeting.server.side(alloc, Role::Accepts)?;
-    join(rt, alloc, &mut server, meeting, most)
+    let sent = join(rt, alloc, &mut server, meeting, most);
+    drop(server);
+    sent
 }
 
 /// Whether both sides end with the same rows where the bytes between them are cut so, and the second has sent these.

@@ -89,7 +89,9 @@ pub fn fails_to_write<H: Wait>(
     failure: &Failure,
 ) -> Option<bool> {
     let mut side = story.tables.side(alloc, story.role)?;
-    cannot_write(rt, alloc, &mut side, story, failure)
+    let failed = cannot_write(rt, alloc, &mut side, story, failure);
+    drop(side);
+    failed
 }
 
 fn cannot_read<H: Wait>(
@@ -113,5 +115,7 @@ pub fn fails_to_read<H: Wait>(
     failure: &Failure,
 ) -> Option<bool> {
     let mut side = story.tables.side(alloc, story.role)?;
-    cannot_read(rt, alloc, &mut side, story, failure)
+    let failed = cannot_read(rt, alloc, &mut side, story, failure);
+    drop(side);
+    failed
 }

@@ -133,7 +133,9 @@ fn notes_after<H: Wait>(rt: &H, alloc: Global, side: &mut Side, story: &Story) -
 /// Whether the turn after a story, which writes a lesson, comes to all stages in their order, and no lock is held at one.
 pub fn comes_to_stages<H: Wait>(rt: &H, alloc: Global, story: &Story) -> Option<bool> {
     let mut side = story.tables.side(alloc, story.role)?;
-    notes_after(rt, alloc, &mut side, story)
+    let noted = notes_after(rt, alloc, &mut side, story);
+    drop(side);
+    noted
 }
 
 /// What another thread does while a session is held at the gate.
@@ -269,5 +271,7 @@ pub fn is_held_so<H: Threads + Wait + Clock + Sync>(
     scene: &Scene,
 ) -> Option<bool> {
     let mut side = story.tables.side(alloc, story.role)?;
-    is_held_after(rt, alloc, &mut side, story, *scene)
+    let held = is_held_after(rt, alloc, &mut side, story, *scene);
+    drop(side);
+    held
 }

@@ -14,6 +14,8 @@ pub const SESSION: u32 = 1;
 
 /// One side of a session: the session, its tables under their locks, the seat from which it works on them, and one for
 /// another thread. Each seat is there while nobody uses it.
+///
+/// Whoever makes a side lends it, and ends with `drop`: that is proved once, and a side that ends with its scope in each function.
 #[derive(Drop)]
 pub struct Side {
     pub session: Session,

@@ -115,7 +115,9 @@ pub(crate) fn is_lived<H: Wait>(
 /// Whether a story goes as it says with a new side.
 pub fn is_true<H: Wait>(rt: &H, alloc: Global, story: &Story) -> Option<bool> {
     let mut side = story.tables.side(alloc, story.role)?;
-    is_lived(rt, alloc, &mut side, story)
+    let lived = is_lived(rt, alloc, &mut side, story);
+    drop(side);
+    lived
 }
 
 /// Whether the story goes as it says where the side's seat is the one from which a table `t1` of another side was changed.
@@ -144,5 +146,8 @@ pub fn is_true_ahead<H: Wait>(
         .side(alloc, story.role)
         .zip(other.side(alloc, story.role));
     let (mut side, mut other) = sides?;
-    is_lived_from(rt, alloc, &mut side, &mut other, story)
+    let lived = is_lived_from(rt, alloc, &mut side, &mut other, story);
+    drop(side);
+    drop(other);
+    lived
 }
