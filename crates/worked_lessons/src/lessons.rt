@@ -1,25 +1,10 @@
 //! Lessons, the known state in which each ends, and what names cost.
 
-use example_parts::{
-    KeyParts, KnownParts, ST, T1, TableParts, UpdateParts, are_held, known, updates,
-};
-use known_state::{Known, Request};
-use std::alloc::Global;
-use table_types::{Batch, DataType, KeyKind, Update, Value};
-use teach_writer::{Lesson, TeachError, teach};
+use example_lessons::lessons::{Costly, Taught, first_failing, is_taught_again, names_cost};
+use example_parts::{KeyParts, KnownParts, ST, T1, TableParts, UpdateParts};
+use table_types::{DataType, KeyKind, Value};
 
 const LIFE: Option<u32> = Some(30_000);
-
-/// The parts of a known state, the updates that are taught from there, the bytes and the prices of their lesson, and what is known
-/// after it: the last number of the table, which is defined and selected, and the slots that hold `s1`.
-struct Taught {
-    from: KnownParts,
-    updates: &'static [UpdateParts],
-    bytes: &'static [u8],
-    prices: &'static [u64],
-    last: u32,
-    held: &'static [u8],
-}
 
 static TAUGHT: [Taught; 5] = [
     Taught {
@@ -150,63 +135,9 @@ static TAUGHT: [Taught; 5] = [
     },
 ];
 
-fn lesson(alloc: Global, known: &Known, updates: Vec<Update>) -> Option<Lesson> {
-    let batch = Batch::new(known.roster(), updates).ok()?;
-    teach(alloc, known, &batch).ok()
-}
-
-fn lesson_of(alloc: Global, taught: &Taught) -> Option<Lesson> {
-    let updates = updates(alloc, taught.updates)?;
-    lesson(alloc, &known(alloc, &taught.from)?, updates)
-}
-
-/// Whether table `id` is the one that is defined, is selected, and has that last number, and these slots hold `s1`.
-fn stands_at(known: &Known, id: u64, last: u32, held: &[u8]) -> bool {
-    let received = known.received();
-    received.tables().len() == 1
-        && received.selected() == Some(id)
-        && known.last_numbers().last(id) == Some(last)
-        && are_held(known.slots(), held)
-}
-
-fn is_right(lesson: &Lesson, taught: &Taught) -> bool {
-    lesson.bytes.as_slice() == taught.bytes
-        && lesson.prices.as_slice() == taught.prices
-        && stands_at(
-            &lesson.known,
-            taught.from.table.id,
-            taught.last,
-            taught.held,
-        )
-}
-
-fn is_taught(alloc: Global, taught: &Taught) -> Option<bool> {
-    Some(is_right(&lesson_of(alloc, taught)?, taught))
-}
-
 #[test]
 fn lessons(rt: HostRuntime) {
-    for taught in &TAUGHT {
-        assert!(rt;
-            is_taught(rt.alloc(), taught) == Some(true),
-            "{}",
-            taught.last
-        );
-    }
-}
-
-/// Whether the lesson is right, or the one after it where memory was wanted for it; `None` where it is wanted before.
-fn is_taught_again(alloc: Global, taught: &Taught) -> Option<bool> {
-    let known = known(alloc, &taught.from)?;
-    let batch = Batch::new(known.roster(), updates(alloc, taught.updates)?).ok()?;
-    let lesson = match teach(alloc, &known, &batch) {
-        Ok(lesson) => Ok(lesson),
-        Err(TeachError::Memory) => teach(alloc, &known, &batch),
-    };
-    match lesson {
-        Ok(lesson) => Some(is_right(&lesson, taught)),
-        Err(TeachError::Memory) => Some(false),
-    }
+    assert_eq!(rt; first_failing(rt.alloc(), &TAUGHT), None);
 }
 
 /// It can be run with any allocation failing: the teacher refuses, and teaches when it is asked again.
@@ -221,83 +152,52 @@ fn teacher_answers_again_of_a_name_held(rt: HostRuntime) {
     assert!(rt; is_taught_again(rt.alloc(), &TAUGHT[4]) != Some(false));
 }
 
-/// `lt`: as `st` with keys of up to 255 bytes, and nothing known of it.
-static LT: KnownParts = KnownParts {
-    table: TableParts {
-        id: 4,
-        name: b"lt",
-        kind: KeyKind::String,
-        key_length: 256,
-        expire: 30_000,
-        types: &[(DataType::ServerKey, None)],
+/// Rows of `lt`, which is as `st` with keys of up to 255 bytes, and of which nothing is known.
+static LONG_KEYS: Costly = Costly {
+    from: KnownParts {
+        table: TableParts {
+            id: 4,
+            name: b"lt",
+            kind: KeyKind::String,
+            key_length: 256,
+            expire: 30_000,
+            types: &[(DataType::ServerKey, None)],
+        },
+        selected: None,
+        defined: &[],
+        last: &[],
+        held: &[],
     },
-    selected: None,
-    defined: &[],
-    last: &[],
-    held: &[],
+    updates: &[
+        UpdateParts {
+            table: 4,
+            number: 1,
+            life: LIFE,
+            key: KeyParts::Str(b"a"),
+            values: &[],
+            name: b"s1",
+        },
+        UpdateParts {
+            table: 4,
+            number: 3,
+            life: LIFE,
+            key: KeyParts::Str(&[b'a'; 228]),
+            values: &[],
+            name: b"s1",
+        },
+        UpdateParts {
+            table: 4,
+            number: 4,
+            life: LIFE,
+            key: KeyParts::Str(b"a"),
+            values: &[],
+            name: b"s1",
+        },
+    ],
+    costs: &[(15, 18), (242, 246), (11, 14)],
 };
-
-/// Rows of `lt`.
-static NAMED: [UpdateParts; 3] = [
-    UpdateParts {
-        table: 4,
-        number: 1,
-        life: LIFE,
-        key: KeyParts::Str(b"a"),
-        values: &[],
-        name: b"s1",
-    },
-    UpdateParts {
-        table: 4,
-        number: 3,
-        life: LIFE,
-        key: KeyParts::Str(&[b'a'; 228]),
-        values: &[],
-        name: b"s1",
-    },
-    UpdateParts {
-        table: 4,
-        number: 4,
-        life: LIFE,
-        key: KeyParts::Str(b"a"),
-        values: &[],
-        name: b"s1",
-    },
-];
-
-/// What their messages cost with the name read, and with it written.
-static COSTS: [(u32, u32); 3] = [(15, 18), (242, 246), (11, 14)];
-
-fn requests(alloc: Global, known: &Known, updates: Vec<Update>) -> Option<Vec<Request>> {
-    let batch = Batch::new(known.roster(), updates).ok()?;
-    known.costs(alloc, &batch).ok()
-}
-
-/// Whether a copy of the request is one for `s1` at these costs.
-fn is_request(alloc: Global, request: &Request, costs: (u32, u32)) -> Option<bool> {
-    let copy = request.copy(alloc).ok()?;
-    Some(
-        (copy.read_cost(), copy.write_cost()) == costs
-            && copy.name().as_slice() == b"s1".as_slice(),
-    )
-}
-
-fn are_requests(alloc: Global, requests: &[Request]) -> Option<bool> {
-    for (request, costs) in requests.iter().zip(&COSTS) {
-        if !is_request(alloc, request, *costs)? {
-            return Some(false);
-        }
-    }
-    Some(requests.len() == 3)
-}
-
-fn names_cost(alloc: Global) -> Option<bool> {
-    let updates = updates(alloc, &NAMED)?;
-    let requests = requests(alloc, &known(alloc, &LT)?, updates)?;
-    are_requests(alloc, requests.as_slice())
-}
 
 #[test]
 fn costs_of_names(rt: HostRuntime) {
-    assert!(rt; names_cost(rt.alloc()) == Some(true));
+    assert!(rt; names_cost(rt.alloc(), &LONG_KEYS) == Some(true));
 }
