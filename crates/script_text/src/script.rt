@@ -131,7 +131,9 @@ impl Script {
         }
         match (kind, words) {
             (b"size", [size]) => {
-                let size = number_from_one(size, TableCell::MOST_ROWS as u32).ok_or(LineError::Refused)?;
+                let size = number_from_one(size, TableCell::MOST_ROWS as u32).ok_or(
+                    LineError::Refused,
+                )?;
                 set_once(&mut self.size, size)
             }
             (b"first", [first]) => {
