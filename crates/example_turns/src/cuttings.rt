@@ -20,6 +20,17 @@ pub struct Meeting {
     pub server: Tables,
     pub joiner: Tables,
     pub counts: &'static [(u64, usize)],
+    /// What the side that teaches sends, where that doesn't depend on how many turns it takes: it teaches several tables in an
+    /// order that does.
+    pub sends: Option<&'static [u8]>,
+}
+
+/// Whether these are the bytes that the side that teaches is to send, if they are known.
+fn are_sent(sent: &[u8], meeting: &Meeting) -> bool {
+    match meeting.sends {
+        Some(bytes) => sent == bytes,
+        None => true,
+    }
 }
 
 /// Whether two rows have the same key, end, cells and name.
@@ -64,21 +75,18 @@ fn share_all<H: Wait>(
     Some(true)
 }
 
-/// What the second side sends to the first where the bytes between them are cut so, if both end with the same rows.
-fn agreed<H: Wait>(
+/// Whether the second side sends what it is to send, and both end with the same rows, where the bytes between them are cut so.
+fn agree<H: Wait>(
     rt: &H,
     alloc: Global,
     joiner: &mut Side,
     server: &mut Side,
     meeting: &Meeting,
     most: usize,
-) -> Option<Vec<u8>> {
-    let sent = meet(rt, alloc, joiner, server, most, MOST_TURNS);
-    if share_all(rt, &server.shards, &joiner.shards, meeting.counts) == Some(true) {
-        sent
-    } else {
-        None
-    }
+) -> Option<bool> {
+    let sent = meet(rt, alloc, joiner, server, most, MOST_TURNS)?;
+    let shares = share_all(rt, &server.shards, &joiner.shards, meeting.counts);
+    Some(are_sent(sent.as_slice(), meeting) && shares == Some(true))
 }
 
 /// The same of a new joiner.
@@ -88,38 +96,25 @@ fn join<H: Wait>(
     server: &mut Side,
     meeting: &Meeting,
     most: usize,
-) -> Option<Vec<u8>> {
+) -> Option<bool> {
     let mut joiner = meeting.joiner.side(alloc, Role::Connects)?;
-    let sent = agreed(rt, alloc, &mut joiner, server, meeting, most);
+    let agreed = agree(rt, alloc, &mut joiner, server, meeting, most);
     drop(joiner);
-    sent
+    agreed
 }
 
 /// The same of a new joiner and a new server.
-fn serve<H: Wait>(rt: &H, alloc: Global, meeting: &Meeting, most: usize) -> Option<Vec<u8>> {
+fn serve<H: Wait>(rt: &H, alloc: Global, meeting: &Meeting, most: usize) -> Option<bool> {
     let mut server = meeting.server.side(alloc, Role::Accepts)?;
-    let sent = join(rt, alloc, &mut server, meeting, most);
+    let agreed = join(rt, alloc, &mut server, meeting, most);
     drop(server);
-    sent
+    agreed
 }
 
-/// Whether both sides end with the same rows where the bytes between them are cut so, and the second has sent these.
-fn sends<H: Wait>(
-    rt: &H,
-    alloc: Global,
-    meeting: &Meeting,
-    most: usize,
-    expected: &[u8],
-) -> Option<bool> {
-    let sent = serve(rt, alloc, meeting, most)?;
-    Some(sent.as_slice() == expected)
-}
-
-/// Whether the second side sends the same bytes, and both sides end with the same rows, however the bytes between them are cut.
+/// Whether the second side sends what it is to send, and both end with the same rows, however the bytes between them are cut.
 pub fn end_alike<H: Wait>(rt: &H, alloc: Global, meeting: &Meeting) -> Option<bool> {
-    let sent = serve(rt, alloc, meeting, MOST_BYTES)?;
-    for most in 1..MOST_BYTES {
-        if !sends(rt, alloc, meeting, most, sent.as_slice())? {
+    for most in 1..=MOST_BYTES {
+        if !serve(rt, alloc, meeting, most)? {
             return Some(false);
         }
     }

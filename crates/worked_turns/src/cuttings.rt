@@ -63,6 +63,10 @@ const NAMED: &[UpdateParts] = &[
     },
 ];
 
+/// The status, the lesson of the two rows, and the end of the resync.
+const ACCEPTED_AND_TAUGHT: &[u8] =
+    b"200\n\x0A\x82\x0A\x01\x02t1\x02\x04\x04\xF0\xC4\x0D\x0A\x85\x0D\x00\x00\x00\x01\x00\x00\x75\x30\x00\x00\x00\x07\x05\x0A\x86\x0A\x00\x00\x75\x30\x00\x00\x00\x08\xF0\x00\x00\x01";
+
 static OF_TWO_ROWS: Meeting = Meeting {
     server: Tables {
         roster: &[T1],
@@ -79,6 +83,7 @@ static OF_TWO_ROWS: Meeting = Meeting {
         are_open: true,
     },
     counts: &[(1, 2)],
+    sends: Some(ACCEPTED_AND_TAUGHT),
 };
 
 #[test]
@@ -102,6 +107,7 @@ static OF_THREE_TABLES: Meeting = Meeting {
         are_open: true,
     },
     counts: &[(1, 1), (2, 1), (3, 3)],
+    sends: None,
 };
 
 #[test]
