@@ -34,9 +34,9 @@ short_scripts() {
     done <examples/script-lines.tsv
 }
 
-# A million changes of one row, in 1 GB: their answers are counted, and the last of all answers are shown.
+# last_of_a_million COUNT: how many answers there are to a million changes, in 1 GB, and the last ones.
 last_of_a_million() {
-    in_kilobytes 1048576 table >"$scratch/answers" && wc -l <"$scratch/answers" && tail -n 9 "$scratch/answers"
+    in_kilobytes 1048576 table >"$scratch/answers" && wc -l <"$scratch/answers" && tail -n "$1" "$scratch/answers"
 }
 
 # A history of 1,000,000 events is full. Each of its events can be read. The script takes at most 10 s.
@@ -46,7 +46,7 @@ million_tracks() {
         repeat_lines 1000001 'track 0 4294967296 1 add gpc0 1'
         printf '%s\n' 'open 1' 'purge 4294967296' events rows 'event 1000000' 'event 1000001'; } >"$scene"
     began=${EPOCHREALTIME/./}
-    keep last_of_a_million <"$scene"
+    keep last_of_a_million 9 <"$scene"
     took=$((${EPOCHREALTIME/./} - began))
     ends 'table of a script of 1,000,001 changes' 0 "1000008
 reply 1000000 4294997296 1 1000000 local
@@ -62,17 +62,12 @@ none
     if [ "$took" -le 10000000 ]; then pass; else fail "1,000,001 changes took $took microseconds"; fi
 }
 
-# The answer to the last of a million changes of as many rows, in 1 GB, how many answers there are, and how many events.
-last_of_as_many_rows() {
-    in_kilobytes 1048576 table >"$scratch/answers" && wc -l <"$scratch/answers" && tail -n 2 "$scratch/answers"
-}
-
-# A table of 1,000,000 rows, each with a key of its own.
+# A table of 1,000,000 rows, each with a key of its own: it drops none to make room, and each change is answered.
 million_rows() {
-    { echo 'table 1 t1 integer 4 30000 gpc0'
+    { printf '%s\n' 'table 1 t1 integer 4 30000 gpc0' nopurge
         repeat_lines 1000000 'track 0 4294967296 %d add gpc0 1'
         echo events; } >"$scene"
-    keep last_of_as_many_rows <"$scene"
+    keep last_of_a_million 2 <"$scene"
     ends 'table of a script of 1,000,000 rows' 0 "1000001
 reply 1000000 4294997296 999999 1 local
 events 1000000 room 0

@@ -135,7 +135,7 @@ fn goes_through(alloc: Global, state: &KnownParts, steps: &[Step], held: &[u8]) 
     }
 }
 
-/// The place of the first of these stories in which a step is another.
+/// The place of the first of these stories in which a step, or a slot in the end, is another.
 pub fn first_failing(alloc: Global, stories: &[Story]) -> Option<usize> {
     for (place, (state, steps, held)) in stories.iter().enumerate() {
         if goes_through(alloc, state, *steps, *held) != Some(true) {

@@ -14,7 +14,7 @@ pub fn first_misnamed(alloc: Global, names: &[(&[u8], bool)]) -> Option<usize> {
     None
 }
 
-/// The place of the first of these numbers of milliseconds of which the same is so for moments.
+/// The place of the first of these numbers of milliseconds that is a moment though it should not be, or is none though it should.
 pub fn first_mistimed(moments: &[(u64, bool)]) -> Option<usize> {
     for (place, (milliseconds, is_moment)) in moments.iter().enumerate() {
         if Moment::new(*milliseconds).is_some() != *is_moment {
@@ -53,7 +53,7 @@ fn update_is_copied(alloc: Global, parts: &UpdateParts) -> Option<bool> {
     is_copied(alloc, &update(alloc, parts)?)
 }
 
-/// The place of the first of these updates of which a copy isn't the same, or is without its name.
+/// The place of the first of these updates of which a copy isn't the same, or is still the same once its name is gone.
 pub fn first_miscopied(alloc: Global, updates: &[UpdateParts]) -> Option<usize> {
     for (place, parts) in updates.iter().enumerate() {
         if update_is_copied(alloc, parts) != Some(true) {

@@ -18,4 +18,4 @@ pub use gates::{Held, Meanwhile, Scene, comes_to_stages, is_held_so};
 pub use pipes::meet;
 pub use sides::{SESSION, Side};
 pub use tables::{Role, Tables, accepting, connecting};
-pub use turns::{Exchange, Story, is_true, is_true_ahead};
+pub use turns::{Exchange, Story, comes_true, comes_true_ahead};

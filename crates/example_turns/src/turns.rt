@@ -93,11 +93,12 @@ fn are_rows(rows: &[(Key, Row)], expected: &[(u32, u64)]) -> bool {
 }
 
 /// Whether `t1` has such rows. Where it isn't there it has none.
-fn has_rows<H: Wait>(rt: &H, shards: &Shards, expected: &[(u32, u64)]) -> bool {
-    match rows(rt, shards, 1) {
-        Some(rows) => are_rows(rows.as_slice(), expected),
-        None => expected.is_empty(),
+fn has_rows<H: Wait>(rt: &H, shards: &Shards, expected: &[(u32, u64)]) -> Option<bool> {
+    if shards.cell(1).is_none() {
+        return Some(expected.is_empty());
     }
+    let rows = rows(rt, shards, 1)?;
+    Some(are_rows(rows.as_slice(), expected))
 }
 
 /// Whether all of a story's turns go as they say, and end so.
@@ -108,12 +109,12 @@ pub(crate) fn is_lived<H: Wait>(
     story: &Story,
 ) -> Option<bool> {
     let went = are_so(rt, alloc, side, story.opening)? && are_so(rt, alloc, side, story.turns)?;
-    let has_rows = has_rows(rt, &side.shards, story.rows);
+    let has_rows = has_rows(rt, &side.shards, story.rows)?;
     Some(went && side.session.state() == story.state && has_rows)
 }
 
 /// Whether a story goes as it says with a new side.
-pub fn is_true<H: Wait>(rt: &H, alloc: Global, story: &Story) -> Option<bool> {
+pub fn comes_true<H: Wait>(rt: &H, alloc: Global, story: &Story) -> Option<bool> {
     let mut side = story.tables.side(alloc, story.role)?;
     let lived = is_lived(rt, alloc, &mut side, story);
     drop(side);
@@ -134,8 +135,8 @@ fn is_lived_from<H: Wait>(
 }
 
 /// Whether a story goes as it says with a new side whose seat has seen a later event of `t1` than the side's table has had: a change
-/// of that table among the others.
-pub fn is_true_ahead<H: Wait>(
+/// of another side's `t1`.
+pub fn comes_true_ahead<H: Wait>(
     rt: &H,
     alloc: Global,
     story: &Story,

@@ -20,13 +20,15 @@ const WRITTEN: &[Step] = &[
     },
 ];
 
-/// Two acknowledgements of one table in one event: both are passed on, and both are answered.
+/// Two acknowledgements of one table in one event: both are passed on.
+const ACKNOWLEDGED: &[Step] = &[Step {
+    given: Given::Bytes(b"\x0A\x84\x05\x01\x00\x00\x00\x01\x0A\x84\x05\x01\x00\x00\x00\x01"),
+    asked: &[Asked::Ack(1, 1), Asked::Ack(1, 1)],
+    state: State::Ready,
+}];
+
+/// Both are answered.
 const TWICE: &[Step] = &[
-    Step {
-        given: Given::Bytes(b"\x0A\x84\x05\x01\x00\x00\x00\x01\x0A\x84\x05\x01\x00\x00\x00\x01"),
-        asked: &[Asked::Ack(1, 1), Asked::Ack(1, 1)],
-        state: State::Ready,
-    },
     Step {
         given: Given::Settled(1, Settled::All),
         asked: &[],
@@ -76,7 +78,7 @@ static ANSWERS: [Story; 4] = [
     Story {
         name: "acknowledged twice",
         peer: Peer::Connector,
-        runs: &[CONNECTED, COPY, LESSON, WRITTEN, TWICE],
+        runs: &[CONNECTED, COPY, LESSON, WRITTEN, ACKNOWLEDGED, TWICE],
         after: &[PLAIN],
     },
     Story {
@@ -88,7 +90,7 @@ static ANSWERS: [Story; 4] = [
     Story {
         name: "settled elsewhere",
         peer: Peer::Connector,
-        runs: &[CONNECTED, COPY],
+        runs: &[CONNECTED, COPY, LESSON, WRITTEN, ACKNOWLEDGED],
         after: &[ELSEWHERE],
     },
     Story {

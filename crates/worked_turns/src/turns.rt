@@ -2,7 +2,8 @@
 
 use example_parts::{KeyParts, T1, TableParts, UpdateParts};
 use example_turns::{
-    Exchange, Failure, Role, Story, Tables, fails_to_read, fails_to_write, is_true, is_true_ahead,
+    Exchange, Failure, Role, Story, Tables, comes_true, comes_true_ahead, fails_to_read,
+    fails_to_write,
 };
 use peers_engine::{EngineError, Turned};
 use session_core::{SessionError, State};
@@ -182,7 +183,7 @@ static LEARNS: Story = Story {
 
 #[test]
 fn a_lesson_and_its_acknowledgement(rt: HostRuntime) {
-    assert!(rt; is_true(&rt, rt.alloc(), &LEARNS) == Some(true));
+    assert!(rt; comes_true(&rt, rt.alloc(), &LEARNS) == Some(true));
 }
 
 /// The second row finds no room and is passed over; the acknowledgement is sent all the same.
@@ -197,7 +198,7 @@ static PASSES_OVER: Story = Story {
 
 #[test]
 fn a_table_that_is_full(rt: HostRuntime) {
-    assert!(rt; is_true(&rt, rt.alloc(), &PASSES_OVER) == Some(true));
+    assert!(rt; comes_true(&rt, rt.alloc(), &PASSES_OVER) == Some(true));
 }
 
 /// The session isn't open in the table of which its next turn would teach.
@@ -212,10 +213,10 @@ static IS_STRANGE: Story = Story {
 
 #[test]
 fn a_session_that_is_not_open(rt: HostRuntime) {
-    assert!(rt; is_true(&rt, rt.alloc(), &IS_STRANGE) == Some(true));
+    assert!(rt; comes_true(&rt, rt.alloc(), &IS_STRANGE) == Some(true));
 }
 
-/// Of the table from which it would be copied there is no lock.
+/// There is no lock for the table from which the next turn would copy.
 static HAS_NO_TABLE: Story = Story {
     tables: UNSHARED,
     role: Role::Connects,
@@ -227,7 +228,7 @@ static HAS_NO_TABLE: Story = Story {
 
 #[test]
 fn a_table_that_is_not_there(rt: HostRuntime) {
-    assert!(rt; is_true(&rt, rt.alloc(), &HAS_NO_TABLE) == Some(true));
+    assert!(rt; comes_true(&rt, rt.alloc(), &HAS_NO_TABLE) == Some(true));
 }
 
 /// The table has other keys than the session's definition of it says, and refuses the first row.
@@ -249,10 +250,10 @@ static IS_UNLIKE: Story = Story {
 
 #[test]
 fn a_table_of_another_shape(rt: HostRuntime) {
-    assert!(rt; is_true(&rt, rt.alloc(), &IS_UNLIKE) == Some(true));
+    assert!(rt; comes_true(&rt, rt.alloc(), &IS_UNLIKE) == Some(true));
 }
 
-/// The seat has seen more events of the table than it has had.
+/// The seat has seen more events of the table than the table has had.
 static IS_AHEAD: Story = Story {
     tables: EMPTY,
     role: Role::Connects,
@@ -264,7 +265,7 @@ static IS_AHEAD: Story = Story {
 
 #[test]
 fn a_seat_that_is_ahead(rt: HostRuntime) {
-    assert!(rt; is_true_ahead(&rt, rt.alloc(), &IS_AHEAD, &FILLED) == Some(true));
+    assert!(rt; comes_true_ahead(&rt, rt.alloc(), &IS_AHEAD, &FILLED) == Some(true));
 }
 
 /// More is acknowledged than the batch that is out.
@@ -286,7 +287,7 @@ static GOES_TOO_FAR: Story = Story {
 
 #[test]
 fn an_acknowledgement_too_far(rt: HostRuntime) {
-    assert!(rt; is_true(&rt, rt.alloc(), &GOES_TOO_FAR) == Some(true));
+    assert!(rt; comes_true(&rt, rt.alloc(), &GOES_TOO_FAR) == Some(true));
 }
 
 /// The batch is acknowledged, and the resync ends; what is acknowledged then is passed over, since no batch is out.
@@ -317,7 +318,7 @@ static ENDS_THE_RESYNC: Story = Story {
 
 #[test]
 fn an_acknowledgement_and_the_end_of_a_resync(rt: HostRuntime) {
-    assert!(rt; is_true(&rt, rt.alloc(), &ENDS_THE_RESYNC) == Some(true));
+    assert!(rt; comes_true(&rt, rt.alloc(), &ENDS_THE_RESYNC) == Some(true));
 }
 
 /// A message of 16,385 bytes is announced.
@@ -339,7 +340,7 @@ static IS_TOO_LONG: Story = Story {
 
 #[test]
 fn a_message_that_is_too_long(rt: HostRuntime) {
-    assert!(rt; is_true(&rt, rt.alloc(), &IS_TOO_LONG) == Some(true));
+    assert!(rt; comes_true(&rt, rt.alloc(), &IS_TOO_LONG) == Some(true));
 }
 
 /// `b` accepts the hello, and is asked for its rows, which it is about to teach.
