@@ -16,7 +16,7 @@ use Rattle.peers_msg.specs.Received.{selected_table}
 use Rattle.peers_msg.specs.Fitting.{fits}
 use Rattle.known_state.specs.State.{State, Step, IsOwn}
 use Rattle.known_state.specs.Effects.{Resolves, carried_by, made, refusal_of}
-use Rattle.known_state.specs.Known.{KnownState, AreOwn, IsLegalEffect, IsTakenBy, as_step_error, update_refusal}
+use Rattle.known_state.specs.Known.{KnownState, AreOwn, IsLegalEffect, IsTakenBy, Refuses, as_step_error, update_refusal}
 use Rattle.known_state.specs.declared.effect.Effect.{Effect}
 use Rattle.known_state.specs.declared.effect.ResolvedUpdate.{ResolvedUpdate}
 use Rattle.known_state.specs.declared.effect.Refusal.{Refusal}
@@ -55,20 +55,6 @@ refusal_here k s u d number field refusal is_s is_number is_field sel fit is =
     let here : refusal_of k.state u.number u.name ≡ refusal = rw (← is_s, ← is_number, ← is_field) (sym is) in
     refused_so k u d sel fit ∙ ap (λ (o : Option Refusal). option_map as_step_error o) here
 
--- where nothing refuses it in the known state, its state refuses it for want of memory alone
-pub only_memory : (k : KnownState) (s : State) (u : UpdateFields) (number : Option ℕ) (field : NameField) (refusal : Refusal) → s ≡ k.state → number ≡ u.number → field ≡ u.name → refusal_of k.state u.number u.name ≡ None
-    → (refusal ≢ refusals.Memory → refusal_of s number field ≡ Some refusal) → as_step_error refusal ≢ step_errors.Memory → ⊥
-only_memory k s u number field refusal is_s is_number is_field none refused other =
-    let found : refusal_of s number field ≡ Some refusal = refused (λ same. other (ap as_step_error same)) in
-    let here : refusal_of k.state u.number u.name ≡ Some refusal = rw (← is_s, ← is_number, ← is_field) found in
-    let bad : None ≡ Some refusal = sym none ∙ here in
-    cc
-
--- what is resolved in a state is resolved in the known state
-pub resolves_here : (k : KnownState) (s : State) (u : UpdateFields) (number : Option ℕ) (field : NameField) (r : ResolvedUpdate) → s ≡ k.state → number ≡ u.number → field ≡ u.name → Resolves s number field r → Resolves k.state u.number u.name r
-resolves_here k s u number field r is_s is_number is_field resolves =
-    subst (λ (f : NameField). Resolves k.state u.number f r) is_field (subst (λ (n : Option ℕ). Resolves k.state n field r) is_number (subst (λ (x : State). Resolves x number field r) is_s resolves))
-
 -- ---- messages that are refused for no cause but want of memory
 
 -- what is found to be refused for none is among them
@@ -76,6 +62,16 @@ pub none_refuses : (found refusal : Option StepError) → found ≡ refusal → 
 none_refuses found refusal is none e refuses =
     let bad : None ≡ Some e = sym none ∙ is ∙ refuses in
     cc
+
+-- a message is refused for one cause
+pub refused_once : (k : KnownState) (m : Message) (a b : StepError) → Refuses k m a → Refuses k m b → a ≡ b
+refused_once k (messages.Update u) a b one other = let same : Some a ≡ Some b = sym one ∙ other in cc
+refused_once k (messages.Define d) a b one other = one.1 ∙ sym other.1
+refused_once k (messages.Switch id) a b one other = let same : Some a ≡ Some b = sym one ∙ other in cc
+refused_once k (messages.Control c) a b one other = absurd one
+refused_once k (messages.Error e) a b one other = absurd one
+refused_once k (messages.Ack table number) a b one other = absurd one
+refused_once k (messages.Other o) a b one other = absurd one
 
 -- an update among them fits, and its state doesn't refuse it
 pub taken_update : (k : KnownState) (u : UpdateFields) → IsTakenBy k (messages.Update u) → (d : Definition) × (selected_table k.state.received ≡ Some d) × (fits k.state.received (messages.Update u) ≡ true) × (refusal_of k.state u.number u.name ≡ None)

@@ -246,9 +246,10 @@ impl Known {
         ensures exactly { (e : StepError) → Refuses self.old message.now e → result ≡ Err e }
         ensures stays { OnErr result (self.new ≡ self.old) }
     {
-        let effect = self.effect(message)?;
-        self.state.make(effect)?;
-        Ok(())
+        match self.refusal(message) {
+            Some(error) => Err(error),
+            None => Ok(self.follow(message.copy(self.alloc)?)?),
+        }
     }
 
     /// Why a message is refused, if it is: `NoTable`, `Foreign`, `NotDefined`, `NoNumber` or `EmptySlot`, as `after` refuses
@@ -319,22 +320,6 @@ impl Known {
         Ok(())
     }
 
-    /// What a message does.
-    fn effect(&self, message: &Message) -> Result<Effect, StepError>
-        ensures effect { IfOk result (λ effect. IsLegalEffect self.now message.now effect) }
-        ensures refused { IfErr result (λ e. e ≢ step_errors.Memory → Refuses self.now message.now e) }
-        ensures exactly { (e : StepError) → Refuses self.now message.now e → result ≡ Err e }
-    {
-        match message {
-            Message::Define(table) => self.define(table),
-            Message::Switch(id) => self.select(*id),
-            Message::Update(update) => self.update(update),
-            Message::Control(_) | Message::Error(_) | Message::Ack { .. } | Message::Other(_) => {
-                Ok(self.nothing(message))
-            }
-        }
-    }
-
     /// What a message does that fits wherever it stands.
     fn nothing(&self, message: &Message) -> Effect
         requires { IsPlain message.now }
@@ -344,43 +329,6 @@ impl Known {
         let fits = message.fits(self.state.received());
         prove!(fits);
         Effect::Nothing
-    }
-
-    fn define(&self, table: &TableDef) -> Result<Effect, StepError>
-        ensures effect { IfOk result (λ effect. IsLegalEffect self.now (messages.Define table.now) effect) }
-        ensures refused { IfErr result (λ e. e ≢ step_errors.Memory → Refuses self.now (messages.Define table.now) e) }
-        ensures exactly { (e : StepError) → Refuses self.now (messages.Define table.now) e → result ≡ Err e }
-    {
-        let _id = table.id();
-        match self.refusal_of_definition(table) {
-            Some(error) => Err(error),
-            None => Ok(Effect::Define(table.copy(self.alloc)?)),
-        }
-    }
-
-    fn select(&self, id: u64) -> Result<Effect, StepError>
-        ensures effect { IfOk result (λ effect. IsLegalEffect self.now (messages.Switch id) effect) }
-        ensures refused { IfErr result (λ e. Refuses self.now (messages.Switch id) e) }
-        ensures exactly { (e : StepError) → Refuses self.now (messages.Switch id) e → result ≡ Err e }
-    {
-        match self.refusal_of_switch(id) {
-            Some(error) => Err(error),
-            None => Ok(self.effect_of_switch(id)),
-        }
-    }
-
-    fn update(&self, update: &UpdateMsg) -> Result<Effect, StepError>
-        ensures effect { IfOk result (λ effect. IsLegalEffect self.now (messages.Update update.now) effect) }
-        ensures refused { IfErr result (λ e. e ≢ step_errors.Memory → Refuses self.now (messages.Update update.now) e) }
-        ensures exactly { (e : StepError) → Refuses self.now (messages.Update update.now) e → result ≡ Err e }
-    {
-        match self.refusal_of_update(update) {
-            Some(error) => Err(error),
-            None => {
-                let resolved = self.state.resolve(update.number(), update.name().lend())?;
-                Ok(Effect::Update(resolved))
-            }
-        }
     }
 
     /// What a message does of which it is known that it is legal.

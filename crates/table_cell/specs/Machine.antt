@@ -115,7 +115,7 @@ with_progress session f (e ∷ es) = if e.0 == session then (e.0, f e.1) ∷ es 
 
 -- ---- copies
 
--- a push tells of the rows that aren't learned, and a resync of all
+-- a push copies the rows that aren't learned, and a resync all
 abbrev pub is_copied : CopyKind → StoredRow → Bool
 is_copied kinds.Push row = not row.learned
 is_copied kinds.Resync row = true

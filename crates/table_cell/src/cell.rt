@@ -45,8 +45,8 @@ impl TableCell {
     /// The most events of a history.
     pub const MOST_EVENTS: usize = 1_000_000;
 
-    /// A table without rows and sessions, which gives the number `first` next. It has at most `size` rows, up to `MOST_ROWS`; one that purges
-    /// none refuses a row of a new key where it is full of live ones. Takes no memory.
+    /// A table without rows and sessions, which gives the number `first` next. It has at most `size` rows, up to
+    /// `MOST_ROWS`; one that purges none refuses a row of a new key where it is full of live ones. Takes no memory.
     pub fn new(
         alloc: Global,
         definition: TableDef,
