@@ -18,7 +18,7 @@ pub struct Taught {
 }
 
 fn lesson(alloc: Global, known: &Known, updates: Vec<Update>) -> Option<Lesson> {
-    let batch = Batch::new(known.roster(), updates).ok()?;
+    let batch = Batch::new(alloc, known.roster(), updates).ok()?;
     teach(alloc, known, &batch).ok()
 }
 
@@ -64,7 +64,7 @@ pub fn first_failing(alloc: Global, all: &[Taught]) -> Option<usize> {
 /// Whether the lesson is right, or the one after it where memory was wanted for it; `None` where it is wanted before.
 pub fn is_taught_again(alloc: Global, taught: &Taught) -> Option<bool> {
     let known = known(alloc, &taught.from)?;
-    let batch = Batch::new(known.roster(), updates(alloc, taught.updates)?).ok()?;
+    let batch = Batch::new(alloc, known.roster(), updates(alloc, taught.updates)?).ok()?;
     let lesson = match teach(alloc, &known, &batch) {
         Ok(lesson) => Ok(lesson),
         Err(TeachError::Memory) => teach(alloc, &known, &batch),
@@ -83,7 +83,7 @@ pub struct Costly {
 }
 
 fn requests(alloc: Global, known: &Known, updates: Vec<Update>) -> Option<Vec<Request>> {
-    let batch = Batch::new(known.roster(), updates).ok()?;
+    let batch = Batch::new(alloc, known.roster(), updates).ok()?;
     known.costs(alloc, &batch).ok()
 }
 

@@ -28,14 +28,14 @@ static TAUGHT: KnownParts = KnownParts {
 };
 
 /// The batch of these updates.
-fn batch_for(roster: &Roster, updates: Vec<Update>) -> Option<Batch> {
-    Batch::new(roster, updates).ok()
+fn batch_for(alloc: Global, roster: &Roster, updates: Vec<Update>) -> Option<Batch> {
+    Batch::new(alloc, roster, updates).ok()
 }
 
 fn batch(alloc: Global) -> Option<Batch> {
     let updates = updates(alloc, UPDATES.as_slice())?;
     let roster = alone(alloc, &T1)?;
-    batch_for(&roster, updates)
+    batch_for(alloc, &roster, updates)
 }
 
 fn event(alloc: Global, given: &Given) -> Option<Event> {

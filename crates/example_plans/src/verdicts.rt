@@ -62,7 +62,7 @@ fn verdict_of(
     prices: &[u64],
 ) -> Option<Verdict> {
     let known = known(alloc, from)?;
-    let batch = Batch::new(known.roster(), given).ok()?;
+    let batch = Batch::new(alloc, known.roster(), given).ok()?;
     verify(alloc, &known, &batch, stream, prices).ok()
 }
 

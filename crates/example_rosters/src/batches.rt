@@ -6,7 +6,7 @@ use table_types::{Batch, BatchError, Update};
 
 fn batch(alloc: Global, given: &[UpdateParts]) -> Option<Result<Batch, BatchError>> {
     let updates = updates(alloc, given)?;
-    Some(Batch::new(&alone(alloc, &T1)?, updates))
+    Some(Batch::new(alloc, &alone(alloc, &T1)?, updates))
 }
 
 fn batch_fault(alloc: Global, given: &[UpdateParts]) -> Option<Option<BatchError>> {
@@ -32,7 +32,7 @@ pub fn fault_of_many(alloc: Global, one: &UpdateParts, times: u32) -> Option<Opt
     for _ in 0..times {
         many.push(update(alloc, one)?).ok()?;
     }
-    Some(Batch::new(&alone(alloc, &T1)?, many).err())
+    Some(Batch::new(alloc, &alone(alloc, &T1)?, many).err())
 }
 
 fn are_same(one: &[Update], other: &[Update]) -> bool {
@@ -47,6 +47,6 @@ fn are_same(one: &[Update], other: &[Update]) -> bool {
 /// Whether a copy of the batch of these updates has the same ones.
 pub fn batch_is_copied(alloc: Global, given: &[UpdateParts]) -> Option<bool> {
     let batch = batch(alloc, given)?.ok()?;
-    let copy = batch.copy(alloc).ok()?;
+    let copy = batch.copy().ok()?;
     Some(copy.updates().len() == given.len() && are_same(copy.updates(), batch.updates()))
 }

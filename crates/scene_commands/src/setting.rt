@@ -41,7 +41,7 @@ pub fn setting_of(alloc: Global, scene: Scene) -> Result<Setting, Ending>
         ..
     } = scene;
     let roster = Roster::new(tables)?;
-    let batch = Batch::new(&roster, updates)?;
+    let batch = Batch::new(alloc, &roster, updates)?;
     let known = Known::build(alloc, roster, selected, defined, last, slots)?;
     Ok(Setting {
         known,

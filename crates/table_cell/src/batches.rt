@@ -14,15 +14,24 @@ use crate::copying::last_number;
 use crate::errors::{CopyError, StrangeBatch};
 use crate::events::{CellEvent, CellReply};
 use crate::table::Table;
+use std::alloc::Global;
 use std::collections::BTreeMap;
-use table_types::{Batch, CopyKind, Memory, Moment, TableDef, Update};
+use table_types::{Batch, BatchError, CopyKind, Memory, Moment, TableDef, Update};
 
 /// The batch of these updates, which are one for that table.
-fn batch_of(definition: &TableDef, updates: Vec<Update>) -> Batch
+fn batch_of(
+    alloc: Global,
+    definition: &TableDef,
+    updates: Vec<Update>,
+) -> Result<Batch, Memory>
     requires { IsBatchFor (definition.now ∷ []) updates.items }
-    ensures { result ≡ updates.items }
+    ensures { IfOk result (λ batch. batch ≡ updates.items) }
 {
-    Batch::of_table(definition, updates).unwrap()
+    match Batch::of_table(alloc, definition, updates) {
+        Ok(batch) => Ok(batch),
+        Err(BatchError::Memory) => Err(Memory),
+        Err(_) => unreachable!(),
+    }
 }
 
 impl Table {
@@ -40,7 +49,7 @@ impl Table {
         ensures { IfOk result (λ batch. batch ≡ unacked self.now session kind now limit) }
     {
         let updates = self.unacked(self.acknowledged(session), kind, limit, now)?;
-        Ok(batch_of(&self.definition, updates))
+        batch_of(self.alloc, &self.definition, updates)
     }
 }
 
@@ -64,7 +73,7 @@ fn keep(
     ensures stays { OnErr result (table.new ≡ table.old) }
     ensures no_event { OnErr result (history.new.items ≡ history.old.items) }
 {
-    let kept = batch.copy(table.alloc)?;
+    let kept = batch.copy()?;
     history.reserve(1)?;
     latest_copies.insert(session, history.len())?;
     table.teach(session, last_number(batch.updates(), 0), now);
@@ -134,7 +143,7 @@ fn copy_pair(
     ensures no_event { OnErr result (history.new.items ≡ history.old.items) }
 {
     let batch = table.batch(session, kind, limit, now)?;
-    let second = batch.copy(table.alloc)?;
+    let second = batch.copy()?;
     keep(
         table,
         history,

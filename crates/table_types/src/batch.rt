@@ -1,6 +1,8 @@
 //! Updates that are taught together.
 
-ghost use Rattle.std.specs.Prelude.{◌≡◌, ◌↔◌, ◌+◌, ◌≤◌, ◌∷◌, [], None, IfOk, IfErr, IsTrue, Some, length, option_copied};
+ghost use Rattle.std.specs.Prelude.{◌≡◌, ◌≢◌, ◌↔◌, ◌+◌, ◌≤◌, ◌∷◌, [], None, Err, IfOk, IfErr, IsTrue, Some, length, option_copied};
+ghost use Rattle.table_types.specs.declared.batch.BatchError.{BatchError};
+ghost use Rattle.table_types.specs.declared.batch.BatchError.TheVariants as errors;
 ghost use Rattle.table_types.specs.Batches.{fault_in, batch_fault, faults_from, IsBatchFor};
 ghost use Rattle.table_types.specs.Rosters.{table_at};
 
@@ -11,6 +13,7 @@ use crate::table_def::TableDef;
 use crate::update::{Update, are_same_updates};
 use std::alloc::Global;
 use std::marker::Model;
+use std::sync::Arc;
 use thiserror::Error;
 
 /// What a batch was refused for. After `TooMany` the least index with a fault counts, and at one index
@@ -29,26 +32,27 @@ pub enum BatchError {
     /// The update at that index has no life.
     #[error("update {0} has no life")]
     Untimed(usize),
-    /// Memory was wanted. It is never answered, since a batch keeps the list that it is made of.
+    /// Memory was wanted, and the growth was refused.
     #[error("memory")]
     Memory,
 }
 
-/// At most 512 updates that fit the tables of the roster for which the batch was made.
+/// At most 512 updates that fit the tables of the roster for which the batch was made. Copies of a batch share its updates.
 #[derive(Debug, Drop)]
 pub struct Batch {
-    updates: Items<Update>,
+    updates: Arc<Items<Update>, Global>,
 }
 
 impl Model for Batch {
     ghost use Rattle.std.specs.Prelude.{List, ◌≤◌, length};
+    ghost use Rattle.std.specs.Arc.{arc_value};
     ghost use Rattle.table_types.specs.declared.update.Update.{Update};
 
     ghost Value = { List Update };
 
-    ghost view = { λ a. a.updates };
+    ghost view = { λ a. arc_value a.updates };
 
-    ghost invariant = { λ a. length a.updates ≤ 512 };
+    ghost invariant = { λ a. length (arc_value a.updates) ≤ 512 };
 }
 
 fn fault_in(table: Option<&TableDef>, index: usize, update: &Update) -> Option<BatchError>
@@ -93,14 +97,27 @@ fn fault_of_table(table: &TableDef, updates: &[Update]) -> Option<BatchError>
     None
 }
 
+/// The batch of these updates.
+fn shared(alloc: Global, updates: Vec<Update>) -> Result<Batch, BatchError>
+    requires { length updates.items ≤ 512 }
+    ensures made { IfOk result (λ batch. batch ≡ updates.items) }
+    ensures refused { IfErr result (λ e. e ≡ errors.Memory) }
+{
+    match Arc::new(alloc, Items::new(updates)) {
+        Ok(updates) => Ok(Batch { updates }),
+        Err(_) => Err(BatchError::Memory),
+    }
+}
+
 impl Batch {
     /// The most updates of a batch.
     pub const MOST: usize = 512;
 
     /// The batch of these updates, in this order, for that roster.
-    pub fn new(roster: &Roster, updates: Vec<Update>) -> Result<Batch, BatchError>
+    pub fn new(alloc: Global, roster: &Roster, updates: Vec<Update>) -> Result<Batch, BatchError>
         ensures made { IfOk result (λ batch. (batch ≡ updates.items) × IsBatchFor roster.now updates.items) }
-        ensures refused { IfErr result (λ e. batch_fault roster.now updates.items ≡ Some e) }
+        ensures refused { IfErr result (λ e. e ≢ errors.Memory → batch_fault roster.now updates.items ≡ Some e) }
+        ensures exactly { (e : BatchError) → batch_fault roster.now updates.items ≡ Some e → result ≡ Err e }
     {
         if updates.len() > Batch::MOST {
             return Err(BatchError::TooMany);
@@ -108,16 +125,19 @@ impl Batch {
         if let Some(fault) = fault_of(roster, updates.as_slice()) {
             return Err(fault);
         }
-        Ok(Batch {
-            updates: Items::new(updates),
-        })
+        shared(alloc, updates)
     }
 
     /// The batch of these updates, in this order, all of that table. It is one for each roster in which the table's id
     /// stands for that table (`a_batch_of_one_table`).
-    pub fn of_table(table: &TableDef, updates: Vec<Update>) -> Result<Batch, BatchError>
+    pub fn of_table(
+        alloc: Global,
+        table: &TableDef,
+        updates: Vec<Update>,
+    ) -> Result<Batch, BatchError>
         ensures made { IfOk result (λ batch. (batch ≡ updates.items) × IsBatchFor (table.now ∷ []) updates.items) }
-        ensures refused { IfErr result (λ e. batch_fault (table.now ∷ []) updates.items ≡ Some e) }
+        ensures refused { IfErr result (λ e. e ≢ errors.Memory → batch_fault (table.now ∷ []) updates.items ≡ Some e) }
+        ensures exactly { (e : BatchError) → batch_fault (table.now ∷ []) updates.items ≡ Some e → result ≡ Err e }
     {
         if updates.len() > Batch::MOST {
             return Err(BatchError::TooMany);
@@ -125,9 +145,7 @@ impl Batch {
         if let Some(fault) = fault_of_table(table, updates.as_slice()) {
             return Err(fault);
         }
-        Ok(Batch {
-            updates: Items::new(updates),
-        })
+        shared(alloc, updates)
     }
 
     /// Whether the batch is one for that roster, for whatever roster or table it was made.
@@ -152,16 +170,13 @@ impl Batch {
         self.updates.as_slice()
     }
 
-    /// An equal batch.
-    pub fn copy(&self, alloc: Global) -> Result<Batch, Memory>
+    /// An equal batch, which shares the updates. No growth is made for it; it is refused where 2^63 copies share them.
+    pub fn copy(&self) -> Result<Batch, Memory>
         ensures { IfOk result (λ copy. copy ≡ self.now) }
     {
-        let mut updates = Vec::with_capacity(alloc, self.updates.len())?;
-        for update in self.updates.as_slice() {
-            updates.push(update.copy(alloc)?)?;
+        match Arc::try_clone(&self.updates) {
+            Ok(updates) => Ok(Batch { updates }),
+            Err(_) => Err(Memory),
         }
-        Ok(Batch {
-            updates: Items::new(updates),
-        })
     }
 }
