@@ -5,6 +5,7 @@ use Rattle.table_types.specs.Tables.{Definition}
 use Rattle.table_types.specs.declared.update.Update.{Update}
 use Rattle.table_types.specs.declared.copies.Settled.{Settled}
 use Rattle.table_types.specs.declared.copies.Settled.TheVariants as settles
+use Rattle.peers_msg.specs.declared.fault.Breach.{Breach}
 use Rattle.peers_msg.specs.declared.fault.Breach.TheVariants as breaches
 use Rattle.peers_msg.specs.declared.control.Control.TheVariants as controls
 use Rattle.peers_msg.specs.declared.control.ErrorKind.{ErrorKind}
@@ -79,9 +80,14 @@ Closes s acts e = (acts ≡ actions.Close ∷ []) × (e ≡ ended s)
 
 -- ---- bytes of messages
 
+-- the error message that a breach is answered with
+abbrev pub kind_of_breach : Breach → ErrorKind
+kind_of_breach breaches.SizeLimit = kinds.SizeLimit
+kind_of_breach breach = kinds.Protocol
+
 -- the error message that a fault is answered with
 abbrev pub kind_of_fault : Fault → ErrorKind
-kind_of_fault (faults.Breach breaches.SizeLimit) = kinds.SizeLimit
+kind_of_fault (faults.Breach breach) = kind_of_breach breach
 kind_of_fault fault = kinds.Protocol
 
 -- whether it is confirmed now: it was, or is with these actions

@@ -13,7 +13,7 @@ ghost use Rattle.session_core.specs.declared.phase.Phase.TheVariants as phases;
 ghost use Rattle.session_core.specs.Actions.{status_text, sends_control};
 ghost use Rattle.peers_msg.specs.declared.control.Control.TheVariants as controls;
 ghost use Rattle.session_core.specs.Courses.{course_fed};
-ghost use Rattle.session_core.specs.Sessions.{Goes, GoesNew, GoesHello, Stays, Connects, Accepts, Greets, ReceivesBytes, Concludes, Refuses, IsWhy, is_asked_new, is_asked_hello, connecting, accepting, in_phase, ended, state_of, kind_of_fault};
+ghost use Rattle.session_core.specs.Sessions.{Goes, GoesNew, GoesHello, Connects, Accepts, Greets, ReceivesBytes, Concludes, Refuses, IsWhy, is_asked_new, is_asked_hello, connecting, accepting, in_phase, ended, state_of, kind_of_breach, kind_of_fault};
 
 use crate::action::{Action, confirms, only, push};
 use crate::course::Course;
@@ -81,6 +81,14 @@ fn status_text(alloc: Global, code: u16) -> Result<Items<u8>, Memory>
     Ok(Items::new(Vec::from_slice(alloc, text.as_bytes())?))
 }
 
+/// What a connection that this node opens begins with.
+fn greeting(alloc: Global, hello: &Hello) -> Result<Vec<Action>, Memory>
+    ensures { IfOk result (λ acts. acts.items ≡ actions.Send (hello_text hello.now) ∷ []) }
+{
+    let text = Items::new(hello.write(alloc)?);
+    only(alloc, Action::Send(text))
+}
+
 /// What a hello that is accepted is answered with.
 fn welcome(alloc: Global) -> Result<Vec<Action>, Memory>
     ensures { IfOk result (λ acts. acts.items ≡ actions.Send (status_text 200) ∷ []) }
@@ -107,14 +115,29 @@ fn request(alloc: Global) -> Result<Vec<Action>, Memory>
     )
 }
 
+/// The error message that a breach is answered with.
+fn kind_of_breach(breach: Breach) -> ErrorKind
+    ensures { result ≡ kind_of_breach breach }
+{
+    match breach {
+        Breach::SizeLimit => ErrorKind::SizeLimit,
+        Breach::BadInteger
+        | Breach::BadDefinition
+        | Breach::UnknownDataType
+        | Breach::NoTable
+        | Breach::BadKey
+        | Breach::BadValue
+        | Breach::Trailing => ErrorKind::Protocol,
+    }
+}
+
 /// The error message that a fault is answered with.
 fn kind_of(fault: Fault) -> ErrorKind
     ensures { result ≡ kind_of_fault fault }
 {
     match fault {
-        Fault::Breach(Breach::SizeLimit) => ErrorKind::SizeLimit,
-        Fault::Breach(_) | Fault::Memory | Fault::Closed | Fault::EmptySlot | Fault::NoNumber =>
-            ErrorKind::Protocol,
+        Fault::Breach(breach) => kind_of_breach(breach),
+        Fault::Memory | Fault::Closed | Fault::EmptySlot | Fault::NoNumber => ErrorKind::Protocol,
     }
 }
 
@@ -223,7 +246,8 @@ impl Session {
 
     /// Stands there, and asks for nothing.
     pub(crate) fn stay(&mut self, phase: Phase) -> Vec<Action>
-        ensures { Stays self.old phase result.items self.new }
+        ensures actions { result.items ≡ [] }
+        ensures session { self.new ≡ in_phase self.old phase }
     {
         self.stand(phase);
         Vec::new(self.alloc)
@@ -268,8 +292,7 @@ impl Session {
         ensures session { IfOk result (λ acts. self.new ≡ in_phase self.old (phases.Hello greeters.Connects [] course)) }
         ensures stays { OnErr result (self.new ≡ self.old) }
     {
-        let text = Items::new(hello.write(self.alloc)?);
-        let actions = only(self.alloc, Action::Send(text))?;
+        let actions = greeting(self.alloc, &hello)?;
         let bytes = Items::new(Vec::new(self.alloc));
         self.stand(Phase::Hello(Greeter::Connects, bytes, course));
         Ok(actions)

@@ -14,10 +14,6 @@ use Rattle.table_cell.specs.Machine.{TableState, acknowledged_by, is_unacked, co
 use Rattle.table_cell.proofs.RowsLaws.{some_none}
 use Rattle.table_cell.proofs.StepLaws.{passes}
 
-pub no_error : {A E : Type 0} (result : Result A E) (o : Option E) → o ≡ None → IfErr result (λ e. o ≡ Some e) → IsOk result
-no_error (Ok a) o none refused = refl
-no_error (Err e) o none refused = absurd (some_none e (sym refused ∙ none))
-
 with_same : (session : ℕ) (f g : Progress → Progress) (es : List (ℕ × Progress)) → ((p : Progress) → f p ≡ g p) → with_progress session f es ≡ with_progress session g es
 with_same session f g [] same = refl
 with_same session f g (e ∷ es) same =

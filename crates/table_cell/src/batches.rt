@@ -16,21 +16,16 @@ use crate::events::{CellEvent, CellReply};
 use crate::table::Table;
 use std::alloc::Global;
 use std::collections::BTreeMap;
-use table_types::{Batch, BatchError, CopyKind, Memory, Moment, TableDef, Update};
+use table_types::{Batch, CopyKind, Memory, Moment, TableDef, Update};
 
-/// The batch of these updates, which are one for that table.
-fn batch_of(
-    alloc: Global,
-    definition: &TableDef,
-    updates: Vec<Update>,
-) -> Result<Batch, Memory>
+/// The batch of these updates, which are one for that table: only memory can be wanted for it.
+fn batch_of(alloc: Global, definition: &TableDef, updates: Vec<Update>) -> Result<Batch, Memory>
     requires { IsBatchFor (definition.now ∷ []) updates.items }
     ensures { IfOk result (λ batch. batch ≡ updates.items) }
 {
     match Batch::of_table(alloc, definition, updates) {
         Ok(batch) => Ok(batch),
-        Err(BatchError::Memory) => Err(Memory),
-        Err(_) => unreachable!(),
+        Err(_) => Err(Memory),
     }
 }
 

@@ -26,6 +26,13 @@ impl Reply {
         })
     }
 
+    /// The same reply twice.
+    pub(crate) fn twice(alloc: Global, row: &Row) -> Result<(Reply, Reply), Memory>
+        ensures { IfOk result (λ replies. (replies.0 ≡ reply_of row.now) × (replies.1 ≡ reply_of row.now)) }
+    {
+        Ok((Reply::of(alloc, row)?, Reply::of(alloc, row)?))
+    }
+
     /// An equal reply.
     pub fn copy(&self, alloc: Global) -> Result<Reply, Memory>
         ensures { IfOk result (λ copy. copy ≡ self.now) }

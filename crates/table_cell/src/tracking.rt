@@ -96,8 +96,7 @@ fn track_row(
     ensures stays { OnErr result (table.new ≡ table.old) }
     ensures no_event { OnErr result (history.new.items ≡ history.old.items) }
 {
-    let kept = Reply::of(table.alloc, &row)?;
-    let reply = Reply::of(table.alloc, &row)?;
+    let (kept, reply) = Reply::twice(table.alloc, &row)?;
     put_tracked(table, history, seat, key, change, now, row, kept)?;
     Ok(reply)
 }
@@ -121,8 +120,7 @@ fn learn_row(
     ensures stays { OnErr result (table.new ≡ table.old) }
     ensures no_event { OnErr result (history.new.items ≡ history.old.items) }
 {
-    let kept = Reply::of(table.alloc, &row)?;
-    let reply = Reply::of(table.alloc, &row)?;
+    let (kept, reply) = Reply::twice(table.alloc, &row)?;
     put_learned(table, history, session, update, now, row, kept)?;
     Ok(reply)
 }

@@ -1,5 +1,6 @@
 use Rattle.std.proofs.Common.{◌≡◌, ◌∷◌, [], List, sym, ap, subst, ◌∙◌}
 use Rattle.std.specs.Prelude.{filter, map, take}
+use Rattle.std.proofs.lemmas.Result.{IfOk-weaker}
 use Rattle.table_types.specs.declared.update.Update.{Update}
 use Rattle.table_types.specs.Batches.{IsBatchFor}
 use Rattle.table_cell.specs.Copying.{update_of}
@@ -17,5 +18,6 @@ batch_of-requires c =
 
 pub returns : goal.returns
 returns c =
-    c.batch_of.ensures ∙ c.in_ok-updates.ensures
-    ∙ ap (λ n. take c.args.limit (map (update_of c.args.self.now.definition c.args.now) (filter (is_unacked c.args.kind n c.args.now) c.args.self.now.rows))) c.acknowledged.ensures
+    let is : c.in_ok-updates.updates.items ≡ unacked c.args.self.now c.args.session c.args.kind c.args.now c.args.limit =
+    c.in_ok-updates.ensures ∙ ap (λ n. take c.args.limit (map (update_of c.args.self.now.definition c.args.now) (filter (is_unacked c.args.kind n c.args.now) c.args.self.now.rows))) c.acknowledged.ensures in
+    IfOk-weaker c.batch_of.result (λ (batch : List Update). batch ≡ c.in_ok-updates.updates.items) (λ (batch : List Update). batch ≡ unacked c.args.self.now c.args.session c.args.kind c.args.now c.args.limit) (λ batch made. made ∙ is) c.batch_of.ensures
