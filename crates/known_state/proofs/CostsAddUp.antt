@@ -4,15 +4,9 @@ use Rattle.std.specs.Prelude.{fold}
 use Rattle.table_types.specs.declared.update.Update.{Update}
 use Rattle.table_types.specs.Tables.{Definition}
 use Rattle.table_types.specs.Updates.{fits, stores_name, may_be_named}
-use Rattle.table_types.specs.Rosters.{table_at}
 use Rattle.table_types.specs.Names.{is_name}
-use Rattle.peers_msg.specs.declared.name_field.NameField.{NameField}
-use Rattle.peers_msg.specs.declared.name_field.NameField.TheVariants as names
-use Rattle.peers_msg.specs.declared.message.Message.TheVariants as messages
-use Rattle.peers_msg.specs.Spelling.{size_of}
-use Rattle.known_state.specs.Cost.{Knowledge, knowledge_after, sent_as, written_field, is_named_table, written_cost, selection_cost, cost_from}
-use Rattle.known_state.specs.Requests.{Asked, held_cost, asked, requests_of}
-use Rattle.known_state.proofs.BatchIsOfRoster.{name_of_fits}
+use Rattle.known_state.specs.Cost.{Knowledge, knowledge_after, written_cost, selection_cost, cost_from}
+use Rattle.known_state.specs.Requests.{Asked, asked, requests_of}
 
 -- what is known after updates
 abbrev pub knowledge_after_all : Knowledge → List Update → Knowledge

@@ -1,25 +1,21 @@
 -- The steps that a known state makes, and why it refuses.
-use Rattle.std.proofs.Common.{◌≡◌, ℕ, ◌^◌, ◌<◌, ◌≤◌, Bool, true, false, not, List, [], ◌∷◌, length, Option, Some, None, refl, sym, ap, ◌∙◌, inl, inr, arith}
+use Rattle.std.proofs.Common.{◌≡◌, ℕ, ◌^◌, ◌<◌, ◌≤◌, true, false, List, [], ◌∷◌, length, Option, Some, None, refl, sym, ap, inl, inr, arith}
 use Rattle.std.specs.Option.{option_and_then}
 use Rattle.std.specs.Prelude.{is_some}
-use Rattle.std.specs.List.{list_any}
 use Rattle.std.proofs.lemmas.Bool.{cases_eq, eq-eqb, ne_eqb, le-leb, lt-ltb}
 use Rattle.peers_encint.specs.Integers.{spelling}
 use Rattle.peers_encint.proofs.OneSpelling as integers
 use Rattle.table_types.specs.Tables.{Definition, is_definition}
-use Rattle.table_types.specs.Updates.{stores_name}
 use Rattle.table_types.specs.Rosters.{table_at, has_id}
 use Rattle.peers_msg.specs.declared.message.Message.TheVariants as messages
-use Rattle.peers_msg.specs.declared.name_field.NameField.{NameField}
-use Rattle.peers_msg.specs.declared.name_field.NameField.TheVariants as names
 use Rattle.peers_msg.specs.Messages.{UpdateFields, most_data}
 use Rattle.peers_msg.specs.Received.{Received, selected_table}
 use Rattle.peers_msg.specs.Spelling.{data_of, update_text, definition_text}
-use Rattle.peers_msg.specs.Fitting.{fits, update_fits, name_fits}
+use Rattle.peers_msg.specs.Fitting.{fits, update_fits}
 use Rattle.peers_msg.proofs.DataLimits.{update_small, definition_small}
 use Rattle.known_state.specs.declared.known.StepError.TheVariants as step_errors
-use Rattle.known_state.specs.Known.{KnownState, AreOwn, switch_refusal, update_refusal}
-use Rattle.known_state.proofs.ReceivedIsOwn.{table_at-id, table_at-passes}
+use Rattle.known_state.specs.Known.{KnownState, switch_refusal, update_refusal}
+use Rattle.known_state.proofs.ReceivedIsOwn.{table_at-id}
 
 -- an id is one of the tables' where its table is found
 pub has_id-table_at : (ds : List Definition) (id : ℕ) → has_id id ds ≡ is_some (table_at ds id)

@@ -15,13 +15,10 @@ use Rattle.peers_msg.specs.OwnTables.{is_own}
 use Rattle.peers_msg.specs.Received.{selected_table}
 use Rattle.peers_msg.specs.Fitting.{fits}
 use Rattle.known_state.specs.State.{State, Step, IsOwn}
-use Rattle.known_state.specs.Effects.{Resolves, carried_by, made, refusal_of}
-use Rattle.known_state.specs.Known.{KnownState, AreOwn, IsLegalEffect, IsTakenBy, Refuses, as_step_error, update_refusal}
+use Rattle.known_state.specs.Effects.{carried_by, made, refusal_of}
+use Rattle.known_state.specs.Known.{KnownState, AreOwn, IsLegalEffect, IsTakenBy, as_step_error, update_refusal}
 use Rattle.known_state.specs.declared.effect.Effect.{Effect}
-use Rattle.known_state.specs.declared.effect.ResolvedUpdate.{ResolvedUpdate}
 use Rattle.known_state.specs.declared.effect.Refusal.{Refusal}
-use Rattle.known_state.specs.declared.effect.Refusal.TheVariants as refusals
-use Rattle.known_state.specs.declared.known.StepError.{StepError}
 use Rattle.known_state.specs.declared.known.StepError.TheVariants as step_errors
 use Rattle.known_state.proofs.EffectsAreSteps.{effect_steps}
 use Rattle.known_state.proofs.StepPays.{own_stays}
@@ -56,22 +53,6 @@ refusal_here k s u d number field refusal is_s is_number is_field sel fit is =
     refused_so k u d sel fit ∙ ap (λ (o : Option Refusal). option_map as_step_error o) here
 
 -- ---- messages that are refused for no cause but want of memory
-
--- what is found to be refused for none is among them
-pub none_refuses : (found refusal : Option StepError) → found ≡ refusal → found ≡ None → (e : StepError) → refusal ≡ Some e → ⊥
-none_refuses found refusal is none e refuses =
-    let bad : None ≡ Some e = sym none ∙ is ∙ refuses in
-    cc
-
--- a message is refused for one cause
-pub refused_once : (k : KnownState) (m : Message) (a b : StepError) → Refuses k m a → Refuses k m b → a ≡ b
-refused_once k (messages.Update u) a b one other = let same : Some a ≡ Some b = sym one ∙ other in cc
-refused_once k (messages.Define d) a b one other = one.1 ∙ sym other.1
-refused_once k (messages.Switch id) a b one other = let same : Some a ≡ Some b = sym one ∙ other in cc
-refused_once k (messages.Control c) a b one other = absurd one
-refused_once k (messages.Error e) a b one other = absurd one
-refused_once k (messages.Ack table number) a b one other = absurd one
-refused_once k (messages.Other o) a b one other = absurd one
 
 -- an update among them fits, and its state doesn't refuse it
 pub taken_update : (k : KnownState) (u : UpdateFields) → IsTakenBy k (messages.Update u) → (d : Definition) × (selected_table k.state.received ≡ Some d) × (fits k.state.received (messages.Update u) ≡ true) × (refusal_of k.state u.number u.name ≡ None)

@@ -1,5 +1,5 @@
 -- Knowledge after a selection, and less knowledge.
-use Rattle.std.specs.Prelude.{◌≡◌, ℕ, true, ◌||◌, ◌==◌, ◌⊎◌, Option, Some, None}
+use Rattle.std.specs.Prelude.{◌≡◌, ℕ, true, ◌||◌, ◌==◌, ◌⊎◌, Some, None}
 use Rattle.known_state.specs.Cost.{Knowledge}
 
 -- what is known after the selection of a table

@@ -1,11 +1,10 @@
 -- What is received in a known state is the roster's own, and stays so.
 use Rattle.std.proofs.Common.{◌≡◌, ℕ, Bool, true, false, not, ◌&&◌, ◌||◌, cond, eqb, List, [], ◌∷◌, Option, Some, None, refl, sym, arith, subst, ◌∙◌, inl, inr}
 use Rattle.std.specs.Prelude.{filter, fold, nat_lt}
-use Rattle.std.specs.List.{AllByRecursion, list_any}
+use Rattle.std.specs.List.{AllByRecursion}
 use Rattle.std.proofs.lemmas.Bool.{cases_eq, eq-eqb, ne_eqb}
 use Rattle.std.proofs.lemmas.Bool.Decides.{nat_tests}
 use Rattle.table_types.specs.Tables.{Definition}
-use Rattle.table_types.specs.Updates.{stores_name}
 use Rattle.table_types.specs.Rosters.{table_at, has_id, is_same_name}
 use Rattle.peers_msg.specs.declared.message.Message.TheVariants as messages
 use Rattle.peers_msg.specs.Received.{Received, insert_table, outlives, defined, with_own, resumed, selected_table, received_after}

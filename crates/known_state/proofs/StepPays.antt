@@ -3,9 +3,6 @@ use Rattle.std.proofs.Common.{◌≡◌, ℕ, ◌+◌, ◌≤◌, Bool, true, fa
 use Rattle.std.specs.Prelude.{is_some, option_map, filter, nat_le, length}
 use Rattle.std.proofs.lemmas.Bool.{cases_eq, eq-eqb, ne_eqb}
 use Rattle.std.proofs.lemmas.List.Sums.{sum_by-cons}
-use Rattle.table_types.specs.Updates.{stores_name}
-use Rattle.peers_msg.specs.declared.name_field.NameField.{NameField}
-use Rattle.peers_msg.specs.declared.name_field.NameField.TheVariants as names
 use Rattle.std.specs.List.{AllByRecursion}
 use Rattle.table_types.specs.declared.update.Update.{Update}
 use Rattle.table_types.specs.Tables.{Definition}
@@ -19,7 +16,7 @@ use Rattle.peers_msg.specs.Fitting.{fits, name_fits, update_fits}
 use Rattle.known_state.specs.State.{State, Step, Named, IsOwn, Legal, resolved, resolved_number}
 use Rattle.known_state.specs.LastNumbers.{keeps_last, last_of, set_last}
 use Rattle.known_state.specs.Known.{AreOwn}
-use Rattle.known_state.specs.Cost.{knowledge_of, knowledge_after, cost, saving, selection_cost, definition_cost, is_held, Saves, IsOfRoster}
+use Rattle.known_state.specs.Cost.{knowledge_of, knowledge_after, cost, saving, selection_cost, definition_cost, Saves, IsOfRoster}
 use Rattle.known_state.proofs.LesserKnowledge.{KnowsLess, with_selected}
 use Rattle.known_state.proofs.ReceivedIsOwn.{table_at-id, table_at-passes, define_selects, AreOwn-defined}
 use Rattle.known_state.proofs.FitsOrIsRefused.{selected-id, selected-found}

@@ -2,7 +2,6 @@
 use Rattle.std.specs.Prelude.{◌≡◌, ◌≢◌, ◌==◌, ◌&&◌, ℕ, Bool, true, false, not, ◌||◌, List, [], ◌∷◌, fold, is_none, Option, Some, None, option_map, codes, if◌then◌else◌}
 use Rattle.std.specs.List.{AllByRecursion, list_any, list_all}
 use Rattle.table_types.specs.Tables.{Definition}
-use Rattle.table_types.specs.Updates.{stores_name}
 use Rattle.table_types.specs.Rosters.{table_at, has_id}
 use Rattle.peers_msg.specs.declared.message.Message.{Message}
 use Rattle.peers_msg.specs.declared.message.Message.TheVariants as messages

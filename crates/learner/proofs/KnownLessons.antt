@@ -55,10 +55,12 @@ fed_rise now l e piece result rise = by result
     by : (result : Result ℕ Fault) → LearnerFeeds now l piece result e → AreRising e.intake.state.last_numbers
     by (Ok count) (is_open, (ms, us, learned, waits, is)) = learned_rise now (with_piece l piece) e ms us rise learned
     by (Err faults.Closed) (shut, is) = subst (λ (x : Learning). AreRising x.intake.state.last_numbers) (sym is) rise
-    by (Err faults.Memory) (is_open, left, inl same, is) =
-        subst (λ (x : Learning). AreRising x.intake.state.last_numbers) (sym is) (subst (λ (x : Learning). AreRising x.intake.state.last_numbers) (sym same) rise)
-    by (Err faults.Memory) (is_open, left, inr (ms, us, mid, learned, cut), is) =
+    by (Err faults.Memory) (is_open, left, inl (ms, us, mid, learned, cut), is) =
         subst (λ (x : Learning). AreRising x.intake.state.last_numbers) (sym is) (cut_rise mid left (learned_rise now (with_piece l piece) mid ms us rise learned) cut)
+    by (Err faults.Memory) (is_open, left, inr (inl (none, count, (ms, us, learned, waits, counted), some)), is) =
+        subst (λ (x : Learning). AreRising x.intake.state.last_numbers) (sym is) (learned_rise now (with_piece l piece) left ms us rise learned)
+    by (Err faults.Memory) (is_open, left, inr (inr (some, same)), is) =
+        subst (λ (x : Learning). AreRising x.intake.state.last_numbers) (sym is) (subst (λ (x : Learning). AreRising x.intake.state.last_numbers) (sym same) rise)
     by (Err faults.NoNumber) (is_open, all) = stopped faults.NoNumber all
     by (Err faults.EmptySlot) (is_open, all) = stopped faults.EmptySlot all
     by (Err (faults.Breach breach)) (is_open, all) = stopped (faults.Breach breach) all

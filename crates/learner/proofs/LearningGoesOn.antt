@@ -1,5 +1,5 @@
 -- Messages learned one after another.
-use Rattle.std.proofs.Common.{◌≡◌, ◌≢◌, ℕ, true, false, List, [], ◌∷◌, ◌++◌, Some, Ok, Err, refl, sym, ap, ◌∙◌, subst, append_assoc, inl, inr, length}
+use Rattle.std.proofs.Common.{◌≡◌, ℕ, false, List, [], ◌∷◌, ◌++◌, Some, Ok, Err, refl, sym, ap, ◌∙◌, subst, append_assoc, inl, inr, length}
 use Rattle.std.proofs.lemmas.List.{append-nil}
 use Rattle.std.specs.Prelude.{map}
 use Rattle.table_types.specs.declared.key.Key.{Key}
@@ -70,10 +70,3 @@ cut_here now l takable = (takable, refl, inl refl)
 -- memory is wanted for a row
 pub gives_cut : (now : ℕ) (l : Learning) (e : Taking) (answer : Taken) → IsTakable l.intake → Gives l.intake (Ok answer) e → LearnsOne now l (Err faults.Memory) (record { intake = e; rows = l.rows })
 gives_cut now l e answer takable (m, takes, says) = (takable, refl, inr (m, rows_of answer, takes))
-
--- what is open doesn't answer that it is closed
-pub not_closed : (now : ℕ) (l e : Learning) (fault : Fault) → l.intake.closed ≡ false → LearnsOne now l (Err fault) e → fault ≢ faults.Closed
-not_closed now l e fault is_open learns same =
-    let stops : Stops l.intake faults.Closed e.intake × (e.rows ≡ l.rows) = subst (λ (f : Fault). LearnsOne now l (Err f) e) same learns in
-    let bad : false ≡ true = sym is_open ∙ stops.0.0 in
-    cc

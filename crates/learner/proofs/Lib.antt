@@ -12,3 +12,4 @@ pub mod SameFaultHoweverCut
 pub mod NoFaultOnTheWay
 pub mod SameInAnyOrderOfCalls
 pub mod MomentFaults
+pub mod ReadInPlace

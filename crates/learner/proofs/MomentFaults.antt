@@ -1,5 +1,5 @@
 -- At whatever moments the pieces of a stream come, the same fault comes.
-use Rattle.std.proofs.Common.{◌≡◌, ◌≢◌, ℕ, false, List, [], ◌∷◌, ◌++◌, Result, Ok, Err, sym, ap, subst, ◌∙◌, append_assoc}
+use Rattle.std.proofs.Common.{◌≡◌, ◌≢◌, ℕ, false, List, [], ◌∷◌, ◌++◌, sym, ap, subst, ◌∙◌, append_assoc}
 use Rattle.peers_msg.specs.Integers.{IsBytes}
 use Rattle.table_types.specs.declared.update.Update.{Update}
 use Rattle.peers_msg.specs.declared.message.Message.{Message}
@@ -7,8 +7,9 @@ use Rattle.peers_msg.proofs.CuttingIndependence.{front_good}
 use Rattle.learner.specs.declared.fault.Fault.{Fault}
 use Rattle.learner.specs.declared.fault.Fault.TheVariants as faults
 use Rattle.learner.specs.Intake.{Taking, Takes, Stops, fed}
-use Rattle.learner.specs.Learning.{Learning, AreLearned, LearnerFeeds, with_piece}
+use Rattle.learner.specs.Learning.{Learning, AreLearned, with_piece}
 use Rattle.learner.specs.Moments.{Piece, stream_in, AreFedInTime, IsStoppedInTime}
+use Rattle.learner.proofs.LearningGoesOn.{stays_open}
 use Rattle.learner.proofs.LegalStreamIsTaught.{goes_on}
 use Rattle.learner.proofs.SameHoweverCut.{takes_on, left_good, one_message, one_taking}
 use Rattle.learner.proofs.OneOutcome.{stops_once}
@@ -61,7 +62,7 @@ fed_open (p ∷ ps) l e counts is_open (one, rest, mid, all, (going, (ms, us, le
 
 -- and so is what a fault stops at last
 stopped_takes : (l e : Learning) (before : List Piece) (last : Piece) (fault : Fault) (more : List ℕ) → l.intake.closed ≡ false → IsBytes (l.intake.unread ++ (stream_in before ++ (last.bytes ++ more))) → IsStoppedInTime l before last fault e → fault ≢ faults.Memory
-    → (ms : List Message) × (x : Taking) × TakesAll (fed l.intake (stream_in before ++ (last.bytes ++ more))) ms x × Stops x fault (fed e.intake more)
+    → (ms : List Message) × (x : Taking) × TakesAll (fed l.intake (stream_in before ++ (last.bytes ++ more))) ms x × Stops x fault e.intake
 stopped_takes l e before last fault more is_open good (counts, mid, goes, stops) wanted =
     let all = fed_takes before l mid counts (last.bytes ++ more) good goes in
     let run = is_run last.moment mid e last.bytes fault (fed_open before l mid counts is_open goes) stops wanted in
@@ -74,7 +75,7 @@ stopped_takes l e before last fault more is_open good (counts, mid, goes, stops)
       all.0 ++ run.0,
       fed run.2.intake more,
       all_joined (fed l.intake (stream_in before ++ (last.bytes ++ more))) (fed mid.intake (last.bytes ++ more)) (fed run.2.intake more) all.0 run.0 all.1 here,
-      stops_on run.2.intake e.intake more fault (all_good (fed mid.intake last.bytes) run.2.intake run.0 front first) run.4,
+      stops_on run.2.intake e.intake more fault (all_good (fed mid.intake last.bytes) run.2.intake run.0 front first) (stays_open last.moment (with_piece mid last.bytes) run.2 run.0 run.1 (fed_open before l mid counts is_open goes) run.3) run.4 wanted,
     )
 
 -- from one state, what is taken up to a fault is one thing
@@ -92,10 +93,10 @@ same_end t x y a b (m ∷ ms) (n ∷ ns) fault other (local, mid, takes, later) 
     same_end mid x y a b ms ns fault other later (subst (λ (z : Taking). TakesAll z ns y) (sym step) later') stops again p q
 
 pub same_fault_in_time : (l a b : Learning) (before others : List Piece) (last end : Piece) (more rest : List ℕ) (fault other : Fault) → l.intake.closed ≡ false → IsBytes (l.intake.unread ++ (stream_in before ++ (last.bytes ++ more))) → stream_in before ++ (last.bytes ++ more) ≡ stream_in others ++ (end.bytes ++ rest)
-    → IsStoppedInTime l before last fault a → IsStoppedInTime l others end other b → fault ≢ faults.Memory → other ≢ faults.Memory → (fault ≡ other) × (fed a.intake more ≡ fed b.intake rest)
+    → IsStoppedInTime l before last fault a → IsStoppedInTime l others end other b → fault ≢ faults.Memory → other ≢ faults.Memory → (fault ≡ other) × (a.intake ≡ b.intake)
 same_fault_in_time l a b before others last end more rest fault other is_open good cut stops again p q =
     let good_other : IsBytes (l.intake.unread ++ (stream_in others ++ (end.bytes ++ rest))) = subst (λ (bytes : List ℕ). IsBytes (l.intake.unread ++ bytes)) cut good in
     let one = stopped_takes l a before last fault more is_open good stops p in
     let two = stopped_takes l b others end other rest is_open good_other again q in
     let too : TakesAll (fed l.intake (stream_in before ++ (last.bytes ++ more))) two.0 two.1 = subst (λ (bytes : List ℕ). TakesAll (fed l.intake bytes) two.0 two.1) (sym cut) two.2 in
-    same_end (fed l.intake (stream_in before ++ (last.bytes ++ more))) one.1 two.1 (fed a.intake more) (fed b.intake rest) one.0 two.0 fault other one.2 too one.3 two.3 p q
+    same_end (fed l.intake (stream_in before ++ (last.bytes ++ more))) one.1 two.1 a.intake b.intake one.0 two.0 fault other one.2 too one.3 two.3 p q

@@ -4,7 +4,6 @@ use Rattle.std.specs.List.{AllByRecursion}
 use Rattle.peers_msg.specs.Integers.{IsBytes}
 use Rattle.table_types.specs.declared.update.Update.{Update}
 use Rattle.peers_msg.specs.declared.message.Message.{Message}
-use Rattle.peers_msg.specs.declared.message.Message.TheVariants as messages
 use Rattle.peers_msg.specs.Decoding.{together}
 use Rattle.peers_msg.proofs.CuttingIndependence.{front_good, read_on}
 use Rattle.peers_msg.proofs.SameEndHoweverCut.{breach_on}
@@ -20,17 +19,15 @@ use Rattle.learner.proofs.OneOutcome.{Runs, faulty, learner_fed_once}
 
 -- ---- more bytes after a fault
 
--- what stops an intake stops it with more bytes after
-pub stops_on : (t e : Taking) (more : List ℕ) (fault : Fault) → IsBytes t.unread → Stops t fault e → Stops (fed t more) fault (fed e more)
-stops_on t e more faults.NoNumber good (is_open, m, rest, at, refused, is) =
-    (is_open, m, rest ++ more, read_on t.state.received m t.unread rest more good at, refused, ap (λ (x : Taking). fed x more) is)
-stops_on t e more faults.EmptySlot good (is_open, m, rest, at, refused, is) =
-    (is_open, m, rest ++ more, read_on t.state.received m t.unread rest more good at, refused, ap (λ (x : Taking). fed x more) is)
-stops_on t e more faults.Memory good (is_open, (m, rest, at, unrefused), is) =
-    (is_open, (m, rest ++ more, read_on t.state.received m t.unread rest more good at, unrefused), ap (λ (x : Taking). fed x more) is)
-stops_on t e more faults.Closed good (shut, is) = (shut, ap (λ (x : Taking). fed x more) is)
-stops_on t e more (faults.Breach breach) good (is_open, at, is) =
-    (is_open, breach_on t.state.received t.unread more breach good at, ap (λ (x : Taking). fed x more) is)
+-- what stops an open intake stops it with more bytes after, and leaves the same
+pub stops_on : (t e : Taking) (more : List ℕ) (fault : Fault) → IsBytes t.unread → t.closed ≡ false → Stops t fault e → fault ≢ faults.Memory → Stops (fed t more) fault e
+stops_on t e more faults.NoNumber good going (is_open, m, rest, at, refused, is) wanted =
+    (is_open, m, rest ++ more, read_on t.state.received m t.unread rest more good at, refused, is)
+stops_on t e more faults.EmptySlot good going (is_open, m, rest, at, refused, is) wanted =
+    (is_open, m, rest ++ more, read_on t.state.received m t.unread rest more good at, refused, is)
+stops_on t e more faults.Memory good going stops wanted = absurd (wanted refl)
+stops_on t e more faults.Closed good going (shut, is) wanted = absurd (apart (sym shut ∙ going))
+stops_on t e more (faults.Breach breach) good going (is_open, at, is) wanted = (is_open, breach_on t.state.received t.unread more breach good at, is)
 
 -- what is learned is learned with more bytes after
 learned_on : (now : ℕ) (l e : Learning) (more : List ℕ) (ms : List Message) (us : List Update) → IsBytes l.intake.unread → AreLearned now l ms us e → AreLearned now (with_piece l more) ms us (with_piece e more)
@@ -43,9 +40,9 @@ learned_left now l e [] us good (none, here) = subst (λ (x : Learning). IsBytes
 learned_left now l e (m ∷ ms) us good (first, rest, next, all, begins, later) =
     learned_left now next e ms rest (left_good l.intake next.intake m first good begins.0) later
 
-runs_on : (now : ℕ) (l e : Learning) (more : List ℕ) (fault : Fault) → IsBytes l.intake.unread → Runs now l fault e → Runs now (with_piece l more) fault (with_piece e more)
-runs_on now l e more fault good (ms, us, mid, learned, stops, rows) =
-    (ms, us, with_piece mid more, learned_on now l mid more ms us good learned, stops_on mid.intake e.intake more fault (learned_left now l mid ms us good learned) stops, rows)
+runs_on : (now : ℕ) (l e : Learning) (more : List ℕ) (fault : Fault) → IsBytes l.intake.unread → l.intake.closed ≡ false → Runs now l fault e → fault ≢ faults.Memory → Runs now (with_piece l more) fault e
+runs_on now l e more fault good is_open (ms, us, mid, learned, stops, rows) wanted =
+    (ms, us, with_piece mid more, learned_on now l mid more ms us good learned, stops_on mid.intake e.intake more fault (learned_left now l mid ms us good learned) (stays_open now l mid ms us is_open learned) stops wanted, rows)
 
 -- one piece after another is both together
 regrouped : (now : ℕ) (l e : Learning) (a b : List ℕ) (fault : Fault) → Runs now (with_piece (with_piece l a) b) fault e → Runs now (with_piece l (a ++ b)) fault e
@@ -72,12 +69,12 @@ is_fed now l e piece (faults.Breach breach) is_open runs wanted = (is_open, runs
 -- ---- pieces
 
 -- a fault stays with more bytes after
-fault_on : (now : ℕ) (l e : Learning) (piece more : List ℕ) (fault : Fault) → l.intake.closed ≡ false → IsBytes (l.intake.unread ++ (piece ++ more)) → LearnerFeeds now l piece (Err fault) e → fault ≢ faults.Memory → LearnerFeeds now l (piece ++ more) (Err fault) (with_piece e more)
+fault_on : (now : ℕ) (l e : Learning) (piece more : List ℕ) (fault : Fault) → l.intake.closed ≡ false → IsBytes (l.intake.unread ++ (piece ++ more)) → LearnerFeeds now l piece (Err fault) e → fault ≢ faults.Memory → LearnerFeeds now l (piece ++ more) (Err fault) e
 fault_on now l e piece more fault is_open good fed wanted =
     let grouped : (l.intake.unread ++ piece) ++ more ≡ l.intake.unread ++ (piece ++ more) = simp append_assoc in
     let front : IsBytes (l.intake.unread ++ piece) = front_good (l.intake.unread ++ piece) more (subst IsBytes (sym grouped) good) in
-    let runs = runs_on now (with_piece l piece) e more fault front (is_run now l e piece fault is_open fed wanted) in
-    is_fed now l (with_piece e more) (piece ++ more) fault is_open (regrouped now l (with_piece e more) piece more fault runs) wanted
+    let runs = runs_on now (with_piece l piece) e more fault front is_open (is_run now l e piece fault is_open fed wanted) wanted in
+    is_fed now l e (piece ++ more) fault is_open (regrouped now l e piece more fault runs) wanted
 
 -- a fault that comes after a piece comes of both together
 fault_then : (now : ℕ) (l mid e : Learning) (a b : List ℕ) (count : ℕ) (fault : Fault) → IsBytes (l.intake.unread ++ (a ++ b)) → LearnerFeeds now l a (Ok count) mid → LearnerFeeds now mid b (Err fault) e → fault ≢ faults.Memory → LearnerFeeds now l (a ++ b) (Err fault) e
@@ -102,7 +99,7 @@ fed_left now l e a more count good (is_open, (ms, us, learned, waits, is)) =
     learned_left now (with_piece (with_piece l a) more) (with_piece e more) ms us whole on
 
 -- a fault that stops some pieces stops the whole
-stopped_whole : (now : ℕ) (before : List (List ℕ)) (l e : Learning) (last more : List ℕ) (fault : Fault) → l.intake.closed ≡ false → IsBytes (l.intake.unread ++ (together before ++ (last ++ more))) → IsStopped now l before last fault e → fault ≢ faults.Memory → LearnerFeeds now l (together before ++ (last ++ more)) (Err fault) (with_piece e more)
+stopped_whole : (now : ℕ) (before : List (List ℕ)) (l e : Learning) (last more : List ℕ) (fault : Fault) → l.intake.closed ≡ false → IsBytes (l.intake.unread ++ (together before ++ (last ++ more))) → IsStopped now l before last fault e → fault ≢ faults.Memory → LearnerFeeds now l (together before ++ (last ++ more)) (Err fault) e
 stopped_whole now [] l e last more fault is_open good (count, mid, (none, here), stops) wanted =
     fault_on now l e last more fault is_open good (subst (λ (x : Learning). LearnerFeeds now x last (Err fault) e) here stops) wanted
 stopped_whole now (p ∷ ps) l e last more fault is_open good (count, mid, (one, rest, next, sum, first, later), stops) wanted =
@@ -110,8 +107,8 @@ stopped_whole now (p ∷ ps) l e last more fault is_open good (count, mid, (one,
     let bytes : IsBytes (l.intake.unread ++ (p ++ (together ps ++ (last ++ more)))) = subst (λ (x : List ℕ). IsBytes (l.intake.unread ++ x)) (sym grouped) good in
     let left : IsBytes (next.intake.unread ++ (together ps ++ (last ++ more))) = fed_left now l next p (together ps ++ (last ++ more)) one bytes first in
     let others = stopped_whole now ps next e last more fault (fed_open now l next p one first) left (rest, mid, later, stops) wanted in
-    let all = fault_then now l next (with_piece e more) p (together ps ++ (last ++ more)) one fault bytes first others wanted in
-    subst (λ (x : List ℕ). LearnerFeeds now l x (Err fault) (with_piece e more)) grouped all
+    let all = fault_then now l next e p (together ps ++ (last ++ more)) one fault bytes first others wanted in
+    subst (λ (x : List ℕ). LearnerFeeds now l x (Err fault) e) grouped all
 
 not_memory : (fault : Fault) → fault ≢ faults.Memory → ◌≢◌ {A = Result ℕ Fault} (Err fault) (Err faults.Memory)
 not_memory fault wanted same = let is : fault ≡ faults.Memory = cc in wanted is
@@ -120,12 +117,12 @@ one_fault : (fault other : Fault) → ◌≡◌ {A = Result ℕ Fault} (Err faul
 one_fault fault other e = cc
 
 -- the same fault comes of every cutting
-pub same_stop : (now : ℕ) (l a b : Learning) (before others : List (List ℕ)) (last end more rest : List ℕ) (fault other : Fault) → l.intake.closed ≡ false → IsBytes (l.intake.unread ++ (together before ++ (last ++ more))) → together before ++ (last ++ more) ≡ together others ++ (end ++ rest) → IsStopped now l before last fault a → IsStopped now l others end other b → fault ≢ faults.Memory → other ≢ faults.Memory → (fault ≡ other) × (with_piece a more ≡ with_piece b rest)
+pub same_stop : (now : ℕ) (l a b : Learning) (before others : List (List ℕ)) (last end more rest : List ℕ) (fault other : Fault) → l.intake.closed ≡ false → IsBytes (l.intake.unread ++ (together before ++ (last ++ more))) → together before ++ (last ++ more) ≡ together others ++ (end ++ rest) → IsStopped now l before last fault a → IsStopped now l others end other b → fault ≢ faults.Memory → other ≢ faults.Memory → (fault ≡ other) × (a ≡ b)
 same_stop now l a b before others last end more rest fault other is_open good cut one again p q =
     let first = stopped_whole now before l a last more fault is_open good one p in
     let bytes : IsBytes (l.intake.unread ++ (together others ++ (end ++ rest))) = subst (λ (x : List ℕ). IsBytes (l.intake.unread ++ x)) cut good in
-    let second : LearnerFeeds now l (together before ++ (last ++ more)) (Err other) (with_piece b rest) = subst (λ (x : List ℕ). LearnerFeeds now l x (Err other) (with_piece b rest)) (sym cut) (stopped_whole now others l b end rest other is_open bytes again q) in
-    let both = learner_fed_once now l (with_piece a more) (with_piece b rest) (together before ++ (last ++ more)) (Err fault) (Err other) first second (not_memory fault p) (not_memory other q) in
+    let second : LearnerFeeds now l (together before ++ (last ++ more)) (Err other) b = subst (λ (x : List ℕ). LearnerFeeds now l x (Err other) b) (sym cut) (stopped_whole now others l b end rest other is_open bytes again q) in
+    let both = learner_fed_once now l a b (together before ++ (last ++ more)) (Err fault) (Err other) first second (not_memory fault p) (not_memory other q) in
     (one_fault fault other both.0, both.1)
 
 -- no cutting goes through where a fault comes in another
@@ -134,7 +131,7 @@ never_through now l a b before others last first more count fault good cut stopp
     let bytes : IsBytes (l.intake.unread ++ together (first ∷ others)) = subst (λ (x : List ℕ). IsBytes (l.intake.unread ++ x)) cut good in
     let all : LearnerFeeds now l (together before ++ (last ++ more)) (Ok count) b = subst (λ (x : List ℕ). LearnerFeeds now l x (Ok count) b) (sym cut) (whole now others l b first count bytes fed) in
     let ends = stopped_whole now before l a last more fault (opened all) good stopped wanted in
-    let both = learner_fed_once now l b (with_piece a more) (together before ++ (last ++ more)) (Ok count) (Err fault) all ends (never count faults.Memory) (not_memory fault wanted) in
+    let both = learner_fed_once now l b a (together before ++ (last ++ more)) (Ok count) (Err fault) all ends (never count faults.Memory) (not_memory fault wanted) in
     never count fault both.0
   where
     opened : LearnerFeeds now l (together before ++ (last ++ more)) (Ok count) b → l.intake.closed ≡ false
@@ -212,7 +209,7 @@ together-append (x ∷ xs) ys =
 
 -- a fault that comes in one cutting comes in every other
 pub it_comes : (now : ℕ) (l a b : Learning) (before others : List (List ℕ)) (last first more : List ℕ) (fault : Fault) (answers : List (Result ℕ Fault)) → l.intake.closed ≡ false → IsBytes (l.intake.unread ++ (together before ++ (last ++ more))) → together before ++ (last ++ more) ≡ together (first ∷ others) → IsStopped now l before last fault a → fault ≢ faults.Memory → AreAnswered now l (first ∷ others) answers b → AllByRecursion (λ answer. answer ≢ Err faults.Memory) answers
-    → (begins : List (List ℕ)) × (end : List ℕ) × (rest : List (List ℕ)) × (first ∷ others ≡ begins ++ (end ∷ rest)) × IsStopped now l begins end fault b × (with_piece a more ≡ with_piece b (together rest))
+    → (begins : List (List ℕ)) × (end : List ℕ) × (rest : List (List ℕ)) × (first ∷ others ≡ begins ++ (end ∷ rest)) × IsStopped now l begins end fault b × (a ≡ b)
 it_comes now l a b before others last first more fault answers is_open good cut stopped wanted fed fine =
     elim (through_or_stopped now (first ∷ others) l b answers fed fine) [
       | inl goes ↦ absurd (never_through now l a b before others last first more goes.0 fault good cut stopped wanted goes.1)

@@ -1,16 +1,17 @@
 -- In whatever order an intake is fed and asked, it answers the same.
-use Rattle.std.proofs.Common.{◌≡◌, ◌≢◌, ℕ, List, [], ◌∷◌, ◌++◌, Option, Some, None, Result, Ok, Err, refl, sym, ap, subst, ◌∙◌, append_assoc}
+use Rattle.std.proofs.Common.{◌≡◌, ◌≢◌, ℕ, true, false, List, [], ◌∷◌, ◌++◌, Option, Some, None, Result, Ok, Err, refl, sym, ap, subst, ◌∙◌, inl, inr, append_assoc}
+use Rattle.std.proofs.lemmas.Bool.{cases_Bool}
 use Rattle.std.proofs.lemmas.List.{append-nil}
 use Rattle.peers_msg.specs.Integers.{IsBytes}
-use Rattle.peers_msg.specs.declared.message.Message.{Message}
 use Rattle.peers_msg.proofs.CuttingIndependence.{front_good}
 use Rattle.learner.specs.declared.fault.Fault.{Fault}
 use Rattle.learner.specs.declared.fault.Fault.TheVariants as faults
 use Rattle.learner.specs.declared.taken.Taken.{Taken}
-use Rattle.learner.specs.Intake.{Taking, Takes, Gives, IntakeFeeds, IntakeNext, rows_of, fed}
+use Rattle.learner.specs.Intake.{Taking, Gives, IntakeFeeds, IntakeNext, rows_of, fed}
 use Rattle.learner.specs.Calls.{AreIntakeCalls, IsEndOf, IsFaultless, bytes_of, answers_given}
 use Rattle.learner.proofs.SameHoweverCut.{takes_on, left_good}
 use Rattle.learner.proofs.SameFaultHoweverCut.{stops_on}
+use Rattle.learner.proofs.LegalStreamIsTaught.{apart}
 use Rattle.learner.proofs.OneOutcome.{intake_next_once}
 
 -- messages are taken one after another, and these are the answers
@@ -84,21 +85,58 @@ called_taken (None ∷ calls) t e bytes more answers good (answer, others, mid, 
     let rest = called_taken calls mid e bytes more others (asked_good t mid (bytes ++ more) answer good fine next) later in
     (subst (λ (xs : List Taken). AreTaken (fed t (bytes ++ more)) xs (fed e more)) (sym all) (asked t mid (fed e more) (bytes ++ more) others answer (front_good t.unread (bytes ++ more) good) fine next rest.0), rest.1)
 
--- ---- where a stream ends
+-- ---- what is closed
 
--- the end stays with the bytes that are still to come
-end_on : (t e : Taking) (end : Result (Option Taken) Fault) (more : List ℕ) → IsBytes t.unread → IntakeNext t end e → IsEndOf end more → IntakeNext (fed t more) end (fed e more)
-end_on t e (Ok None) more good (is_open, none, is) ends =
-    subst (λ (xs : List ℕ). IntakeNext (fed t xs) (Ok None) (fed e xs)) (sym ends)
-    (subst (λ (x : Taking). IntakeNext x (Ok None) (fed e [])) (sym (as_was t)) (subst (λ (x : Taking). IntakeNext t (Ok None) x) (sym (as_was e)) (is_open, none, is)))
+-- a call that is answered without a fault, but want of memory, comes to an open intake and leaves it so
+fed_open : (t mid : Taking) (piece : List ℕ) (answer : Result (Unit {0}) Fault) → IsFaultless answer → IntakeFeeds t piece answer mid → (t.closed ≡ false) × (mid.closed ≡ false)
+fed_open t mid piece (Ok done) fine (is_open, is) = (is_open, ap (λ (x : Taking). x.closed) is ∙ is_open)
+fed_open t mid piece (Err fault) fine feeds = unfed fault (fine fault refl) feeds
   where
-    as_was : (x : Taking) → fed x [] ≡ x
-    as_was x = ap (λ (bytes : List ℕ). record x { unread = bytes }) (append-nil x.unread)
-end_on t e (Ok (Some answer)) more good next ends = absurd ends
-end_on t e (Err fault) more good next ends = stops_on t e more fault good next
+    unfed : (f : Fault) → f ≡ faults.Memory → IntakeFeeds t piece (Err f) mid → (t.closed ≡ false) × (mid.closed ≡ false)
+    unfed f memory feeds =
+        let stays : IntakeFeeds t piece (Err faults.Memory) mid = subst (λ (g : Fault). IntakeFeeds t piece (Err g) mid) memory feeds in
+        (stays.0, ap (λ (x : Taking). x.closed) stays.1 ∙ stays.0)
+
+asked_open : (t mid : Taking) (answer : Result (Option Taken) Fault) → IsFaultless answer → IntakeNext t answer mid → (t.closed ≡ false) × (mid.closed ≡ false)
+asked_open t mid (Ok None) fine (is_open, none, is) = (is_open, ap (λ (x : Taking). x.closed) is ∙ is_open)
+asked_open t mid (Ok (Some answer)) fine (m, takes, says) = (takes.0, ap (λ (x : Taking). x.closed) takes.6)
+asked_open t mid (Err fault) fine next = untaken fault (fine fault refl) next
+  where
+    untaken : (f : Fault) → f ≡ faults.Memory → IntakeNext t (Err f) mid → (t.closed ≡ false) × (mid.closed ≡ false)
+    untaken f memory next =
+        let stays : IntakeNext t (Err faults.Memory) mid = subst (λ (g : Fault). IntakeNext t (Err g) mid) memory next in
+        (stays.0, ap (λ (x : Taking). x.closed) stays.2 ∙ stays.0)
+
+called_open : (calls : List (Option (List ℕ))) (t e : Taking) (bytes : List ℕ) (answers : List Taken) → t.closed ≡ false → AreIntakeCalls t calls bytes answers e → e.closed ≡ false
+called_open [] t e bytes answers is_open (nothing, none, here) = ap (λ (x : Taking). x.closed) here ∙ is_open
+called_open (Some piece ∷ calls) t e bytes answers is_open (answer, others, mid, all, fine, feeds, later) =
+    called_open calls mid e others answers (fed_open t mid piece answer fine feeds).1 later
+called_open (None ∷ calls) t e bytes answers is_open (answer, others, mid, all, fine, next, later) =
+    called_open calls mid e bytes others (asked_open t mid answer fine next).1 later
+
+-- a closed one gives nothing, and stays as it is
+called_shut : (calls : List (Option (List ℕ))) (t e : Taking) (bytes : List ℕ) (answers : List Taken) → t.closed ≡ true → AreIntakeCalls t calls bytes answers e → (answers ≡ []) × (e ≡ t)
+called_shut [] t e bytes answers shut (nothing, none, here) = (none, here)
+called_shut (Some piece ∷ calls) t e bytes answers shut (answer, others, mid, all, fine, feeds, later) =
+    absurd (apart (sym shut ∙ (fed_open t mid piece answer fine feeds).0))
+called_shut (None ∷ calls) t e bytes answers shut (answer, others, mid, all, fine, next, later) =
+    absurd (apart (sym shut ∙ (asked_open t mid answer fine next).0))
+
+-- ---- where a stream ends
 
 not_memory : (end : Result (Option Taken) Fault) (more : List ℕ) → IsEndOf end more → end ≢ Err faults.Memory
 not_memory end more ends same = subst (λ (x : Result (Option Taken) Fault). IsEndOf x more) same ends
+
+-- the end of an open intake stays with the bytes that are still to come
+end_on : (t e : Taking) (end : Result (Option Taken) Fault) (more : List ℕ) → IsBytes t.unread → t.closed ≡ false → IntakeNext t end e → IsEndOf end more → IntakeNext (fed t more) end e
+end_on t e (Ok None) more good going next ends =
+    subst (λ (xs : List ℕ). IntakeNext (fed t xs) (Ok None) e) (sym ends) (subst (λ (x : Taking). IntakeNext x (Ok None) e) (sym (as_was t)) next)
+  where
+    as_was : (x : Taking) → fed x [] ≡ x
+    as_was x = ap (λ (bytes : List ℕ). record x { unread = bytes }) (append-nil x.unread)
+end_on t e (Ok (Some answer)) more good going next ends = absurd ends
+end_on t e (Err fault) more good going next ends =
+    stops_on t e more fault good going next (λ same. not_memory (Err fault) more ends (ap (λ (f : Fault). Err f) same))
 
 goes_past : (end : Result (Option Taken) Fault) (more : List ℕ) (answer : Taken) → IsEndOf end more → end ≡ Ok (Some answer) → ⊥
 goes_past end more answer ends same = subst (λ (x : Result (Option Taken) Fault). IsEndOf x more) same ends
@@ -128,11 +166,19 @@ same_taken t a b x y (answer ∷ answers) (other ∷ others) end last more rest 
 
 -- however one stream is fed and asked for, it comes to one thing
 pub same_called : (t a b x y : Taking) (one other : List (Option (List ℕ))) (bytes others more rest : List ℕ) (answers given : List Taken) (end last : Result (Option Taken) Fault) → IsBytes (t.unread ++ (bytes ++ more)) → bytes ++ more ≡ others ++ rest → AreIntakeCalls t one bytes answers a → AreIntakeCalls t other others given b → IntakeNext a end x → IntakeNext b last y → IsEndOf end more → IsEndOf last rest
-    → (answers ≡ given) × (end ≡ last) × (fed x more ≡ fed y rest)
-same_called t a b x y one other bytes others more rest answers given end last good cut called again next then ends stops =
-    let good_other : IsBytes (t.unread ++ (others ++ rest)) = subst (λ (xs : List ℕ). IsBytes (t.unread ++ xs)) cut good in
-    let first = called_taken one t a bytes more answers good called in
-    let second = called_taken other t b others rest given good_other again in
-    let over : AreTaken (fed t (bytes ++ more)) given (fed b rest) = subst (λ (xs : List ℕ). AreTaken (fed t xs) given (fed b rest)) (sym cut) second.0 in
-    same_taken (fed t (bytes ++ more)) (fed a more) (fed b rest) (fed x more) (fed y rest) answers given end last more rest first.0 over
-    (end_on a x end more (front_good a.unread more first.1) next ends) (end_on b y last rest (front_good b.unread rest second.1) then stops) ends stops
+    → (answers ≡ given) × (end ≡ last) × (x ≡ y)
+same_called t a b x y one other bytes others more rest answers given end last good cut called again next then ends stops = elim (cases_Bool t.closed) [
+  | inl shut ↦
+      let first = called_shut one t a bytes answers shut called in
+      let second = called_shut other t b others given shut again in
+      let both = intake_next_once t x y end last (subst (λ (q : Taking). IntakeNext q end x) first.1 next) (subst (λ (q : Taking). IntakeNext q last y) second.1 then) (not_memory end more ends) (not_memory last rest stops) in
+      (first.0 ∙ sym second.0, both.0, both.1)
+  | inr going ↦
+      let good_other : IsBytes (t.unread ++ (others ++ rest)) = subst (λ (xs : List ℕ). IsBytes (t.unread ++ xs)) cut good in
+      let first = called_taken one t a bytes more answers good called in
+      let second = called_taken other t b others rest given good_other again in
+      let over : AreTaken (fed t (bytes ++ more)) given (fed b rest) = subst (λ (xs : List ℕ). AreTaken (fed t xs) given (fed b rest)) (sym cut) second.0 in
+      same_taken (fed t (bytes ++ more)) (fed a more) (fed b rest) x y answers given end last more rest first.0 over
+      (end_on a x end more (front_good a.unread more first.1) (called_open one t a bytes answers going called) next ends)
+      (end_on b y last rest (front_good b.unread rest second.1) (called_open other t b others given going again) then stops) ends stops
+]

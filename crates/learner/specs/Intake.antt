@@ -29,13 +29,17 @@ pub record Taking : Type 0 where
 abbrev pub begun : List Definition → Taking
 begun roster = record { roster = roster; state = fresh; due = []; unread = []; closed = false }
 
+-- these bytes are unread, and no others
+abbrev pub with_unread : Taking → List ℕ → Taking
+with_unread t bytes = record t { unread = bytes }
+
 -- bytes are fed
 abbrev pub fed : Taking → List ℕ → Taking
-fed t piece = record t { unread = t.unread ++ piece }
+fed t piece = with_unread t (t.unread ++ piece)
 
--- there is a fault
+-- there is a fault: no bytes are held
 abbrev pub shut : Taking → Taking
-shut t = record t { closed = true }
+shut t = record t { unread = []; closed = true }
 
 -- ---- one message
 

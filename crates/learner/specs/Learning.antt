@@ -1,5 +1,5 @@
 -- What a learner holds, and what it learns of the bytes that it is fed (profile).
-use Rattle.std.specs.Prelude.{◌≡◌, ◌⊎◌, ℕ, ◌+◌, true, false, List, [], ◌∷◌, ◌++◌, length, map, Option, Some, None, Result, Ok, Err}
+use Rattle.std.specs.Prelude.{◌≡◌, ◌≢◌, ◌⊎◌, ℕ, ◌+◌, true, false, List, [], ◌∷◌, ◌++◌, length, map, Option, Some, None, Result, Ok, Err}
 use Rattle.table_types.specs.declared.key.Key.{Key}
 use Rattle.table_types.specs.declared.update.Update.{Update}
 use Rattle.table_types.specs.Tables.{Definition}
@@ -87,13 +87,20 @@ LearnsAll now l (Err fault) e =
     × Stops mid.intake fault e.intake
     × (e.rows ≡ mid.rows)
 
--- nothing more is learned
+-- nothing more is learned, and no bytes are held
 abbrev pub shut_off : Learning → Learning
 shut_off l = record { intake = shut l.intake; rows = l.rows }
 
--- what is left where memory is wanted: the learner as it was, or what the piece's whole messages lead to
+-- Bytes can't be held: where nothing was unread, those of the unfinished message that is left when all that is whole was
+-- learned; where something was, those of the piece, of which then nothing is learned.
+abbrev pub IsUnheld : ℕ → Learning → List ℕ → Learning → Type 0
+IsUnheld now l piece left =
+    ((l.intake.unread ≡ []) × (count : ℕ) × LearnsAll now (with_piece l piece) (Ok count) left × (left.intake.unread ≢ []))
+    ⊎ ((l.intake.unread ≢ []) × (left ≡ l))
+
+-- what is left where memory is wanted, for a whole message without a fault or for bytes to be held
 abbrev pub IsLeft : ℕ → Learning → List ℕ → Learning → Type 0
-IsLeft now l piece left = (left ≡ l) ⊎ LearnsAll now (with_piece l piece) (Err faults.Memory) left
+IsLeft now l piece left = LearnsAll now (with_piece l piece) (Err faults.Memory) left ⊎ IsUnheld now l piece left
 
 -- What feeding bytes at the moment now does: what is whole then is learned. After a fault it is closed, and so it is
 -- where memory was wanted; what is closed takes no bytes.
@@ -105,12 +112,6 @@ LearnerFeeds now l piece (Err faults.Memory) e =
     × IsLeft now l piece left
     × (e ≡ shut_off left)
 LearnerFeeds now l piece result e = (l.intake.closed ≡ false) × LearnsAll now (with_piece l piece) result e
-
--- the same before it is closed for want of memory
-abbrev pub FedAndOpen : ℕ → Learning → List ℕ → Result ℕ Fault → Learning → Type 0
-FedAndOpen now l piece (Err faults.Closed) e = (l.intake.closed ≡ true) × (e ≡ l)
-FedAndOpen now l piece (Err faults.Memory) e = (l.intake.closed ≡ false) × IsLeft now l piece e
-FedAndOpen now l piece result e = (l.intake.closed ≡ false) × LearnsAll now (with_piece l piece) result e
 
 -- ---- streams in pieces
 

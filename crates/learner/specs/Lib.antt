@@ -9,3 +9,4 @@ pub mod Cutting
 pub mod Calls
 pub mod Front
 pub mod NewRows
+pub mod InPlace

@@ -1,6 +1,6 @@
 //! What is taken of a stream, message by message.
 
-ghost use Rattle.std.specs.Prelude.{◌≡◌, ◌<◌, ◌≤◌, [], true, IfOk, IfErr, OnOk, OnErr, IsSome, length};
+ghost use Rattle.std.specs.Prelude.{◌≡◌, ◌≢◌, ◌<◌, ◌≤◌, [], true, IfOk, IfErr, OnOk, OnErr, IsSome, length};
 ghost use Rattle.peers_msg.specs.declared.message.Message.TheVariants as messages;
 ghost use Rattle.peers_msg.specs.BorrowedMessages.{owned_message};
 ghost use Rattle.peers_msg.specs.Fitting.{fits};
@@ -8,7 +8,7 @@ ghost use Rattle.known_state.specs.Effects.{IsEffect, made};
 ghost use Rattle.known_state.specs.declared.effect.Effect.TheVariants as effects;
 ghost use Rattle.learner.specs.LocalTables.{selected_local};
 ghost use Rattle.learner.specs.Acks.{AreRisingAcks};
-ghost use Rattle.learner.specs.Intake.{begun, shut, IntakeFeeds, IntakeNext, IsRefused, ack_of, acks_of};
+ghost use Rattle.learner.specs.Intake.{begun, fed, shut, with_unread, IntakeFeeds, IntakeNext, IsRefused, ack_of, acks_of};
 ghost use Rattle.learner.specs.Front.{Looks, Shows, due_made, passed, stopped};
 
 use crate::advance::Advance;
@@ -16,10 +16,12 @@ use crate::due::{add_due, is_ack_due, still_due};
 use crate::fault::Fault;
 use crate::local_tables::local_table;
 use crate::taken::{LocalUpdateRef, Taken, TakenRef};
+use bytes::BytesMut;
 use known_state::{Effect, ResolvedUpdate, State};
-use peers_msg::{Message, MessageRef, Received, Unread, UpdateRef};
+use peers_msg::{Message, MessageRef, Received, UpdateRef, front};
 use std::alloc::Global;
 use std::marker::Model;
+use std::mem;
 use table_types::{Memory, Roster, TableDef};
 
 /// Takes the messages of a stream that comes in pieces, cut anywhere, and resolves what they say of the local tables
@@ -32,7 +34,8 @@ pub struct Intake {
     due: Vec<u64>,
     /// The id of the local table that the selected table is.
     local: Option<u64>,
-    unread: Unread,
+    /// None of them once it is closed.
+    unread: BytesMut<Global>,
     closed: bool,
 }
 
@@ -43,7 +46,7 @@ impl Model for Intake {
 
     ghost Value = { Taking };
 
-    ghost view = { λ i. record { roster = i.roster; state = i.state; due = i.due.items; unread = i.unread; closed = i.closed } };
+    ghost view = { λ i. record { roster = i.roster; state = i.state; due = i.due.items; unread = i.unread.items; closed = i.closed } };
 
     ghost invariant = { λ i. i.local ≡ selected_local i.roster i.state.received };
 }
@@ -72,7 +75,7 @@ impl Intake {
             state: State::new(alloc),
             due: Vec::new(alloc),
             local: None,
-            unread: Unread::new(alloc),
+            unread: BytesMut::new(alloc),
             closed: false,
         }
     }
@@ -91,41 +94,92 @@ impl Intake {
         &self.state
     }
 
-    /// How many bytes were fed and not taken. Where `next` answers `None` they are those of an unfinished message.
+    /// How many bytes were fed and not taken. Where `next` answers `None` they are those of an unfinished message; after a
+    /// fault, but `Memory`, there are none.
     pub fn waiting(&self) -> usize
         ensures { result ≡ length self.now.unread }
     {
         self.unread.len()
     }
 
-    /// Takes no more: every later call that takes bytes answers `Closed`.
+    /// Whether there was a fault.
+    pub(crate) fn is_closed(&self) -> bool
+        ensures { result ≡ self.now.closed }
+    {
+        self.closed
+    }
+
+    /// Takes no more: every later call that takes bytes answers `Closed`. The unread bytes are dropped.
     pub(crate) fn close(&mut self)
         ensures { self.new ≡ shut self.old }
     {
+        self.unread = BytesMut::new(self.alloc);
         self.closed = true;
     }
 
-    /// Takes the next piece of the stream. After a fault it answers `Closed`; after `Memory` nothing has changed.
+    /// Takes the next piece of the stream, and holds all of it. After a fault it answers `Closed`; after `Memory` nothing
+    /// has changed.
     pub fn feed(&mut self, piece: &[u8]) -> Result<(), Fault>
         ensures { IntakeFeeds self.old piece.now result self.new }
     {
         if self.closed {
             return Err(Fault::Closed);
         }
-        self.unread.append(piece)?;
+        self.hold(piece)?;
         Ok(())
     }
 
-    /// What the message at the front gives, and what moves past it; `None` while it isn't whole. Nothing changes yet.
+    /// Holds these bytes after the unread ones. Memory is wanted only where there are some; then nothing has changed.
+    pub(crate) fn hold(&mut self, bytes: &[u8]) -> Result<(), Memory>
+        ensures held { OnOk result (self.new ≡ fed self.old bytes.now) }
+        ensures stays { OnErr result (self.new ≡ self.old) }
+        ensures some { OnErr result (bytes.now ≢ []) }
+    {
+        if bytes.is_empty() {
+            return Ok(());
+        }
+        match self.unread.extend_from_slice(bytes) {
+            Ok(()) => Ok(()),
+            Err(_) => Err(Memory),
+        }
+    }
+
+    /// Takes the unread bytes out.
+    pub(crate) fn take_unread(&mut self) -> BytesMut<Global>
+        ensures taken { result.items ≡ self.old.unread }
+        ensures left { self.new ≡ with_unread self.old [] }
+    {
+        mem::replace(&mut self.unread, BytesMut::new(self.alloc))
+    }
+
+    /// Puts unread bytes in place of those that there are.
+    pub(crate) fn put_unread(&mut self, unread: BytesMut<Global>)
+        ensures { self.new ≡ with_unread self.old unread.items }
+    {
+        self.unread = unread;
+    }
+
+    /// The same as `look_at`, at the unread bytes.
+    fn look(&self) -> Result<Option<(TakenRef<'_>, Advance)>, Fault>
+        ensures looks { Looks self.now result }
+    {
+        self.look_at(self.unread.as_slice())
+    }
+
+    /// What the message at the front of these bytes gives, and what moves past it; `None` while it isn't whole. Nothing
+    /// changes yet.
     ///
     /// Memory is wanted only for a definition and for a name that an update writes.
-    pub(crate) fn look(&self) -> Result<Option<(TakenRef<'_>, Advance)>, Fault>
-        ensures looks { Looks self.now result }
+    pub(crate) fn look_at<'a>(
+        &'a self,
+        bytes: &'a [u8],
+    ) -> Result<Option<(TakenRef<'a>, Advance)>, Fault>
+        ensures looks { Looks (with_unread self.now bytes.now) result }
     {
         if self.closed {
             return Err(Fault::Closed);
         }
-        match self.unread.front(self.state.received()) {
+        match front(self.state.received(), bytes) {
             Ok(Some((message, used))) => match self.shown(message) {
                 Ok((taken, effect)) => Ok(Some((taken, Advance { effect, used }))),
                 Err(fault) => Err(fault),
@@ -179,7 +233,7 @@ impl Intake {
     }
 
     /// Moves past the message at the front. After `Memory` nothing has changed.
-    pub(crate) fn pass(&mut self, advance: Advance) -> Result<(), Memory>
+    fn pass(&mut self, advance: Advance) -> Result<(), Memory>
         requires { advance.used ≤ length self.old.unread }
         ensures passed { OnOk result (self.new ≡ passed self.old advance) }
         ensures stays { OnErr result (self.new ≡ self.old) }
@@ -191,7 +245,7 @@ impl Intake {
     }
 
     /// Makes an effect on the state and on what is due. After `Memory` nothing has changed.
-    fn make(&mut self, effect: Effect) -> Result<(), Memory>
+    pub(crate) fn make(&mut self, effect: Effect) -> Result<(), Memory>
         ensures made { OnOk result (self.new ≡ record self.old { state = made self.old.state effect; due = due_made self.old.state effect self.old.due }) }
         ensures stays { OnErr result (self.new ≡ self.old) }
     {
@@ -236,7 +290,7 @@ impl Intake {
     }
 
     /// Closes at a fault, but not for want of memory.
-    pub(crate) fn stop(&mut self, fault: Fault)
+    fn stop(&mut self, fault: Fault)
         ensures { self.new ≡ stopped self.old fault }
     {
         match fault {

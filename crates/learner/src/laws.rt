@@ -18,12 +18,12 @@ ghost use Rattle.known_state.specs.Lessons.{IsLessonFor};
 ghost use Rattle.learner.specs.declared.fault.Fault.{Fault};
 ghost use Rattle.learner.specs.declared.fault.Fault.TheVariants as faults;
 ghost use Rattle.learner.specs.declared.taken.Taken.{Taken};
-ghost use Rattle.learner.specs.Intake.{Taking, IntakeFeeds, IntakeNext, fed};
+ghost use Rattle.learner.specs.Intake.{Taking, IntakeFeeds, IntakeNext};
 ghost use Rattle.learner.specs.Cutting.{IsStopped, AreAnswered};
 ghost use Rattle.learner.specs.Calls.{AreIntakeCalls, IsEndOf};
 ghost use Rattle.learner.specs.Rows.{put, put_all, row_at, rows_at, AreOfOthers};
 ghost use Rattle.learner.specs.Moments.{Piece, stream_in, AreFedInTime, IsStoppedInTime, HasLearnedInTime};
-ghost use Rattle.learner.specs.Learning.{Learning, unlearned, with_piece, LearnerFeeds, AreFed, IsReady, IsReadyIn, IsTaught, HasLearned};
+ghost use Rattle.learner.specs.Learning.{Learning, unlearned, LearnerFeeds, AreFed, IsReady, IsReadyIn, IsTaught, HasLearned};
 
 /// However a stream is cut into pieces, what is learned of them at one moment is what is learned of the whole: the
 /// same rows, the same state, and the same bytes left.
@@ -51,17 +51,16 @@ pub fn one_outcome()
 {}
 
 /// However a stream is cut into pieces that are fed at one moment, the same fault comes, but want of memory.
-/// Where two ways to cut it each stop at a fault, it is the same fault, with the same rows and the same state, and the
-/// same bytes are left up to what each was fed: with what was still to come of the stream they are one and the same.
-/// Where a fault stops one way, it stops every other way too at one of its pieces, where all of them are fed. After a
-/// fault every piece is answered `Closed`, and changes nothing. With pieces at whatever moments it is the same fault too,
-/// with the same state and the same bytes left.
+/// Where two ways to cut it each stop at a fault, it is the same fault, and the learner is the same then: the same rows and
+/// the same state, with nothing unread. Where a fault stops one way, it stops every other way too at one of its pieces,
+/// where all of them are fed. After a fault every piece is answered `Closed`, and changes nothing. With pieces at whatever
+/// moments it is the same fault too, with the same state, and nothing unread.
 pub fn one_fault()
     ensures same { (now : ℕ) (l a b : Learning) (before others : List (List ℕ)) (last end more rest : List ℕ) (fault other : Fault) →
         l.intake.closed ≡ false → IsBytes (l.intake.unread ++ (together before ++ (last ++ more))) →
         together before ++ (last ++ more) ≡ together others ++ (end ++ rest) →
         IsStopped now l before last fault a → IsStopped now l others end other b → fault ≢ faults.Memory → other ≢ faults.Memory →
-        (fault ≡ other) × (with_piece a more ≡ with_piece b rest) }
+        (fault ≡ other) × (a ≡ b) }
     ensures comes { (now : ℕ) (l a b : Learning) (before others : List (List ℕ)) (last first more : List ℕ) (fault : Fault) (answers : List (Result ℕ Fault)) →
         l.intake.closed ≡ false → IsBytes (l.intake.unread ++ (together before ++ (last ++ more))) →
         together before ++ (last ++ more) ≡ together (first ∷ others) →
@@ -69,26 +68,25 @@ pub fn one_fault()
         AreAnswered now l (first ∷ others) answers b → AllByRecursion (λ answer. answer ≢ Err faults.Memory) answers →
         (begins : List (List ℕ)) × (end : List ℕ) × (rest : List (List ℕ))
         × (first ∷ others ≡ begins ++ (end ∷ rest)) × IsStopped now l begins end fault b
-        × (with_piece a more ≡ with_piece b (together rest)) }
+        × (a ≡ b) }
     ensures moments { (l a b : Learning) (before others : List Piece) (last end : Piece) (more rest : List ℕ) (fault other : Fault) →
         l.intake.closed ≡ false → IsBytes (l.intake.unread ++ (stream_in before ++ (last.bytes ++ more))) →
         stream_in before ++ (last.bytes ++ more) ≡ stream_in others ++ (end.bytes ++ rest) →
         IsStoppedInTime l before last fault a → IsStoppedInTime l others end other b → fault ≢ faults.Memory → other ≢ faults.Memory →
-        (fault ≡ other) × (fed a.intake more ≡ fed b.intake rest) }
+        (fault ≡ other) × (a.intake ≡ b.intake) }
     ensures closed { (now after : ℕ) (l e x : Learning) (piece bytes : List ℕ) (fault : Fault) (answer : Result ℕ Fault) →
         LearnerFeeds now l piece (Err fault) e → LearnerFeeds after e bytes answer x → (answer ≡ Err faults.Closed) × (x ≡ e) }
 {}
 
 /// However a stream is cut, and in whatever order an intake is fed its pieces and asked for its messages, it gives the same
-/// rows and the same of other messages, in the same order, up to the same end, a fault or that
-/// no message is whole; and it is then in the same state, with the same bytes left up to what was still to come. Calls that
-/// wanted memory may stand between, and change nothing.
+/// rows and the same of other messages, in the same order, up to the same end: a fault, or that no message is whole once all
+/// is fed. The intake is the same then. Calls that wanted memory may stand between, and change nothing.
 pub fn any_calls()
     ensures { (t a b x y : Taking) (one other : List (Option (List ℕ))) (bytes others more rest : List ℕ) (answers given : List Taken) (end last : Result (Option Taken) Fault) →
         IsBytes (t.unread ++ (bytes ++ more)) → bytes ++ more ≡ others ++ rest →
         AreIntakeCalls t one bytes answers a → AreIntakeCalls t other others given b → IntakeNext a end x → IntakeNext b last y →
         IsEndOf end more → IsEndOf last rest →
-        (answers ≡ given) × (end ≡ last) × (fed x more ≡ fed y rest) }
+        (answers ≡ given) × (end ≡ last) × (x ≡ y) }
 {}
 
 /// An update that is put changes the row of its table and key alone: that row becomes what the update teaches at that

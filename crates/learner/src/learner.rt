@@ -1,23 +1,25 @@
 //! Learners.
 
-ghost use Rattle.std.specs.Prelude.{◌≡◌, ◌≢◌, ◌↔◌, ◌<◌, ◌≤◌, ℕ, List, [], false, IfOk, IfErr, OnOk, OnErr, IsNone, IsSome, IfSome, Some, None, length, map, option_copied};
+ghost use Rattle.std.specs.Prelude.{◌≡◌, ◌≢◌, ◌↔◌, ◌<◌, ◌≤◌, ℕ, List, [], false, IfOk, OnOk, OnErr, IsNone, IfSome, Some, None, length, map, option_copied};
 ghost use Rattle.table_types.specs.declared.update.Update.{Update};
 ghost use Rattle.table_types.specs.Rows.{cell_of, row_of};
 ghost use Rattle.std.specs.Map.{keys_of};
 ghost use Rattle.std.specs.List.Sorted.{IsStrictlySortedBy};
 ghost use Rattle.known_state.specs.Known.{known_of};
 ghost use Rattle.known_state.specs.LastNumbers.{AreRising};
-ghost use Rattle.learner.specs.declared.fault.Fault.TheVariants as faults;
 ghost use Rattle.learner.specs.Acks.{AreRisingAcks};
 ghost use Rattle.learner.specs.Intake.{acks_of, rows_of};
 ghost use Rattle.table_types.specs.Keys.{key_cmp};
 ghost use Rattle.learner.specs.Rows.{row_at, rows_at, index_of, put_all};
 ghost use Rattle.learner.specs.Front.{owned};
 ghost use Rattle.learner.specs.NewRows.{AreRowsOf, IsRowOf};
-ghost use Rattle.learner.specs.Learning.{unlearned, LearnsOne, LearnsAll, FedAndOpen, LearnerFeeds};
+ghost use Rattle.learner.specs.Learning.{unlearned, LearnerFeeds};
+ghost use Rattle.learner.specs.InPlace.{LearnsFront, LearnsWhole, LearnsPiece};
 
+use crate::advance::Advance;
 use crate::fault::Fault;
 use crate::intake::Intake;
+use crate::progress::Progress;
 use crate::table_rows::TableRows;
 use crate::taken::{LocalUpdateRef, TakenRef};
 use known_state::Known;
@@ -173,7 +175,7 @@ impl Learner {
         self.intake.roster()
     }
 
-    /// How many bytes were fed and not read: those of an unfinished message, where there was no fault.
+    /// How many bytes were fed and not read: those of an unfinished message, and none after a fault.
     pub fn waiting(&self) -> usize
         ensures { result ≡ length self.now.intake.unread }
     {
@@ -182,63 +184,93 @@ impl Learner {
 
     /// Takes the next piece of the stream at that moment, and answers how many rows were put.
     ///
-    /// * Rows keep what was put before a fault. After any fault every later call answers `Closed`.
-    /// * After `Memory` too: the rows are then those of whole messages.
+    /// * Where no message is unfinished, the piece is read where it stands, and the bytes of the message that it leaves
+    ///   unfinished are held. Where one is, the piece is held after it first.
+    /// * `Memory` comes only where these bytes can't be held, or for a whole message without a fault. The rows are then
+    ///   those of whole messages.
+    /// * Rows keep what was put before a fault. After any fault, `Memory` too, every later call answers `Closed`, and no
+    ///   bytes are held.
     pub fn feed(&mut self, piece: &[u8], now: Moment) -> Result<usize, Fault>
         ensures { LearnerFeeds now self.old piece.now result self.new }
     {
-        match self.feed_and_learn(piece, now) {
+        if self.intake.is_closed() {
+            return Err(Fault::Closed);
+        }
+        match self.learn_piece(piece, now) {
             Ok(count) => Ok(count),
-            Err(Fault::Memory) => {
-                self.intake.close();
-                Err(Fault::Memory)
-            }
-            Err(fault) => Err(fault),
-        }
-    }
-
-    fn feed_and_learn(&mut self, piece: &[u8], now: Moment) -> Result<usize, Fault>
-        ensures { FedAndOpen now self.old piece.now result self.new }
-    {
-        self.intake.feed(piece)?;
-        self.learn_all(now)
-    }
-
-    /// Takes the messages that are whole.
-    fn learn_all(&mut self, now: Moment) -> Result<usize, Fault>
-        requires { self.old.intake.closed ≡ false }
-        ensures learns { LearnsAll now self.old result self.new }
-        ensures going { IfErr result (λ fault. fault ≢ faults.Closed) }
-    {
-        // A row takes one byte at least.
-        let most = self.waiting();
-        let mut count = 0;
-        while let Some(rows) = self.learn_message(now)? {
-            count += rows;
-            prove!(count <= most);
-        }
-        Ok(count)
-    }
-
-    /// Takes the message at the front, and answers how many rows were put; `None` while no message is whole.
-    fn learn_message(&mut self, now: Moment) -> Result<Option<usize>, Fault>
-        ensures learns { LearnsOne now self.old result self.new }
-        ensures one { IfOk result (λ found. IfSome found (λ rows. rows ≤ 1)) }
-        ensures fewer { IfOk result (λ found. IsSome found → length self.new.intake.unread < length self.old.intake.unread) }
-    {
-        match self.intake.look() {
-            Ok(Some((taken, advance))) => {
-                let count = taken.rows();
-                let row = taught(self.alloc, self.intake.roster().tables(), &taken, now)?;
-                self.intake.pass(advance)?;
-                self.put(row)?;
-                Ok(Some(count))
-            }
-            Ok(None) => Ok(None),
             Err(fault) => {
-                self.intake.stop(fault);
+                self.intake.close();
                 Err(fault)
             }
+        }
+    }
+
+    fn learn_piece(&mut self, piece: &[u8], now: Moment) -> Result<usize, Fault>
+        requires { self.old.intake.closed ≡ false }
+        ensures { LearnsPiece now self.old piece.now result self.new }
+    {
+        if self.waiting() == 0 {
+            self.learn_in_place(piece, now)
+        } else {
+            self.learn_held(piece, now)
+        }
+    }
+
+    /// Takes the messages that are whole in the piece, and holds the bytes of the one after them.
+    fn learn_in_place(&mut self, piece: &[u8], now: Moment) -> Result<usize, Fault>
+        requires { (self.old.intake.closed ≡ false) × (self.old.intake.unread ≡ []) }
+        ensures { LearnsPiece now self.old piece.now result self.new }
+    {
+        let progress = self.learn_all(piece, now)?;
+        self.intake.hold(&piece[progress.used..])?;
+        Ok(progress.rows)
+    }
+
+    /// Holds the piece after an unfinished message, and takes the messages that are then whole.
+    fn learn_held(&mut self, piece: &[u8], now: Moment) -> Result<usize, Fault>
+        requires { (self.old.intake.closed ≡ false) × (self.old.intake.unread ≢ []) }
+        ensures { LearnsPiece now self.old piece.now result self.new }
+    {
+        self.intake.hold(piece)?;
+        let mut unread = self.intake.take_unread();
+        let progress = self.learn_all(unread.as_slice(), now)?;
+        unread.advance(progress.used);
+        self.intake.put_unread(unread);
+        Ok(progress.rows)
+    }
+
+    /// Takes the messages that are whole in these bytes.
+    fn learn_all(&mut self, bytes: &[u8], now: Moment) -> Result<Progress, Fault>
+        ensures learns { LearnsWhole now self.old bytes.now result self.new }
+        ensures within { IfOk result (λ progress. progress.used ≤ length bytes.now) }
+        ensures unread { OnOk result (self.new.intake.unread ≡ self.old.intake.unread) }
+    {
+        let mut count = 0;
+        let mut used = 0;
+        while let Some(progress) = self.learn_message(&bytes[used..], now)? {
+            count += progress.rows;
+            used += progress.used;
+        }
+        Ok(Progress { rows: count, used })
+    }
+
+    /// Takes the message at the front of these bytes; `None` while it isn't whole.
+    fn learn_message(&mut self, bytes: &[u8], now: Moment) -> Result<Option<Progress>, Fault>
+        ensures learns { LearnsFront now self.old bytes.now result self.new }
+        ensures within { IfOk result (λ found. IfSome found (λ progress. (progress.rows ≤ 1) × (1 ≤ progress.used) × (progress.used ≤ length bytes.now))) }
+        ensures unread { OnOk result (self.new.intake.unread ≡ self.old.intake.unread) }
+    {
+        match self.intake.look_at(bytes) {
+            Ok(Some((taken, advance))) => {
+                let rows = taken.rows();
+                let row = taught(self.alloc, self.intake.roster().tables(), &taken, now)?;
+                let Advance { effect, used } = advance;
+                self.intake.make(effect)?;
+                self.put(row)?;
+                Ok(Some(Progress { rows, used }))
+            }
+            Ok(None) => Ok(None),
+            Err(fault) => Err(fault),
         }
     }
 

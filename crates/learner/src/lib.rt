@@ -8,6 +8,7 @@ mod intake;
 mod laws;
 mod learner;
 mod local_tables;
+mod progress;
 mod table_rows;
 mod taken;
 

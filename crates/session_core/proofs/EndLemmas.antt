@@ -10,8 +10,6 @@ use Rattle.peers_msg.specs.declared.control.Control.TheVariants as controls
 use Rattle.peers_msg.specs.declared.message.Message.{Message}
 use Rattle.peers_msg.specs.declared.message.Message.TheVariants as messages
 use Rattle.peers_msg.specs.Spelling.{spelled}
-use Rattle.peers_hello.specs.declared.hello.Hello.{Hello}
-use Rattle.peers_hello.specs.Hellos.{hello_text}
 use Rattle.peers_hello.specs.Lines.{is_same}
 use Rattle.learner.specs.declared.taken.Taken.{Taken}
 use Rattle.learner.specs.declared.taken.Taken.TheVariants as taken
@@ -96,9 +94,6 @@ pub plain_acks : (id : ℕ) (t : Taking) → is_plain id (sends_acks (acks_of t)
 plain_acks id t = plain_acks_of id (acks_of t) (only_acks t t.state.received.tables)
 
 -- ---- hello and status
-
-pub plain_hello : (id : ℕ) (h : Hello) → is_plain id (actions.Send (hello_text h) ∷ [])
-plain_hello id h = (refl, refl)
 
 and-no : (b : Bool) → (b && false) ≡ false
 and-no true = refl

@@ -45,9 +45,6 @@ with_step steps event acts = steps ++ ((event, acts) ∷ [])
 stands : (ids : List ℕ) (steps : List (Event × List Action)) (e : SessionState) (phase : Phase) → e.phase ≡ phase → IsKeptIn ids steps phase → IsKeptIn ids steps e.phase
 stands ids steps e phase is kept = subst (IsKeptIn ids steps) (sym is) kept
 
-phase_is : (s e : SessionState) → e ≡ s → e.phase ≡ s.phase
-phase_is s e is = ap (λ (x : SessionState). x.phase) is
-
 -- ---- bytes
 
 -- what is sent before the messages are received

@@ -36,9 +36,6 @@ cells_later latest now [] (c ∷ cs) later fits = fits
 cells_later latest now (t ∷ ts) [] later fits = fits
 cells_later latest now (t ∷ ts) (c ∷ cs) later (first, rest) = (cell_later latest now (shape_of t.0) c later first, cells_later latest now ts cs later rest)
 
-smaller_left : (a b : ℕ) → smaller a b ≤ a
-smaller_left a b = cond_both (nat_lt a b) a b (λ x. x ≤ a) (λ _. omega arith) (λ no_less. let bound = ltb-false a b no_less in omega arith)
-
 smaller_right : (a b : ℕ) → smaller a b ≤ b
 smaller_right a b = cond_both (nat_lt a b) a b (λ x. x ≤ b) (λ less. let bound = ltb-true a b less in omega arith) (λ _. omega arith)
 

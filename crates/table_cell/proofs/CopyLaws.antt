@@ -1,6 +1,6 @@
 -- What a copy answers, and what it leaves.
 use Rattle.std.proofs.Common.{◌≡◌, ℕ, zero, suc, Bool, true, false, List, [], ◌∷◌, length, Option, Some, None, refl, sym, ap, subst, ◌∙◌, true≢false}
-use Rattle.std.specs.Prelude.{filter, is_some, map, option_map, slice_get, take, nat_eq, nat_lt, Result, Ok, Err, IfErr, IsOk, if◌then◌else◌, ◌==◌}
+use Rattle.std.specs.Prelude.{filter, is_some, map, option_map, slice_get, take, nat_eq, nat_lt, if◌then◌else◌, ◌==◌}
 use Rattle.table_types.specs.declared.key.Key.{Key}
 use Rattle.table_types.specs.Rows.{StoredRow}
 use Rattle.table_cell.specs.Copying.{update_of}

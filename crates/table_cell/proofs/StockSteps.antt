@@ -104,10 +104,6 @@ both_parts p (e ∷ es) = by (p e) refl (both_parts p es)
     by true is rest = rw is (omega (arith, rest))
     by false is rest = rw is (omega (arith, rest))
 
-pub no_entries : (es : List (Key × StoredRow)) → length es ≤ 0 → es ≡ []
-no_entries [] none = refl
-no_entries (e ∷ es) none = absurd (omega (arith, none))
-
 -- a row put at the end, and another key's taken out
 left_last : (rows : List (Key × StoredRow)) (key leaving : Key) (row : StoredRow) → (leaving ≡ key → ⊥) → without leaving (without key rows ++ (key, row) ∷ []) ≡ without key (without leaving rows) ++ (key, row) ∷ []
 left_last [] key leaving row other = by (is_eq (key_cmp leaving key)) refl

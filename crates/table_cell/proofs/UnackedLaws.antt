@@ -48,9 +48,6 @@ due_above kind n now (x ∷ xs) = elim (cases_Bool (nat_lt n x.1.number)) [
 pub next_due : (kind : CopyKind) (now : ℕ) (e : Key × StoredRow) (all rest : List (Key × StoredRow)) → all ≡ e ∷ rest → is_due kind now e ≡ true → filter (is_due kind now) all ≡ e ∷ filter (is_due kind now) rest
 next_due kind now e all rest is due = ap (filter (is_due kind now)) is ∙ cond-true (is_due kind now e) (e ∷ filter (is_due kind now) rest) (filter (is_due kind now) rest) due
 
-pub next_passed : (kind : CopyKind) (now : ℕ) (e : Key × StoredRow) (all rest : List (Key × StoredRow)) → all ≡ e ∷ rest → is_due kind now e ≡ false → filter (is_due kind now) all ≡ filter (is_due kind now) rest
-next_passed kind now e all rest is passed = ap (filter (is_due kind now)) is ∙ cond-false (is_due kind now e) (e ∷ filter (is_due kind now) rest) (filter (is_due kind now) rest) passed
-
 -- ---- the batch as it grows
 
 one_more : {A B : Type 0} (f : A → B) (done : List B) (limit : ℕ) (e : A) (all rest : List A) → all ≡ e ∷ rest → length done < limit
