@@ -75,8 +75,8 @@ rest_unheld now l e piece rest used count none all is some =
     (over e (drop used piece), inr (refl, inl (none, count, piece_learned now l e piece (drop used piece) count none all, λ nothing. some (is ∙ nothing))), refl)
 
 -- a piece can't be held
-pub piece_unheld : (now : ℕ) (l : Learning) (piece : List ℕ) → l.intake.unread ≢ [] → LearnsPiece now l piece (Err faults.Memory) l
-piece_unheld now l piece some = (l, inr (refl, inr (some, refl)), refl)
+pub piece_unheld : (now : ℕ) (l : Learning) (piece : List ℕ) → l.intake.unread ≢ [] → piece ≢ [] → LearnsPiece now l piece (Err faults.Memory) l
+piece_unheld now l piece some more = (l, inr (refl, inr (some, more, refl)), refl)
 
 -- a fault of what is read where an unfinished message is held
 pub held_stops : (now : ℕ) (l e : Learning) (held taken : Taking) (piece bytes : List ℕ) (fault : Fault) → held ≡ fed l.intake piece → taken ≡ with_unread held [] → bytes ≡ held.unread → LearnsWhole now (record { intake = taken; rows = l.rows }) bytes (Err fault) e → LearnsPiece now l piece (Err fault) e

@@ -96,7 +96,7 @@ shut_off l = record { intake = shut l.intake; rows = l.rows }
 abbrev pub IsUnheld : ℕ → Learning → List ℕ → Learning → Type 0
 IsUnheld now l piece left =
     ((l.intake.unread ≡ []) × (count : ℕ) × LearnsAll now (with_piece l piece) (Ok count) left × (left.intake.unread ≢ []))
-    ⊎ ((l.intake.unread ≢ []) × (left ≡ l))
+    ⊎ ((l.intake.unread ≢ []) × (piece ≢ []) × (left ≡ l))
 
 -- what is left where memory is wanted, for a whole message without a fault or for bytes to be held
 abbrev pub IsLeft : ℕ → Learning → List ℕ → Learning → Type 0

@@ -16,9 +16,8 @@ use crate::due::{add_due, is_ack_due, still_due};
 use crate::fault::Fault;
 use crate::local_tables::local_table;
 use crate::taken::{LocalUpdateRef, Taken, TakenRef};
-use bytes::BytesMut;
 use known_state::{Effect, ResolvedUpdate, State};
-use peers_msg::{Message, MessageRef, Received, UpdateRef, front};
+use peers_msg::{Message, MessageRef, Received, Unread, UpdateRef, front};
 use std::alloc::Global;
 use std::marker::Model;
 use std::mem;
@@ -34,8 +33,8 @@ pub struct Intake {
     due: Vec<u64>,
     /// The id of the local table that the selected table is.
     local: Option<u64>,
-    /// None of them once it is closed.
-    unread: BytesMut<Global>,
+    /// The bytes that were fed and not read; none once it is closed.
+    unread: Unread,
     closed: bool,
 }
 
@@ -46,7 +45,7 @@ impl Model for Intake {
 
     ghost Value = { Taking };
 
-    ghost view = { λ i. record { roster = i.roster; state = i.state; due = i.due.items; unread = i.unread.items; closed = i.closed } };
+    ghost view = { λ i. record { roster = i.roster; state = i.state; due = i.due.items; unread = i.unread; closed = i.closed } };
 
     ghost invariant = { λ i. i.local ≡ selected_local i.roster i.state.received };
 }
@@ -75,7 +74,7 @@ impl Intake {
             state: State::new(alloc),
             due: Vec::new(alloc),
             local: None,
-            unread: BytesMut::new(alloc),
+            unread: Unread::new(alloc),
             closed: false,
         }
     }
@@ -113,7 +112,7 @@ impl Intake {
     pub(crate) fn close(&mut self)
         ensures { self.new ≡ shut self.old }
     {
-        self.unread = BytesMut::new(self.alloc);
+        self.unread = Unread::new(self.alloc);
         self.closed = true;
     }
 
@@ -129,7 +128,8 @@ impl Intake {
         Ok(())
     }
 
-    /// Holds these bytes after the unread ones. Memory is wanted only where there are some; then nothing has changed.
+    /// Holds these bytes after the unread ones. Memory is wanted only where there are bytes to hold. After `Memory` nothing has
+    /// changed.
     pub(crate) fn hold(&mut self, bytes: &[u8]) -> Result<(), Memory>
         ensures held { OnOk result (self.new ≡ fed self.old bytes.now) }
         ensures stays { OnErr result (self.new ≡ self.old) }
@@ -138,23 +138,20 @@ impl Intake {
         if bytes.is_empty() {
             return Ok(());
         }
-        match self.unread.extend_from_slice(bytes) {
-            Ok(()) => Ok(()),
-            Err(_) => Err(Memory),
-        }
+        self.unread.append(bytes)
     }
 
     /// Takes the unread bytes out.
-    pub(crate) fn take_unread(&mut self) -> BytesMut<Global>
-        ensures taken { result.items ≡ self.old.unread }
+    pub(crate) fn take_unread(&mut self) -> Unread
+        ensures taken { result ≡ self.old.unread }
         ensures left { self.new ≡ with_unread self.old [] }
     {
-        mem::replace(&mut self.unread, BytesMut::new(self.alloc))
+        mem::replace(&mut self.unread, Unread::new(self.alloc))
     }
 
     /// Puts unread bytes in place of those that there are.
-    pub(crate) fn put_unread(&mut self, unread: BytesMut<Global>)
-        ensures { self.new ≡ with_unread self.old unread.items }
+    pub(crate) fn put_unread(&mut self, unread: Unread)
+        ensures { self.new ≡ with_unread self.old unread }
     {
         self.unread = unread;
     }

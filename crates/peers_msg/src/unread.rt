@@ -67,6 +67,13 @@ impl Unread {
         self.bytes.len()
     }
 
+    /// The bytes.
+    pub fn as_slice(&self) -> &[u8]
+        ensures { result.now ≡ self.now }
+    {
+        self.bytes.as_slice()
+    }
+
     /// Takes the next piece of the stream. After `Memory` nothing has changed.
     pub fn append(&mut self, piece: &[u8]) -> Result<(), Memory>
         ensures appended { OnOk result (self.new ≡ self.old ++ piece.now) }

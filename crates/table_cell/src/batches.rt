@@ -16,7 +16,7 @@ use crate::events::{CellEvent, CellReply};
 use crate::table::Table;
 use std::alloc::Global;
 use std::collections::BTreeMap;
-use table_types::{Batch, CopyKind, Memory, Moment, TableDef, Update};
+use table_types::{Batch, BatchError, CopyKind, Memory, Moment, TableDef, Update};
 
 /// The batch of these updates, which are one for that table: only memory can be wanted for it.
 fn batch_of(alloc: Global, definition: &TableDef, updates: Vec<Update>) -> Result<Batch, Memory>
@@ -24,8 +24,11 @@ fn batch_of(alloc: Global, definition: &TableDef, updates: Vec<Update>) -> Resul
     ensures { IfOk result (λ batch. batch ≡ updates.items) }
 {
     match Batch::of_table(alloc, definition, updates) {
-        Ok(batch) => Ok(batch),
-        Err(_) => Err(Memory),
+        Ok(made) => Ok(made),
+        Err(error) => {
+            prove!(error == BatchError::Memory);
+            Err(Memory)
+        }
     }
 }
 

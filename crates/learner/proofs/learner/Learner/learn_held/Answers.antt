@@ -10,7 +10,7 @@ pub returns-in_err-hold : goal.returns-in_err-hold
 returns-in_err-hold c =
     let p = err_from_is_err_and c.from_residual.result c.from_residual.ensures.1 in
     rw (p.1, p.2, c.in_err-hold.ensures.stays)
-    (subst (λ (l : Learning). LearnsPiece c.args.now c.args.self.now c.args.piece.now (Err faults.Memory) l) (sym c.self.view_is) (piece_unheld c.args.now c.args.self.now c.args.piece.now c.requires.1))
+    (subst (λ (l : Learning). LearnsPiece c.args.now c.args.self.now c.args.piece.now (Err faults.Memory) l) (sym c.self.view_is) (piece_unheld c.args.now c.args.self.now c.args.piece.now c.requires.1 c.in_err-hold.ensures.some))
 
 pub returns-in_err-progress : goal.returns-in_err-progress
 returns-in_err-progress c =

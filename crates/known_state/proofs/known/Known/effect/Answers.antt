@@ -1,4 +1,4 @@
-use Rattle.known_state.proofs.known.Known.effect_of_legal.Goals as goal
+use Rattle.known_state.proofs.known.Known.effect.Goals as goal
 
 pub effect_of_definition-requires : goal.effect_of_definition-requires
 effect_of_definition-requires c = rw c.in-Define.is at c.requires
