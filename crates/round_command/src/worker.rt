@@ -9,7 +9,7 @@ use known_state::Known;
 use peers_engine::{Gate, Stage};
 use std::alloc::Global;
 use std::sync::Wait;
-use table_cell::CopyError;
+use table_cell::{CopyError, TableCell};
 use table_shards::{Seat, ShardError, Shards, held};
 use table_types::{Batch, CopyKind, Moment};
 use teach_writer::teach;
@@ -119,6 +119,8 @@ fn taught<R: Wait, G: Gate>(
 
 /// Copies, plans, settles and acknowledges until there is nothing to copy. It writes nothing. A lock is held for one call of
 /// the table at a time, and none is held while it plans or is at the gate. Hands back the worker; it stops at a refusal.
+///
+/// Each copy is an event of the table, so no more are made than its history has room for.
 pub fn work<R: Wait, G: Gate>(
     rt: &R,
     alloc: Global,
@@ -127,7 +129,7 @@ pub fn work<R: Wait, G: Gate>(
     worker: Worker,
 ) -> (Worker, Result<(), RoundFailure>) {
     let mut worker = worker;
-    for _ in rt.forever() {
+    for _ in 0..TableCell::MOST_EVENTS {
         let Worker { seat, known } = worker;
         let (seat, answer) = copied(rt, shards, seat);
         worker = Worker { seat, known };
@@ -142,5 +144,5 @@ pub fn work<R: Wait, G: Gate>(
             return (worker, Err(error));
         }
     }
-    unreachable!()
+    (worker, Err(RoundFailure::Refused))
 }
