@@ -59,7 +59,7 @@ fed_rise now l e piece result rise = by result
         subst (λ (x : Learning). AreRising x.intake.state.last_numbers) (sym is) (cut_rise mid left (learned_rise now (with_piece l piece) mid ms us rise learned) cut)
     by (Err faults.Memory) (is_open, left, inr (inl (none, count, (ms, us, learned, waits, counted), some)), is) =
         subst (λ (x : Learning). AreRising x.intake.state.last_numbers) (sym is) (learned_rise now (with_piece l piece) left ms us rise learned)
-    by (Err faults.Memory) (is_open, left, inr (inr (some, same)), is) =
+    by (Err faults.Memory) (is_open, left, inr (inr (some, more, same)), is) =
         subst (λ (x : Learning). AreRising x.intake.state.last_numbers) (sym is) (subst (λ (x : Learning). AreRising x.intake.state.last_numbers) (sym same) rise)
     by (Err faults.NoNumber) (is_open, all) = stopped faults.NoNumber all
     by (Err faults.EmptySlot) (is_open, all) = stopped faults.EmptySlot all

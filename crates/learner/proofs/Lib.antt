@@ -9,6 +9,7 @@ pub mod KnownLessons
 pub mod AcksRise
 pub mod OneOutcome
 pub mod SameFaultHoweverCut
+pub mod SamePlaceHoweverCut
 pub mod NoFaultOnTheWay
 pub mod SameInAnyOrderOfCalls
 pub mod MomentFaults

@@ -143,7 +143,7 @@ Runs now l fault e =
     (ms : List Message) × (us : List Update) × (mid : Learning) × AreLearned now l ms us mid × Stops mid.intake fault e.intake × (e.rows ≡ mid.rows)
 
 -- from one state, what is learned up to a fault is one thing
-runs_once : (now : ℕ) (l m n : Learning) (x y : Taking) (ms ns : List Message) (us vs : List Update) (fault other : Fault) → AreLearned now l ms us m → AreLearned now l ns vs n → Stops m.intake fault x → Stops n.intake other y → fault ≢ faults.Memory → other ≢ faults.Memory → (fault ≡ other) × (x ≡ y) × (m ≡ n)
+pub runs_once : (now : ℕ) (l m n : Learning) (x y : Taking) (ms ns : List Message) (us vs : List Update) (fault other : Fault) → AreLearned now l ms us m → AreLearned now l ns vs n → Stops m.intake fault x → Stops n.intake other y → fault ≢ faults.Memory → other ≢ faults.Memory → (fault ≡ other) × (x ≡ y) × (m ≡ n)
 runs_once now l m n x y [] [] us vs fault other one again stops stops' p q =
     let both = stops_once l.intake x y fault other (subst (λ (k : Learning). Stops k.intake fault x) one.1 stops) (subst (λ (k : Learning). Stops k.intake other y) again.1 stops') p q in
     (both.0, both.1, one.1 ∙ sym again.1)

@@ -30,12 +30,12 @@ stops_on t e more faults.Closed good going (shut, is) wanted = absurd (apart (sy
 stops_on t e more (faults.Breach breach) good going (is_open, at, is) wanted = (is_open, breach_on t.state.received t.unread more breach good at, is)
 
 -- what is learned is learned with more bytes after
-learned_on : (now : ℕ) (l e : Learning) (more : List ℕ) (ms : List Message) (us : List Update) → IsBytes l.intake.unread → AreLearned now l ms us e → AreLearned now (with_piece l more) ms us (with_piece e more)
+pub learned_on : (now : ℕ) (l e : Learning) (more : List ℕ) (ms : List Message) (us : List Update) → IsBytes l.intake.unread → AreLearned now l ms us e → AreLearned now (with_piece l more) ms us (with_piece e more)
 learned_on now l e more [] us good (none, here) = (none, ap (λ (x : Learning). with_piece x more) here)
 learned_on now l e more (m ∷ ms) us good (first, rest, next, all, begins, later) =
     (first, rest, with_piece next more, all, learns_on now l next m first more good begins, learned_on now next e more ms rest (left_good l.intake next.intake m first good begins.0) later)
 
-learned_left : (now : ℕ) (l e : Learning) (ms : List Message) (us : List Update) → IsBytes l.intake.unread → AreLearned now l ms us e → IsBytes e.intake.unread
+pub learned_left : (now : ℕ) (l e : Learning) (ms : List Message) (us : List Update) → IsBytes l.intake.unread → AreLearned now l ms us e → IsBytes e.intake.unread
 learned_left now l e [] us good (none, here) = subst (λ (x : Learning). IsBytes x.intake.unread) (sym here) good
 learned_left now l e (m ∷ ms) us good (first, rest, next, all, begins, later) =
     learned_left now next e ms rest (left_good l.intake next.intake m first good begins.0) later
@@ -88,10 +88,10 @@ fault_then now l mid e a b count fault good (is_open, (ms, us, learned, waits, i
         let all : AreLearned now (with_piece (with_piece l a) b) (ms ++ ns) (us ++ vs) end = joined now (with_piece l a) mid end b ms ns us vs front learned learned' in
         is_fed now l e (a ++ b) fault is_open (regrouped now l e a b fault (ms ++ ns, us ++ vs, end, all, stops, rows)) wanted
 
-fed_open : (now : ℕ) (l e : Learning) (piece : List ℕ) (count : ℕ) → LearnerFeeds now l piece (Ok count) e → e.intake.closed ≡ false
+pub fed_open : (now : ℕ) (l e : Learning) (piece : List ℕ) (count : ℕ) → LearnerFeeds now l piece (Ok count) e → e.intake.closed ≡ false
 fed_open now l e piece count (is_open, (ms, us, learned, waits, is)) = waits.0
 
-fed_left : (now : ℕ) (l e : Learning) (a more : List ℕ) (count : ℕ) → IsBytes (l.intake.unread ++ (a ++ more)) → LearnerFeeds now l a (Ok count) e → IsBytes (e.intake.unread ++ more)
+pub fed_left : (now : ℕ) (l e : Learning) (a more : List ℕ) (count : ℕ) → IsBytes (l.intake.unread ++ (a ++ more)) → LearnerFeeds now l a (Ok count) e → IsBytes (e.intake.unread ++ more)
 fed_left now l e a more count good (is_open, (ms, us, learned, waits, is)) =
     let grouped : (l.intake.unread ++ a) ++ more ≡ l.intake.unread ++ (a ++ more) = simp append_assoc in
     let whole : IsBytes ((l.intake.unread ++ a) ++ more) = subst IsBytes (sym grouped) good in

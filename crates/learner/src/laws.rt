@@ -19,7 +19,7 @@ ghost use Rattle.learner.specs.declared.fault.Fault.{Fault};
 ghost use Rattle.learner.specs.declared.fault.Fault.TheVariants as faults;
 ghost use Rattle.learner.specs.declared.taken.Taken.{Taken};
 ghost use Rattle.learner.specs.Intake.{Taking, IntakeFeeds, IntakeNext};
-ghost use Rattle.learner.specs.Cutting.{IsStopped, AreAnswered};
+ghost use Rattle.learner.specs.Cutting.{IsStopped, IsStoppedAt, AreAnswered};
 ghost use Rattle.learner.specs.Calls.{AreIntakeCalls, IsEndOf};
 ghost use Rattle.learner.specs.Rows.{put, put_all, row_at, rows_at, AreOfOthers};
 ghost use Rattle.learner.specs.Moments.{Piece, stream_in, AreFedInTime, IsStoppedInTime, HasLearnedInTime};
@@ -52,15 +52,21 @@ pub fn one_outcome()
 
 /// However a stream is cut into pieces that are fed at one moment, the same fault comes, but want of memory.
 /// Where two ways to cut it each stop at a fault, it is the same fault, and the learner is the same then: the same rows and
-/// the same state, with nothing unread. Where a fault stops one way, it stops every other way too at one of its pieces,
-/// where all of them are fed. After a fault every piece is answered `Closed`, and changes nothing. With pieces at whatever
-/// moments it is the same fault too, with the same state, and nothing unread.
+/// the same state, with nothing unread. The message with the fault stands at the same place of the stream. Where a fault
+/// stops one way, it stops every other way too at one of its pieces, where all of them are fed. After a fault every piece is
+/// answered `Closed`, and changes nothing. With pieces at whatever moments it is the same fault too, with the same state, and
+/// nothing unread.
 pub fn one_fault()
     ensures same { (now : ℕ) (l a b : Learning) (before others : List (List ℕ)) (last end more rest : List ℕ) (fault other : Fault) →
         l.intake.closed ≡ false → IsBytes (l.intake.unread ++ (together before ++ (last ++ more))) →
         together before ++ (last ++ more) ≡ together others ++ (end ++ rest) →
         IsStopped now l before last fault a → IsStopped now l others end other b → fault ≢ faults.Memory → other ≢ faults.Memory →
         (fault ≡ other) × (a ≡ b) }
+    ensures place { (now : ℕ) (l a b : Learning) (before others : List (List ℕ)) (last end more rest left behind : List ℕ) (fault other : Fault) →
+        l.intake.closed ≡ false → IsBytes (l.intake.unread ++ (together before ++ (last ++ more))) →
+        together before ++ (last ++ more) ≡ together others ++ (end ++ rest) →
+        IsStoppedAt now l before last fault left a → IsStoppedAt now l others end other behind b → fault ≢ faults.Memory → other ≢ faults.Memory →
+        left ++ more ≡ behind ++ rest }
     ensures comes { (now : ℕ) (l a b : Learning) (before others : List (List ℕ)) (last first more : List ℕ) (fault : Fault) (answers : List (Result ℕ Fault)) →
         l.intake.closed ≡ false → IsBytes (l.intake.unread ++ (together before ++ (last ++ more))) →
         together before ++ (last ++ more) ≡ together (first ∷ others) →

@@ -1,9 +1,13 @@
 use Rattle.learner.proofs.SameFaultHoweverCut.{same_stop, it_comes, closed_then}
+use Rattle.learner.proofs.SamePlaceHoweverCut.{same_place}
 use Rattle.learner.proofs.MomentFaults.{same_fault_in_time}
 use Rattle.learner.proofs.laws.one_fault.Goals as goal
 
 pub returns-clause-same : goal.returns-clause-same
 returns-clause-same c = same_stop
+
+pub returns-clause-place : goal.returns-clause-place
+returns-clause-place c = same_place
 
 pub returns-clause-comes : goal.returns-clause-comes
 returns-clause-comes c = it_comes
