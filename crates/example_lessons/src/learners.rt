@@ -13,6 +13,8 @@ pub struct Stream {
     pub parts: &'static [(&'static [u8], Result<usize, Fault>)],
     /// Keys and numbers of the rows that are then there.
     pub rows: &'static [(u8, u32)],
+    /// How many bytes of an unfinished message are held.
+    pub waiting: usize,
     /// The acknowledgement that is due.
     pub ack: Option<(u64, u32)>,
     /// The table that a teacher knows to be selected, and the last number of the learner's table.
@@ -114,6 +116,7 @@ fn is_known(learner: &Learner, stream: &Stream) -> Option<bool> {
 fn makes(learner: &mut Learner, stream: &Stream, length: usize) -> Option<bool> {
     Some(
         are_answered(learner, stream, length)
+            && learner.waiting() == stream.waiting
             && has_rows(learner, stream)?
             && is_known(learner, stream)?
             && acknowledges(learner, stream.ack)?
