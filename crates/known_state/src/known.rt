@@ -306,8 +306,8 @@ impl Known {
         }
     }
 
-    /// Moves the state by one message of which it is known that it is legal. Memory is wanted for a definition, and for a name
-    /// that an update writes. After `Memory` nothing has changed.
+    /// Moves the state by one message of which it is known that it is legal. Memory is wanted for a definition, for the first
+    /// number of a table, and for a name that an update writes. After `Memory` nothing has changed.
     pub fn follow(&mut self, message: &Message) -> Result<(), Memory>
         requires { IsTakenBy self.old message.now }
         ensures step { OnOk result ((us : List Update)

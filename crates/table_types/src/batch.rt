@@ -170,7 +170,7 @@ impl Batch {
         self.updates.as_slice()
     }
 
-    /// An equal batch, which shares the updates. No growth is made for it; it is refused where 2^63 copies share them.
+    /// An equal batch, which shares the updates. No growth is made for it; it is refused where 2^63 - 1 batches share them.
     pub fn copy(&self) -> Result<Batch, Memory>
         ensures { IfOk result (λ copy. copy ≡ self.now) }
     {
