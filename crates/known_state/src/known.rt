@@ -248,7 +248,7 @@ impl Known {
     {
         match self.refusal(message) {
             Some(error) => Err(error),
-            None => Ok(self.follow(message)?),
+            None => Ok(self.follow(message.copy(self.alloc)?)?),
         }
     }
 
@@ -306,16 +306,17 @@ impl Known {
         }
     }
 
-    /// Moves the state by one message of which it is known that it is legal. Memory is wanted for a definition, for the first
-    /// number of a table, and for a name that an update writes. After `Memory` nothing has changed.
-    pub fn follow(&mut self, message: &Message) -> Result<(), Memory>
-        requires { IsTakenBy self.old message.now }
+    /// Moves the state by one message of which it is known that it is legal. The message is given up: what it owns moves into
+    /// the state, without a copy. Memory is wanted at a definition, and for the first number of a table. After `Memory` nothing
+    /// has changed.
+    pub fn follow(&mut self, message: Message) -> Result<(), Memory>
+        requires { IsTakenBy self.old message }
         ensures step { OnOk result ((us : List Update)
-            × Step self.old.state message.now us self.new.state × IsOwn self.old.roster message.now) }
+            × Step self.old.state message us self.new.state × IsOwn self.old.roster message) }
         ensures roster { self.new.roster ≡ self.old.roster }
         ensures stays { OnErr result (self.new ≡ self.old) }
     {
-        let effect = self.effect(message)?;
+        let effect = self.effect(message);
         self.state.make(effect)?;
         Ok(())
     }
@@ -332,26 +333,27 @@ impl Known {
     }
 
     /// What a message does of which it is known that it is legal.
-    fn effect(&self, message: &Message) -> Result<Effect, Memory>
-        requires { IsTakenBy self.now message.now }
-        ensures { IfOk result (λ effect. IsLegalEffect self.now message.now effect) }
+    fn effect(&self, message: Message) -> Effect
+        requires { IsTakenBy self.now message }
+        ensures { IsLegalEffect self.now message result }
     {
         match message {
             Message::Define(table) => self.effect_of_definition(table),
-            Message::Switch(id) => Ok(self.effect_of_switch(*id)),
+            Message::Switch(id) => self.effect_of_switch(id),
             Message::Update(update) => self.effect_of_update(update),
-            Message::Control(_) | Message::Error(_) | Message::Ack { .. } | Message::Other(_) => {
-                Ok(self.nothing(message))
-            }
+            Message::Control(control) => self.nothing(&Message::Control(control)),
+            Message::Error(kind) => self.nothing(&Message::Error(kind)),
+            Message::Ack { table, number } => self.nothing(&Message::Ack { table, number }),
+            Message::Other(other) => self.nothing(&Message::Other(other)),
         }
     }
 
-    fn effect_of_definition(&self, table: &TableDef) -> Result<Effect, Memory>
-        requires { IsTakenBy self.now (messages.Define table.now) }
-        ensures { IfOk result (λ effect. IsLegalEffect self.now (messages.Define table.now) effect) }
+    fn effect_of_definition(&self, table: TableDef) -> Effect
+        requires { IsTakenBy self.now (messages.Define table) }
+        ensures { IsLegalEffect self.now (messages.Define table) result }
     {
         let _id = table.id();
-        Ok(Effect::Define(table.copy(self.alloc)?))
+        Effect::Define(table)
     }
 
     fn effect_of_switch(&self, id: u64) -> Effect
@@ -361,14 +363,14 @@ impl Known {
         Effect::Select(id)
     }
 
-    fn effect_of_update(&self, update: &UpdateMsg) -> Result<Effect, Memory>
-        requires { IsTakenBy self.now (messages.Update update.now) }
-        ensures { IfOk result (λ effect. IsLegalEffect self.now (messages.Update update.now) effect) }
+    fn effect_of_update(&self, update: UpdateMsg) -> Effect
+        requires { IsTakenBy self.now (messages.Update update) }
+        ensures { IsLegalEffect self.now (messages.Update update) result }
     {
         match self.state.number(update.number()) {
             Some((table, number)) => {
-                let field = update.name().lend().to_owned(self.alloc)?;
-                Ok(Effect::Update(ResolvedUpdate::of(table, number, field)))
+                let (_, _, field) = update.into_parts();
+                Effect::Update(ResolvedUpdate::of(table, number, field))
             }
             None => unreachable!(),
         }

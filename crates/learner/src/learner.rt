@@ -1,7 +1,8 @@
 //! Learners.
 
-ghost use Rattle.std.specs.Prelude.{◌≡◌, ◌≢◌, ◌↔◌, ◌<◌, ◌≤◌, ℕ, List, [], false, IfOk, OnOk, OnErr, IsNone, IfSome, Some, None, length, map, option_copied};
+ghost use Rattle.std.specs.Prelude.{◌≡◌, ◌≢◌, ◌↔◌, ◌<◌, ◌≤◌, ℕ, List, [], false, IfOk, OnOk, OnErr, IsNone, IfSome, Some, None, length, map, option_copied, option_map};
 ghost use Rattle.table_types.specs.declared.update.Update.{Update};
+ghost use Rattle.table_types.specs.Rosters.{table_at};
 ghost use Rattle.table_types.specs.Rows.{cell_of, row_of};
 ghost use Rattle.std.specs.Map.{keys_of};
 ghost use Rattle.std.specs.List.Sorted.{IsStrictlySortedBy};
@@ -27,7 +28,7 @@ use peers_msg::{Message, ValuesRef};
 use std::alloc::Global;
 use std::collections::BTreeMap;
 use std::marker::Model;
-use table_types::{Cell, Key, Memory, Moment, Roster, Row, TableDef, table_at};
+use table_types::{Cell, Key, Memory, Moment, Roster, Row, TableDef};
 
 /// A learner: takes the bytes of a stream in any pieces, and keeps the rows of its local tables (HAProxy,
 /// doc/peers-v2.0.txt, "Update Messages").
@@ -53,16 +54,27 @@ impl Model for Learner {
     ghost invariant = { λ l. length l.rows_of_tables.items ≡ length l.intake.roster };
 }
 
+/// The table of that id, with its index.
+fn find(tables: &[TableDef], id: u64) -> Option<(usize, &TableDef)>
+    ensures index { option_map (λ found. found.0) result ≡ index_of tables.now id }
+    ensures table { option_map (λ found. found.1.now) result ≡ table_at tables.now id }
+{
+    for (index, table) in tables.iter().enumerate() {
+        if table.id() == id {
+            return Some((index, table));
+        }
+    }
+    None
+}
+
 /// The index of the table of that id.
 fn index_of(tables: &[TableDef], id: u64) -> Option<usize>
     ensures { result ≡ index_of tables.now id }
 {
-    for (index, table) in tables.iter().enumerate() {
-        if table.id() == id {
-            return Some(index);
-        }
+    match find(tables, id) {
+        Some((index, _)) => Some(index),
+        None => None,
     }
-    None
 }
 
 /// The cells of a row that an update of these values teaches at that moment.
@@ -109,10 +121,7 @@ fn new_row(
 ) -> Result<Option<NewRow>, Memory>
     ensures { IfOk result (λ row. IsRowOf now tables.now update.now row) }
 {
-    let Some(table) = table_at(tables, update.table()) else {
-        return Ok(None);
-    };
-    let Some(index) = index_of(tables, update.table()) else {
+    let Some((index, table)) = find(tables, update.table()) else {
         return Ok(None);
     };
     let (key, row) = learned(alloc, update, table.expire(), now)?;

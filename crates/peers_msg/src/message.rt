@@ -1,12 +1,13 @@
 //! Messages.
 
-ghost use Rattle.std.specs.Prelude.{◌≡◌, true, ◌↔◌, IfSome, IsSome};
+ghost use Rattle.std.specs.Prelude.{◌≡◌, true, ◌↔◌, IfOk, IfSome, IsSome};
 ghost use Rattle.peers_msg.specs.Messages.{UpdateFields, OtherFields, is_known_pair, is_other, is_small};
 
 use crate::control::{Control, ErrorKind};
 use crate::name_field::NameField;
+use std::alloc::Global;
 use std::marker::Model;
-use table_types::{Items, Key, TableDef, Value};
+use table_types::{Items, Key, Memory, TableDef, Value};
 
 /// How many bytes the data of a message may have (profile).
 pub(crate) const MOST_DATA: usize = 16_384;
@@ -111,6 +112,19 @@ impl UpdateMsg {
         } = self;
         (key, values, name)
     }
+
+    /// An equal update.
+    pub fn copy(&self, alloc: Global) -> Result<UpdateMsg, Memory>
+        ensures { IfOk result (λ copy. copy ≡ self.now) }
+    {
+        Ok(UpdateMsg {
+            number: self.number,
+            life: self.life,
+            key: self.key.copy(alloc)?,
+            values: self.values.copy(alloc)?,
+            name: self.name.copy(alloc)?,
+        })
+    }
 }
 
 /// Whether a pair of class and type has a meaning of its own.
@@ -186,6 +200,17 @@ impl Other {
     {
         self.body.as_slice()
     }
+
+    /// An equal message.
+    pub fn copy(&self, alloc: Global) -> Result<Other, Memory>
+        ensures { IfOk result (λ copy. copy ≡ self.now) }
+    {
+        Ok(Other {
+            class: self.class,
+            message_type: self.message_type,
+            body: self.body.copy(alloc)?,
+        })
+    }
 }
 
 /// A message of the peers protocol, version 2.1 (HAProxy, doc/peers-v2.0.txt, "Messages").
@@ -216,4 +241,24 @@ pub enum Message {
     Update(UpdateMsg),
     /// Any other class and type.
     Other(Other),
+}
+
+impl Message {
+    /// An equal message.
+    pub fn copy(&self, alloc: Global) -> Result<Message, Memory>
+        ensures { IfOk result (λ copy. copy ≡ self.now) }
+    {
+        Ok(match self {
+            Message::Control(control) => Message::Control(*control),
+            Message::Error(kind) => Message::Error(*kind),
+            Message::Define(table) => Message::Define(table.copy(alloc)?),
+            Message::Switch(id) => Message::Switch(*id),
+            Message::Ack { table, number } => Message::Ack {
+                table: *table,
+                number: *number,
+            },
+            Message::Update(update) => Message::Update(update.copy(alloc)?),
+            Message::Other(other) => Message::Other(other.copy(alloc)?),
+        })
+    }
 }

@@ -1,10 +1,11 @@
 //! The name of a server in an update, by the dictionary.
 
-ghost use Rattle.std.specs.Prelude.{◌≡◌, true};
+ghost use Rattle.std.specs.Prelude.{◌≡◌, true, IfOk};
 ghost use Rattle.peers_msg.specs.Borrowed.{owned_name, is_named};
 
 use crate::name_field_ref::NameFieldRef;
-use table_types::Name;
+use std::alloc::Global;
+use table_types::{Memory, Name};
 
 /// What stands where an update's server name goes. The dictionary's slots, 1 to 128, belong to the session and
 /// direction, and are shared by its tables.
@@ -35,5 +36,17 @@ impl NameField {
             NameField::Held(slot) => NameFieldRef::Held(*slot),
             NameField::Written(slot, name) => NameFieldRef::Written(*slot, name.as_slice()),
         }
+    }
+
+    /// An equal field.
+    pub fn copy(&self, alloc: Global) -> Result<NameField, Memory>
+        ensures { IfOk result (λ copy. copy ≡ self.now) }
+    {
+        Ok(match self {
+            NameField::NotStored => NameField::NotStored,
+            NameField::NoName => NameField::NoName,
+            NameField::Held(slot) => NameField::Held(*slot),
+            NameField::Written(slot, name) => NameField::Written(*slot, name.copy(alloc)?),
+        })
     }
 }

@@ -45,7 +45,7 @@ fn follow_if_legal(
         return Ok(Next::Illegal(Illegal::Step(error)));
     }
     let compared = comparison.after(known.state(), &message, updates);
-    known.follow(&message)?;
+    known.follow(message)?;
     Ok(Next::Read(compared, used))
 }
 

@@ -108,7 +108,7 @@ fn write_message(known: &mut Known, message: Message, bytes: &mut Vec<u8>) -> Re
     ensures roster { known.new.roster ≡ known.old.roster }
 {
     append(bytes, &message)?;
-    known.follow(&message)
+    known.follow(message)
 }
 
 /// Selects a table of the roster, by a definition or a switch where it isn't selected.
