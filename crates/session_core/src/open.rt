@@ -7,7 +7,7 @@ ghost use Rattle.session_core.specs.declared.due.Due.TheVariants as dues;
 ghost use Rattle.session_core.specs.declared.phase.Phase.TheVariants as phases;
 ghost use Rattle.session_core.specs.Shares.{all_quiet};
 ghost use Rattle.session_core.specs.Courses.{table_to_ask, none_due, is_due};
-ghost use Rattle.session_core.specs.Sessions.{GoesOpen, Turns, IsCopied, HasNothing, FinishesResync, Settles, IsWhy, is_asked_open};
+ghost use Rattle.session_core.specs.Sessions.{GoesOpen, Turns, IsCopied, HasNothing, FinishesResync, Settles, IsWhy, going, is_asked_open};
 
 use crate::action::{Action, only};
 use crate::course::Course;
@@ -20,6 +20,7 @@ use crate::session::Session;
 use crate::share::{all_quiet, any_out};
 use known_state::Known;
 use peers_msg::ErrorKind;
+use std::mem;
 use table_types::{Batch, Items, Memory, Settled};
 
 impl Session {
@@ -47,6 +48,15 @@ impl Session {
         }
     }
 
+    /// Goes on with that course, and asks for nothing.
+    fn wait(&mut self, course: Course) -> Vec<Action>
+        ensures actions { result.items ≡ [] }
+        ensures session { self.new ≡ going self.old course }
+    {
+        self.stand(Phase::Open(course));
+        Vec::new(self.alloc)
+    }
+
     /// There is time to teach.
     fn turn(&mut self, course: Course) -> Result<Vec<Action>, SessionError>
         requires { self.old.phase ≡ phases.Ended }
@@ -55,11 +65,12 @@ impl Session {
         ensures stays { OnErr result (self.new ≡ self.old) }
     {
         if !course.none_due() {
+            drop(course);
             return Err(SessionError::Unasked);
         }
         match course.table_to_ask() {
             Some(table) => Ok(self.ask(course, table)?),
-            None => Ok(self.stay(Phase::Open(course))),
+            None => Ok(self.wait(course)),
         }
     }
 
@@ -85,6 +96,7 @@ impl Session {
         ensures stays { OnErr result (self.new ≡ self.old) }
     {
         if !course.none_due() {
+            drop(course);
             return Err(SessionError::Unasked);
         }
         Ok(self.receive(course, bytes.as_slice(), Vec::new(self.alloc))?)
@@ -141,7 +153,7 @@ impl Session {
     {
         let mut course = course;
         if !course.teaching {
-            return Ok(self.stay(Phase::Open(course)));
+            return Ok(self.wait(course));
         }
         course.set_quiet(table);
         self.finish(course)
@@ -172,8 +184,8 @@ impl Session {
     {
         let mut course = course;
         course.answer(Due::Teach)?;
-        self.known = known;
-        Ok(self.stay(Phase::Open(course)))
+        drop(mem::replace(&mut self.known, known));
+        Ok(self.wait(course))
     }
 
     /// An acknowledgement settled that much of the table of that id.
@@ -192,7 +204,7 @@ impl Session {
         course.answer(Due::Ack(table))?;
         match settled {
             Settled::All => Ok(self.free(course, table)?),
-            Settled::Some | Settled::Older => Ok(self.stay(Phase::Open(course))),
+            Settled::Some | Settled::Older => Ok(self.wait(course)),
         }
     }
 
@@ -220,7 +232,9 @@ impl Session {
         ensures stays { OnErr result (self.new ≡ self.old) }
     {
         let mut course = course;
-        course.answer(Due::Ack(table))?;
+        let answered = course.answer(Due::Ack(table));
+        drop(course);
+        answered?;
         Ok(only(self.alloc, Action::Part(ErrorKind::Protocol))?)
     }
 }

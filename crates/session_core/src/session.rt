@@ -23,6 +23,7 @@ use crate::halt::Halt;
 use crate::phase::{Greeter, Phase};
 use crate::receiving::control_text;
 use crate::state::State;
+use itoa::Buffer;
 use known_state::Known;
 use learner::Fault;
 use peers_hello::{Answer, Hello, Status, read_status};
@@ -77,16 +78,24 @@ fn after(bytes: &[u8], used: usize) -> &[u8]
 fn status_text(alloc: Global, code: u16) -> Result<Items<u8>, Memory>
     ensures { IfOk result (λ bytes. bytes ≡ status_text code) }
 {
-    let text = format!(in alloc; "{code}\n")?;
-    Ok(Items::new(Vec::from_slice(alloc, text.as_bytes())?))
+    let mut digits = Buffer::new();
+    let mut bytes = Vec::from_slice(alloc, digits.format(code).as_bytes())?;
+    bytes.push(b'\n')?;
+    Ok(Items::new(bytes))
+}
+
+/// The bytes of a hello.
+fn hello_text(alloc: Global, hello: &Hello) -> Result<Items<u8>, Memory>
+    ensures { IfOk result (λ bytes. bytes ≡ hello_text hello.now) }
+{
+    Ok(Items::new(hello.write(alloc)?))
 }
 
 /// What a connection that this node opens begins with.
 fn greeting(alloc: Global, hello: &Hello) -> Result<Vec<Action>, Memory>
     ensures { IfOk result (λ acts. acts.items ≡ actions.Send (hello_text hello.now) ∷ []) }
 {
-    let text = Items::new(hello.write(alloc)?);
-    only(alloc, Action::Send(text))
+    only(alloc, Action::Send(hello_text(alloc, hello)?))
 }
 
 /// What a hello that is accepted is answered with.
@@ -119,15 +128,10 @@ fn request(alloc: Global) -> Result<Vec<Action>, Memory>
 fn kind_of_breach(breach: Breach) -> ErrorKind
     ensures { result ≡ kind_of_breach breach }
 {
-    match breach {
-        Breach::SizeLimit => ErrorKind::SizeLimit,
-        Breach::BadInteger
-        | Breach::BadDefinition
-        | Breach::UnknownDataType
-        | Breach::NoTable
-        | Breach::BadKey
-        | Breach::BadValue
-        | Breach::Trailing => ErrorKind::Protocol,
+    if breach == Breach::SizeLimit {
+        ErrorKind::SizeLimit
+    } else {
+        ErrorKind::Protocol
     }
 }
 
@@ -241,16 +245,7 @@ impl Session {
     pub(crate) fn stand(&mut self, phase: Phase)
         ensures { self.new ≡ in_phase self.old phase }
     {
-        self.phase = phase;
-    }
-
-    /// Stands there, and asks for nothing.
-    pub(crate) fn stay(&mut self, phase: Phase) -> Vec<Action>
-        ensures actions { result.items ≡ [] }
-        ensures session { self.new ≡ in_phase self.old phase }
-    {
-        self.stand(phase);
-        Vec::new(self.alloc)
+        drop(mem::replace(&mut self.phase, phase));
     }
 
     /// Closes.
@@ -275,7 +270,10 @@ impl Session {
     {
         match event {
             Event::Opened => Ok(self.greet(hello, course)?),
-            Event::Turn => Ok(self.stay(Phase::New(hello, course))),
+            Event::Turn => {
+                self.stand(Phase::New(hello, course));
+                Ok(Vec::new(self.alloc))
+            }
             Event::End | Event::ReadFault | Event::WriteFault => self.close(),
             Event::Bytes(_)
             | Event::Copied(_, _)
@@ -319,7 +317,10 @@ impl Session {
                     .map_err(Memory::from)?;
                 Ok(self.read_greeting(greeter, Items::new(bytes), course)?)
             }
-            Event::Turn => Ok(self.stay(Phase::Hello(greeter, bytes, course))),
+            Event::Turn => {
+                self.stand(Phase::Hello(greeter, bytes, course));
+                Ok(Vec::new(self.alloc))
+            }
             Event::End | Event::ReadFault | Event::WriteFault => self.close(),
             Event::Opened
             | Event::Copied(_, _)
@@ -354,7 +355,10 @@ impl Session {
         ensures stays { OnErr result (self.new ≡ self.old) }
     {
         match read_status(bytes.as_slice()) {
-            Status::More => Ok(self.stay(Phase::Hello(Greeter::Connects, bytes, course))),
+            Status::More => {
+                self.stand(Phase::Hello(Greeter::Connects, bytes, course));
+                Ok(Vec::new(self.alloc))
+            }
             Status::Code(code, used) => {
                 if code == 200 {
                     let actions = request(self.alloc)?;
@@ -381,7 +385,8 @@ impl Session {
     {
         match Hello::read(self.alloc, bytes.as_slice(), &own, peers.as_slice())? {
             Answer::More => {
-                Ok(self.stay(Phase::Hello(Greeter::Accepts { own, peers }, bytes, course)))
+                self.stand(Phase::Hello(Greeter::Accepts { own, peers }, bytes, course));
+                Ok(Vec::new(self.alloc))
             }
             Answer::Accepted(_, used) => {
                 let actions = welcome(self.alloc)?;
