@@ -114,9 +114,9 @@ called_open (Some piece ∷ calls) t e bytes answers is_open (answer, others, mi
 called_open (None ∷ calls) t e bytes answers is_open (answer, others, mid, all, fine, next, later) =
     called_open calls mid e bytes others (asked_open t mid answer fine next).1 later
 
--- a closed one gives nothing, and stays as it is
-called_shut : (calls : List (Option (List ℕ))) (t e : Taking) (bytes : List ℕ) (answers : List Taken) → t.closed ≡ true → AreIntakeCalls t calls bytes answers e → (answers ≡ []) × (e ≡ t)
-called_shut [] t e bytes answers shut (nothing, none, here) = (none, here)
+-- a closed one takes and gives nothing, and stays as it is
+called_shut : (calls : List (Option (List ℕ))) (t e : Taking) (bytes : List ℕ) (answers : List Taken) → t.closed ≡ true → AreIntakeCalls t calls bytes answers e → (answers ≡ []) × (e ≡ t) × (bytes ≡ [])
+called_shut [] t e bytes answers shut (nothing, none, here) = (none, here, nothing)
 called_shut (Some piece ∷ calls) t e bytes answers shut (answer, others, mid, all, fine, feeds, later) =
     absurd (apart (sym shut ∙ (fed_open t mid piece answer fine feeds).0))
 called_shut (None ∷ calls) t e bytes answers shut (answer, others, mid, all, fine, next, later) =
@@ -145,10 +145,10 @@ given_not_memory : (answer : Taken) → ◌≢◌ {A = Result (Option Taken) Fau
 given_not_memory answer same = cc
 
 -- from one state, what is taken to an end is one thing
-same_taken : (t a b x y : Taking) (answers others : List Taken) (end last : Result (Option Taken) Fault) (more rest : List ℕ) → AreTaken t answers a → AreTaken t others b → IntakeNext a end x → IntakeNext b last y → IsEndOf end more → IsEndOf last rest → (answers ≡ others) × (end ≡ last) × (x ≡ y)
+same_taken : (t a b x y : Taking) (answers others : List Taken) (end last : Result (Option Taken) Fault) (more rest : List ℕ) → AreTaken t answers a → AreTaken t others b → IntakeNext a end x → IntakeNext b last y → IsEndOf end more → IsEndOf last rest → (answers ≡ others) × (end ≡ last) × (x ≡ y) × (a ≡ b)
 same_taken t a b x y [] [] end last more rest one other next again ends stops =
     let both = intake_next_once t x y end last (subst (λ (q : Taking). IntakeNext q end x) one next) (subst (λ (q : Taking). IntakeNext q last y) other again) (not_memory end more ends) (not_memory last rest stops) in
-    (refl, both.0, both.1)
+    (refl, both.0, both.1, one ∙ sym other)
 same_taken t a b x y [] (other ∷ others) end last more rest one (mid, gives, later) next again ends stops =
     let both = intake_next_once t x mid end (Ok (Some other)) (subst (λ (q : Taking). IntakeNext q end x) one next) gives (not_memory end more ends) (given_not_memory other) in
     absurd (goes_past end more other ends both.0)
@@ -159,26 +159,30 @@ same_taken t a b x y (answer ∷ answers) (other ∷ others) end last more rest 
     let step = intake_next_once t mid mid' (Ok (Some answer)) (Ok (Some other)) gives gives' (given_not_memory answer) (given_not_memory other) in
     let goes : AreTaken mid others b = subst (λ (q : Taking). AreTaken q others b) (sym step.1) later' in
     let rest_same = same_taken mid a b x y answers others end last more rest later goes next again ends stops in
-    (ap (λ (z : Taken). z ∷ answers) (one_given answer other step.0) ∙ ap (λ (zs : List Taken). other ∷ zs) rest_same.0, rest_same.1, rest_same.2)
+    (ap (λ (z : Taken). z ∷ answers) (one_given answer other step.0) ∙ ap (λ (zs : List Taken). other ∷ zs) rest_same.0, rest_same.1, rest_same.2, rest_same.3)
   where
     one_given : (p q : Taken) → ◌≡◌ {A = Result (Option Taken) Fault} (Ok (Some p)) (Ok (Some q)) → p ≡ q
     one_given p q same = cc
 
 -- however one stream is fed and asked for, it comes to one thing
 pub same_called : (t a b x y : Taking) (one other : List (Option (List ℕ))) (bytes others more rest : List ℕ) (answers given : List Taken) (end last : Result (Option Taken) Fault) → IsBytes (t.unread ++ (bytes ++ more)) → bytes ++ more ≡ others ++ rest → AreIntakeCalls t one bytes answers a → AreIntakeCalls t other others given b → IntakeNext a end x → IntakeNext b last y → IsEndOf end more → IsEndOf last rest
-    → (answers ≡ given) × (end ≡ last) × (x ≡ y)
+    → (answers ≡ given) × (end ≡ last) × (x ≡ y) × (a.unread ++ more ≡ b.unread ++ rest)
 same_called t a b x y one other bytes others more rest answers given end last good cut called again next then ends stops = elim (cases_Bool t.closed) [
   | inl shut ↦
       let first = called_shut one t a bytes answers shut called in
       let second = called_shut other t b others given shut again in
       let both = intake_next_once t x y end last (subst (λ (q : Taking). IntakeNext q end x) first.1 next) (subst (λ (q : Taking). IntakeNext q last y) second.1 then) (not_memory end more ends) (not_memory last rest stops) in
-      (first.0 ∙ sym second.0, both.0, both.1)
+      let to_come : more ≡ rest = sym (ap (λ (xs : List ℕ). xs ++ more) first.2) ∙ cut ∙ ap (λ (xs : List ℕ). xs ++ rest) second.2 in
+      let place : a.unread ++ more ≡ b.unread ++ rest = ap (λ (q : Taking). q.unread ++ more) (first.1 ∙ sym second.1) ∙ ap (λ (xs : List ℕ). b.unread ++ xs) to_come in
+      (first.0 ∙ sym second.0, both.0, both.1, place)
   | inr going ↦
       let good_other : IsBytes (t.unread ++ (others ++ rest)) = subst (λ (xs : List ℕ). IsBytes (t.unread ++ xs)) cut good in
       let first = called_taken one t a bytes more answers good called in
       let second = called_taken other t b others rest given good_other again in
       let over : AreTaken (fed t (bytes ++ more)) given (fed b rest) = subst (λ (xs : List ℕ). AreTaken (fed t xs) given (fed b rest)) (sym cut) second.0 in
+      let all =
       same_taken (fed t (bytes ++ more)) (fed a more) (fed b rest) x y answers given end last more rest first.0 over
       (end_on a x end more (front_good a.unread more first.1) (called_open one t a bytes answers going called) next ends)
-      (end_on b y last rest (front_good b.unread rest second.1) (called_open other t b others given going again) then stops) ends stops
+      (end_on b y last rest (front_good b.unread rest second.1) (called_open other t b others given going again) then stops) ends stops in
+      (all.0, all.1, all.2, ap (λ (q : Taking). q.unread) all.3)
 ]

@@ -10,7 +10,8 @@ use Rattle.known_state.specs.State.{State, Teaches}
 use Rattle.known_state.specs.Known.{KnownState}
 use Rattle.learner.specs.declared.fault.Fault.{Fault}
 use Rattle.learner.specs.Rows.{put_all}
-use Rattle.learner.specs.Learning.{Learning, LearnerFeeds, IsReadyIn}
+use Rattle.learner.specs.Learning.{Learning, LearnerFeeds, IsReadyIn, with_piece}
+use Rattle.learner.specs.Cutting.{StandsAt}
 
 -- bytes of a stream, and the moment at which they are fed
 pub record Piece : Type 0 where
@@ -40,6 +41,15 @@ IsStoppedInTime l pieces last fault e =
     × (mid : Learning)
     × AreFedInTime l pieces counts mid
     × LearnerFeeds last.moment mid last.bytes (Err fault) e
+
+-- the pieces end so, and of what was fed these bytes are left from the message with the fault on
+abbrev pub IsStoppedAtInTime : Learning → List Piece → Piece → Fault → List ℕ → Learning → Type 0
+IsStoppedAtInTime l pieces last fault left e =
+    (counts : List ℕ)
+    × (mid : Learning)
+    × AreFedInTime l pieces counts mid
+    × LearnerFeeds last.moment mid last.bytes (Err fault) e
+    × StandsAt last.moment (with_piece mid last.bytes) fault left e
 
 -- so many bytes are fewer than the next of these messages has, and none where no message is to come
 abbrev pub AreTooFew : ℕ → List Message → Type 0

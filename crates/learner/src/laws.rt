@@ -22,7 +22,7 @@ ghost use Rattle.learner.specs.Intake.{Taking, IntakeFeeds, IntakeNext};
 ghost use Rattle.learner.specs.Cutting.{IsStopped, IsStoppedAt, AreAnswered};
 ghost use Rattle.learner.specs.Calls.{AreIntakeCalls, IsEndOf};
 ghost use Rattle.learner.specs.Rows.{put, put_all, row_at, rows_at, AreOfOthers};
-ghost use Rattle.learner.specs.Moments.{Piece, stream_in, AreFedInTime, IsStoppedInTime, HasLearnedInTime};
+ghost use Rattle.learner.specs.Moments.{Piece, stream_in, AreFedInTime, IsStoppedInTime, IsStoppedAtInTime, HasLearnedInTime};
 ghost use Rattle.learner.specs.Learning.{Learning, unlearned, LearnerFeeds, AreFed, IsReady, IsReadyIn, IsTaught, HasLearned};
 
 /// However a stream is cut into pieces, what is learned of them at one moment is what is learned of the whole: the
@@ -54,8 +54,8 @@ pub fn one_outcome()
 /// Where two ways to cut it each stop at a fault, it is the same fault, and the learner is the same then: the same rows and
 /// the same state, with nothing unread. The message with the fault stands at the same place of the stream. Where a fault
 /// stops one way, it stops every other way too at one of its pieces, where all of them are fed. After a fault every piece is
-/// answered `Closed`, and changes nothing. With pieces at whatever moments it is the same fault too, with the same state, and
-/// nothing unread.
+/// answered `Closed`, and changes nothing. With pieces at whatever moments it is the same fault too, at the same place of the
+/// stream, with the same state, and nothing unread.
 pub fn one_fault()
     ensures same { (now : ℕ) (l a b : Learning) (before others : List (List ℕ)) (last end more rest : List ℕ) (fault other : Fault) →
         l.intake.closed ≡ false → IsBytes (l.intake.unread ++ (together before ++ (last ++ more))) →
@@ -80,19 +80,25 @@ pub fn one_fault()
         stream_in before ++ (last.bytes ++ more) ≡ stream_in others ++ (end.bytes ++ rest) →
         IsStoppedInTime l before last fault a → IsStoppedInTime l others end other b → fault ≢ faults.Memory → other ≢ faults.Memory →
         (fault ≡ other) × (a.intake ≡ b.intake) }
+    ensures place_in_time { (l a b : Learning) (before others : List Piece) (last end : Piece) (more rest left behind : List ℕ) (fault other : Fault) →
+        l.intake.closed ≡ false → IsBytes (l.intake.unread ++ (stream_in before ++ (last.bytes ++ more))) →
+        stream_in before ++ (last.bytes ++ more) ≡ stream_in others ++ (end.bytes ++ rest) →
+        IsStoppedAtInTime l before last fault left a → IsStoppedAtInTime l others end other behind b → fault ≢ faults.Memory → other ≢ faults.Memory →
+        left ++ more ≡ behind ++ rest }
     ensures closed { (now after : ℕ) (l e x : Learning) (piece bytes : List ℕ) (fault : Fault) (answer : Result ℕ Fault) →
         LearnerFeeds now l piece (Err fault) e → LearnerFeeds after e bytes answer x → (answer ≡ Err faults.Closed) × (x ≡ e) }
 {}
 
 /// However a stream is cut, and in whatever order an intake is fed its pieces and asked for its messages, it gives the same
 /// rows and the same of other messages, in the same order, up to the same end: a fault, or that no message is whole once all
-/// is fed. The intake is the same then. Calls that wanted memory may stand between, and change nothing.
+/// is fed. The end comes at the same place of the stream, and the intake is the same then. Calls that wanted memory may stand
+/// between, and change nothing.
 pub fn any_calls()
     ensures { (t a b x y : Taking) (one other : List (Option (List ℕ))) (bytes others more rest : List ℕ) (answers given : List Taken) (end last : Result (Option Taken) Fault) →
         IsBytes (t.unread ++ (bytes ++ more)) → bytes ++ more ≡ others ++ rest →
         AreIntakeCalls t one bytes answers a → AreIntakeCalls t other others given b → IntakeNext a end x → IntakeNext b last y →
         IsEndOf end more → IsEndOf last rest →
-        (answers ≡ given) × (end ≡ last) × (x ≡ y) }
+        (answers ≡ given) × (end ≡ last) × (x ≡ y) × (a.unread ++ more ≡ b.unread ++ rest) }
 {}
 
 /// An update that is put changes the row of its table and key alone: that row becomes what the update teaches at that

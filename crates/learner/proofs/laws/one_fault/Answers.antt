@@ -1,6 +1,6 @@
 use Rattle.learner.proofs.SameFaultHoweverCut.{same_stop, it_comes, closed_then}
 use Rattle.learner.proofs.SamePlaceHoweverCut.{same_place}
-use Rattle.learner.proofs.MomentFaults.{same_fault_in_time}
+use Rattle.learner.proofs.MomentFaults.{same_fault_in_time, same_place_in_time}
 use Rattle.learner.proofs.laws.one_fault.Goals as goal
 
 pub returns-clause-same : goal.returns-clause-same
@@ -17,3 +17,6 @@ returns-clause-closed c = closed_then
 
 pub returns-clause-moments : goal.returns-clause-moments
 returns-clause-moments c = same_fault_in_time
+
+pub returns-clause-place_in_time : goal.returns-clause-place_in_time
+returns-clause-place_in_time c = same_place_in_time
