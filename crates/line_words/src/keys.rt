@@ -62,11 +62,11 @@ fn bytes_of(alloc: Global, word: &[u8]) -> Result<Vec<u8>, LineError>
 }
 
 /// Adds a key as a scene has it.
-pub fn push_key(alloc: Global, text: &mut Vec<u8>, key: &Key) -> Result<(), AllocError>
+pub fn push_key(text: &mut Vec<u8>, key: &Key) -> Result<(), AllocError>
     ensures { OnOk result (text.new.items ≡ text.old.items ++ key_text key.now) }
 {
     match key {
-        Key::Int(number) => push_number(alloc, text, u64::from(*number)),
+        Key::Int(number) => push_number(text, u64::from(*number)),
         Key::Ip4(address) => push_hexadecimal(text, address.as_slice()),
         Key::Ip6(address) => push_hexadecimal(text, address.as_slice()),
         Key::Str(string) => push_string(text, string.as_slice()),

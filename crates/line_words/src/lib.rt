@@ -23,5 +23,5 @@ pub use numbers::{moment, number, number_from_one, number32, push_end, push_numb
 pub use once::set_once;
 pub use tables::table_of;
 pub use updates::{update_of, update_with};
-pub use values::push_cells;
+pub use values::{push_cells, push_count, push_rate};
 pub use words::{cut, words_of};

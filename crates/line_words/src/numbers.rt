@@ -3,7 +3,8 @@ ghost use Rattle.std.specs.Prelude.{◌≡◌, ◌≤◌, ◌^◌, ◌-◌, ◌+
 ghost use Rattle.std.specs.Fmt.{decimal};
 ghost use Rattle.line_words.specs.Numbers.{end_text, from_one, number_of};
 
-use std::alloc::{AllocError, Global};
+use itoa::Buffer;
+use std::alloc::AllocError;
 use table_types::Moment;
 
 /// The number that a word writes in decimal, with no needless zeros; `None` where it is no number
@@ -55,18 +56,19 @@ pub fn moment(word: &[u8]) -> Option<Moment> {
 }
 
 /// Adds a number in decimal.
-pub fn push_number(alloc: Global, text: &mut Vec<u8>, number: u64) -> Result<(), AllocError>
+pub fn push_number(text: &mut Vec<u8>, number: u64) -> Result<(), AllocError>
     ensures { OnOk result (text.new.items ≡ text.old.items ++ decimal number) }
 {
-    text.extend_from_slice(format!(in alloc; "{number}")?.as_bytes())
+    let mut digits = Buffer::new();
+    text.extend_from_slice(digits.format(number).as_bytes())
 }
 
 /// Adds the moment at which a row ends, or `-` where it lives for ever.
-pub fn push_end(alloc: Global, text: &mut Vec<u8>, ends: Option<Moment>) -> Result<(), AllocError>
+pub fn push_end(text: &mut Vec<u8>, ends: Option<Moment>) -> Result<(), AllocError>
     ensures { OnOk result (text.new.items ≡ text.old.items ++ end_text ends) }
 {
     match ends {
-        Some(moment) => push_number(alloc, text, moment.milliseconds()),
+        Some(moment) => push_number(text, moment.milliseconds()),
         None => text.extend_from_slice(b"-"),
     }
 }

@@ -1,9 +1,10 @@
 //! Values of rows.
-ghost use Rattle.std.specs.Prelude.{◌≡◌, ◌++◌, OnOk, flat_map};
+ghost use Rattle.std.specs.Prelude.{◌≡◌, ◌∷◌, ◌++◌, OnOk, flat_map};
+ghost use Rattle.std.specs.Fmt.{decimal};
 ghost use Rattle.line_words.specs.Values.{cell_text};
 
 use crate::error::LineError;
-use crate::numbers::{number, number32};
+use crate::numbers::{number, number32, push_number};
 use crate::words::cut;
 use std::alloc::{AllocError, Global};
 use table_types::{Cell, DataType, Shape, Value};
@@ -43,25 +44,50 @@ fn value_of(shape: Shape, word: &[u8]) -> Option<Value> {
 }
 
 /// Adds the values of a row, each after a space.
-pub fn push_cells(alloc: Global, text: &mut Vec<u8>, cells: &[Cell]) -> Result<(), AllocError>
+pub fn push_cells(text: &mut Vec<u8>, cells: &[Cell]) -> Result<(), AllocError>
     ensures { OnOk result (text.new.items ≡ text.old.items ++ flat_map cell_text cells.now) }
 {
     for cell in cells {
-        push_cell(alloc, text, *cell)?;
+        push_cell(text, *cell)?;
     }
     Ok(())
 }
 
 /// Adds a count, or a rate as `start/current/previous`, after a space.
-fn push_cell(alloc: Global, text: &mut Vec<u8>, cell: Cell) -> Result<(), AllocError>
+fn push_cell(text: &mut Vec<u8>, cell: Cell) -> Result<(), AllocError>
     ensures { OnOk result (text.new.items ≡ text.old.items ++ cell_text cell) }
 {
     match cell {
-        Cell::Count(count) => text.extend_from_slice(format!(in alloc; " {count}")?.as_bytes()),
+        Cell::Count(count) => push_count(text, count),
         Cell::Rate {
             start,
             current,
             previous,
-        } => text.extend_from_slice(format!(in alloc; " {start}/{current}/{previous}")?.as_bytes()),
+        } => push_rate(text, start, current, previous),
     }
+}
+
+/// Adds a count, after a space.
+pub fn push_count(text: &mut Vec<u8>, count: u64) -> Result<(), AllocError>
+    ensures { OnOk result (text.new.items ≡ text.old.items ++ (32 ∷ decimal count)) }
+{
+    text.push(b' ')?;
+    push_number(text, count)
+}
+
+/// Adds three numbers of a rate with `/` between them, after a space. The first is a moment, or a time.
+pub fn push_rate(
+    text: &mut Vec<u8>,
+    first: u64,
+    current: u32,
+    previous: u32,
+) -> Result<(), AllocError>
+    ensures { OnOk result (text.new.items ≡ text.old.items
+        ++ (32 ∷ (decimal first ++ (47 ∷ (decimal current ++ (47 ∷ decimal previous)))))) }
+{
+    push_count(text, first)?;
+    text.push(b'/')?;
+    push_number(text, u64::from(current))?;
+    text.push(b'/')?;
+    push_number(text, u64::from(previous))
 }
