@@ -19,7 +19,9 @@ pub use error::{LineError, SceneError};
 pub use keys::{key_of, push_key};
 pub use laws::printed_is_read;
 pub use names::{name, name_or_none, push_stored_name};
-pub use numbers::{moment, number, number_from_one, number32, push_end, push_number};
+pub use numbers::{
+    moment, number, number_from_one, number32, push_end, push_number, push_word_and_number,
+};
 pub use once::set_once;
 pub use tables::table_of;
 pub use updates::{update_of, update_with};

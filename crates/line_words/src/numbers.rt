@@ -63,6 +63,14 @@ pub fn push_number(text: &mut Vec<u8>, number: u64) -> Result<(), AllocError>
     text.extend_from_slice(digits.format(number).as_bytes())
 }
 
+/// Adds a word, which has its space, and a number in decimal.
+pub fn push_word_and_number(text: &mut Vec<u8>, word: &str, number: u64) -> Result<(), AllocError>
+    ensures { OnOk result (text.new.items ≡ text.old.items ++ (word.now ++ decimal number)) }
+{
+    text.extend_from_slice(word.as_bytes())?;
+    push_number(text, number)
+}
+
 /// Adds the moment at which a row ends, or `-` where it lives for ever.
 pub fn push_end(text: &mut Vec<u8>, ends: Option<Moment>) -> Result<(), AllocError>
     ensures { OnOk result (text.new.items ≡ text.old.items ++ end_text ends) }
