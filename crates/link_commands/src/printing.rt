@@ -18,26 +18,21 @@ fn turns_line(alloc: Global, turns: u32) -> Result<Vec<u8>, AllocError>
 }
 
 /// Adds the lines of these rows of a table.
-fn push_rows(
-    alloc: Global,
-    text: &mut Vec<u8>,
-    table: &TableDef,
-    rows: &[(Key, Row)],
-) -> Result<(), AllocError>
+fn push_rows(text: &mut Vec<u8>, table: &TableDef, rows: &[(Key, Row)]) -> Result<(), AllocError>
     ensures { OnOk result (text.new.items ≡ text.old.items ++ flat_map (row_line table.now) rows.now) }
 {
     for (key, row) in rows {
-        push_row(alloc, text, table, key, row)?;
+        push_row(text, table, key, row)?;
     }
     Ok(())
 }
 
 /// Adds the lines of the rows of a table, in rising key.
-fn push_table(alloc: Global, text: &mut Vec<u8>, cell: &TableCell) -> Result<(), Memory>
+fn push_table(text: &mut Vec<u8>, cell: &TableCell) -> Result<(), Memory>
     ensures { OnOk result ((rows : List ℕ) × AreRowsOf cell.now rows × (text.new.items ≡ text.old.items ++ rows)) }
 {
     let rows = cell.rows()?;
-    push_rows(alloc, text, cell.definition(), rows.as_slice())?;
+    push_rows(text, cell.definition(), rows.as_slice())?;
     Ok(())
 }
 
@@ -52,7 +47,7 @@ pub(crate) fn printed(
 {
     let mut text = turns_line(alloc, turns)?;
     for table in tables {
-        push_table(alloc, &mut text, &table.cell)?;
+        push_table(&mut text, &table.cell)?;
     }
     Ok(text)
 }

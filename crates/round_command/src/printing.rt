@@ -15,27 +15,22 @@ use table_shards::Audit;
 use table_types::{Key, Memory, Row, TableDef};
 
 /// Adds a line for each row.
-fn push_entries(
-    alloc: Global,
-    text: &mut Vec<u8>,
-    table: &TableDef,
-    rows: &[(Key, Row)],
-) -> Result<(), Memory>
+fn push_entries(text: &mut Vec<u8>, table: &TableDef, rows: &[(Key, Row)]) -> Result<(), Memory>
     ensures { OnOk result (text.new.items ≡ text.old.items ++ flat_map (row_line table.now) rows.now) }
 {
     for entry in rows {
-        push_row(alloc, text, table, &entry.0, &entry.1)?;
+        push_row(text, table, &entry.0, &entry.1)?;
     }
     Ok(())
 }
 
 /// Adds a line for each row of a table, in rising key.
-fn push_rows(alloc: Global, text: &mut Vec<u8>, cell: &TableCell) -> Result<(), Memory>
+fn push_rows(text: &mut Vec<u8>, cell: &TableCell) -> Result<(), Memory>
     ensures { OnOk result ((rows : List (Key × StoredRow)) × AreInRisingKey cell.now.state.rows rows
         × (text.new.items ≡ text.old.items ++ flat_map (row_line cell.now.state.definition) rows)) }
 {
     let rows = cell.rows()?;
-    push_entries(alloc, text, cell.definition(), rows.as_slice())
+    push_entries(text, cell.definition(), rows.as_slice())
 }
 
 /// The text of a round: that the audit found nothing, and then the rows of its table.
@@ -46,6 +41,6 @@ pub(crate) fn printed(alloc: Global, audit: &Audit) -> Result<Vec<u8>, RoundFail
         return Err(RoundFailure::Refused);
     };
     let mut text = Vec::from_slice(alloc, b"audit ok\n")?;
-    push_rows(alloc, &mut text, &table.cell)?;
+    push_rows(&mut text, &table.cell)?;
     Ok(text)
 }

@@ -75,10 +75,10 @@ fn printed_for(alloc: Global, scene: Scene) -> Result<(Vec<u8>, Ending), Ending>
 {
     let (mut learner, answer) = fed(alloc, scene)?;
     let mut text = Vec::new(alloc);
-    push_all_rows(alloc, &mut text, &learner)?;
+    push_all_rows(&mut text, &learner)?;
     match answer {
         Ok(_) => {
-            push_due_acks(alloc, &mut text, &mut learner)?;
+            push_due_acks(&mut text, &mut learner)?;
             Ok((text, Ending::Done))
         }
         Err(Fault::Memory) => Err(Ending::Memory),
@@ -115,12 +115,12 @@ pub fn rising_roster(mut tables: Vec<TableDef>) -> Result<Roster, RosterError>
 }
 
 /// Adds a line for each row: in rising table id, and then in rising key. The tables of the learner's roster rise.
-fn push_all_rows(alloc: Global, text: &mut Vec<u8>, learner: &Learner) -> Result<(), Memory>
+fn push_all_rows(text: &mut Vec<u8>, learner: &Learner) -> Result<(), Memory>
     ensures { OnOk result (text.new.items ≡ text.old.items ++ rows_text learner.now) }
 {
     for table in learner.roster().tables() {
         match learner.table(table.id()) {
-            Some(rows) => push_rows(alloc, text, table, rows)?,
+            Some(rows) => push_rows(text, table, rows)?,
             None => {}
         }
     }
@@ -128,25 +128,20 @@ fn push_all_rows(alloc: Global, text: &mut Vec<u8>, learner: &Learner) -> Result
 }
 
 /// Adds a line for each row of a table, in rising key.
-fn push_rows(
-    alloc: Global,
-    text: &mut Vec<u8>,
-    table: &TableDef,
-    rows: &BTreeMap<Key, Row>,
-) -> Result<(), Memory>
+fn push_rows(text: &mut Vec<u8>, table: &TableDef, rows: &BTreeMap<Key, Row>) -> Result<(), Memory>
     ensures { OnOk result (text.new.items ≡ text.old.items ++ flat_map (row_line table.now) rows.now.entries) }
 {
     for (key, row) in rows.iter() {
-        push_row(alloc, text, table, key, row)?;
+        push_row(text, table, key, row)?;
     }
     Ok(())
 }
 
 /// Adds a line for each acknowledgement that is due, and then none is due.
-fn push_due_acks(alloc: Global, text: &mut Vec<u8>, learner: &mut Learner) -> Result<(), Memory>
+fn push_due_acks(text: &mut Vec<u8>, learner: &mut Learner) -> Result<(), Memory>
     ensures { OnOk result (text.new.items ≡ text.old.items ++ acks_text learner.old) }
 {
     let acks = learner.acks()?;
-    push_acks(alloc, text, acks.as_slice())?;
+    push_acks(text, acks.as_slice())?;
     Ok(())
 }

@@ -6,7 +6,7 @@ ghost use Rattle.peers_msg.specs.Spelling.{spelled, stream_of};
 ghost use Rattle.peers_msg.specs.declared.message.Message.{Message};
 ghost use Rattle.scene_text.specs.Lessons.{joined, line_of, price_text, printed, sums_of};
 
-use line_words::push_hexadecimal;
+use line_words::{push_count, push_hexadecimal, push_word_and_number};
 use peers_msg::split_message;
 use std::alloc::{AllocError, Global};
 
@@ -18,7 +18,7 @@ pub fn printed_lesson(alloc: Global, bytes: &[u8], prices: &[u64]) -> Result<Vec
 {
     let mut text = Vec::new(alloc);
     push_messages(&mut text, bytes)?;
-    push_sums(alloc, &mut text, bytes.len(), prices)?;
+    push_sums(&mut text, bytes.len(), prices)?;
     Ok(text)
 }
 
@@ -48,25 +48,21 @@ fn push_line(text: &mut Vec<u8>, message: &[u8]) -> Result<(), AllocError>
 }
 
 /// Adds the lines that come after the messages.
-fn push_sums(
-    alloc: Global,
-    text: &mut Vec<u8>,
-    count: usize,
-    prices: &[u64],
-) -> Result<(), AllocError>
+fn push_sums(text: &mut Vec<u8>, count: usize, prices: &[u64]) -> Result<(), AllocError>
     ensures { OnOk result (text.new.items ≡ text.old.items ++ sums_of count prices.now) }
 {
-    text.extend_from_slice(format!(in alloc; "bytes {count}\nprices")?.as_bytes())?;
+    push_word_and_number(text, "bytes ", count as u64)?;
+    text.extend_from_slice(b"\nprices")?;
     for price in prices {
-        push_price(alloc, text, *price)?;
+        push_price(text, *price)?;
     }
     text.push(b'\n')?;
     Ok(())
 }
 
 /// Adds a price, after a space.
-fn push_price(alloc: Global, text: &mut Vec<u8>, price: u64) -> Result<(), AllocError>
+fn push_price(text: &mut Vec<u8>, price: u64) -> Result<(), AllocError>
     ensures { OnOk result (text.new.items ≡ text.old.items ++ price_text price) }
 {
-    text.extend_from_slice(format!(in alloc; " {price}")?.as_bytes())
+    push_count(text, price)
 }
