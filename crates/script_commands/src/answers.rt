@@ -58,7 +58,7 @@ pub(crate) fn track(
     let printed = key.copy(alloc)?;
     match cell.track(seat, key, change, moment) {
         Ok(reply) => {
-            push_reply(alloc, text, cell.definition(), &printed, &reply)?;
+            push_reply(text, cell.definition(), &printed, &reply)?;
             Ok(end_line(text)?)
         }
         Err(error) => push_refusal(text, track_refusal(error)),
@@ -80,7 +80,7 @@ pub(crate) fn learn(
     let printed = update.key.copy(alloc)?;
     match cell.learn(session, update, moment) {
         Ok(reply) => {
-            push_reply(alloc, text, cell.definition(), &printed, &reply)?;
+            push_reply(text, cell.definition(), &printed, &reply)?;
             Ok(end_line(text)?)
         }
         Err(error) => push_refusal(text, learn_refusal(error)),

@@ -53,20 +53,15 @@ fn push_batch(
     let place = before as u128 + 1;
     let count = batch.updates().len();
     text.extend_from_slice(format!(in alloc; "batch {place} {count}\n")?.as_bytes())?;
-    push_updates(alloc, text, table, batch.updates())
+    push_updates(text, table, batch.updates())
 }
 
 /// Adds a line for each update.
-fn push_updates(
-    alloc: Global,
-    text: &mut Vec<u8>,
-    table: &TableDef,
-    updates: &[Update],
-) -> Result<(), AllocError>
+fn push_updates(text: &mut Vec<u8>, table: &TableDef, updates: &[Update]) -> Result<(), AllocError>
     ensures { OnOk result (text.new.items ≡ text.old.items ++ flat_map (update_line table.now) updates.now) }
 {
     for update in updates {
-        push_update(alloc, text, table, update)?;
+        push_update(text, table, update)?;
     }
     Ok(())
 }
@@ -90,7 +85,6 @@ fn push_counts(alloc: Global, text: &mut Vec<u8>, events: u64, room: u64) -> Res
 
 /// Adds the event at a place with its reply, or that there is none.
 pub(crate) fn push_event_at(
-    alloc: Global,
     cell: &TableCell,
     text: &mut Vec<u8>,
     place: u64,
@@ -98,14 +92,13 @@ pub(crate) fn push_event_at(
     ensures { OnOk result (text.new.items ≡ text.old.items ++ event_line (definition_of cell.now) (event_in cell.now place)) }
 {
     match cell.event_at(place) {
-        Some((event, reply)) => push_made(alloc, text, cell.definition(), event, reply),
+        Some((event, reply)) => push_made(text, cell.definition(), event, reply),
         None => text.extend_from_slice(b"none\n"),
     }
 }
 
 /// Adds the line of an event and its reply.
 fn push_made(
-    alloc: Global,
     text: &mut Vec<u8>,
     table: &TableDef,
     event: &CellEvent,
@@ -113,9 +106,9 @@ fn push_made(
 ) -> Result<(), AllocError>
     ensures { OnOk result (text.new.items ≡ text.old.items ++ event_line table.now (Some (event.now, reply.now))) }
 {
-    push_event(alloc, text, table, event)?;
+    push_event(text, table, event)?;
     text.extend_from_slice(b" = ")?;
-    push_event_reply(alloc, text, table, event, reply)?;
+    push_event_reply(text, table, event, reply)?;
     end_line(text)
 }
 
@@ -127,35 +120,24 @@ pub(crate) fn push_rows(alloc: Global, cell: &TableCell, text: &mut Vec<u8>) -> 
     let rows = cell.rows()?;
     let count = rows.len();
     text.extend_from_slice(format!(in alloc; "rows {count}\n")?.as_bytes())?;
-    Ok(push_entries(alloc, text, cell.definition(), rows.as_slice())?)
+    Ok(push_entries(text, cell.definition(), rows.as_slice())?)
 }
 
 /// Adds a line for each row.
-fn push_entries(
-    alloc: Global,
-    text: &mut Vec<u8>,
-    table: &TableDef,
-    rows: &[(Key, Row)],
-) -> Result<(), AllocError>
+fn push_entries(text: &mut Vec<u8>, table: &TableDef, rows: &[(Key, Row)]) -> Result<(), AllocError>
     ensures { OnOk result (text.new.items ≡ text.old.items ++ flat_map (row_line table.now) rows.now) }
 {
     for entry in rows {
-        push_entry(alloc, text, table, &entry.0, &entry.1)?;
+        push_entry(text, table, &entry.0, &entry.1)?;
     }
     Ok(())
 }
 
 /// Adds the line of a row.
-fn push_entry(
-    alloc: Global,
-    text: &mut Vec<u8>,
-    table: &TableDef,
-    key: &Key,
-    row: &Row,
-) -> Result<(), AllocError>
+fn push_entry(text: &mut Vec<u8>, table: &TableDef, key: &Key, row: &Row) -> Result<(), AllocError>
     ensures { OnOk result (text.new.items ≡ text.old.items ++ row_line table.now (key.now, row.now)) }
 {
     text.extend_from_slice(b"row ")?;
-    push_stored_row(alloc, text, table, key, row)?;
+    push_stored_row(text, table, key, row)?;
     end_line(text)
 }

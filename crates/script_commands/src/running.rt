@@ -102,7 +102,7 @@ impl Run {
             Call::Ack { session, number } => acknowledge(cell, text, session, number)?,
             Call::Purge(moment) => purge(alloc, cell, text, moment)?,
             Call::Events => push_events(alloc, cell, text)?,
-            Call::Event(place) => push_event_at(alloc, cell, text, place)?,
+            Call::Event(place) => push_event_at(cell, text, place)?,
             Call::Rows => push_rows(alloc, cell, text)?,
         }
         Ok(())

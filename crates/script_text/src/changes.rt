@@ -3,7 +3,7 @@ ghost use Rattle.std.specs.Prelude.{◌≡◌, ◌++◌, OnOk};
 ghost use Rattle.table_types.specs.DataTypes.{name_of};
 ghost use Rattle.script_text.specs.Events.{change_text, number_text};
 
-use line_words::{LineError, name_or_none, number, number32, push_stored_name};
+use line_words::{LineError, name_or_none, number, number32, push_count, push_stored_name};
 use std::alloc::{AllocError, Global};
 use table_types::{Change, DataType};
 
@@ -30,29 +30,25 @@ fn number_change(kind: &[u8], data_type: &[u8], word: &[u8]) -> Option<Change> {
 }
 
 /// Adds a change, after a space.
-pub(crate) fn push_change(
-    alloc: Global,
-    text: &mut Vec<u8>,
-    change: &Change,
-) -> Result<(), AllocError>
+pub(crate) fn push_change(text: &mut Vec<u8>, change: &Change) -> Result<(), AllocError>
     ensures { OnOk result (text.new.items ≡ text.old.items ++ change_text change.now) }
 {
     match change {
         Change::Add(data_type, number) => {
             text.extend_from_slice(b" add ")?;
-            push_type_and_number(alloc, text, *data_type, *number)
+            push_type_and_number(text, *data_type, *number)
         }
         Change::Take(data_type, number) => {
             text.extend_from_slice(b" take ")?;
-            push_type_and_number(alloc, text, *data_type, *number)
+            push_type_and_number(text, *data_type, *number)
         }
         Change::Put(data_type, number) => {
             text.extend_from_slice(b" put ")?;
-            push_type_and_number(alloc, text, *data_type, *number)
+            push_type_and_number(text, *data_type, *number)
         }
         Change::AddRate(data_type, number) => {
             text.extend_from_slice(b" rate ")?;
-            push_type_and_number(alloc, text, *data_type, u64::from(*number))
+            push_type_and_number(text, *data_type, u64::from(*number))
         }
         Change::SetName(name) => {
             text.extend_from_slice(b" name")?;
@@ -63,7 +59,6 @@ pub(crate) fn push_change(
 
 /// Adds a data type and a number.
 fn push_type_and_number(
-    alloc: Global,
     text: &mut Vec<u8>,
     data_type: DataType,
     number: u64,
@@ -71,5 +66,5 @@ fn push_type_and_number(
     ensures { OnOk result (text.new.items ≡ text.old.items ++ (name_of data_type ++ number_text number)) }
 {
     text.extend_from_slice(data_type.name().as_bytes())?;
-    text.extend_from_slice(format!(in alloc; " {number}")?.as_bytes())
+    push_count(text, number)
 }

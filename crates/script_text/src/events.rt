@@ -7,18 +7,13 @@ use crate::changes::push_change;
 use crate::copies::copy_kind_name;
 use crate::updates::push_life;
 use crate::values::push_values;
-use line_words::{push_key, push_stored_name};
-use std::alloc::{AllocError, Global};
+use line_words::{push_count, push_key, push_stored_name, push_word_and_number};
+use std::alloc::AllocError;
 use table_cell::CellEvent;
 use table_types::{Change, CopyKind, Key, Moment, TableDef, Update};
 
 /// Adds an event of a table: the line of the call that made it, without its LF.
-pub fn push_event(
-    alloc: Global,
-    text: &mut Vec<u8>,
-    table: &TableDef,
-    event: &CellEvent,
-) -> Result<(), AllocError>
+pub fn push_event(text: &mut Vec<u8>, table: &TableDef, event: &CellEvent) -> Result<(), AllocError>
     ensures { OnOk result (text.new.items ≡ text.old.items ++ event_text table.now event.now) }
 {
     match event {
@@ -27,34 +22,32 @@ pub fn push_event(
             key,
             change,
             moment,
-        } => push_track(alloc, text, *seat, *moment, key, change),
+        } => push_track(text, *seat, *moment, key, change),
         CellEvent::Learn {
             session,
             update,
             moment,
-        } => push_learn(alloc, text, table, *session, *moment, update),
+        } => push_learn(text, table, *session, *moment, update),
         CellEvent::Copy {
             session,
             kind,
             limit,
             moment,
-        } => push_copy(alloc, text, *session, *kind, *limit, moment.milliseconds()),
+        } => push_copy(text, *session, *kind, *limit, moment.milliseconds()),
         CellEvent::Ack { session, number } => {
-            text.extend_from_slice(format!(in alloc; "ack {session} {number}")?.as_bytes())
+            push_word_and_number(text, "ack ", u64::from(*session))?;
+            push_count(text, u64::from(*number))
         }
-        CellEvent::Open { session } => {
-            text.extend_from_slice(format!(in alloc; "open {session}")?.as_bytes())
-        }
+        CellEvent::Open { session } => { push_word_and_number(text, "open ", u64::from(*session)) }
         CellEvent::Close { session } => {
-            text.extend_from_slice(format!(in alloc; "close {session}")?.as_bytes())
+            push_word_and_number(text, "close ", u64::from(*session))
         }
-        CellEvent::Purge { moment } => push_purge(alloc, text, moment.milliseconds()),
+        CellEvent::Purge { moment } => push_purge(text, moment.milliseconds()),
     }
 }
 
 /// Adds the call of a change: `track`, the seat, the moment, the key, and the change.
 fn push_track(
-    alloc: Global,
     text: &mut Vec<u8>,
     seat: u32,
     moment: Moment,
@@ -63,27 +56,24 @@ fn push_track(
 ) -> Result<(), AllocError>
     ensures { OnOk result (text.new.items ≡ text.old.items ++ track_text seat moment key.now change.now) }
 {
-    push_track_head(alloc, text, seat, moment.milliseconds())?;
-    push_key(alloc, text, key)?;
-    push_change(alloc, text, change)?;
+    push_track_head(text, seat, moment.milliseconds())?;
+    push_key(text, key)?;
+    push_change(text, change)?;
     Ok(())
 }
 
-fn push_track_head(
-    alloc: Global,
-    text: &mut Vec<u8>,
-    seat: u32,
-    milliseconds: u64,
-) -> Result<(), AllocError>
+fn push_track_head(text: &mut Vec<u8>, seat: u32, milliseconds: u64) -> Result<(), AllocError>
     ensures { OnOk result (text.new.items ≡ text.old.items ++ track_head seat milliseconds) }
 {
-    text.extend_from_slice(format!(in alloc; "track {seat} {milliseconds} ")?.as_bytes())
+    push_word_and_number(text, "track ", u64::from(seat))?;
+    push_count(text, milliseconds)?;
+    text.push(b' ')?;
+    Ok(())
 }
 
 /// Adds the call of an update that is learned: `learn`, the session, the moment, the update's number, its life or `-`, its
 /// key, its values, and its name where the table stores one.
 fn push_learn(
-    alloc: Global,
     text: &mut Vec<u8>,
     table: &TableDef,
     session: u32,
@@ -93,22 +83,14 @@ fn push_learn(
     ensures { OnOk result (text.new.items ≡ text.old.items ++ learn_text table.now session moment update.now) }
 {
     let milliseconds = moment.milliseconds();
-    push_learn_head(
-        alloc,
-        text,
-        session,
-        milliseconds,
-        update.number,
-        update.life,
-    )?;
-    push_key(alloc, text, &update.key)?;
-    push_values(alloc, text, update.values.as_slice())?;
+    push_learn_head(text, session, milliseconds, update.number, update.life)?;
+    push_key(text, &update.key)?;
+    push_values(text, update.values.as_slice())?;
     push_stored_name(text, table.stores_name(), update.name.as_ref())?;
     Ok(())
 }
 
 fn push_learn_head(
-    alloc: Global,
     text: &mut Vec<u8>,
     session: u32,
     milliseconds: u64,
@@ -117,17 +99,17 @@ fn push_learn_head(
 ) -> Result<(), AllocError>
     ensures { OnOk result (text.new.items ≡ text.old.items ++ learn_head session milliseconds number life) }
 {
-    text.extend_from_slice(format!(in alloc;
-        "learn {session} {milliseconds} {number} "
-    )?.as_bytes())?;
-    push_life(alloc, text, life)?;
+    push_word_and_number(text, "learn ", u64::from(session))?;
+    push_count(text, milliseconds)?;
+    push_count(text, u64::from(number))?;
+    text.push(b' ')?;
+    push_life(text, life)?;
     text.push(b' ')?;
     Ok(())
 }
 
 /// Adds the call of a copy: `copy`, the session, the kind, the limit, and the moment.
 fn push_copy(
-    alloc: Global,
     text: &mut Vec<u8>,
     session: u32,
     kind: CopyKind,
@@ -136,15 +118,16 @@ fn push_copy(
 ) -> Result<(), AllocError>
     ensures { OnOk result (text.new.items ≡ text.old.items ++ copy_text session kind limit milliseconds) }
 {
-    let kind = copy_kind_name(kind);
-    text.extend_from_slice(format!(in alloc;
-        "copy {session} {kind} {limit} {milliseconds}"
-    )?.as_bytes())
+    push_word_and_number(text, "copy ", u64::from(session))?;
+    text.push(b' ')?;
+    text.extend_from_slice(copy_kind_name(kind).as_bytes())?;
+    push_count(text, limit as u64)?;
+    push_count(text, milliseconds)
 }
 
 /// Adds the call of a purge.
-fn push_purge(alloc: Global, text: &mut Vec<u8>, milliseconds: u64) -> Result<(), AllocError>
+fn push_purge(text: &mut Vec<u8>, milliseconds: u64) -> Result<(), AllocError>
     ensures { OnOk result (text.new.items ≡ text.old.items ++ (codes "purge " ++ decimal milliseconds)) }
 {
-    text.extend_from_slice(format!(in alloc; "purge {milliseconds}")?.as_bytes())
+    push_word_and_number(text, "purge ", milliseconds)
 }

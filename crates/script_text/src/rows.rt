@@ -2,14 +2,13 @@
 ghost use Rattle.std.specs.Prelude.{◌≡◌, ◌++◌, OnOk};
 ghost use Rattle.script_text.specs.Rows.{kind_text, numbered_head, stored_row_text};
 
-use line_words::{push_cells, push_end, push_key, push_stored_name};
-use std::alloc::{AllocError, Global};
+use line_words::{push_cells, push_end, push_key, push_number, push_stored_name};
+use std::alloc::AllocError;
 use table_types::{Key, Moment, Row, TableDef};
 
 /// Adds a row of a table with its number and where it came from: the number, the moment at which the row ends or `-`, its
 /// key, its values, its name where the table stores one, and `local` or `learned`.
 pub fn push_stored_row(
-    alloc: Global,
     text: &mut Vec<u8>,
     table: &TableDef,
     key: &Key,
@@ -17,9 +16,9 @@ pub fn push_stored_row(
 ) -> Result<(), AllocError>
     ensures { OnOk result (text.new.items ≡ text.old.items ++ stored_row_text table.now (key.now, row.now)) }
 {
-    push_numbered_head(alloc, text, row.number(), row.ends())?;
-    push_key(alloc, text, key)?;
-    push_cells(alloc, text, row.cells())?;
+    push_numbered_head(text, row.number(), row.ends())?;
+    push_key(text, key)?;
+    push_cells(text, row.cells())?;
     push_stored_name(text, table.stores_name(), row.name())?;
     push_kind(text, row.is_learned())?;
     Ok(())
@@ -27,15 +26,15 @@ pub fn push_stored_row(
 
 /// Adds the number and the end of a row, before its key.
 fn push_numbered_head(
-    alloc: Global,
     text: &mut Vec<u8>,
     number: u32,
     ends: Option<Moment>,
 ) -> Result<(), AllocError>
     ensures { OnOk result (text.new.items ≡ text.old.items ++ numbered_head number ends) }
 {
-    text.extend_from_slice(format!(in alloc; "{number} ")?.as_bytes())?;
-    push_end(alloc, text, ends)?;
+    push_number(text, u64::from(number))?;
+    text.push(b' ')?;
+    push_end(text, ends)?;
     text.push(b' ')?;
     Ok(())
 }
