@@ -1,12 +1,14 @@
 //! What an open session does at an event.
 
-ghost use Rattle.std.specs.Prelude.{◌≡◌, ◌∷◌, [], Some, IfOk, IfErr, OnErr};
+ghost use Rattle.std.specs.Prelude.{◌≡◌, ◌∷◌, [], Some, true, IfOk, IfErr, OnOk, OnErr};
 ghost use Rattle.table_types.specs.declared.copies.Settled.TheVariants as settles;
+ghost use Rattle.session_core.specs.declared.action.Action.TheVariants as actions;
 ghost use Rattle.session_core.specs.declared.event.Event.TheVariants as events;
 ghost use Rattle.session_core.specs.declared.due.Due.TheVariants as dues;
 ghost use Rattle.session_core.specs.declared.phase.Phase.TheVariants as phases;
-ghost use Rattle.session_core.specs.Shares.{all_quiet};
-ghost use Rattle.session_core.specs.Courses.{table_to_ask, none_due, is_due};
+ghost use Rattle.session_core.specs.Shares.{all_quiet, out_set};
+ghost use Rattle.session_core.specs.Actions.{reopens};
+ghost use Rattle.session_core.specs.Courses.{teaching_anew, kind_of, table_to_ask, none_due, is_due};
 ghost use Rattle.session_core.specs.Sessions.{GoesOpen, Turns, IsCopied, HasNothing, FinishesResync, Settles, IsWhy, going, is_asked_open};
 
 use crate::action::{Action, only};
@@ -15,13 +17,52 @@ use crate::due::Due;
 use crate::error::SessionError;
 use crate::event::Event;
 use crate::phase::Phase;
-use crate::receiving::push_control;
+use crate::receiving::only_control;
 use crate::session::Session;
 use crate::share::{all_quiet, any_out};
 use known_state::Known;
 use peers_msg::ErrorKind;
+use std::alloc::Global;
 use std::mem;
 use table_types::{Batch, Items, Memory, Settled};
+
+/// Has the course ask the table of that id.
+fn asked(alloc: Global, course: &mut Course, table: u64) -> Result<Vec<Action>, Memory>
+    ensures actions { IfOk result (λ acts. acts.items ≡ actions.Copy table (kind_of course.old.teaching) ∷ []) }
+    ensures course { OnOk result (course.new ≡ record course.old { asked = Some table; due = dues.Copy table ∷ [] }) }
+{
+    let kind = course.kind();
+    course.ask(table)?;
+    only(alloc, Action::Copy { table, kind })
+}
+
+/// Has the course owe the lesson of a batch of the table of that id, which is out.
+fn taught(
+    alloc: Global,
+    course: &mut Course,
+    table: u64,
+    batch: Batch,
+) -> Result<Vec<Action>, Memory>
+    ensures actions { IfOk result (λ acts. acts.items ≡ actions.Teach batch ∷ []) }
+    ensures course { OnOk result (course.new ≡ record course.old { shares = out_set table true course.old.shares; due = dues.Teach ∷ course.old.due }) }
+{
+    course.set_out(table, true);
+    if let Err(refused) = course.owe_lesson() {
+        drop(batch);
+        return Err(refused);
+    }
+    only(alloc, Action::Teach(batch))
+}
+
+/// Has the course begin a resync.
+fn begun_teaching(alloc: Global, course: &mut Course) -> Result<Vec<Action>, Memory>
+    ensures actions { IfOk result (λ acts. acts.items ≡ reopens course.old.shares) }
+    ensures course { OnOk result (course.new ≡ teaching_anew course.old) }
+{
+    let mut actions = Vec::new(alloc);
+    course.begin_teaching(&mut actions)?;
+    Ok(actions)
+}
 
 impl Session {
     /// An event of an open session.
@@ -43,8 +84,14 @@ impl Session {
             Event::Written(known) => self.written(course, known),
             Event::Settled(table, settled) => self.settled(course, table, settled),
             Event::Refused(table) => self.refused(course, table),
-            Event::End | Event::ReadFault | Event::WriteFault => self.close(),
-            Event::Opened => Err(SessionError::Unasked),
+            Event::End | Event::ReadFault | Event::WriteFault => {
+                drop(course);
+                self.close()
+            }
+            Event::Opened => {
+                drop(course);
+                Err(SessionError::Unasked)
+            }
         }
     }
 
@@ -81,11 +128,8 @@ impl Session {
         ensures stays { OnErr result (self.new ≡ self.old) }
     {
         let mut course = course;
-        let kind = course.kind();
-        course.ask(table)?;
-        let actions = only(self.alloc, Action::Copy { table, kind })?;
-        self.stand(Phase::Open(course));
-        Ok(actions)
+        let asked = asked(self.alloc, &mut course, table);
+        self.stand_with(Phase::Open(course), asked)
     }
 
     /// Bytes came.
@@ -115,7 +159,11 @@ impl Session {
         ensures stays { OnErr result (self.new ≡ self.old) }
     {
         let mut course = course;
-        course.answer(Due::Copy(table))?;
+        if let Err(unasked) = course.answer(Due::Copy(table)) {
+            drop(course);
+            drop(batch);
+            return Err(unasked);
+        }
         Ok(self.teach(course, table, batch)?)
     }
 
@@ -126,11 +174,8 @@ impl Session {
         ensures stays { OnErr result (self.new ≡ self.old) }
     {
         let mut course = course;
-        let actions = only(self.alloc, Action::Teach(batch))?;
-        course.set_out(table, true);
-        course.owe_lesson()?;
-        self.stand(Phase::Open(course));
-        Ok(actions)
+        let taught = taught(self.alloc, &mut course, table, batch);
+        self.stand_with(Phase::Open(course), taught)
     }
 
     /// The table of that id has nothing to teach.
@@ -141,7 +186,10 @@ impl Session {
         ensures stays { OnErr result (self.new ≡ self.old) }
     {
         let mut course = course;
-        course.answer(Due::Copy(table))?;
+        if let Err(unasked) = course.answer(Due::Copy(table)) {
+            drop(course);
+            return Err(unasked);
+        }
         Ok(self.note_nothing(course, table)?)
     }
 
@@ -166,13 +214,12 @@ impl Session {
         ensures stays { OnErr result (self.new ≡ self.old) }
     {
         let mut course = course;
-        let mut actions = Vec::new(self.alloc);
         if all_quiet(course.shares.as_slice()) {
-            push_control(self.alloc, &mut actions, course.finished())?;
+            let said = only_control(self.alloc, course.finished());
             course.teaching = false;
+            return self.stand_with(Phase::Open(course), said);
         }
-        self.stand(Phase::Open(course));
-        Ok(actions)
+        Ok(self.wait(course))
     }
 
     /// The lesson was written, and ends in that known state.
@@ -183,7 +230,11 @@ impl Session {
         ensures stays { OnErr result (self.new ≡ self.old) }
     {
         let mut course = course;
-        course.answer(Due::Teach)?;
+        if let Err(unasked) = course.answer(Due::Teach) {
+            drop(course);
+            drop(known);
+            return Err(unasked);
+        }
         drop(mem::replace(&mut self.known, known));
         Ok(self.wait(course))
     }
@@ -201,7 +252,10 @@ impl Session {
         ensures stays { OnErr result (self.new ≡ self.old) }
     {
         let mut course = course;
-        course.answer(Due::Ack(table))?;
+        if let Err(unasked) = course.answer(Due::Ack(table)) {
+            drop(course);
+            return Err(unasked);
+        }
         match settled {
             Settled::All => Ok(self.free(course, table)?),
             Settled::Some | Settled::Older => Ok(self.wait(course)),
@@ -215,13 +269,12 @@ impl Session {
         ensures stays { OnErr result (self.new ≡ self.old) }
     {
         let mut course = course;
-        let mut actions = Vec::new(self.alloc);
         course.set_out(table, false);
         if course.waits && !any_out(course.shares.as_slice()) {
-            course.begin_teaching(&mut actions)?;
+            let begun = begun_teaching(self.alloc, &mut course);
+            return self.stand_with(Phase::Open(course), begun);
         }
-        self.stand(Phase::Open(course));
-        Ok(actions)
+        Ok(self.wait(course))
     }
 
     /// The remote peer acknowledged what the table of that id didn't teach.

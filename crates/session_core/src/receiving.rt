@@ -10,7 +10,7 @@ ghost use Rattle.session_core.specs.Shares.{any_out, is_out};
 ghost use Rattle.session_core.specs.Actions.{control_text, sends_control, sends_acks};
 ghost use Rattle.session_core.specs.Courses.{Course, course_fed, requested, acknowledged, said, message_received, is_failure, Receives, AreReceived, IsHalted, ReceivesAll, acks_sent, acks_given};
 
-use crate::action::{Action, push};
+use crate::action::{Action, only, push};
 use crate::course::Course;
 use crate::due::Due;
 use crate::halt::Halt;
@@ -21,7 +21,7 @@ use std::alloc::Global;
 use table_types::{Items, Memory};
 
 /// The bytes of a control message.
-pub(crate) fn control_text(alloc: Global, control: Control) -> Result<Items<u8>, Memory>
+fn control_text(alloc: Global, control: Control) -> Result<Items<u8>, Memory>
     ensures { IfOk result (λ bytes. bytes ≡ control_text control) }
 {
     let mut bytes = Vec::with_capacity(alloc, 2)?;
@@ -31,14 +31,17 @@ pub(crate) fn control_text(alloc: Global, control: Control) -> Result<Items<u8>,
 }
 
 /// Adds that a control message is to be sent.
-pub(crate) fn push_control(
-    alloc: Global,
-    actions: &mut Vec<Action>,
-    control: Control,
-) -> Result<(), Memory>
+fn push_control(alloc: Global, actions: &mut Vec<Action>, control: Control) -> Result<(), Memory>
     ensures { OnOk result (actions.new.items ≡ actions.old.items ++ (sends_control control ∷ [])) }
 {
     push(actions, Action::Send(control_text(alloc, control)?))
+}
+
+/// One action, that a control message is to be sent.
+pub(crate) fn only_control(alloc: Global, control: Control) -> Result<Vec<Action>, Memory>
+    ensures { IfOk result (λ acts. acts.items ≡ sends_control control ∷ []) }
+{
+    only(alloc, Action::Send(control_text(alloc, control)?))
 }
 
 /// The bytes of messages one after another.

@@ -21,7 +21,7 @@ use crate::error::SessionError;
 use crate::event::Event;
 use crate::halt::Halt;
 use crate::phase::{Greeter, Phase};
-use crate::receiving::control_text;
+use crate::receiving::only_control;
 use crate::state::State;
 use itoa::Buffer;
 use known_state::Known;
@@ -118,10 +118,7 @@ fn turn_away(alloc: Global, code: u16) -> Result<Vec<Action>, Memory>
 fn request(alloc: Global) -> Result<Vec<Action>, Memory>
     ensures { IfOk result (λ acts. acts.items ≡ sends_control controls.ResyncRequest ∷ []) }
 {
-    only(
-        alloc,
-        Action::Send(control_text(alloc, Control::ResyncRequest)?),
-    )
+    only_control(alloc, Control::ResyncRequest)
 }
 
 /// The error message that a breach is answered with.
@@ -234,8 +231,8 @@ impl Session {
         ensures ended { OnErr result (self.new ≡ ended self.old) }
     {
         match mem::replace(&mut self.phase, Phase::Ended) {
-            Phase::New(hello, course) => self.go_new(hello, course, event),
-            Phase::Hello(greeter, bytes, course) => self.go_hello(greeter, bytes, course, event),
+            Phase::New(hello, course) => self.go_new(hello, course, &event),
+            Phase::Hello(greeter, bytes, course) => self.go_hello(greeter, bytes, course, &event),
             Phase::Open(course) => self.go_open(course, event),
             Phase::Ended => Err(SessionError::Ended),
         }
@@ -246,6 +243,24 @@ impl Session {
         ensures { self.new ≡ in_phase self.old phase }
     {
         drop(mem::replace(&mut self.phase, phase));
+    }
+
+    /// Stands there, where there was memory for the actions.
+    pub(crate) fn stand_with(
+        &mut self,
+        phase: Phase,
+        actions: Result<Vec<Action>, Memory>,
+    ) -> Result<Vec<Action>, Memory>
+        ensures actions { result ≡ actions }
+        ensures session { IfOk result (λ _. self.new ≡ in_phase self.old phase) }
+        ensures stays { OnErr result (self.new ≡ self.old) }
+    {
+        if actions.is_ok() {
+            self.stand(phase);
+        } else {
+            drop(phase);
+        }
+        actions
     }
 
     /// Closes.
@@ -261,11 +276,11 @@ impl Session {
         &mut self,
         hello: Hello,
         course: Course,
-        event: Event,
+        event: &Event,
     ) -> Result<Vec<Action>, SessionError>
         requires { self.old.phase ≡ phases.Ended }
-        ensures goes { IfOk result (λ acts. GoesNew self.old hello course event acts.items self.new) }
-        ensures refused { IfErr result (λ e. IsWhy (is_asked_new event) e) }
+        ensures goes { IfOk result (λ acts. GoesNew self.old hello course event.now acts.items self.new) }
+        ensures refused { IfErr result (λ e. IsWhy (is_asked_new event.now) e) }
         ensures stays { OnErr result (self.new ≡ self.old) }
     {
         match event {
@@ -274,13 +289,19 @@ impl Session {
                 self.stand(Phase::New(hello, course));
                 Ok(Vec::new(self.alloc))
             }
-            Event::End | Event::ReadFault | Event::WriteFault => self.close(),
+            Event::End | Event::ReadFault | Event::WriteFault => {
+                drop(Phase::New(hello, course));
+                self.close()
+            }
             Event::Bytes(_)
             | Event::Copied(_, _)
             | Event::Nothing(_)
             | Event::Written(_)
             | Event::Settled(_, _)
-            | Event::Refused(_) => Err(SessionError::Unasked),
+            | Event::Refused(_) => {
+                drop(Phase::New(hello, course));
+                Err(SessionError::Unasked)
+            }
         }
     }
 
@@ -290,10 +311,10 @@ impl Session {
         ensures session { IfOk result (λ acts. self.new ≡ in_phase self.old (phases.Hello greeters.Connects [] course)) }
         ensures stays { OnErr result (self.new ≡ self.old) }
     {
-        let actions = greeting(self.alloc, &hello)?;
+        let greeting = greeting(self.alloc, &hello);
+        drop(hello);
         let bytes = Items::new(Vec::new(self.alloc));
-        self.stand(Phase::Hello(Greeter::Connects, bytes, course));
-        Ok(actions)
+        self.stand_with(Phase::Hello(Greeter::Connects, bytes, course), greeting)
     }
 
     /// An event of a session in which the hello or the status isn't whole yet.
@@ -302,32 +323,54 @@ impl Session {
         greeter: Greeter,
         bytes: Items<u8>,
         course: Course,
-        event: Event,
+        event: &Event,
     ) -> Result<Vec<Action>, SessionError>
         requires { self.old.phase ≡ phases.Ended }
-        ensures goes { IfOk result (λ acts. GoesHello self.old greeter bytes course event acts.items self.new) }
-        ensures refused { IfErr result (λ e. IsWhy (is_asked_hello event) e) }
+        ensures goes { IfOk result (λ acts. GoesHello self.old greeter bytes course event.now acts.items self.new) }
+        ensures refused { IfErr result (λ e. IsWhy (is_asked_hello event.now) e) }
         ensures stays { OnErr result (self.new ≡ self.old) }
     {
         match event {
-            Event::Bytes(piece) => {
-                let mut bytes = bytes.into_vec();
-                bytes
-                    .extend_from_slice(piece.as_slice())
-                    .map_err(Memory::from)?;
-                Ok(self.read_greeting(greeter, Items::new(bytes), course)?)
-            }
+            Event::Bytes(piece) => Ok(self.hear(greeter, bytes, course, piece.as_slice())?),
             Event::Turn => {
                 self.stand(Phase::Hello(greeter, bytes, course));
                 Ok(Vec::new(self.alloc))
             }
-            Event::End | Event::ReadFault | Event::WriteFault => self.close(),
+            Event::End | Event::ReadFault | Event::WriteFault => {
+                drop(Phase::Hello(greeter, bytes, course));
+                self.close()
+            }
             Event::Opened
             | Event::Copied(_, _)
             | Event::Nothing(_)
             | Event::Written(_)
             | Event::Settled(_, _)
-            | Event::Refused(_) => Err(SessionError::Unasked),
+            | Event::Refused(_) => {
+                drop(Phase::Hello(greeter, bytes, course));
+                Err(SessionError::Unasked)
+            }
+        }
+    }
+
+    /// A piece came of the hello or the status.
+    fn hear(
+        &mut self,
+        greeter: Greeter,
+        bytes: Items<u8>,
+        course: Course,
+        piece: &[u8],
+    ) -> Result<Vec<Action>, Memory>
+        requires { self.old.phase ≡ phases.Ended }
+        ensures goes { IfOk result (λ acts. Greets self.old greeter (bytes ++ piece.now) course acts.items self.new) }
+        ensures stays { OnErr result (self.new ≡ self.old) }
+    {
+        let mut bytes = bytes.into_vec();
+        match bytes.extend_from_slice(piece) {
+            Ok(()) => self.read_greeting(greeter, Items::new(bytes), course),
+            Err(refused) => {
+                drop(Phase::Hello(greeter, Items::new(bytes), course));
+                Err(Memory::from(refused))
+            }
         }
     }
 
@@ -361,13 +404,31 @@ impl Session {
             }
             Status::Code(code, used) => {
                 if code == 200 {
-                    let actions = request(self.alloc)?;
-                    self.receive(course, after(bytes.as_slice(), used), actions)
+                    self.begin(course, after(bytes.as_slice(), used))
                 } else {
+                    drop(course);
                     only(self.alloc, Action::Close)
                 }
             }
-            Status::Other(_) => only(self.alloc, Action::Close),
+            Status::Other(_) => {
+                drop(course);
+                only(self.alloc, Action::Close)
+            }
+        }
+    }
+
+    /// Asks for a resync, and receives the messages in these bytes.
+    fn begin(&mut self, course: Course, bytes: &[u8]) -> Result<Vec<Action>, Memory>
+        requires { self.old.phase ≡ phases.Ended }
+        ensures goes { IfOk result (λ acts. ReceivesBytes self.old (course_fed course bytes.now) (sends_control controls.ResyncRequest ∷ []) acts.items self.new) }
+        ensures stays { OnErr result (self.new ≡ self.old) }
+    {
+        match request(self.alloc) {
+            Ok(first) => self.receive(course, bytes, first),
+            Err(refused) => {
+                drop(course);
+                Err(refused)
+            }
         }
     }
 
@@ -383,16 +444,41 @@ impl Session {
         ensures goes { IfOk result (λ acts. Accepts (answer_of own peers bytes) self.old (greeters.Accepts own peers) bytes course acts.items self.new) }
         ensures stays { OnErr result (self.new ≡ self.old) }
     {
-        match Hello::read(self.alloc, bytes.as_slice(), &own, peers.as_slice())? {
-            Answer::More => {
-                self.stand(Phase::Hello(Greeter::Accepts { own, peers }, bytes, course));
+        let answer = Hello::read(self.alloc, bytes.as_slice(), &own, peers.as_slice());
+        let greeter = Greeter::Accepts { own, peers };
+        match answer {
+            Ok(Answer::More) => {
+                self.stand(Phase::Hello(greeter, bytes, course));
                 Ok(Vec::new(self.alloc))
             }
-            Answer::Accepted(_, used) => {
-                let actions = welcome(self.alloc)?;
-                self.receive(course, after(bytes.as_slice(), used), actions)
+            Ok(Answer::Accepted(peer, used)) => {
+                drop(peer);
+                drop(greeter);
+                self.let_in(course, after(bytes.as_slice(), used))
             }
-            Answer::Refused(code, _) => turn_away(self.alloc, code),
+            Ok(Answer::Refused(code, _)) => {
+                drop(Phase::Hello(greeter, bytes, course));
+                turn_away(self.alloc, code)
+            }
+            Err(refused) => {
+                drop(Phase::Hello(greeter, bytes, course));
+                Err(refused)
+            }
+        }
+    }
+
+    /// Answers that the peer is let in, and receives the messages in these bytes.
+    fn let_in(&mut self, course: Course, bytes: &[u8]) -> Result<Vec<Action>, Memory>
+        requires { self.old.phase ≡ phases.Ended }
+        ensures goes { IfOk result (λ acts. ReceivesBytes self.old (course_fed course bytes.now) (actions.Send (status_text 200) ∷ []) acts.items self.new) }
+        ensures stays { OnErr result (self.new ≡ self.old) }
+    {
+        match welcome(self.alloc) {
+            Ok(first) => self.receive(course, bytes, first),
+            Err(refused) => {
+                drop(course);
+                Err(refused)
+            }
         }
     }
 
