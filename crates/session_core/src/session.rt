@@ -231,8 +231,16 @@ impl Session {
         ensures ended { OnErr result (self.new ≡ ended self.old) }
     {
         match mem::replace(&mut self.phase, Phase::Ended) {
-            Phase::New(hello, course) => self.go_new(hello, course, &event),
-            Phase::Hello(greeter, bytes, course) => self.go_hello(greeter, bytes, course, &event),
+            Phase::New(hello, course) => {
+                let given = self.go_new(hello, course, &event);
+                drop(event);
+                given
+            }
+            Phase::Hello(greeter, bytes, course) => {
+                let given = self.go_hello(greeter, bytes, course, &event);
+                drop(event);
+                given
+            }
             Phase::Open(course) => self.go_open(course, event),
             Phase::Ended => Err(SessionError::Ended),
         }
@@ -514,15 +522,26 @@ impl Session {
         match received {
             Ok(()) => {
                 let mut course = course;
-                course.send_acks(self.alloc, &mut actions)?;
+                if let Err(refused) = course.send_acks(self.alloc, &mut actions) {
+                    drop(course);
+                    drop(actions);
+                    return Err(refused);
+                }
                 self.stand(Phase::Open(course));
             }
-            Err(Halt::Failed) => push(&mut actions, Action::Close)?,
+            Err(Halt::Failed) => {
+                drop(course);
+                push(&mut actions, Action::Close)?;
+            }
             Err(Halt::Fault(fault)) => {
                 push(&mut actions, Action::Part(kind_of(fault)))?;
                 self.fault = Some(fault);
             }
-            Err(Halt::Memory) => return Err(Memory),
+            Err(Halt::Memory) => {
+                drop(course);
+                drop(actions);
+                return Err(Memory);
+            }
         }
         self.confirmed = self.confirmed || confirms(actions.as_slice());
         Ok(actions)
