@@ -1,6 +1,6 @@
 //! Sessions.
 
-ghost use Rattle.std.specs.Prelude.{◌≡◌, ◌≢◌, ◌∷◌, ◌++◌, [], None, Ok, Err, IfOk, IfErr, OnErr, drop};
+ghost use Rattle.std.specs.Prelude.{◌≡◌, ◌≢◌, ◌∷◌, ◌++◌, [], None, Ok, Err, IfOk, IfErr, OnOk, OnErr, drop};
 ghost use Rattle.known_state.specs.Known.{fresh_of};
 ghost use Rattle.peers_hello.specs.Hellos.{hello_text, answer_of};
 ghost use Rattle.peers_hello.specs.Statuses.{status_of};
@@ -12,8 +12,8 @@ ghost use Rattle.session_core.specs.declared.phase.Greeter.TheVariants as greete
 ghost use Rattle.session_core.specs.declared.phase.Phase.TheVariants as phases;
 ghost use Rattle.session_core.specs.Actions.{status_text, sends_control};
 ghost use Rattle.peers_msg.specs.declared.control.Control.TheVariants as controls;
-ghost use Rattle.session_core.specs.Courses.{course_fed};
-ghost use Rattle.session_core.specs.Sessions.{Goes, GoesNew, GoesHello, Connects, Accepts, Greets, ReceivesBytes, Concludes, Refuses, IsWhy, is_asked_new, is_asked_hello, connecting, accepting, in_phase, ended, state_of, kind_of_breach, kind_of_fault};
+ghost use Rattle.session_core.specs.Courses.{course_fed, acks_sent, acks_given};
+ghost use Rattle.session_core.specs.Sessions.{Goes, GoesNew, GoesHello, Connects, Accepts, Greets, ReceivesBytes, Concludes, confirmed_by, Refuses, IsWhy, is_asked_new, is_asked_hello, connecting, accepting, in_phase, ended, state_of, kind_of_breach, kind_of_fault};
 
 use crate::action::{Action, confirms, only, push};
 use crate::course::Course;
@@ -518,30 +518,40 @@ impl Session {
         ensures memory { IfOk result (λ _. received ≢ Err halts.Memory) }
         ensures stays { OnErr result (self.new ≡ self.old) }
     {
+        let mut course = course;
+        let goes_on = received.is_ok();
+        let actions = self.follow_up(&mut course, received, given);
+        if goes_on {
+            self.stand_with(Phase::Open(course), actions)
+        } else {
+            drop(course);
+            actions
+        }
+    }
+
+    /// Gives what follows the messages that were received: the acknowledgements that are due, or the end by what halted.
+    fn follow_up(
+        &mut self,
+        course: &mut Course,
+        received: Result<(), Halt>,
+        given: Vec<Action>,
+    ) -> Result<Vec<Action>, Memory>
+        requires { self.old.phase ≡ phases.Ended }
+        ensures acts { IfOk received (λ _. IfOk result (λ acts. acts.items ≡ given.items ++ acks_given course.old)) }
+        ensures course { IfOk received (λ _. OnOk result (course.new ≡ acks_sent course.old)) }
+        ensures session { IfOk received (λ _. IfOk result (λ acts. self.new ≡ confirmed_by acts.items self.old)) }
+        ensures halted { IfErr received (λ halt. IfOk result (λ acts. Concludes self.old course.old (Err halt) given.items acts.items self.new)) }
+        ensures stays { OnErr result (self.new ≡ self.old) }
+    {
         let mut actions = given;
         match received {
-            Ok(()) => {
-                let mut course = course;
-                if let Err(refused) = course.send_acks(self.alloc, &mut actions) {
-                    drop(course);
-                    drop(actions);
-                    return Err(refused);
-                }
-                self.stand(Phase::Open(course));
-            }
-            Err(Halt::Failed) => {
-                drop(course);
-                push(&mut actions, Action::Close)?;
-            }
+            Ok(()) => course.send_acks(self.alloc, &mut actions)?,
+            Err(Halt::Failed) => push(&mut actions, Action::Close)?,
             Err(Halt::Fault(fault)) => {
                 push(&mut actions, Action::Part(kind_of(fault)))?;
                 self.fault = Some(fault);
             }
-            Err(Halt::Memory) => {
-                drop(course);
-                drop(actions);
-                return Err(Memory);
-            }
+            Err(Halt::Memory) => return Err(Memory),
         }
         self.confirmed = self.confirmed || confirms(actions.as_slice());
         Ok(actions)
