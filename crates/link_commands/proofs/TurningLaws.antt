@@ -1,5 +1,5 @@
 -- Turns one after another.
-use Rattle.std.proofs.Common.{arith, ◌≡◌, ◌≤◌, ◌<◌, ◌+◌, ◌-◌, ◌++◌, ℕ, suc, Bool, List, [], Option, Some, None, Result, Ok, Err, IfErr, IfOk, append_assoc, refl, subst, sym}
+use Rattle.std.proofs.Common.{arith, ◌≡◌, ◌≤◌, ◌<◌, ◌+◌, ◌-◌, ◌++◌, ℕ, suc, Bool, List, [], Option, Some, None, Result, Ok, Err, IfErr, IfOk, append_assoc, inl, inr, refl, subst, sym}
 use Rattle.std.specs.Prelude.{◌↔◌, OnErr, OnOk}
 use Rattle.std.proofs.lemmas.List.{append-nil}
 use Rattle.std.proofs.KnownBytes.{Appends-nil, Appends-trans, Consumes-nil, Consumes-trans}
@@ -147,21 +147,31 @@ all_made_there leaves start s place seat turns before from to a b enough most (r
 
 -- ---- one turn
 
-ok_way : (w e : Worker) (gave : Turned) (from to a b : Option (List ℕ))
-    → (event : Option Event) × (received sent : List ℕ) × IsRead event received × TakesTurn w event sent e × Consumes from to received × Appends a b sent
-    → ((gave ≡ turned.Closed) ↔ (state_of e.session.phase ≡ states.Ended)) → HasTaken w (Ok gave) e from to a b
-ok_way w e gave from to a b (event, received, sent, reads, takes, consumed, appended) closed = (received, sent, ((event, reads, takes), closed), consumed, appended)
+-- a turn whose first event leaves something to do receives nothing
+still_takes : {untouched : Type 0} (w e : Worker) (event : Option Event) (received sent : List ℕ) → IsRead event received → TakesTurn untouched w event sent e → TakesTurn (received ≡ []) w event sent e
+still_takes w e event received sent reads (inl (still, none, reacts)) = inl (subst (λ (x : Option Event). IsRead x received) none reads, none, reacts)
+still_takes w e event received sent reads (inr more) = inr more
 
-err_way : (w e : Worker) (error : EngineError) (from to a b : Option (List ℕ))
-    → (event : Option Event) × (received sent : List ℕ) × IsRead event received × StopsTurn w event error sent e.session × Consumes from to received × Appends a b sent
+still_stops : {untouched : Type 0} (w : Worker) (e : SessionState) (event : Option Event) (error : EngineError) (received sent : List ℕ) → IsRead event received → StopsTurn untouched w event error sent e
+    → StopsTurn (received ≡ []) w event error sent e
+still_stops w e event error received sent reads (inl (still, none, halts)) = inl (subst (λ (x : Option Event). IsRead x received) none reads, none, halts)
+still_stops w e event error received sent reads (inr more) = inr more
+
+ok_way : {untouched : Type 0} (w e : Worker) (gave : Turned) (from to a b : Option (List ℕ))
+    → (event : Option Event) × (received sent : List ℕ) × IsRead event received × TakesTurn untouched w event sent e × Consumes from to received × Appends a b sent
+    → ((gave ≡ turned.Closed) ↔ (state_of e.session.phase ≡ states.Ended)) → HasTaken w (Ok gave) e from to a b
+ok_way w e gave from to a b (event, received, sent, reads, takes, consumed, appended) closed = (received, sent, ((event, reads, still_takes w e event received sent reads takes), closed), consumed, appended)
+
+err_way : {untouched : Type 0} (w e : Worker) (error : EngineError) (from to a b : Option (List ℕ))
+    → (event : Option Event) × (received sent : List ℕ) × IsRead event received × StopsTurn untouched w event error sent e.session × Consumes from to received × Appends a b sent
     → state_of e.session.phase ≡ states.Ended → HasTaken w (Err error) e from to a b
-err_way w e error from to a b (event, received, sent, reads, stops, consumed, appended) over = (received, sent, ((event, reads, stops), over), consumed, appended)
+err_way w e error from to a b (event, received, sent, reads, stops, consumed, appended) over = (received, sent, ((event, reads, still_stops w e.session event error received sent reads stops), over), consumed, appended)
 
 -- by what the turn says where it ends well, and where it doesn't
-pub both_ways : (w e : Worker) (gave : Result Turned EngineError) (from to a b : Option (List ℕ))
-    → OnOk gave ((event : Option Event) × (received sent : List ℕ) × IsRead event received × TakesTurn w event sent e × Consumes from to received × Appends a b sent)
+pub both_ways : {untouched : Type 0} (w e : Worker) (gave : Result Turned EngineError) (from to a b : Option (List ℕ))
+    → OnOk gave ((event : Option Event) × (received sent : List ℕ) × IsRead event received × TakesTurn untouched w event sent e × Consumes from to received × Appends a b sent)
     → IfOk gave (λ t. (t ≡ turned.Closed) ↔ (state_of e.session.phase ≡ states.Ended))
-    → IfErr gave (λ error. (event : Option Event) × (received sent : List ℕ) × IsRead event received × StopsTurn w event error sent e.session × Consumes from to received × Appends a b sent)
+    → IfErr gave (λ error. (event : Option Event) × (received sent : List ℕ) × IsRead event received × StopsTurn untouched w event error sent e.session × Consumes from to received × Appends a b sent)
     → OnErr gave (state_of e.session.phase ≡ states.Ended) → HasTaken w gave e from to a b
 both_ways w e (Ok gave) from to a b written closed stopped over = ok_way w e gave from to a b written closed
 both_ways w e (Err error) from to a b written closed stopped over = err_way w e error from to a b stopped over

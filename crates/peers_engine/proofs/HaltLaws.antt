@@ -142,8 +142,8 @@ receives_run s e None out (nothing, same) = ([], ap (λ (x : Worker). x.session)
 receives_run s e (Some event) out reacts = let one = run_of s e event out reacts in ((event, one.0) ∷ one.1, one.2)
 
 -- the session moved by a run
-pub turns_of : (s e : Worker) (received : Option Event) (out : List ℕ) → TakesTurn s received out e → Turns s.session e.session
-turns_of s e received out (inl (none, reacts)) = run_of s e (first_event (state_of s.session.phase)) out reacts
+pub turns_of : {untouched : Type 0} (s e : Worker) (received : Option Event) (out : List ℕ) → TakesTurn untouched s received out e → Turns s.session e.session
+turns_of s e received out (inl (still, none, reacts)) = run_of s e (first_event (state_of s.session.phase)) out reacts
 turns_of s e received out (inr (mid, idles, receives)) =
     let one = idles_run s mid (first_event (state_of s.session.phase)) idles in
     let more = receives_run mid e received out receives in
@@ -168,8 +168,8 @@ halted_ran s e (Some event) error out halts = elim (halts_ran s e event error ou
 ]
 
 -- the session moved by a run or none, and was then ended
-pub breaks_of : (s : Worker) (e new : SessionState) (received : Option Event) (error : EngineError) (out : List ℕ) → StopsTurn s received error out e → new ≡ ended e → Breaks s.session new
-breaks_of s e new received error out (inl (none, halts)) is = elim (halts_ran s e (first_event (state_of s.session.phase)) error out halts) [
+pub breaks_of : {untouched : Type 0} (s : Worker) (e new : SessionState) (received : Option Event) (error : EngineError) (out : List ℕ) → StopsTurn untouched s received error out e → new ≡ ended e → Breaks s.session new
+breaks_of s e new received error out (inl (still, none, halts)) is = elim (halts_ran s e (first_event (state_of s.session.phase)) error out halts) [
   | inl same ↦ inl (is ∙ same)
   | inr ran ↦ inr (ran.2, (ran.0, ran.1, ran.3), is ∙ ran.4)
 ]
@@ -188,13 +188,13 @@ halts_ended : (s : Worker) (e : SessionState) (received : Option Event) (error :
 halts_ended s e None error out halts = halts
 halts_ended s e (Some event) error out halts = halt_ended s e event error out halts
 
-stops_ended : (s : Worker) (e : SessionState) (received : Option Event) (error : EngineError) (out : List ℕ) → StopsTurn s received error out e → StopsTurn s received error out (ended e)
-stops_ended s e received error out (inl (none, halts)) = inl (none, halt_ended s e (first_event (state_of s.session.phase)) error out halts)
+stops_ended : {untouched : Type 0} (s : Worker) (e : SessionState) (received : Option Event) (error : EngineError) (out : List ℕ) → StopsTurn untouched s received error out e → StopsTurn untouched s received error out (ended e)
+stops_ended s e received error out (inl (still, none, halts)) = inl (still, none, halt_ended s e (first_event (state_of s.session.phase)) error out halts)
 stops_ended s e received error out (inr (mid, idles, halts)) = inr (mid, idles, halts_ended mid e received error out halts)
 
 -- what was written stays written when the session is ended
-pub halted : (s : Worker) (e new : SessionState) (received : Option Event) (error : EngineError) (out : List ℕ) → StopsTurn s received error out e → new ≡ ended e → StopsTurn s received error out new
-halted s e new received error out halts is = subst (λ (x : SessionState). StopsTurn s received error out x) (sym is) (stops_ended s e received error out halts)
+pub halted : {untouched : Type 0} (s : Worker) (e new : SessionState) (received : Option Event) (error : EngineError) (out : List ℕ) → StopsTurn untouched s received error out e → new ≡ ended e → StopsTurn untouched s received error out new
+halted {untouched} s e new received error out halts is = subst (λ (x : SessionState). StopsTurn untouched s received error out x) (sym is) (stops_ended s e received error out halts)
 
 -- ---- nothing to do
 

@@ -88,14 +88,15 @@ abbrev pub HaltsAt : Worker → Option Event → EngineError → List ℕ → Se
 HaltsAt w None error out e = IsUnread error × (out ≡ []) × (ended e ≡ ended w.session)
 HaltsAt w (Some event) error out e = Halts w event error out e
 
--- A turn receives its first event; and where that leaves nothing to do it reads, and receives the event that comes of it, if any.
-abbrev pub TakesTurn : Worker → Option Event → List ℕ → Worker → Type 0
-TakesTurn w received out e =
-    ((received ≡ None) × Reacts w (first_event (state_of w.session.phase)) out e)
+-- A turn receives its first event, with the reader untouched; or that event leaves nothing to do, and then the turn reads, and
+-- receives the event that comes of it, if any.
+abbrev pub TakesTurn : Type 0 → Worker → Option Event → List ℕ → Worker → Type 0
+TakesTurn untouched w received out e =
+    (untouched × (received ≡ None) × Reacts w (first_event (state_of w.session.phase)) out e)
     ⊎ ((mid : Worker) × Idles w (first_event (state_of w.session.phase)) mid × Receives mid received out e)
 
 -- the same up to an error
-abbrev pub StopsTurn : Worker → Option Event → EngineError → List ℕ → SessionState → Type 0
-StopsTurn w received error out e =
-    ((received ≡ None) × Halts w (first_event (state_of w.session.phase)) error out e)
+abbrev pub StopsTurn : Type 0 → Worker → Option Event → EngineError → List ℕ → SessionState → Type 0
+StopsTurn untouched w received error out e =
+    (untouched × (received ≡ None) × Halts w (first_event (state_of w.session.phase)) error out e)
     ⊎ ((mid : Worker) × Idles w (first_event (state_of w.session.phase)) mid × HaltsAt mid received error out e)

@@ -1,6 +1,6 @@
 //! A turn of a session.
 
-ghost use Rattle.std.specs.Prelude.{◌≡◌, ◌≢◌, ◌↔◌, ◌⊎◌, ◌++◌, [], ℕ, Bool, true, List, Option, Some, Ok, Err, IfErr, IfOk, OnErr, OnOk};
+ghost use Rattle.std.specs.Prelude.{◌≡◌, ◌≢◌, ◌↔◌, ◌++◌, [], ℕ, Bool, true, List, Option, Some, Ok, Err, IfErr, IfOk, OnErr, OnOk};
 ghost use Rattle.std.specs.List.{list_all};
 ghost use Rattle.std.specs.Io.KnownBytes.{Appends, Consumes};
 ghost use Rattle.peers_devices.specs.Failures.{Rose};
@@ -12,7 +12,7 @@ ghost use Rattle.session_core.specs.declared.state.State.TheVariants as states;
 ghost use Rattle.session_core.specs.Sessions.{Goes, Refuses, ended, state_of};
 ghost use Rattle.peers_engine.specs.declared.errors.EngineError.TheVariants as errors;
 ghost use Rattle.peers_engine.specs.declared.errors.Turned.TheVariants as turns;
-ghost use Rattle.peers_engine.specs.Doing.{Acts, DoesNotGoOn, Stops, IsGiven, Worker, asked, worker};
+ghost use Rattle.peers_engine.specs.Doing.{Acts, DoesNotGoOn, Stops, IsGiven, asked, worker};
 ghost use Rattle.peers_engine.specs.Turns.{Breaks, Halts, HaltsAt, Receives, Idles, IsRead, Reacts, StopsTurn, TakesTurn, Turns, first_event, is_push};
 
 use crate::context::Context;
@@ -184,15 +184,14 @@ fn take_turn<H: Wait, G: Gate, R: Read + Faults, W: Write + Faults>(
 ) -> (Seat, Result<bool, EngineError>)
     ensures seat { result.0.number ≡ seat.number }
     ensures done { OnOk result.1 ((received : Option Event) × (read out : List ℕ) × IsRead received read
-        × TakesTurn (worker session.old seat context.now.number context.now.moment) received out (worker session.new result.0 context.now.number context.now.moment)
+        × TakesTurn (input.new ≡ input.old) (worker session.old seat context.now.number context.now.moment) received out (worker session.new result.0 context.now.number context.now.moment)
         × Consumes (R.remaining input.old) (R.remaining input.new) read
         × Appends (W.contents output.old) (W.contents output.new) out) }
     ensures failed { IfErr result.1 (λ e. (received : Option Event) × (read out : List ℕ) × IsRead received read
-        × StopsTurn (worker session.old seat context.now.number context.now.moment) received e out session.new
+        × StopsTurn (input.new ≡ input.old) (worker session.old seat context.now.number context.now.moment) received e out session.new
         × Consumes (R.remaining input.old) (R.remaining input.new) read
         × Appends (W.contents output.old) (W.contents output.new) out) }
     ensures read { result.1 ≡ Err errors.Read → Rose (R.failed input.old) (R.failed input.new) }
-    ensures reads { (input.new ≡ input.old) ⊎ ((mid : Worker) × Idles (worker session.old seat context.now.number context.now.moment) (first_event (state_of session.old.phase)) mid) }
     ensures refused { (e : SessionError) → e ≢ refusals.Memory → Refuses session.old.phase (first_event (state_of session.old.phase)) e
         → (result.1 ≡ Err (errors.Session e)) × (input.new ≡ input.old) × (output.new ≡ output.old) }
 {
@@ -249,15 +248,14 @@ pub fn turn<H: Wait, R: Read + Faults, W: Write + Faults, G: Gate>(
     ensures ended { OnErr result.1 (state_of session.new.phase ≡ states.Ended) }
     ensures seat { result.0.number ≡ seat.number }
     ensures written { OnOk result.1 ((received : Option Event) × (read out : List ℕ) × IsRead received read
-        × TakesTurn (worker session.old seat number now) received out (worker session.new result.0 number now)
+        × TakesTurn (input.new ≡ input.old) (worker session.old seat number now) received out (worker session.new result.0 number now)
         × Consumes (R.remaining input.old) (R.remaining input.new) read
         × Appends (W.contents output.old) (W.contents output.new) out) }
     ensures stopped { IfErr result.1 (λ e. (received : Option Event) × (read out : List ℕ) × IsRead received read
-        × StopsTurn (worker session.old seat number now) received e out session.new
+        × StopsTurn (input.new ≡ input.old) (worker session.old seat number now) received e out session.new
         × Consumes (R.remaining input.old) (R.remaining input.new) read
         × Appends (W.contents output.old) (W.contents output.new) out) }
     ensures read { result.1 ≡ Err errors.Read → Rose (R.failed input.old) (R.failed input.new) }
-    ensures reads { (input.new ≡ input.old) ⊎ ((mid : Worker) × Idles (worker session.old seat number now) (first_event (state_of session.old.phase)) mid) }
     ensures refused { (e : SessionError) → e ≢ refusals.Memory → Refuses session.old.phase (first_event (state_of session.old.phase)) e
         → (result.1 ≡ Err (errors.Session e)) × (input.new ≡ input.old) × (output.new ≡ output.old) }
     ensures over { state_of session.old.phase ≡ states.Ended

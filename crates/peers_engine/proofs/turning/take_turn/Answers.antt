@@ -1,4 +1,4 @@
-use Rattle.std.proofs.Common.{Ok, ◌∙◌, ap}
+use Rattle.std.proofs.Common.{Ok, ◌∙◌, ap, refl}
 use Rattle.std.proofs.lemmas.Result.{IfErr-weaker, on_ok_weaker}
 use Rattle.peers_engine.specs.Doing.{worker}
 use Rattle.peers_engine.specs.Turns.{first_event}
@@ -33,6 +33,7 @@ returns-in-Ok-false-clause-done g c =
     (contents c.args.output.now) (contents c.react-seat.new.output) (c.first_event-event.ensures ∙ ap first_event c.state.ensures)
     (of_ok (λ idle. HasReacted s c.first_event-event.result (worker c.react-seat.new.session c.react-seat.result.0 c.args.context.now.number c.args.context.now.moment) (contents c.args.output.now) (contents c.react-seat.new.output))
     c.react-seat.result.1 _ c.react-seat.ensures.done c.in-Ok-false.is)
+    refl
 
 pub returns-in-Err-clause-failed : goal.returns-in-Err-clause-failed
 returns-in-Err-clause-failed g c =
@@ -42,3 +43,4 @@ returns-in-Err-clause-failed g c =
     (contents c.args.output.now) (contents c.react-seat.new.output) (c.first_event-event.ensures ∙ ap first_event c.state.ensures)
     (of_err (HasHalted s c.first_event-event.result c.react-seat.new.session (contents c.args.output.now) (contents c.react-seat.new.output))
     c.react-seat.result.1 c.in-Err.error c.react-seat.ensures.failed c.in-Err.is)
+    refl
