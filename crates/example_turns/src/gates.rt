@@ -4,15 +4,16 @@ use crate::sides::{SESSION, Side, turned};
 use crate::turns::{Story, is_lived};
 use crate::waiting::Waiting;
 use example_shards::{comes, track};
-use peers_devices::Counting;
+use peers_devices::{Counting, Faults};
 use peers_engine::{EngineError, Gate, Stage, Turned};
 use session_core::Session;
 use std::alloc::Global;
+use std::io::Write;
 use std::sync::Wait;
 use std::sync::atomic::{AtomicBool, AtomicU32, Ordering};
-use std::thread;
 use std::thread::Threads;
 use std::time::Clock;
+use std::{io, thread};
 use table_shards::{Seat, Shards, held};
 use table_types::{CopyKind, Moment};
 
@@ -48,6 +49,11 @@ struct Noting<'a> {
     was_locked: AtomicBool,
 }
 
+/// Whether the lock of `t1` is free.
+fn is_free(shards: &Shards) -> bool {
+    shards.cell(1).and_then(|lock| lock.try_lock()).is_some()
+}
+
 /// The digit of a stage.
 fn digit(stage: Stage) -> u32 {
     match stage {
@@ -62,14 +68,40 @@ impl Gate for Noting<'_> {
         let earlier = self.stages.load(Ordering::SeqCst);
         let noted = earlier.wrapping_mul(10).wrapping_add(digit(stage));
         self.stages.store(noted, Ordering::SeqCst);
-        let is_free = self
-            .shards
-            .cell(1)
-            .and_then(|lock| lock.try_lock())
-            .is_some();
-        if !is_free {
+        if !is_free(self.shards) {
             self.was_locked.store(true, Ordering::SeqCst);
         }
+    }
+}
+
+/// A writer that notes whether the lock of `t1` was held while it was given bytes.
+#[derive(Drop)]
+struct Watching<'a, W> {
+    shards: &'a Shards,
+    inner: W,
+    was_locked: bool,
+}
+
+impl<W: Faults> Faults for Watching<'_, W> {
+    ghost failed = { λ w. W.failed w.inner };
+
+    fn failures(&self) -> u64 {
+        self.inner.failures()
+    }
+}
+
+impl<W: Write> Write for Watching<'_, W> {
+    ghost contents = { λ w. W.contents w.inner };
+
+    fn write(&mut self, buf: &[u8]) -> io::Result<usize> {
+        if !is_free(self.shards) {
+            self.was_locked = true;
+        }
+        self.inner.write(buf)
+    }
+
+    fn flush(&mut self) -> io::Result<()> {
+        self.inner.flush()
     }
 }
 
@@ -81,7 +113,21 @@ struct Outcome {
 }
 
 /// A turn that finds nothing to read. `None` where the seat isn't there.
-fn teaches<H: Wait, G: Gate>(
+fn teaches<H: Wait, W: Write + Faults, G: Gate>(
+    rt: &H,
+    alloc: Global,
+    session: &mut Session,
+    output: &mut W,
+    shards: &Shards,
+    seat: &mut Option<Seat>,
+    gate: &G,
+) -> Option<Result<Turned, EngineError>> {
+    let mut input = Waiting::new(b"");
+    turned(rt, alloc, session, &mut input, output, gate, shards, seat)
+}
+
+/// What comes of such a turn. `None` where the seat isn't there.
+fn taught<H: Wait, G: Gate>(
     rt: &H,
     alloc: Global,
     session: &mut Session,
@@ -89,23 +135,13 @@ fn teaches<H: Wait, G: Gate>(
     seat: &mut Option<Seat>,
     gate: &G,
 ) -> Option<Outcome> {
-    let mut input = Waiting::new(b"");
     let mut output = Counting::new(Vec::new(alloc));
-    let turned = turned(
-        rt,
-        alloc,
-        session,
-        &mut input,
-        &mut output,
-        gate,
-        shards,
-        seat,
-    )?;
+    let turned = teaches(rt, alloc, session, &mut output, shards, seat, gate)?;
     let sent = output.into_inner().len();
     Some(Outcome { turned, sent })
 }
 
-/// Whether a lesson is copied, planned and written, in that order, and no lock is held at the gate.
+/// Whether a lesson is copied, planned and written, in that order, and no lock is held at the gate, nor while it is written.
 fn notes_stages<H: Wait>(rt: &H, alloc: Global, side: &mut Side) -> Option<bool> {
     let Side {
         session,
@@ -118,10 +154,15 @@ fn notes_stages<H: Wait>(rt: &H, alloc: Global, side: &mut Side) -> Option<bool>
         stages: AtomicU32::new(0),
         was_locked: AtomicBool::new(false),
     };
-    let outcome = teaches(rt, alloc, session, shards, seat, &gate)?;
+    let mut output = Watching {
+        shards: &*shards,
+        inner: Counting::new(Vec::new(alloc)),
+        was_locked: false,
+    };
+    let turned = teaches(rt, alloc, session, &mut output, shards, seat, &gate)?;
     let stages = gate.stages.load(Ordering::SeqCst);
-    let was_locked = gate.was_locked.load(Ordering::SeqCst);
-    Some(outcome.turned == Ok(Turned::Going) && stages == 123 && !was_locked)
+    let was_locked = gate.was_locked.load(Ordering::SeqCst) || output.was_locked;
+    Some(turned == Ok(Turned::Going) && stages == 123 && !was_locked)
 }
 
 /// The same of a side after a story.
@@ -130,7 +171,8 @@ fn notes_after<H: Wait>(rt: &H, alloc: Global, side: &mut Side, story: &Story) -
     Some(was_lived && notes_stages(rt, alloc, side)?)
 }
 
-/// Whether the turn after a story, which writes a lesson, comes to all stages in their order, and no lock is held at one.
+/// Whether the turn after a story, which writes a lesson, comes to all stages in their order, and no lock is held at one, nor
+/// while the lesson is written.
 pub fn comes_to_stages<H: Wait>(rt: &H, alloc: Global, story: &Story) -> Option<bool> {
     let mut side = story.tables.side(alloc, story.role)?;
     let noted = notes_after(rt, alloc, &mut side, story);
@@ -240,7 +282,7 @@ fn held_over<H: Threads + Wait + Clock + Sync>(
     let shards = &*shards;
     let (outcome, was_answered) = thread::join(
         rt,
-        || teaches(rt, alloc, session, shards, seat, &gate),
+        || taught(rt, alloc, session, shards, seat, &gate),
         || lets_go(rt, shards, other, scene.meanwhile, &came, &let_go),
     );
     if was_answered && !gave_up.load(Ordering::SeqCst) {

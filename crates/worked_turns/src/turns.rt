@@ -69,6 +69,26 @@ const OF_TEXTS: TableParts = TableParts {
     types: &[(DataType::Gpc0, None)],
 };
 
+/// A table with the id, the name and the keys of `t1`, of counts that may be wider.
+const OF_LONG_COUNTS: TableParts = TableParts {
+    id: 1,
+    name: b"t1",
+    kind: KeyKind::Integer,
+    key_length: 4,
+    expire: 30_000,
+    types: &[(DataType::BytesInCnt, None)],
+};
+
+/// A row of such a count: 2^32.
+const LONG_ROWS: &[UpdateParts] = &[UpdateParts {
+    table: 1,
+    number: 1,
+    life: Some(30_000),
+    key: KeyParts::Int(7),
+    values: &[Value::Count(1 << 32)],
+    name: b"",
+}];
+
 /// `t1` without rows, in which the session is open.
 const EMPTY: Tables = Tables {
     roster: TABLE,
@@ -123,6 +143,15 @@ const UNLIKE: Tables = Tables {
     are_open: true,
 };
 
+/// A table of long counts with a row in the place of `t1`, which the session shares.
+const TOO_WIDE: Tables = Tables {
+    roster: TABLE,
+    tables: &[OF_LONG_COUNTS],
+    rows: LONG_ROWS,
+    are_full: false,
+    are_open: true,
+};
+
 /// `a` connects, and asks for all rows.
 const OPENING: &[Exchange] = &[
     Exchange {
@@ -141,6 +170,13 @@ const OPENING: &[Exchange] = &[
 const LEARNING: &[Exchange] = &[Exchange {
     comes: LESSON,
     sends: TAKEN,
+    ends: Ok(Turned::Going),
+}];
+
+/// `b` accepts the hello, and is asked for its rows.
+const ASKING: &[Exchange] = &[Exchange {
+    comes: HELLO_AND_REQUEST,
+    sends: b"200\n",
     ends: Ok(Turned::Going),
 }];
 
@@ -253,6 +289,21 @@ fn a_table_of_another_shape(rt: HostRuntime) {
     assert!(rt; comes_true(&rt, rt.alloc(), &IS_UNLIKE) == Some(true));
 }
 
+/// The table has a row that doesn't fit the session's definition of it, and no lesson of it is made.
+static IS_TOO_WIDE: Story = Story {
+    tables: TOO_WIDE,
+    role: Role::Accepts,
+    opening: ASKING,
+    turns: &[STRANGE, OVER],
+    state: State::Ended,
+    rows: &[(7, 1 << 32)],
+};
+
+#[test]
+fn a_row_of_another_shape(rt: HostRuntime) {
+    assert!(rt; comes_true(&rt, rt.alloc(), &IS_TOO_WIDE) == Some(true));
+}
+
 /// The seat has seen more events of the table than the table has had.
 static IS_AHEAD: Story = Story {
     tables: EMPTY,
@@ -347,11 +398,7 @@ fn a_message_that_is_too_long(rt: HostRuntime) {
 pub static IS_ASKED: Story = Story {
     tables: FILLED,
     role: Role::Accepts,
-    opening: &[Exchange {
-        comes: HELLO_AND_REQUEST,
-        sends: b"200\n",
-        ends: Ok(Turned::Going),
-    }],
+    opening: ASKING,
     turns: &[],
     state: State::Teaching,
     rows: &[(7, 5), (8, 240)],
