@@ -10,6 +10,7 @@ mod laws;
 mod options_error;
 mod program;
 mod run;
+mod settings;
 
 pub use choice::Options;
 pub use command_line::options;

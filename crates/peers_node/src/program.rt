@@ -1,11 +1,15 @@
 //! The program as the parser of command lines is told of it.
 ghost use Rattle.std.specs.Prelude.{◌≡◌, IfOk, false};
-ghost use Rattle.clap.specs.Words.{app_of, rule_of};
+ghost use Rattle.clap.specs.Words.{app_of, new_app, rule_of};
 ghost use Rattle.clap.specs.declared.builder.command.Command.TheViews.{out-Command as fields_of};
 ghost use Rattle.peers_node.specs.CommandLine.{alone, meeting, name_option, number_option, numbered, program, rounds, scenes, scripts, teaching, top};
 
 use crate::given_words::{LAST_PORT, MOST_THREADS, MOST_TRACKS, MOST_TURNS};
-use clap::{Arg, Command, value_parser};
+use crate::settings::{
+    described, directed, explained, helped, helpful, needed, numbers, parsed, spelled, valued,
+    versioned, with_option,
+};
+use clap::{Arg, Command};
 use std::alloc::{AllocError, Global};
 
 /// The version of the program.
@@ -15,24 +19,29 @@ const VERSION: &str = "0.1.0";
 fn top<'a>(alloc: Global) -> Command<'a>
     ensures { app_of result ≡ top }
 {
-    Command::new(alloc, "peers_node")
-        .version(VERSION)
-        .about("Shares HAProxy stick tables over the peers protocol")
-        .after_help(
-            "A scene, or for table a script, is read on standard input; docs/FORMATS.md says how they are written.",
-        )
-        .subcommand_required(true)
-        .arg_required_else_help(true)
+    let program = described(
+        versioned(Command::new(alloc, "peers_node"), VERSION),
+        "Shares HAProxy stick tables over the peers protocol",
+    );
+    let program = explained(
+        program,
+        "A scene, or for table a script, is read on standard input; docs/FORMATS.md says how they are written.",
+    );
+    helpful(directed(program))
 }
 
 /// The program with the subcommands that write or judge a stream.
 fn teaching<'a>(alloc: Global) -> Result<Command<'a>, AllocError>
     ensures { IfOk result (λ command. app_of command ≡ teaching) }
 {
-    let lesson = Command::new(alloc, "lesson").about(
+    let lesson = bare(
+        alloc,
+        "lesson",
         "Reads a scene, and writes a stream that teaches its updates",
     );
-    let check = Command::new(alloc, "check").about(
+    let check = bare(
+        alloc,
+        "check",
         "Reads a scene, and says whether its stream teaches its updates in the fewest bytes",
     );
     top(alloc).subcommand(lesson)?.subcommand(check)
@@ -42,7 +51,9 @@ fn teaching<'a>(alloc: Global) -> Result<Command<'a>, AllocError>
 fn scenes<'a>(alloc: Global) -> Result<Command<'a>, AllocError>
     ensures { IfOk result (λ command. app_of command ≡ scenes) }
 {
-    let learn = Command::new(alloc, "learn").about(
+    let learn = bare(
+        alloc,
+        "learn",
         "Reads a scene, and writes the rows and acknowledgements of a learner of its stream",
     );
     teaching(alloc)?.subcommand(learn)
@@ -52,37 +63,12 @@ fn scenes<'a>(alloc: Global) -> Result<Command<'a>, AllocError>
 fn scripts<'a>(alloc: Global) -> Result<Command<'a>, AllocError>
     ensures { IfOk result (λ command. app_of command ≡ scripts) }
 {
-    let table = Command::new(alloc, "table").about(
+    let table = bare(
+        alloc,
+        "table",
         "Reads a script, and writes what a table answers to each of its calls",
     );
     scenes(alloc)?.subcommand(table)
-}
-
-/// An option that has to be there, with a number from 1 to `most`.
-fn number_option<'a>(alloc: Global, name: &'a str, value: &'a str, most: u32) -> Arg<'a>
-    ensures rule { rule_of result ≡ number_option name.entry.now most }
-    ensures own { result.global ≡ false }
-{
-    Arg::new(alloc, name)
-        .long(name)
-        .value_name(value)
-        .value_parser(value_parser!(u32).range(1..=i64::from(most)))
-        .required(true)
-}
-
-/// The subcommand that runs a round.
-fn rounds<'a>(alloc: Global) -> Result<Command<'a>, AllocError>
-    ensures app { IfOk result (λ command. app_of command ≡ rounds) }
-    ensures local { IfOk result (λ command. (fields_of command).has_globals ≡ false) }
-{
-    let threads = number_option(alloc, "threads", "T", MOST_THREADS).help("How many threads track");
-    let tracks = number_option(alloc, "tracks", "N", MOST_TRACKS).help(
-        "How often each of them does",
-    );
-    Command::new(alloc, "round")
-        .about("Lets threads change a table while a session copies it, and audits what they did")
-        .arg(threads)?
-        .arg(tracks)
 }
 
 /// An option that has to be there, with a name.
@@ -90,10 +76,39 @@ fn name_option<'a>(alloc: Global, name: &'a str, value: &'a str) -> Arg<'a>
     ensures rule { rule_of result ≡ name_option name.entry.now }
     ensures own { result.global ≡ false }
 {
-    Arg::new(alloc, name)
-        .long(name)
-        .value_name(value)
-        .required(true)
+    needed(valued(spelled(Arg::new(alloc, name), name), value))
+}
+
+/// An option that has to be there, with a number from 1 to `most`.
+fn number_option<'a>(alloc: Global, name: &'a str, value: &'a str, most: u32) -> Arg<'a>
+    ensures rule { rule_of result ≡ number_option name.entry.now most }
+    ensures own { result.global ≡ false }
+{
+    parsed(name_option(alloc, name, value), numbers(most))
+}
+
+/// A subcommand without options.
+fn bare<'a>(alloc: Global, name: &'a str, about: &'a str) -> Command<'a>
+    ensures app { app_of result ≡ new_app name.entry.now }
+    ensures local { (fields_of result).has_globals ≡ false }
+{
+    described(Command::new(alloc, name), about)
+}
+
+/// The subcommand that runs a round.
+fn rounds<'a>(alloc: Global) -> Result<Command<'a>, AllocError>
+    ensures app { IfOk result (λ command. app_of command ≡ rounds) }
+    ensures local { IfOk result (λ command. (fields_of command).has_globals ≡ false) }
+{
+    let round = bare(
+        alloc,
+        "round",
+        "Lets threads change a table while a session copies it, and audits what they did",
+    );
+    let threads = number_option(alloc, "threads", "T", MOST_THREADS);
+    let round = with_option(round, helped(threads, "How many threads track"))?;
+    let tracks = number_option(alloc, "tracks", "N", MOST_TRACKS);
+    with_option(round, helped(tracks, "How often each of them does"))
 }
 
 /// A subcommand with the numbers of a link as options.
@@ -101,11 +116,14 @@ fn numbered<'a>(alloc: Global, name: &'a str, about: &'a str) -> Result<Command<
     ensures app { IfOk result (λ command. app_of command ≡ numbered name.entry.now) }
     ensures local { IfOk result (λ command. (fields_of command).has_globals ≡ false) }
 {
-    let turns = number_option(alloc, "turns", "N", MOST_TURNS).help(
-        "How many turns the session makes at most",
-    );
-    let port = number_option(alloc, "port", "P", LAST_PORT).help("The port of 127.0.0.1");
-    Command::new(alloc, name).about(about).arg(turns)?.arg(port)
+    let command = bare(alloc, name, about);
+    let turns = number_option(alloc, "turns", "N", MOST_TURNS);
+    let command = with_option(
+        command,
+        helped(turns, "How many turns the session makes at most"),
+    )?;
+    let port = number_option(alloc, "port", "P", LAST_PORT);
+    with_option(command, helped(port, "The port of 127.0.0.1"))
 }
 
 /// A subcommand with the options of a link.
@@ -113,9 +131,11 @@ fn meeting<'a>(alloc: Global, name: &'a str, about: &'a str) -> Result<Command<'
     ensures app { IfOk result (λ command. app_of command ≡ meeting name.entry.now) }
     ensures local { IfOk result (λ command. (fields_of command).has_globals ≡ false) }
 {
-    let own = name_option(alloc, "name", "A").help("The name of this node");
-    let peer = name_option(alloc, "peer", "B").help("The name of the other node");
-    numbered(alloc, name, about)?.arg(own)?.arg(peer)
+    let command = numbered(alloc, name, about)?;
+    let own = name_option(alloc, "name", "A");
+    let command = with_option(command, helped(own, "The name of this node"))?;
+    let peer = name_option(alloc, "peer", "B");
+    with_option(command, helped(peer, "The name of the other node"))
 }
 
 /// The program with all subcommands that need no other node.

@@ -44,9 +44,10 @@ pub fn status<R: Threads + Wait + Sync + Net<Listener = TcpListener, Stream = Tc
 /// The words of the command line. One that isn't text makes them no command line.
 fn arguments(rt: &HostRuntime) -> Result<Vec<String>, OptionsError> {
     match env::args(rt) {
-        Ok(arguments) => arguments
-            .collect(rt.alloc())
-            .map_err(|_| OptionsError::Memory),
+        Ok(arguments) => match arguments.collect(rt.alloc()) {
+            Ok(words) => Ok(words),
+            Err(_) => Err(OptionsError::Memory),
+        },
         Err(error) if error.kind() == ErrorKind::OutOfMemory => Err(OptionsError::Memory),
         Err(_) => Err(OptionsError::Words),
     }

@@ -1,0 +1,106 @@
+//! What the parser of command lines is told, a thing at a time. Each function tells it of a command or an option of which nothing is
+//! known, and promises no more than what that changes: a chain of such calls, proved at once, takes half a minute.
+ghost use Rattle.std.specs.Prelude.{◌≡◌, IfOk, Some, false, pos, true};
+ghost use Rattle.clap.specs.Simple.{on_top};
+ghost use Rattle.clap.specs.Words.{app_of, rule_of, with_rule};
+ghost use Rattle.clap.specs.declared.builder.value_parser.ValueParser.TheVariants as parsers;
+ghost use Rattle.clap.specs.declared.builder.command.Command.TheViews.{out-Command as fields_of};
+
+use clap::builder::ValueParser;
+use clap::{Arg, Command, value_parser};
+use std::alloc::AllocError;
+
+/// The same command, with the text about it.
+pub(crate) fn described<'a>(command: Command<'a>, about: &'a str) -> Command<'a>
+    ensures app { app_of result ≡ app_of command.entry }
+    ensures local { (fields_of result).has_globals ≡ (fields_of command.entry).has_globals }
+{
+    command.about(about)
+}
+
+/// The same command, with a version.
+pub(crate) fn versioned<'a>(command: Command<'a>, version: &'a str) -> Command<'a>
+    ensures { app_of result ≡ on_top (λ s. record s { has_version = true }) (app_of command.entry) }
+{
+    command.version(version)
+}
+
+/// The same command, with a text after its help.
+pub(crate) fn explained<'a>(command: Command<'a>, text: &'a str) -> Command<'a>
+    ensures { app_of result ≡ app_of command.entry }
+{
+    command.after_help(text)
+}
+
+/// The same command, which refuses words that name no subcommand.
+pub(crate) fn directed<'a>(command: Command<'a>) -> Command<'a>
+    ensures { app_of result ≡ on_top (λ s. record s { subcommand_required = true }) (app_of command.entry) }
+{
+    command.subcommand_required(true)
+}
+
+/// The same command, which shows its help where there are no words.
+pub(crate) fn helpful<'a>(command: Command<'a>) -> Command<'a>
+    ensures { app_of result ≡ on_top (λ s. record s { arg_required_else_help = true }) (app_of command.entry) }
+{
+    command.arg_required_else_help(true)
+}
+
+/// The same command, with one more option.
+pub(crate) fn with_option<'a>(
+    command: Command<'a>,
+    option: Arg<'a>,
+) -> Result<Command<'a>, AllocError>
+    requires { option.global ≡ false }
+    ensures app { IfOk result (λ c. app_of c ≡ with_rule (app_of command.entry) (rule_of option.entry)) }
+    ensures local { IfOk result (λ c. (fields_of c).has_globals ≡ (fields_of command.entry).has_globals) }
+{
+    command.arg(option)
+}
+
+/// The same option, spelled with two hyphens and this name.
+pub(crate) fn spelled<'a>(option: Arg<'a>, name: &'a str) -> Arg<'a>
+    ensures rule { rule_of result ≡ record (rule_of option.entry) { long = Some name.entry.now } }
+    ensures own { result.global ≡ option.entry.global }
+{
+    option.long(name)
+}
+
+/// The same option, with a value that the help calls so.
+pub(crate) fn valued<'a>(option: Arg<'a>, value: &'a str) -> Arg<'a>
+    ensures rule { rule_of result ≡ record (rule_of option.entry) { value_names = 1 } }
+    ensures own { result.global ≡ option.entry.global }
+{
+    option.value_name(value)
+}
+
+/// The same option, which has to be there.
+pub(crate) fn needed<'a>(option: Arg<'a>) -> Arg<'a>
+    ensures rule { rule_of result ≡ record (rule_of option.entry) { required = true } }
+    ensures own { result.global ≡ option.entry.global }
+{
+    option.required(true)
+}
+
+/// The same option, with a text in the help.
+pub(crate) fn helped<'a>(option: Arg<'a>, text: &'a str) -> Arg<'a>
+    ensures rule { rule_of result ≡ rule_of option.entry }
+    ensures own { result.global ≡ option.entry.global }
+{
+    option.help(text)
+}
+
+/// What reads a number from 1 to `most`.
+pub(crate) fn numbers<'a>(most: u32) -> ValueParser<'a>
+    ensures { result ≡ parsers.Signed (pos 1) (pos most) }
+{
+    value_parser!(u32).range(1..=i64::from(most))
+}
+
+/// The same option, of which this reads the value.
+pub(crate) fn parsed<'a>(option: Arg<'a>, parser: ValueParser<'a>) -> Arg<'a>
+    ensures rule { rule_of result ≡ record (rule_of option.entry) { parser = Some parser.entry } }
+    ensures own { result.global ≡ option.entry.global }
+{
+    option.value_parser(parser)
+}
