@@ -1,4 +1,4 @@
-//! Nodes that meet, worked out by hand. There is nothing here but tests, of public calls alone.
+//! Nodes that meet, worked out by hand. There is nothing here but tests, and what is given and expected in them.
 #![tactic(auto)]
 
 #[cfg(test)]
