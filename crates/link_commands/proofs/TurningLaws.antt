@@ -168,13 +168,13 @@ err_way : {untouched : Type 0} (w e : Worker) (error : EngineError) (from to a b
 err_way w e error from to a b (event, received, sent, reads, stops, consumed, appended) over = (received, sent, ((event, reads, still_stops w e.session event error received sent reads stops), over), consumed, appended)
 
 -- by what the turn says where it ends well, and where it doesn't
-pub both_ways : {untouched : Type 0} (w e : Worker) (gave : Result Turned EngineError) (from to a b : Option (List ℕ))
+pub both_ways : (untouched : Type 0) (w e : Worker) (gave : Result Turned EngineError) (from to a b : Option (List ℕ))
     → OnOk gave ((event : Option Event) × (received sent : List ℕ) × IsRead event received × TakesTurn untouched w event sent e × Consumes from to received × Appends a b sent)
     → IfOk gave (λ t. (t ≡ turned.Closed) ↔ (state_of e.session.phase ≡ states.Ended))
     → IfErr gave (λ error. (event : Option Event) × (received sent : List ℕ) × IsRead event received × StopsTurn untouched w event error sent e.session × Consumes from to received × Appends a b sent)
     → OnErr gave (state_of e.session.phase ≡ states.Ended) → HasTaken w gave e from to a b
-both_ways w e (Ok gave) from to a b written closed stopped over = ok_way w e gave from to a b written closed
-both_ways w e (Err error) from to a b written closed stopped over = err_way w e error from to a b stopped over
+both_ways untouched w e (Ok gave) from to a b written closed stopped over = ok_way w e gave from to a b written closed
+both_ways untouched w e (Err error) from to a b written closed stopped over = err_way w e error from to a b stopped over
 
 -- a turn at the moment that comes after so many turns is the turn after them
 pub taken_after : (before now : ℕ) (s e : SessionState) (seat back : SeatState) (gave : Result Turned EngineError) (from to a b : Option (List ℕ)) → now ≡ later_by (before + 1) loaded_at

@@ -10,6 +10,6 @@ returns g c =
     let moment : c.later_by-now.result ≡ later_by (c.args.before + 1) loaded_at = c.later_by-now.ensures ∙ ap (later_by (c.args.before + 1)) c.least.ensures in
     taken_after c.args.before c.later_by-now.result c.args.session.now c.turn.new.session c.args.seat c.turn.result.0 c.turn.result.1
     (g.R.Read.remaining c.args.from.now) (g.R.Read.remaining c.turn.new.input) (g.W.Write.contents c.args.to.now) (g.W.Write.contents c.turn.new.output) moment
-    (both_ways (worker c.args.session.now c.args.seat 1 c.later_by-now.result) (worker c.turn.new.session c.turn.result.0 1 c.later_by-now.result) c.turn.result.1
+    (both_ways (c.turn.new.input ≡ c.args.from.now) (worker c.args.session.now c.args.seat 1 c.later_by-now.result) (worker c.turn.new.session c.turn.result.0 1 c.later_by-now.result) c.turn.result.1
     (g.R.Read.remaining c.args.from.now) (g.R.Read.remaining c.turn.new.input) (g.W.Write.contents c.args.to.now) (g.W.Write.contents c.turn.new.output)
     c.turn.ensures.written c.turn.ensures.closed c.turn.ensures.stopped c.turn.ensures.ended)
