@@ -6,8 +6,8 @@ ghost use Rattle.peers_node.specs.CommandLine.{alone, meeting, name_option, numb
 
 use crate::given_words::{LAST_PORT, MOST_THREADS, MOST_TRACKS, MOST_TURNS};
 use crate::settings::{
-    described, directed, explained, helped, helpful, needed, numbers, parsed, spelled, valued,
-    versioned, with_option,
+    required, requiring_subcommand, up_to, with_about, with_after_help, with_help,
+    with_help_by_default, with_long, with_option, with_parser, with_value_name, with_version,
 };
 use clap::{Arg, Command};
 use std::alloc::{AllocError, Global};
@@ -19,15 +19,15 @@ const VERSION: &str = "0.1.0";
 fn top<'a>(alloc: Global) -> Command<'a>
     ensures { app_of result ≡ top }
 {
-    let program = described(
-        versioned(Command::new(alloc, "peers_node"), VERSION),
+    let program = with_about(
+        with_version(Command::new(alloc, "peers_node"), VERSION),
         "Shares HAProxy stick tables over the peers protocol",
     );
-    let program = explained(
+    let program = with_after_help(
         program,
         "A scene, or for table a script, is read on standard input; docs/FORMATS.md says how they are written.",
     );
-    helpful(directed(program))
+    with_help_by_default(requiring_subcommand(program))
 }
 
 /// The program with the subcommands that write or judge a stream.
@@ -76,7 +76,7 @@ fn name_option<'a>(alloc: Global, name: &'a str, value: &'a str) -> Arg<'a>
     ensures rule { rule_of result ≡ name_option name.entry.now }
     ensures own { result.global ≡ false }
 {
-    needed(valued(spelled(Arg::new(alloc, name), name), value))
+    required(with_value_name(with_long(Arg::new(alloc, name), name), value))
 }
 
 /// An option that has to be there, with a number from 1 to `most`.
@@ -84,7 +84,7 @@ fn number_option<'a>(alloc: Global, name: &'a str, value: &'a str, most: u32) ->
     ensures rule { rule_of result ≡ number_option name.entry.now most }
     ensures own { result.global ≡ false }
 {
-    parsed(name_option(alloc, name, value), numbers(most))
+    with_parser(name_option(alloc, name, value), up_to(most))
 }
 
 /// A subcommand without options.
@@ -92,7 +92,7 @@ fn bare<'a>(alloc: Global, name: &'a str, about: &'a str) -> Command<'a>
     ensures app { app_of result ≡ new_app name.entry.now }
     ensures local { (fields_of result).has_globals ≡ false }
 {
-    described(Command::new(alloc, name), about)
+    with_about(Command::new(alloc, name), about)
 }
 
 /// The subcommand that runs a round.
@@ -106,9 +106,9 @@ fn rounds<'a>(alloc: Global) -> Result<Command<'a>, AllocError>
         "Lets threads change a table while a session copies it, and audits what they did",
     );
     let threads = number_option(alloc, "threads", "T", MOST_THREADS);
-    let round = with_option(round, helped(threads, "How many threads track"))?;
+    let round = with_option(round, with_help(threads, "How many threads track"))?;
     let tracks = number_option(alloc, "tracks", "N", MOST_TRACKS);
-    with_option(round, helped(tracks, "How often each of them does"))
+    with_option(round, with_help(tracks, "How often each of them does"))
 }
 
 /// A subcommand with the numbers of a link as options.
@@ -120,10 +120,10 @@ fn numbered<'a>(alloc: Global, name: &'a str, about: &'a str) -> Result<Command<
     let turns = number_option(alloc, "turns", "N", MOST_TURNS);
     let command = with_option(
         command,
-        helped(turns, "How many turns the session makes at most"),
+        with_help(turns, "How many turns the session makes at most"),
     )?;
     let port = number_option(alloc, "port", "P", LAST_PORT);
-    with_option(command, helped(port, "The port of 127.0.0.1"))
+    with_option(command, with_help(port, "The port of 127.0.0.1"))
 }
 
 /// A subcommand with the options of a link.
@@ -133,9 +133,9 @@ fn meeting<'a>(alloc: Global, name: &'a str, about: &'a str) -> Result<Command<'
 {
     let command = numbered(alloc, name, about)?;
     let own = name_option(alloc, "name", "A");
-    let command = with_option(command, helped(own, "The name of this node"))?;
+    let command = with_option(command, with_help(own, "The name of this node"))?;
     let peer = name_option(alloc, "peer", "B");
-    with_option(command, helped(peer, "The name of the other node"))
+    with_option(command, with_help(peer, "The name of the other node"))
 }
 
 /// The program with all subcommands that need no other node.

@@ -1,5 +1,5 @@
-//! What the parser of command lines is told, a thing at a time. Each function tells it of a command or an option of which nothing is
-//! known, and promises no more than what that changes: a chain of such calls, proved at once, takes half a minute.
+//! Commands and options of the parser of command lines with one thing more. Each function takes a command or an option of which
+//! nothing is known, and promises what that changes.
 ghost use Rattle.std.specs.Prelude.{◌≡◌, IfOk, Some, false, pos, true};
 ghost use Rattle.clap.specs.Simple.{on_top};
 ghost use Rattle.clap.specs.Words.{app_of, rule_of, with_rule};
@@ -11,7 +11,7 @@ use clap::{Arg, Command, value_parser};
 use std::alloc::AllocError;
 
 /// The same command, with the text about it.
-pub(crate) fn described<'a>(command: Command<'a>, about: &'a str) -> Command<'a>
+pub(crate) fn with_about<'a>(command: Command<'a>, about: &'a str) -> Command<'a>
     ensures app { app_of result ≡ app_of command.entry }
     ensures local { (fields_of result).has_globals ≡ (fields_of command.entry).has_globals }
 {
@@ -19,28 +19,28 @@ pub(crate) fn described<'a>(command: Command<'a>, about: &'a str) -> Command<'a>
 }
 
 /// The same command, with a version.
-pub(crate) fn versioned<'a>(command: Command<'a>, version: &'a str) -> Command<'a>
+pub(crate) fn with_version<'a>(command: Command<'a>, version: &'a str) -> Command<'a>
     ensures { app_of result ≡ on_top (λ s. record s { has_version = true }) (app_of command.entry) }
 {
     command.version(version)
 }
 
 /// The same command, with a text after its help.
-pub(crate) fn explained<'a>(command: Command<'a>, text: &'a str) -> Command<'a>
+pub(crate) fn with_after_help<'a>(command: Command<'a>, text: &'a str) -> Command<'a>
     ensures { app_of result ≡ app_of command.entry }
 {
     command.after_help(text)
 }
 
 /// The same command, which refuses words that name no subcommand.
-pub(crate) fn directed<'a>(command: Command<'a>) -> Command<'a>
+pub(crate) fn requiring_subcommand<'a>(command: Command<'a>) -> Command<'a>
     ensures { app_of result ≡ on_top (λ s. record s { subcommand_required = true }) (app_of command.entry) }
 {
     command.subcommand_required(true)
 }
 
 /// The same command, which shows its help where there are no words.
-pub(crate) fn helpful<'a>(command: Command<'a>) -> Command<'a>
+pub(crate) fn with_help_by_default<'a>(command: Command<'a>) -> Command<'a>
     ensures { app_of result ≡ on_top (λ s. record s { arg_required_else_help = true }) (app_of command.entry) }
 {
     command.arg_required_else_help(true)
@@ -59,7 +59,7 @@ pub(crate) fn with_option<'a>(
 }
 
 /// The same option, spelled with two hyphens and this name.
-pub(crate) fn spelled<'a>(option: Arg<'a>, name: &'a str) -> Arg<'a>
+pub(crate) fn with_long<'a>(option: Arg<'a>, name: &'a str) -> Arg<'a>
     ensures rule { rule_of result ≡ record (rule_of option.entry) { long = Some name.entry.now } }
     ensures own { result.global ≡ option.entry.global }
 {
@@ -67,7 +67,7 @@ pub(crate) fn spelled<'a>(option: Arg<'a>, name: &'a str) -> Arg<'a>
 }
 
 /// The same option, with a value that the help calls so.
-pub(crate) fn valued<'a>(option: Arg<'a>, value: &'a str) -> Arg<'a>
+pub(crate) fn with_value_name<'a>(option: Arg<'a>, value: &'a str) -> Arg<'a>
     ensures rule { rule_of result ≡ record (rule_of option.entry) { value_names = 1 } }
     ensures own { result.global ≡ option.entry.global }
 {
@@ -75,7 +75,7 @@ pub(crate) fn valued<'a>(option: Arg<'a>, value: &'a str) -> Arg<'a>
 }
 
 /// The same option, which has to be there.
-pub(crate) fn needed<'a>(option: Arg<'a>) -> Arg<'a>
+pub(crate) fn required<'a>(option: Arg<'a>) -> Arg<'a>
     ensures rule { rule_of result ≡ record (rule_of option.entry) { required = true } }
     ensures own { result.global ≡ option.entry.global }
 {
@@ -83,7 +83,7 @@ pub(crate) fn needed<'a>(option: Arg<'a>) -> Arg<'a>
 }
 
 /// The same option, with a text in the help.
-pub(crate) fn helped<'a>(option: Arg<'a>, text: &'a str) -> Arg<'a>
+pub(crate) fn with_help<'a>(option: Arg<'a>, text: &'a str) -> Arg<'a>
     ensures rule { rule_of result ≡ rule_of option.entry }
     ensures own { result.global ≡ option.entry.global }
 {
@@ -91,14 +91,14 @@ pub(crate) fn helped<'a>(option: Arg<'a>, text: &'a str) -> Arg<'a>
 }
 
 /// What reads a number from 1 to `most`.
-pub(crate) fn numbers<'a>(most: u32) -> ValueParser<'a>
+pub(crate) fn up_to<'a>(most: u32) -> ValueParser<'a>
     ensures { result ≡ parsers.Signed (pos 1) (pos most) }
 {
     value_parser!(u32).range(1..=i64::from(most))
 }
 
 /// The same option, of which this reads the value.
-pub(crate) fn parsed<'a>(option: Arg<'a>, parser: ValueParser<'a>) -> Arg<'a>
+pub(crate) fn with_parser<'a>(option: Arg<'a>, parser: ValueParser<'a>) -> Arg<'a>
     ensures rule { rule_of result ≡ record (rule_of option.entry) { parser = Some parser.entry } }
     ensures own { result.global ≡ option.entry.global }
 {
