@@ -42,7 +42,7 @@ last_of_a_million() {
 # A history of 1,000,000 events is full. Each of its events can be read. The script takes at most 10 s.
 million_tracks() {
     local began took
-    { echo 'table 1 t1 integer 4 30000 gpc0'
+    { printf '%s\n' 'table 1 t1 integer 4 30000 gpc0' 'size 10'
         repeat_lines 1000001 'track 0 4294967296 1 add gpc0 1'
         printf '%s\n' 'open 1' 'purge 4294967296' events rows 'event 1000000' 'event 1000001'; } >"$scene"
     began=${EPOCHREALTIME/./}

@@ -5,7 +5,7 @@ use example_parts::{KnownParts, T1, TableParts, alone, are_held, definition, kno
 use known_state::{Known, KnownError, StepError};
 use peers_msg::{Control, Message, NameField, UpdateMsg};
 use std::alloc::Global;
-use table_types::{Items, Key, Value};
+use table_types::{Items, Key, ShortList, Value};
 
 /// A selected table, the tables defined, the last numbers, and what a state of `t1` with them is refused for, if it is.
 pub type Parts = (
@@ -61,14 +61,14 @@ pub fn first_refused_otherwise(alloc: Global, all: &[Parts]) -> Option<usize> {
 }
 
 fn count(alloc: Global, number: Option<u32>) -> Option<Message> {
-    let values = Items::new(Vec::from_slice(alloc, &[Value::Count(5)]).ok()?);
+    let values = ShortList::from_slice(alloc, &[Value::Count(5)]).ok()?;
     let key = Key::Int(7);
     let update = UpdateMsg::new(number, Some(30_000), key, values, NameField::NotStored);
     Some(Message::Update(update))
 }
 
 fn address(alloc: Global) -> Option<Message> {
-    let values = Items::new(Vec::from_slice(alloc, &[Value::Count(5)]).ok()?);
+    let values = ShortList::from_slice(alloc, &[Value::Count(5)]).ok()?;
     let key = Key::Ip4([127, 0, 0, 1]);
     let update = UpdateMsg::new(None, Some(30_000), key, values, NameField::NotStored);
     Some(Message::Update(update))
@@ -76,7 +76,7 @@ fn address(alloc: Global) -> Option<Message> {
 
 fn naming(alloc: Global, number: Option<u32>, name: NameField) -> Message {
     let key = Key::Str(Items::new(Vec::new(alloc)));
-    let values = Items::new(Vec::new(alloc));
+    let values = ShortList::new();
     Message::Update(UpdateMsg::new(number, Some(30_000), key, values, name))
 }
 

@@ -3,7 +3,7 @@
 use example_parts::{ST, T1, definition, named};
 use peers_msg::{Control, ErrorKind, Message, NameField, Other, UpdateMsg, encode, size};
 use std::alloc::Global;
-use table_types::{Items, Key, Value};
+use table_types::{Items, Key, ShortList, Value};
 
 /// A message, written in short.
 pub enum Short {
@@ -32,7 +32,7 @@ fn count(
     key: u32,
     count: u64,
 ) -> Option<UpdateMsg> {
-    let values = Items::new(Vec::from_slice(alloc, &[Value::Count(count)]).ok()?);
+    let values = ShortList::from_slice(alloc, &[Value::Count(count)]).ok()?;
     Some(UpdateMsg::new(number, life, Key::Int(key), values, NameField::NotStored))
 }
 
@@ -43,14 +43,14 @@ fn rate(alloc: Global) -> Option<UpdateMsg> {
         current: 2,
         previous: 0,
     };
-    let values = Items::new(Vec::from_slice(alloc, &[rate]).ok()?);
+    let values = ShortList::from_slice(alloc, &[rate]).ok()?;
     let key = Key::Ip4([127, 0, 0, 1]);
     Some(UpdateMsg::new(Some(9), Some(0), key, values, NameField::NotStored))
 }
 
 fn naming(alloc: Global, number: Option<u32>, letter: u8, name: NameField) -> Option<UpdateMsg> {
     let key = Key::Str(Items::new(Vec::from_slice(alloc, &[letter]).ok()?));
-    let values = Items::new(Vec::new(alloc));
+    let values = ShortList::new();
     Some(UpdateMsg::new(number, Some(30_000), key, values, name))
 }
 

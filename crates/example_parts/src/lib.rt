@@ -5,7 +5,9 @@
 use dict_slots::Slots;
 use known_state::Known;
 use std::alloc::Global;
-use table_types::{DataType, Items, Key, KeyKind, Name, Roster, TableDef, Update, Value};
+use table_types::{
+    DataType, Items, Key, KeyKind, Name, Roster, ShortList, TableDef, Update, Value,
+};
 
 /// The parts of a definition.
 #[derive(Drop)]
@@ -101,14 +103,14 @@ fn name_or_none(alloc: Global, name: &[u8]) -> Option<Option<Name>> {
 
 /// The update of these parts.
 pub fn update(alloc: Global, parts: &UpdateParts) -> Option<Update> {
-    let values = Vec::from_slice(alloc, parts.values).ok()?;
+    let values = ShortList::from_slice(alloc, parts.values).ok()?;
     let name = name_or_none(alloc, parts.name)?;
     Some(Update {
         table: parts.table,
         number: parts.number,
         life: parts.life,
         key: key(alloc, &parts.key)?,
-        values: Items::new(values),
+        values,
         name,
     })
 }

@@ -4,7 +4,7 @@ use example_parts::{KnownParts, ST, T1, UpdateParts, known, named, updates};
 use peers_msg::{Message, NameField, UpdateMsg, append};
 use price_checker::{Verdict, verify};
 use std::alloc::Global;
-use table_types::{Batch, Items, Key, Name, Update};
+use table_types::{Batch, Items, Key, Name, ShortList, Update};
 
 const LIFE: Option<u32> = Some(30_000);
 
@@ -107,7 +107,7 @@ fn cyclic_update(alloc: Global, number: u32, index: u8) -> Option<Update> {
         number,
         life: LIFE,
         key: Key::Str(Items::new(key)),
-        values: Items::new(Vec::new(alloc)),
+        values: ShortList::new(),
         name: Some(cyclic_name(alloc, index)?),
     })
 }
@@ -144,7 +144,7 @@ fn second_field(alloc: Global, index: u8) -> Option<NameField> {
 
 fn push(alloc: Global, stream: &mut Vec<u8>, number: Option<u32>, field: NameField) -> Option<()> {
     let key = Key::Str(Items::new(Vec::from_slice(alloc, b"k").ok()?));
-    let values = Items::new(Vec::new(alloc));
+    let values = ShortList::new();
     let message = Message::Update(UpdateMsg::new(number, LIFE, key, values, field));
     append(stream, &message).ok()
 }

@@ -2,7 +2,7 @@
 
 use std::alloc::Global;
 use table_rows::{ListRows, MapRows, Rows};
-use table_types::{Cell, Key, Memory, Moment, Row};
+use table_types::{Cell, Key, Memory, Moment, Row, ShortList};
 
 /// The least moment.
 const M: u64 = 1 << 32;
@@ -44,8 +44,7 @@ fn moment(milliseconds: u32) -> Option<Moment> {
 }
 
 fn row(alloc: Global, number: u32, end: Option<u32>) -> Result<Row, Memory> {
-    let mut cells = Vec::new(alloc);
-    cells.push(Cell::Count(u64::from(number)))?;
+    let cells = ShortList::from_slice(alloc, &[Cell::Count(u64::from(number))])?;
     let ends = match end {
         Some(end) => moment(end),
         None => None,
@@ -147,12 +146,12 @@ fn reply_the_same<R: Rows, S: Rows>(
 fn agree_in_all(alloc: Global) -> Result<bool, Memory> {
     let mut map = MapRows::new(alloc);
     let mut list = ListRows::new(alloc);
-    let begun = reply_the_same(&mut map, &mut list, alloc, 1, 1_001)?;
+    let begun = reply_the_same(&mut map, &mut list, alloc, 1, 1_101)?;
     let mut map_copy = map.copy()?;
     let mut list_copy = list.copy()?;
-    let ended = reply_the_same(&mut map, &mut list, alloc, 1_001, 2_001)?;
+    let ended = reply_the_same(&mut map, &mut list, alloc, 1_101, 2_201)?;
     let same = hold_the_same(&map, &list)?;
-    let copies_ended = reply_the_same(&mut map_copy, &mut list_copy, alloc, 1_001, 2_001)?;
+    let copies_ended = reply_the_same(&mut map_copy, &mut list_copy, alloc, 1_101, 2_201)?;
     let copies_same = hold_the_same(&map_copy, &list_copy)? && hold_the_same(&map_copy, &map)?;
     Ok(begun && ended && same && copies_ended && copies_same && map.len() > 10)
 }

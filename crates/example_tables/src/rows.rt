@@ -2,7 +2,7 @@
 
 use std::alloc::Global;
 use table_rows::{MapRows, Rows};
-use table_types::{Cell, Key, Memory, Moment, Row};
+use table_types::{Cell, Key, Memory, Moment, Row, ShortList};
 
 /// The least moment.
 const M: u64 = 1 << 32;
@@ -11,8 +11,7 @@ const M: u64 = 1 << 32;
 pub type Entry = (u32, u32, Option<u32>);
 
 fn row(alloc: Global, number: u32, end: Option<u32>) -> Result<Row, Memory> {
-    let mut cells = Vec::new(alloc);
-    cells.push(Cell::Count(u64::from(number)))?;
+    let cells = ShortList::from_slice(alloc, &[Cell::Count(u64::from(number))])?;
     let ends = match end {
         Some(end) => Moment::new(M + u64::from(end)),
         None => None,

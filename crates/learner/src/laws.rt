@@ -62,11 +62,11 @@ pub fn one_fault()
         together before ++ (last ++ more) ≡ together others ++ (end ++ rest) →
         IsStopped now l before last fault a → IsStopped now l others end other b → fault ≢ faults.Memory → other ≢ faults.Memory →
         (fault ≡ other) × (a ≡ b) }
-    ensures place { (now : ℕ) (l a b : Learning) (before others : List (List ℕ)) (last end more rest left behind : List ℕ) (fault other : Fault) →
+    ensures place { (now : ℕ) (l a b : Learning) (before others : List (List ℕ)) (last end more rest left over : List ℕ) (fault other : Fault) →
         l.intake.closed ≡ false → IsBytes (l.intake.unread ++ (together before ++ (last ++ more))) →
         together before ++ (last ++ more) ≡ together others ++ (end ++ rest) →
-        IsStoppedAt now l before last fault left a → IsStoppedAt now l others end other behind b → fault ≢ faults.Memory → other ≢ faults.Memory →
-        left ++ more ≡ behind ++ rest }
+        IsStoppedAt now l before last fault left a → IsStoppedAt now l others end other over b → fault ≢ faults.Memory → other ≢ faults.Memory →
+        left ++ more ≡ over ++ rest }
     ensures comes { (now : ℕ) (l a b : Learning) (before others : List (List ℕ)) (last first more : List ℕ) (fault : Fault) (answers : List (Result ℕ Fault)) →
         l.intake.closed ≡ false → IsBytes (l.intake.unread ++ (together before ++ (last ++ more))) →
         together before ++ (last ++ more) ≡ together (first ∷ others) →
@@ -80,11 +80,11 @@ pub fn one_fault()
         stream_in before ++ (last.bytes ++ more) ≡ stream_in others ++ (end.bytes ++ rest) →
         IsStoppedInTime l before last fault a → IsStoppedInTime l others end other b → fault ≢ faults.Memory → other ≢ faults.Memory →
         (fault ≡ other) × (a.intake ≡ b.intake) }
-    ensures place_in_time { (l a b : Learning) (before others : List Piece) (last end : Piece) (more rest left behind : List ℕ) (fault other : Fault) →
+    ensures place_in_time { (l a b : Learning) (before others : List Piece) (last end : Piece) (more rest left over : List ℕ) (fault other : Fault) →
         l.intake.closed ≡ false → IsBytes (l.intake.unread ++ (stream_in before ++ (last.bytes ++ more))) →
         stream_in before ++ (last.bytes ++ more) ≡ stream_in others ++ (end.bytes ++ rest) →
-        IsStoppedAtInTime l before last fault left a → IsStoppedAtInTime l others end other behind b → fault ≢ faults.Memory → other ≢ faults.Memory →
-        left ++ more ≡ behind ++ rest }
+        IsStoppedAtInTime l before last fault left a → IsStoppedAtInTime l others end other over b → fault ≢ faults.Memory → other ≢ faults.Memory →
+        left ++ more ≡ over ++ rest }
     ensures closed { (now after : ℕ) (l e x : Learning) (piece bytes : List ℕ) (fault : Fault) (answer : Result ℕ Fault) →
         LearnerFeeds now l piece (Err fault) e → LearnerFeeds after e bytes answer x → (answer ≡ Err faults.Closed) × (x ≡ e) }
 {}

@@ -28,7 +28,7 @@ use peers_msg::{Message, ValuesRef};
 use std::alloc::Global;
 use std::collections::BTreeMap;
 use std::marker::Model;
-use table_types::{Cell, Key, Memory, Moment, Roster, Row, TableDef};
+use table_types::{Cell, Key, Memory, Moment, Roster, Row, ShortList, TableDef};
 
 /// A learner: takes the bytes of a stream in any pieces, and keeps the rows of its local tables (HAProxy,
 /// doc/peers-v2.0.txt, "Update Messages").
@@ -78,12 +78,16 @@ fn index_of(tables: &[TableDef], id: u64) -> Option<usize>
 }
 
 /// The cells of a row that an update of these values teaches at that moment.
-fn cells_of(alloc: Global, mut values: ValuesRef<'_>, now: Moment) -> Result<Vec<Cell>, Memory>
-    ensures { IfOk result (λ cells. cells.items ≡ map (cell_of now) values.entry) }
+fn cells_of(
+    alloc: Global,
+    mut values: ValuesRef<'_>,
+    now: Moment,
+) -> Result<ShortList<Cell>, Memory>
+    ensures { IfOk result (λ cells. cells ≡ map (cell_of now) values.entry) }
 {
-    let mut cells = Vec::with_capacity(alloc, values.len())?;
+    let mut cells = ShortList::with_capacity(alloc, values.len())?;
     while let Some(value) = values.next() {
-        cells.push(Cell::of(value, now))?;
+        cells = cells.with(alloc, Cell::of(value, now))?;
     }
     Ok(cells)
 }

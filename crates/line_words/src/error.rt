@@ -58,6 +58,14 @@ impl<T: Drop> From<AllocFailed<T>> for LineError {
     }
 }
 
+impl From<Memory> for LineError {
+    ghost from_gives = { λ _ e. e ≡ line_errors.Memory };
+
+    fn from(_memory: Memory) -> LineError {
+        LineError::Memory
+    }
+}
+
 impl From<DefError> for LineError {
     fn from(error: DefError) -> LineError {
         match error {

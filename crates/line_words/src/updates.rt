@@ -8,7 +8,7 @@ use crate::names::name_or_none;
 use crate::numbers::number32;
 use crate::values::values_of;
 use std::alloc::Global;
-use table_types::{Items, Key, TableDef, Update};
+use table_types::{Key, TableDef, Update};
 
 /// The update of a line `update ID NUMBER LIFE KEY VALUES.. NAME`, from the words after the table's id. The last word
 /// is a name, or `-` for none, where the table stores the server's name, and else there is none.
@@ -53,7 +53,7 @@ pub fn update_with(
         number: number32(number).ok_or(LineError::Refused)?,
         life: Some(number32(life).ok_or(LineError::Refused)?),
         key,
-        values: Items::new(values_of(alloc, types, values)?),
+        values: values_of(alloc, types, values)?,
         name,
     })
 }

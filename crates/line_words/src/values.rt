@@ -7,20 +7,23 @@ use crate::error::LineError;
 use crate::numbers::{number, number32, push_number};
 use crate::words::cut;
 use std::alloc::{AllocError, Global};
-use table_types::{Cell, DataType, Shape, Value};
+use table_types::{Cell, DataType, Shape, ShortList, Value};
 
 /// The values that words write, one for each of these types.
 pub(crate) fn values_of(
     alloc: Global,
     types: &[(DataType, Option<u32>)],
     words: &[&[u8]],
-) -> Result<Vec<Value>, LineError> {
+) -> Result<ShortList<Value>, LineError> {
     if types.len() != words.len() {
         return Err(LineError::Refused);
     }
-    let mut values = Vec::new(alloc);
+    let mut values = ShortList::new();
     for (entry, word) in types.iter().zip(words) {
-        values.push(value_of(entry.0.shape(), word).ok_or(LineError::Refused)?)?;
+        values = values.with(
+            alloc,
+            value_of(entry.0.shape(), word).ok_or(LineError::Refused)?,
+        )?;
     }
     Ok(values)
 }

@@ -5,6 +5,7 @@ use Rattle.std.proofs.lemmas.List.{append-nil}
 use Rattle.std.proofs.KnownBytes.{Appends-nil, Appends-trans, Consumes-nil, Consumes-trans}
 use Rattle.std.specs.Io.KnownBytes.{Appends, Consumes}
 use Rattle.session_core.specs.declared.event.Event.{Event}
+use Rattle.session_core.specs.declared.event.Event.TheVariants as events
 use Rattle.session_core.specs.declared.state.State.TheVariants as states
 use Rattle.table_shards.specs.Receipts.{SeatState}
 use Rattle.table_types.specs.Rows.{later_by}
@@ -147,34 +148,53 @@ all_made_there leaves start s place seat turns before from to a b enough most (r
 
 -- ---- one turn
 
+-- at the end nothing is received
+still_read : (at_end : Type 0) (event : Option Event) (received : List ℕ) → IsRead at_end event received → IsRead (received ≡ []) event received
+still_read at_end None received reads = reads
+still_read at_end (Some (events.Bytes bytes)) received reads = reads
+still_read at_end (Some events.End) received (ends, none) = (none, none)
+still_read at_end (Some events.Opened) received reads = absurd reads
+still_read at_end (Some events.ReadFault) received reads = absurd reads
+still_read at_end (Some events.Turn) received reads = absurd reads
+still_read at_end (Some (events.Copied table batch)) received reads = absurd reads
+still_read at_end (Some (events.Nothing table)) received reads = absurd reads
+still_read at_end (Some (events.Written known)) received reads = absurd reads
+still_read at_end (Some events.WriteFault) received reads = absurd reads
+still_read at_end (Some (events.Settled table settled)) received reads = absurd reads
+still_read at_end (Some (events.Refused table)) received reads = absurd reads
+
 -- a turn whose first event leaves something to do receives nothing
-still_takes : {untouched : Type 0} (w e : Worker) (event : Option Event) (received sent : List ℕ) → IsRead event received → TakesTurn untouched w event sent e → TakesTurn (received ≡ []) w event sent e
-still_takes w e event received sent reads (inl (still, none, reacts)) = inl (subst (λ (x : Option Event). IsRead x received) none reads, none, reacts)
+still_takes : {untouched : Type 0} (w e : Worker) (event : Option Event) (received sent : List ℕ) → IsRead (received ≡ []) event received → TakesTurn untouched w event sent e → TakesTurn (received ≡ []) w event sent e
+still_takes w e event received sent reads (inl (still, none, reacts)) = inl (subst (λ (x : Option Event). IsRead (received ≡ []) x received) none reads, none, reacts)
 still_takes w e event received sent reads (inr more) = inr more
 
-still_stops : {untouched : Type 0} (w : Worker) (e : SessionState) (event : Option Event) (error : EngineError) (received sent : List ℕ) → IsRead event received → StopsTurn untouched w event error sent e
+still_stops : {untouched : Type 0} (w : Worker) (e : SessionState) (event : Option Event) (error : EngineError) (received sent : List ℕ) → IsRead (received ≡ []) event received → StopsTurn untouched w event error sent e
     → StopsTurn (received ≡ []) w event error sent e
-still_stops w e event error received sent reads (inl (still, none, halts)) = inl (subst (λ (x : Option Event). IsRead x received) none reads, none, halts)
+still_stops w e event error received sent reads (inl (still, none, halts)) = inl (subst (λ (x : Option Event). IsRead (received ≡ []) x received) none reads, none, halts)
 still_stops w e event error received sent reads (inr more) = inr more
 
-ok_way : {untouched : Type 0} (w e : Worker) (gave : Turned) (from to a b : Option (List ℕ))
-    → (event : Option Event) × (received sent : List ℕ) × IsRead event received × TakesTurn untouched w event sent e × Consumes from to received × Appends a b sent
+ok_way : {untouched : Type 0} (at_end : Type 0) (w e : Worker) (gave : Turned) (from to a b : Option (List ℕ))
+    → (event : Option Event) × (received sent : List ℕ) × IsRead at_end event received × TakesTurn untouched w event sent e × Consumes from to received × Appends a b sent
     → ((gave ≡ turned.Closed) ↔ (state_of e.session.phase ≡ states.Ended)) → HasTaken w (Ok gave) e from to a b
-ok_way w e gave from to a b (event, received, sent, reads, takes, consumed, appended) closed = (received, sent, ((event, reads, still_takes w e event received sent reads takes), closed), consumed, appended)
+ok_way at_end w e gave from to a b (event, received, sent, given, takes, consumed, appended) closed =
+    let reads = still_read at_end event received given in
+    (received, sent, ((event, reads, still_takes w e event received sent reads takes), closed), consumed, appended)
 
-err_way : {untouched : Type 0} (w e : Worker) (error : EngineError) (from to a b : Option (List ℕ))
-    → (event : Option Event) × (received sent : List ℕ) × IsRead event received × StopsTurn untouched w event error sent e.session × Consumes from to received × Appends a b sent
+err_way : {untouched : Type 0} (at_end : Type 0) (w e : Worker) (error : EngineError) (from to a b : Option (List ℕ))
+    → (event : Option Event) × (received sent : List ℕ) × IsRead at_end event received × StopsTurn untouched w event error sent e.session × Consumes from to received × Appends a b sent
     → state_of e.session.phase ≡ states.Ended → HasTaken w (Err error) e from to a b
-err_way w e error from to a b (event, received, sent, reads, stops, consumed, appended) over = (received, sent, ((event, reads, still_stops w e.session event error received sent reads stops), over), consumed, appended)
+err_way at_end w e error from to a b (event, received, sent, given, stops, consumed, appended) over =
+    let reads = still_read at_end event received given in
+    (received, sent, ((event, reads, still_stops w e.session event error received sent reads stops), over), consumed, appended)
 
 -- by what the turn says where it ends well, and where it doesn't
-pub both_ways : (untouched : Type 0) (w e : Worker) (gave : Result Turned EngineError) (from to a b : Option (List ℕ))
-    → OnOk gave ((event : Option Event) × (received sent : List ℕ) × IsRead event received × TakesTurn untouched w event sent e × Consumes from to received × Appends a b sent)
+pub both_ways : (at_end untouched : Type 0) (w e : Worker) (gave : Result Turned EngineError) (from to a b : Option (List ℕ))
+    → OnOk gave ((event : Option Event) × (received sent : List ℕ) × IsRead at_end event received × TakesTurn untouched w event sent e × Consumes from to received × Appends a b sent)
     → IfOk gave (λ t. (t ≡ turned.Closed) ↔ (state_of e.session.phase ≡ states.Ended))
-    → IfErr gave (λ error. (event : Option Event) × (received sent : List ℕ) × IsRead event received × StopsTurn untouched w event error sent e.session × Consumes from to received × Appends a b sent)
+    → IfErr gave (λ error. (event : Option Event) × (received sent : List ℕ) × IsRead at_end event received × StopsTurn untouched w event error sent e.session × Consumes from to received × Appends a b sent)
     → OnErr gave (state_of e.session.phase ≡ states.Ended) → HasTaken w gave e from to a b
-both_ways untouched w e (Ok gave) from to a b written closed stopped over = ok_way w e gave from to a b written closed
-both_ways untouched w e (Err error) from to a b written closed stopped over = err_way w e error from to a b stopped over
+both_ways at_end untouched w e (Ok gave) from to a b written closed stopped over = ok_way at_end w e gave from to a b written closed
+both_ways at_end untouched w e (Err error) from to a b written closed stopped over = err_way at_end w e error from to a b stopped over
 
 -- a turn at the moment that comes after so many turns is the turn after them
 pub taken_after : (before now : ℕ) (s e : SessionState) (seat back : SeatState) (gave : Result Turned EngineError) (from to a b : Option (List ℕ)) → now ≡ later_by (before + 1) loaded_at

@@ -47,9 +47,9 @@ turn_after before s seat = worker s seat 1 (later_by (before + 1) loaded_at)
 -- the session is over.
 abbrev pub Takes : Worker → Result Turned EngineError → List ℕ → List ℕ → Worker → Type 0
 Takes w (Ok gave) received sent e =
-    ((event : Option Event) × IsRead event received × TakesTurn (received ≡ []) w event sent e) × ((gave ≡ turned.Closed) ↔ (state_of e.session.phase ≡ states.Ended))
+    ((event : Option Event) × IsRead (received ≡ []) event received × TakesTurn (received ≡ []) w event sent e) × ((gave ≡ turned.Closed) ↔ (state_of e.session.phase ≡ states.Ended))
 Takes w (Err error) received sent e =
-    ((event : Option Event) × IsRead event received × StopsTurn (received ≡ []) w event error sent e.session) × (state_of e.session.phase ≡ states.Ended)
+    ((event : Option Event) × IsRead (received ≡ []) event received × StopsTurn (received ≡ []) w event error sent e.session) × (state_of e.session.phase ≡ states.Ended)
 
 -- nothing more is received or sent, and the session stands there
 abbrev pub Rests : SessionState → List ℕ → List ℕ → SessionState → Type 0

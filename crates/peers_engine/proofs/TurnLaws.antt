@@ -164,52 +164,52 @@ both_idle s next e mid event acts given last a b d goes (answers, out, acted, ke
 -- ---- a turn
 
 -- what a turn did, and how far one came that an error ended
-abbrev pub HasTurned : Type 0 → Worker → Worker → Option (List ℕ) → Option (List ℕ) → Option (List ℕ) → Option (List ℕ) → Type 0
-HasTurned untouched s e from to a b =
-    (received : Option Event) × (read out : List ℕ) × IsRead received read × TakesTurn untouched s received out e × Consumes from to read × Appends a b out
+abbrev pub HasTurned : Type 0 → Type 0 → Worker → Worker → Option (List ℕ) → Option (List ℕ) → Option (List ℕ) → Option (List ℕ) → Type 0
+HasTurned at_end untouched s e from to a b =
+    (received : Option Event) × (read out : List ℕ) × IsRead at_end received read × TakesTurn untouched s received out e × Consumes from to read × Appends a b out
 
-abbrev pub HasStopped : Type 0 → Worker → SessionState → Option (List ℕ) → Option (List ℕ) → Option (List ℕ) → Option (List ℕ) → EngineError → Type 0
-HasStopped untouched s e from to a b error =
-    (received : Option Event) × (read out : List ℕ) × IsRead received read × StopsTurn untouched s received error out e × Consumes from to read × Appends a b out
+abbrev pub HasStopped : Type 0 → Type 0 → Worker → SessionState → Option (List ℕ) → Option (List ℕ) → Option (List ℕ) → Option (List ℕ) → EngineError → Type 0
+HasStopped at_end untouched s e from to a b error =
+    (received : Option Event) × (read out : List ℕ) × IsRead at_end received read × StopsTurn untouched s received error out e × Consumes from to read × Appends a b out
 
 -- what was read is received, up to an error
-pub read_fails : (s : Worker) (e : SessionState) (found : Option Event) (event : Event) (error : EngineError) (from to a b : Option (List ℕ))
-    → found ≡ Some event → ((read : List ℕ) × IsRead found read × Consumes from to read) → HasHalted s event e a b error
-    → (received : Option Event) × (read out : List ℕ) × IsRead received read × HaltsAt s received error out e × Consumes from to read × Appends a b out
-read_fails s e found event error from to a b is (read, reads, consumed) (out, halts, appended) =
-    (Some event, read, out, subst (λ (x : Option Event). IsRead x read) is reads, halts, consumed, appended)
+pub read_fails : {at_end : Type 0} (s : Worker) (e : SessionState) (found : Option Event) (event : Event) (error : EngineError) (from to a b : Option (List ℕ))
+    → found ≡ Some event → ((read : List ℕ) × IsRead at_end found read × Consumes from to read) → HasHalted s event e a b error
+    → (received : Option Event) × (read out : List ℕ) × IsRead at_end received read × HaltsAt s received error out e × Consumes from to read × Appends a b out
+read_fails {at_end} s e found event error from to a b is (read, reads, consumed) (out, halts, appended) =
+    (Some event, read, out, subst (λ (x : Option Event). IsRead at_end x read) is reads, halts, consumed, appended)
 
 -- the first event leaves nothing to do, and then it reads
-pub then_done : {untouched : Type 0} (s mid e : Worker) (event : Event) (from to a b d : Option (List ℕ)) → event ≡ first_event (state_of s.session.phase) → HasIdled s event mid a b
-    → ((received : Option Event) × (read out : List ℕ) × IsRead received read × Receives mid received out e × Consumes from to read × Appends b d out)
-    → HasTurned untouched s e from to a d
+pub then_done : {at_end untouched : Type 0} (s mid e : Worker) (event : Event) (from to a b d : Option (List ℕ)) → event ≡ first_event (state_of s.session.phase) → HasIdled s event mid a b
+    → ((received : Option Event) × (read out : List ℕ) × IsRead at_end received read × Receives mid received out e × Consumes from to read × Appends b d out)
+    → HasTurned at_end untouched s e from to a d
 then_done s mid e event from to a b d is (idles, silent) (received, read, out, reads, receives, consumed, more) =
     (received, read, out, reads, inr (mid, subst (λ (x : Event). Idles s x mid) is idles, receives), consumed, Appends-trans a b d [] out silent more)
 
-pub then_fails : {untouched : Type 0} (s mid : Worker) (e : SessionState) (event : Event) (error : EngineError) (from to a b d : Option (List ℕ)) → event ≡ first_event (state_of s.session.phase) → HasIdled s event mid a b
-    → ((received : Option Event) × (read out : List ℕ) × IsRead received read × HaltsAt mid received error out e × Consumes from to read × Appends b d out)
-    → HasStopped untouched s e from to a d error
+pub then_fails : {at_end untouched : Type 0} (s mid : Worker) (e : SessionState) (event : Event) (error : EngineError) (from to a b d : Option (List ℕ)) → event ≡ first_event (state_of s.session.phase) → HasIdled s event mid a b
+    → ((received : Option Event) × (read out : List ℕ) × IsRead at_end received read × HaltsAt mid received error out e × Consumes from to read × Appends b d out)
+    → HasStopped at_end untouched s e from to a d error
 then_fails s mid e event error from to a b d is (idles, silent) (received, read, out, reads, halts, consumed, more) =
     (received, read, out, reads, inr (mid, subst (λ (x : Event). Idles s x mid) is idles, halts), consumed, Appends-trans a b d [] out silent more)
 
 -- the first event alone, with the reader untouched
-pub alone_done : {untouched : Type 0} (s e : Worker) (event : Event) (known a b : Option (List ℕ)) → event ≡ first_event (state_of s.session.phase) → HasReacted s event e a b → untouched → HasTurned untouched s e known known a b
+pub alone_done : {at_end untouched : Type 0} (s e : Worker) (event : Event) (known a b : Option (List ℕ)) → event ≡ first_event (state_of s.session.phase) → HasReacted s event e a b → untouched → HasTurned at_end untouched s e known known a b
 alone_done s e event known a b is (out, reacts, appended) still =
     (None, [], out, refl, inl (still, refl, subst (λ (x : Event). Reacts s x out e) is reacts), Consumes-nil known, appended)
 
-pub alone_fails : {untouched : Type 0} (s : Worker) (e : SessionState) (event : Event) (error : EngineError) (known a b : Option (List ℕ)) → event ≡ first_event (state_of s.session.phase) → HasHalted s event e a b error
-    → untouched → HasStopped untouched s e known known a b error
+pub alone_fails : {at_end untouched : Type 0} (s : Worker) (e : SessionState) (event : Event) (error : EngineError) (known a b : Option (List ℕ)) → event ≡ first_event (state_of s.session.phase) → HasHalted s event e a b error
+    → untouched → HasStopped at_end untouched s e known known a b error
 alone_fails s e event error known a b is (out, halts, appended) still =
     (None, [], out, refl, inl (still, refl, subst (λ (x : Event). Halts s x error out e) is halts), Consumes-nil known, appended)
 
 -- the session after a turn
-pub turned : {untouched : Type 0} (s e : Worker) (from to a b : Option (List ℕ)) → HasTurned untouched s e from to a b → Turns s.session e.session
+pub turned : {at_end untouched : Type 0} (s e : Worker) (from to a b : Option (List ℕ)) → HasTurned at_end untouched s e from to a b → Turns s.session e.session
 turned s e from to a b (received, read, out, reads, all, consumed, appended) = turns_of s e received out all
 
-pub broken : {untouched : Type 0} (s : Worker) (e new : SessionState) (error : EngineError) (from to a b : Option (List ℕ)) → HasStopped untouched s e from to a b error → new ≡ ended e → Breaks s.session new
+pub broken : {at_end untouched : Type 0} (s : Worker) (e new : SessionState) (error : EngineError) (from to a b : Option (List ℕ)) → HasStopped at_end untouched s e from to a b error → new ≡ ended e → Breaks s.session new
 broken s e new error from to a b (received, read, out, reads, stops, consumed, appended) is = breaks_of s e new received error out stops is
 
-pub stopped : {untouched : Type 0} (s : Worker) (e new : SessionState) (error : EngineError) (from to a b : Option (List ℕ)) → HasStopped untouched s e from to a b error → new ≡ ended e → HasStopped untouched s new from to a b error
+pub stopped : {at_end untouched : Type 0} (s : Worker) (e new : SessionState) (error : EngineError) (from to a b : Option (List ℕ)) → HasStopped at_end untouched s e from to a b error → new ≡ ended e → HasStopped at_end untouched s new from to a b error
 stopped s e new error from to a b (received, read, out, reads, stops, consumed, appended) is =
     (received, read, out, reads, halted s e new received error out stops is, consumed, appended)
 

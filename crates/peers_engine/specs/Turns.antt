@@ -68,12 +68,12 @@ Idles w event e =
     × Acts (stands w mid w.seat) acts answers [] e
     × (asked answers ≡ [])
 
--- what a read gives, and the event that comes of it: none, 1 to 4,096 bytes, or the end
-abbrev pub IsRead : Option Event → List ℕ → Type 0
-IsRead None bytes = bytes ≡ []
-IsRead (Some (events.Bytes read)) bytes = (bytes ≡ read) × (0 < length read) × (length read ≤ 4096)
-IsRead (Some events.End) bytes = bytes ≡ []
-IsRead (Some event) bytes = ⊥
+-- what a read gives, and the event that comes of it: none, 1 to 4,096 bytes, or the end, where the reader is at its end
+abbrev pub IsRead : Type 0 → Option Event → List ℕ → Type 0
+IsRead at_end None bytes = bytes ≡ []
+IsRead at_end (Some (events.Bytes read)) bytes = (bytes ≡ read) × (0 < length read) × (length read ≤ 4096)
+IsRead at_end (Some events.End) bytes = at_end × (bytes ≡ [])
+IsRead at_end (Some event) bytes = ⊥
 
 -- a read failed, or there was no memory for it
 abbrev pub IsUnread : EngineError → Type 0

@@ -1,8 +1,7 @@
 //! What a turn works with.
 
 use std::alloc::Global;
-use std::sync::{MutexGuard, Wait};
-use table_shards::{Locked, Shards};
+use table_shards::Shards;
 use table_types::Moment;
 
 /// What a turn works with, the same for all that it does.
@@ -17,11 +16,4 @@ pub(crate) struct Context<'a, H, G> {
     pub(crate) number: u32,
     /// The moment of the turn.
     pub(crate) moment: Moment,
-}
-
-impl<'a, H: Wait, G> Context<'a, H, G> {
-    /// A table under its lock, if there is one of that id. It waits for the lock.
-    pub(crate) fn lock(&self, table: u64) -> Option<MutexGuard<'a, Locked>> {
-        Some(self.shards.cell(table)?.lock(self.rt))
-    }
 }

@@ -1,9 +1,8 @@
 //! What comes of a read.
 
-ghost use Rattle.std.specs.Prelude.{◌≡◌, Ok, Some, Err, IfErr, IfOk, List, ℕ, vec_len};
+ghost use Rattle.std.specs.Prelude.{◌≡◌, Err, IfErr, IfOk, List, ℕ, vec_len};
 ghost use Rattle.std.specs.Io.KnownBytes.{Consumes, IsAtEnd, Keeps};
 ghost use Rattle.peers_devices.specs.Failures.{Rose};
-ghost use Rattle.session_core.specs.declared.event.Event.TheVariants as events;
 ghost use Rattle.peers_engine.specs.declared.errors.EngineError.TheVariants as errors;
 ghost use Rattle.peers_engine.specs.Turns.{IsRead, IsUnread, first_event};
 
@@ -39,9 +38,8 @@ pub(crate) fn read_event<R: Read + Faults>(
     alloc: Global,
     input: &mut R,
 ) -> Result<Option<Event>, EngineError>
-    ensures received { IfOk result (λ event. (read : List ℕ) × IsRead event read
+    ensures received { IfOk result (λ event. (read : List ℕ) × IsRead (IsAtEnd (R.remaining input.new)) event read
         × Consumes (R.remaining input.old) (R.remaining input.new) read) }
-    ensures end { result ≡ Ok (Some events.End) → IsAtEnd (R.remaining input.new) }
     ensures failed { result ≡ Err errors.Read → Rose (R.failed input.old) (R.failed input.new) }
     ensures unread { IfErr result (λ _. Keeps (R.remaining input.old) (R.remaining input.new)) }
     ensures unwritten { IfErr result IsUnread }

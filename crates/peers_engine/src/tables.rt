@@ -13,10 +13,16 @@ ghost use Rattle.peers_engine.specs.Doing.{IsRefusal};
 use crate::context::Context;
 use crate::errors::EngineError;
 use session_core::Event;
-use std::sync::Wait;
+use std::sync::{MutexGuard, Wait};
 use table_cell::{AckError, CloseError, CopyError, LearnError, OpenError};
-use table_shards::{Seat, ShardError, held};
+use table_shards::{Locked, Seat, ShardError, held};
 use table_types::{Batch, CopyKind, Update};
+
+/// A table under its lock, if there is one of that id. It waits for the lock. Nothing else in this crate takes one, and what
+/// calls this gives no lock away: so each is held for one call of a table.
+fn lock<'a, H: Wait, G>(context: &Context<'a, H, G>, table: u64) -> Option<MutexGuard<'a, Locked>> {
+    Some(context.shards.cell(table)?.lock(context.rt))
+}
 
 /// What a call's refusal, which no session answers, makes of a turn. `memory` is the cell's own want of memory.
 fn refused<E: Copy + PartialEq>(error: ShardError<E>, memory: E) -> EngineError
@@ -40,7 +46,7 @@ pub(crate) fn learn<H: Wait, G>(
     ensures refused { IfErr result.1 IsRefusal }
 {
     let table = update.table;
-    let Some(mut locked) = context.lock(table) else {
+    let Some(mut locked) = lock(context, table) else {
         return (seat, Err(EngineError::Strange));
     };
     let (seat, learned) = held::learn(
@@ -70,7 +76,7 @@ pub(crate) fn acknowledge<H: Wait, G>(
         ⊎ ((event ≡ events.Refused table) × CallsAck context.now.number seat table number (Err (errors.Cell acks.AckAhead)) result.0)) }
     ensures refused { IfErr result.1 IsRefusal }
 {
-    let Some(mut locked) = context.lock(table) else {
+    let Some(mut locked) = lock(context, table) else {
         return (seat, Err(EngineError::Strange));
     };
     let (seat, taken) = held::ack(&mut locked, seat, table, context.number, number);
@@ -93,7 +99,7 @@ pub(crate) fn copy<H: Wait, G>(
         ⊎ ((event ≡ events.Nothing table) × CallsCopy context.now.number context.now.moment seat table kind (Err (errors.Cell copies.Nothing)) result.0)) }
     ensures refused { IfErr result.1 IsRefusal }
 {
-    let Some(mut locked) = context.lock(table) else {
+    let Some(mut locked) = lock(context, table) else {
         return (seat, Err(EngineError::Strange));
     };
     let (seat, copied) = held::copy(
@@ -126,7 +132,7 @@ pub(crate) fn settle<H: Wait, G>(
         return (seat, Err(EngineError::Strange));
     };
     let table = first.table;
-    let Some(mut locked) = context.lock(table) else {
+    let Some(mut locked) = lock(context, table) else {
         return (seat, Err(EngineError::Strange));
     };
     let (seat, settled) = held::settle(&mut locked, seat, table, context.number, batch);
@@ -146,7 +152,7 @@ fn close<H: Wait, G>(
     ensures closed { OnOk result.1 (CallsClose context.now.number seat table (Ok tt) result.0) }
     ensures refused { IfErr result.1 IsRefusal }
 {
-    let Some(mut locked) = context.lock(table) else {
+    let Some(mut locked) = lock(context, table) else {
         return (seat, Err(EngineError::Strange));
     };
     let (seat, closed) = held::close_session(&mut locked, seat, table, context.number);
@@ -166,7 +172,7 @@ fn open<H: Wait, G>(
     ensures opened { OnOk result.1 (CallsOpen context.now.number seat table (Ok tt) result.0) }
     ensures refused { IfErr result.1 IsRefusal }
 {
-    let Some(mut locked) = context.lock(table) else {
+    let Some(mut locked) = lock(context, table) else {
         return (seat, Err(EngineError::Strange));
     };
     let (seat, opened) = held::open_session(&mut locked, seat, table, context.number);

@@ -2,7 +2,7 @@
 
 ghost use Rattle.std.specs.Prelude.{◌≡◌, ◌≢◌, ◌↔◌, ◌++◌, [], ℕ, Bool, true, List, Option, Some, Ok, Err, IfErr, IfOk, OnErr, OnOk};
 ghost use Rattle.std.specs.List.{list_all};
-ghost use Rattle.std.specs.Io.KnownBytes.{Appends, Consumes};
+ghost use Rattle.std.specs.Io.KnownBytes.{Appends, Consumes, IsAtEnd};
 ghost use Rattle.peers_devices.specs.Failures.{Rose};
 ghost use Rattle.session_core.specs.declared.action.Action.{Action};
 ghost use Rattle.session_core.specs.declared.error.SessionError.{SessionError};
@@ -157,11 +157,11 @@ fn receive<H: Wait, G: Gate, R: Read + Faults, W: Write + Faults>(
     seat: Seat,
 ) -> (Seat, Result<bool, EngineError>)
     ensures seat { result.0.number ≡ seat.number }
-    ensures done { OnOk result.1 ((received : Option Event) × (read out : List ℕ) × IsRead received read
+    ensures done { OnOk result.1 ((received : Option Event) × (read out : List ℕ) × IsRead (IsAtEnd (R.remaining input.new)) received read
         × Receives (worker session.old seat context.now.number context.now.moment) received out (worker session.new result.0 context.now.number context.now.moment)
         × Consumes (R.remaining input.old) (R.remaining input.new) read
         × Appends (W.contents output.old) (W.contents output.new) out) }
-    ensures failed { IfErr result.1 (λ e. (received : Option Event) × (read out : List ℕ) × IsRead received read
+    ensures failed { IfErr result.1 (λ e. (received : Option Event) × (read out : List ℕ) × IsRead (IsAtEnd (R.remaining input.new)) received read
         × HaltsAt (worker session.old seat context.now.number context.now.moment) received e out session.new
         × Consumes (R.remaining input.old) (R.remaining input.new) read
         × Appends (W.contents output.old) (W.contents output.new) out) }
@@ -183,11 +183,11 @@ fn take_turn<H: Wait, G: Gate, R: Read + Faults, W: Write + Faults>(
     seat: Seat,
 ) -> (Seat, Result<bool, EngineError>)
     ensures seat { result.0.number ≡ seat.number }
-    ensures done { OnOk result.1 ((received : Option Event) × (read out : List ℕ) × IsRead received read
+    ensures done { OnOk result.1 ((received : Option Event) × (read out : List ℕ) × IsRead (IsAtEnd (R.remaining input.new)) received read
         × TakesTurn (input.new ≡ input.old) (worker session.old seat context.now.number context.now.moment) received out (worker session.new result.0 context.now.number context.now.moment)
         × Consumes (R.remaining input.old) (R.remaining input.new) read
         × Appends (W.contents output.old) (W.contents output.new) out) }
-    ensures failed { IfErr result.1 (λ e. (received : Option Event) × (read out : List ℕ) × IsRead received read
+    ensures failed { IfErr result.1 (λ e. (received : Option Event) × (read out : List ℕ) × IsRead (IsAtEnd (R.remaining input.new)) received read
         × StopsTurn (input.new ≡ input.old) (worker session.old seat context.now.number context.now.moment) received e out session.new
         × Consumes (R.remaining input.old) (R.remaining input.new) read
         × Appends (W.contents output.old) (W.contents output.new) out) }
@@ -247,11 +247,11 @@ pub fn turn<H: Wait, R: Read + Faults, W: Write + Faults, G: Gate>(
     ensures broken { OnErr result.1 (Breaks session.old session.new) }
     ensures ended { OnErr result.1 (state_of session.new.phase ≡ states.Ended) }
     ensures seat { result.0.number ≡ seat.number }
-    ensures written { OnOk result.1 ((received : Option Event) × (read out : List ℕ) × IsRead received read
+    ensures written { OnOk result.1 ((received : Option Event) × (read out : List ℕ) × IsRead (IsAtEnd (R.remaining input.new)) received read
         × TakesTurn (input.new ≡ input.old) (worker session.old seat number now) received out (worker session.new result.0 number now)
         × Consumes (R.remaining input.old) (R.remaining input.new) read
         × Appends (W.contents output.old) (W.contents output.new) out) }
-    ensures stopped { IfErr result.1 (λ e. (received : Option Event) × (read out : List ℕ) × IsRead received read
+    ensures stopped { IfErr result.1 (λ e. (received : Option Event) × (read out : List ℕ) × IsRead (IsAtEnd (R.remaining input.new)) received read
         × StopsTurn (input.new ≡ input.old) (worker session.old seat number now) received e out session.new
         × Consumes (R.remaining input.old) (R.remaining input.new) read
         × Appends (W.contents output.old) (W.contents output.new) out) }

@@ -7,7 +7,7 @@ use crate::control::{Control, ErrorKind};
 use crate::name_field::NameField;
 use std::alloc::Global;
 use std::marker::Model;
-use table_types::{Items, Key, Memory, TableDef, Value};
+use table_types::{Items, Key, Memory, ShortList, TableDef, Value};
 
 /// How many bytes the data of a message may have (profile).
 pub(crate) const MOST_DATA: usize = 16_384;
@@ -20,7 +20,7 @@ pub struct UpdateMsg {
     number: Option<u32>,
     life: Option<u32>,
     key: Key,
-    values: Items<Value>,
+    values: ShortList<Value>,
     name: NameField,
 }
 
@@ -46,7 +46,7 @@ impl UpdateMsg {
         number: Option<u32>,
         life: Option<u32>,
         key: Key,
-        values: Items<Value>,
+        values: ShortList<Value>,
         name: NameField,
     ) -> UpdateMsg
         requires { is_small key values ≡ true }
@@ -98,7 +98,7 @@ impl UpdateMsg {
     }
 
     /// Key, values and name field, given up.
-    pub fn into_parts(self) -> (Key, Items<Value>, NameField)
+    pub fn into_parts(self) -> (Key, ShortList<Value>, NameField)
         ensures key { result.0 ≡ self.key }
         ensures values { result.1 ≡ self.values }
         ensures name { result.2 ≡ self.name }

@@ -18,7 +18,7 @@ pub use laws::plain_words_choose;
 pub use link_commands::{Link, join, serve};
 pub use options_error::OptionsError;
 pub use round_command::{RoundSize, round};
-pub use scene_commands::{Ending, learn, lesson};
+pub use scene_commands::{Ending, check, learn, lesson};
 pub use script_commands::table;
 use std::process::ExitCode;
 

@@ -12,7 +12,8 @@ use std::alloc::AllocError;
 use table_cell::CellEvent;
 use table_types::{Change, CopyKind, Key, Moment, TableDef, Update};
 
-/// Adds an event of a table: the line of the call that made it, without its LF.
+/// Adds an event of a table: the line of the call that made it, without its LF. A name that isn't plain text stands in
+/// hexadecimal, which a script would read as another name.
 pub fn push_event(text: &mut Vec<u8>, table: &TableDef, event: &CellEvent) -> Result<(), AllocError>
     ensures { OnOk result (text.new.items ≡ text.old.items ++ event_text table.now event.now) }
 {

@@ -16,7 +16,7 @@ use crate::table::Table;
 use std::alloc::Global;
 use table_rows::is_live;
 use table_types::{
-    Cell, CopyKind, DataType, Items, Key, Memory, Moment, Row, Shape, TableDef, Update, Value,
+    Cell, CopyKind, DataType, Key, Memory, Moment, Row, Shape, ShortList, TableDef, Update, Value,
     rotate,
 };
 
@@ -71,13 +71,13 @@ fn values_of(
     types: &[(DataType, Option<u32>)],
     cells: &[Cell],
     now: Moment,
-) -> Result<Vec<Value>, Memory>
+) -> Result<ShortList<Value>, Memory>
     requires cells { CellsFit now (cell_types types.now) cells.now }
     requires periods { list_all has_its_period types.now ≡ true }
-    ensures { IfOk result (λ values. values.items ≡ values_of now types.now cells.now) }
+    ensures { IfOk result (λ values. values ≡ values_of now types.now cells.now) }
 {
     let mut rest = cells;
-    let mut values = Vec::with_capacity(alloc, cells.len())?;
+    let mut values = ShortList::with_capacity(alloc, cells.len())?;
     for entry in types {
         if entry.0.shape() == Shape::Name {
             continue;
@@ -85,7 +85,7 @@ fn values_of(
         let Some((cell, others)) = rest.split_first() else {
             return Ok(values);
         };
-        values.push(value_of(turned(*cell, entry.1, now), now))?;
+        values = values.with(alloc, value_of(turned(*cell, entry.1, now), now))?;
         rest = others;
     }
     Ok(values)
@@ -124,7 +124,7 @@ fn update_of(
         number: row.number(),
         life: Some(life_left(row, definition.expire(), now)),
         key: key.copy(alloc)?,
-        values: Items::new(values),
+        values,
         name,
     })
 }

@@ -32,16 +32,6 @@ impl Reply {
     {
         Ok((Reply::of(alloc, row)?, Reply::of(alloc, row)?))
     }
-
-    /// An equal reply.
-    pub fn copy(&self, alloc: Global) -> Result<Reply, Memory>
-        ensures { IfOk result (λ copy. copy ≡ self.now) }
-    {
-        Ok(Reply {
-            number: self.number,
-            row: self.row.copy(alloc)?,
-        })
-    }
 }
 
 /// An event of a table: a call that changed it, with its arguments.

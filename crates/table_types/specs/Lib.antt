@@ -8,7 +8,7 @@ pub mod Rosters
 pub mod Shapes
 pub mod Batches
 pub mod SlotIds
-pub mod CellLists
+pub mod ShortLists
 pub mod Rows
 pub mod Rotation
 pub mod Changes

@@ -4,7 +4,6 @@
 
 mod batch;
 mod byte_order;
-mod cell_list;
 mod change;
 mod copies;
 mod data_type;
@@ -18,6 +17,7 @@ mod roster;
 mod rotation;
 mod row;
 mod shapes;
+mod short_list;
 mod slot_ids;
 mod table_def;
 mod tracked;
@@ -36,6 +36,7 @@ pub use name::{Name, is_name};
 pub use roster::{Roster, RosterError, has_id, is_same_name, table_at};
 pub use rotation::{read_rate, rotate};
 pub use row::{Cell, Row, are_same_cells};
+pub use short_list::ShortList;
 pub use slot_ids::{SLOT_COUNT, is_slot};
 pub use table_def::{DefError, TableDef};
 pub use update::{Update, Value, are_same_updates, are_same_values};

@@ -3,11 +3,11 @@
 ghost use Rattle.std.specs.Prelude.{◌≡◌, ◌↔◌, IfOk, IsTrue, map, option_copied, true, false};
 ghost use Rattle.table_types.specs.Rows.{cell_of, end_of, row_of};
 
-use crate::cell_list::CellList;
 use crate::key::Key;
 use crate::memory::Memory;
 use crate::moment::Moment;
 use crate::name::Name;
+use crate::short_list::ShortList;
 use crate::update::{Update, Value};
 use std::alloc::Global;
 use std::marker::Model;
@@ -35,7 +35,7 @@ pub struct Row {
     // Beside the number, where it takes no room of its own: fields lie in this order.
     learned: bool,
     ends: Option<Moment>,
-    cells: CellList,
+    cells: ShortList<Cell>,
     name: Option<Name>,
 }
 
@@ -68,10 +68,10 @@ impl Cell {
     }
 }
 
-fn cells_of(alloc: Global, values: &[Value], moment: Moment) -> Result<CellList, Memory>
+fn cells_of(alloc: Global, values: &[Value], moment: Moment) -> Result<ShortList<Cell>, Memory>
     ensures { IfOk result (λ cells. cells ≡ map (cell_of moment) values.now) }
 {
-    let mut cells = CellList::with_room(alloc, values.len())?;
+    let mut cells = ShortList::with_capacity(alloc, values.len())?;
     for value in values {
         cells = cells.with(alloc, Cell::of(*value, moment))?;
     }
@@ -109,7 +109,7 @@ impl Row {
             ..
         } = update;
         let ends = Row::end(life, expire, moment);
-        Ok((key, Row::learned_of(number, ends, cells, name)))
+        Ok((key, Row::learned_with(number, ends, cells, name)))
     }
 
     /// The row that an update teaches at a moment, as `Row::learned` makes it, under a number of this node's own.
@@ -125,7 +125,7 @@ impl Row {
         let cells = cells_of(alloc, update.values.as_slice(), moment)?;
         let name = Name::copy_of(alloc, &update.name)?;
         let ends = Row::end(update.life, expire, moment);
-        Ok(Row::learned_of(number, ends, cells, name))
+        Ok(Row::learned_with(number, ends, cells, name))
     }
 
     /// When a row ends that an update of that life, in milliseconds, teaches at a moment, in a table whose rows expire
@@ -146,15 +146,9 @@ impl Row {
     pub fn learned_with(
         number: u32,
         ends: Option<Moment>,
-        cells: Vec<Cell>,
+        cells: ShortList<Cell>,
         name: Option<Name>,
     ) -> Row
-        ensures { result ≡ record { number = number; ends = ends; cells = cells.items; name = name; learned = true } }
-    {
-        Row::learned_of(number, ends, CellList::of(cells), name)
-    }
-
-    fn learned_of(number: u32, ends: Option<Moment>, cells: CellList, name: Option<Name>) -> Row
         ensures { result ≡ record { number = number; ends = ends; cells = cells; name = name; learned = true } }
     {
         Row {
@@ -170,7 +164,7 @@ impl Row {
     pub(crate) fn local_with(
         number: u32,
         ends: Option<Moment>,
-        cells: CellList,
+        cells: ShortList<Cell>,
         name: Option<Name>,
     ) -> Row
         ensures { result ≡ record { number = number; ends = ends; cells = cells; name = name; learned = false } }

@@ -6,7 +6,6 @@ ghost use Rattle.table_types.specs.Rows.{smaller};
 ghost use Rattle.table_types.specs.Rotation.{turned};
 ghost use Rattle.table_types.specs.Changes.{most, changed_count, raised, changed_rate, changed_cell, changed_cells, changed_name, begun_cell, begun_cells, cells_before, name_before, tracked};
 
-use crate::cell_list::CellList;
 use crate::change::Change;
 use crate::data_type::{DataType, Shape};
 use crate::memory::Memory;
@@ -14,6 +13,7 @@ use crate::moment::Moment;
 use crate::name::Name;
 use crate::rotation::rotate;
 use crate::row::{Cell, Row};
+use crate::short_list::ShortList;
 use crate::table_def::TableDef;
 use std::alloc::Global;
 
@@ -114,11 +114,11 @@ fn changed_cells(
     types: &[(DataType, Option<u32>)],
     cells: &[Cell],
     moment: Moment,
-) -> Result<CellList, Memory>
+) -> Result<ShortList<Cell>, Memory>
     ensures { IfOk result (λ changed. changed ≡ changed_cells moment change.now types.now cells.now) }
 {
     let mut rest = cells;
-    let mut changed = CellList::with_room(alloc, cells.len())?;
+    let mut changed = ShortList::with_capacity(alloc, cells.len())?;
     for entry in types {
         if entry.0.shape() == Shape::Name {
             continue;
@@ -149,10 +149,10 @@ fn begun_cells(
     alloc: Global,
     types: &[(DataType, Option<u32>)],
     moment: Moment,
-) -> Result<CellList, Memory>
+) -> Result<ShortList<Cell>, Memory>
     ensures { IfOk result (λ begun. begun ≡ begun_cells moment types.now) }
 {
-    let mut begun = CellList::with_room(alloc, types.len())?;
+    let mut begun = ShortList::new();
     for entry in types {
         let shape = entry.0.shape();
         if shape == Shape::Name {
@@ -169,7 +169,7 @@ fn cells_after(
     live: Option<&Row>,
     change: &Change,
     moment: Moment,
-) -> Result<CellList, Memory>
+) -> Result<ShortList<Cell>, Memory>
     ensures { IfOk result (λ changed. changed ≡ changed_cells moment change.now table.now.types (cells_before moment table.now (option_copied live.entry))) }
 {
     let types = table.types();

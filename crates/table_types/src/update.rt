@@ -5,10 +5,10 @@ ghost use Rattle.std.specs.List.{list_any};
 ghost use Rattle.table_types.specs.Updates.{value_fits, is_name_type, values_fit, stores_name, may_be_named, row_fits, life_fits, fits};
 
 use crate::data_type::{DataType, Shape};
-use crate::items::Items;
 use crate::key::Key;
 use crate::memory::Memory;
 use crate::name::Name;
+use crate::short_list::ShortList;
 use crate::table_def::TableDef;
 use std::alloc::Global;
 
@@ -54,7 +54,7 @@ pub struct Update {
     /// The row's key.
     pub key: Key,
     /// The values in rising id, without the server's name.
-    pub values: Items<Value>,
+    pub values: ShortList<Value>,
     /// The server's name, in a table that stores one.
     pub name: Option<Name>,
 }

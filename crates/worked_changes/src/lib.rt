@@ -1,6 +1,8 @@
-//! Worked examples of changes of rows, and of the periods of rates.
+//! Worked examples of changes of rows, of the periods of rates, and of the lists in which values and cells lie.
 #![tactic(auto)]
 
+#[cfg(test)]
+mod lists;
 #[cfg(test)]
 mod rates;
 #[cfg(test)]

@@ -129,3 +129,25 @@ fn changes_of_tables(rt: HostRuntime) {
         }
     }
 }
+
+/// A change is the same as itself alone.
+#[test]
+fn changes_are_told_apart(rt: HostRuntime) {
+    let changes = [
+        Change::Add(DataType::Gpc0, 1),
+        Change::Add(DataType::Gpc0, 2),
+        Change::Add(DataType::Gpc1, 1),
+        Change::Take(DataType::Gpc0, 1),
+        Change::Put(DataType::Gpc0, 1),
+        Change::AddRate(DataType::ConnRate, 1),
+        Change::SetName(None),
+    ];
+    for (index, one) in changes.iter().enumerate() {
+        for (other_index, other) in changes.iter().enumerate() {
+            assert!(rt;
+                one.is_same(other) == (index == other_index),
+                "{one:?} {other:?}"
+            );
+        }
+    }
+}

@@ -7,7 +7,7 @@ ghost use Rattle.peers_msg.specs.Reading.{value_at, values_at};
 use crate::reading::{is_name_shape, value_at};
 use std::alloc::Global;
 use std::marker::Model;
-use table_types::{DataType, Items, Memory, Shape, Value};
+use table_types::{DataType, Memory, Shape, ShortList, Value};
 
 /// The values of an update: bytes that were found to hold one for each of the table's types but the server's name.
 #[derive(Debug, Drop)]
@@ -49,11 +49,11 @@ fn values_of(
     alloc: Global,
     types: &[(DataType, Option<u32>)],
     bytes: &[u8],
-) -> Result<Vec<Value>, Memory>
+) -> Result<ShortList<Value>, Memory>
     requires { is_read (values_at types.now bytes.now) ≡ true }
-    ensures { IfOk result (λ values. values.items ≡ list_read (values_at types.now bytes.now)) }
+    ensures { IfOk result (λ values. values ≡ list_read (values_at types.now bytes.now)) }
 {
-    let mut values = Vec::with_capacity(alloc, value_count(types))?;
+    let mut values = ShortList::with_capacity(alloc, value_count(types))?;
     let mut rest = bytes;
     for entry in types {
         let shape = entry.0.shape();
@@ -62,7 +62,7 @@ fn values_of(
         }
         match value_at(shape, rest) {
             Ok((value, after)) => {
-                values.push(value)?;
+                values = values.with(alloc, value)?;
                 rest = after;
             }
             Err(_) => unreachable!(),
@@ -132,9 +132,9 @@ impl<'a> ValuesRef<'a> {
     }
 
     /// Equal values of their own, in rising id.
-    pub fn to_owned(&self, alloc: Global) -> Result<Items<Value>, Memory>
+    pub fn to_owned(&self, alloc: Global) -> Result<ShortList<Value>, Memory>
         ensures { IfOk result (λ values. values ≡ self.now) }
     {
-        Ok(Items::new(values_of(alloc, self.types, self.bytes)?))
+        values_of(alloc, self.types, self.bytes)
     }
 }

@@ -8,6 +8,6 @@ use Rattle.table_cell.proofs.copying.values_of.Given as goal
 
 abbrev pub invariant-loop-entry : goal.invariant-loop-entry
 invariant-loop-entry l =
-    (l.values.items ++ values_of l.fn.now (drop l.entry-index l.types) l.rest ≡ values_of l.fn.now l.types l.cells)
+    (l.values ++ values_of l.fn.now (drop l.entry-index l.types) l.rest ≡ values_of l.fn.now l.types l.cells)
     × CellsFit l.fn.now (cell_types (drop l.entry-index l.types)) l.rest
     × (list_all has_its_period (drop l.entry-index l.types) ≡ true)

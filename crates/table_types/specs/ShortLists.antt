@@ -1,0 +1,9 @@
+-- The elements of a list, wherever they lie.
+use Rattle.std.specs.Prelude.{List, []}
+use Rattle.table_types.specs.declared.short_list.Place.{Place}
+use Rattle.table_types.specs.declared.short_list.Place.TheVariants as places
+
+abbrev pub elements_at : {T : Type 0} → Place T → List T
+elements_at places.Nowhere = []
+elements_at (places.Inline items) = items
+elements_at (places.Heap items) = items.items
