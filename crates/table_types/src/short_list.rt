@@ -1,6 +1,6 @@
 //! A list that mostly has a single element.
 
-ghost use Rattle.std.specs.Prelude.{◌≡◌, [], ◌∷◌, ◌++◌, IfOk};
+ghost use Rattle.std.specs.Prelude.{◌≡◌, [], ◌∷◌, ◌++◌, ◌≤◌, IfOk, IsOk, length};
 
 use crate::memory::Memory;
 use std::alloc::Global;
@@ -17,8 +17,9 @@ enum Place<T> {
     Heap(Vec<T>),
 }
 
-/// A list of things in order, of which contracts see the elements alone. A single one, as most rows have, lies in the
-/// list itself and takes no memory of its own, unless the list was made of a `Vec` or with room for more.
+/// A list of things in order, of which contracts see the elements alone. A single one, as a row has of a table that stores
+/// one count or rate, lies in the list itself and takes no memory of its own, unless the list was made of a `Vec` or
+/// with room for more.
 #[derive(Debug, Drop)]
 pub struct ShortList<T> {
     place: Place<T>,
@@ -65,9 +66,10 @@ impl<T> ShortList<T> {
 }
 
 impl<T: Copy> ShortList<T> {
-    /// A list of these elements.
+    /// A list of these elements. A single one, or none, wants no memory.
     pub fn from_slice(alloc: Global, items: &[T]) -> Result<ShortList<T>, Memory>
-        ensures { IfOk result (λ list. list ≡ items.now) }
+        ensures list { IfOk result (λ list. list ≡ items.now) }
+        ensures in_place { length items.now ≤ 1 → IsOk result }
     {
         let place = match items {
             [] => Place::Nowhere,
@@ -89,9 +91,10 @@ impl<T: Copy> ShortList<T> {
         }
     }
 
-    /// No elements, with room for so many.
+    /// No elements, with room for so many. Room for a single one wants no memory.
     pub fn with_capacity(alloc: Global, count: usize) -> Result<ShortList<T>, Memory>
-        ensures { IfOk result (λ items. items ≡ []) }
+        ensures empty { IfOk result (λ list. list ≡ []) }
+        ensures in_place { count ≤ 1 → IsOk result }
     {
         let place = if count > 1 {
             Place::Heap(Vec::with_capacity(alloc, count)?)
@@ -120,9 +123,10 @@ impl<T: Copy> ShortList<T> {
         Ok(ShortList { place })
     }
 
-    /// An equal list.
+    /// An equal list. One of a single element, or of none, wants no memory.
     pub fn copy(&self, alloc: Global) -> Result<ShortList<T>, Memory>
-        ensures { IfOk result (λ copy. copy ≡ self.now) }
+        ensures copy { IfOk result (λ copy. copy ≡ self.now) }
+        ensures in_place { length self.now ≤ 1 → IsOk result }
     {
         ShortList::from_slice(alloc, self.as_slice())
     }

@@ -152,7 +152,11 @@ fn begun_cells(
 ) -> Result<ShortList<Cell>, Memory>
     ensures { IfOk result (λ begun. begun ≡ begun_cells moment types.now) }
 {
-    let mut begun = ShortList::new();
+    let count = types
+        .iter()
+        .filter(|entry| entry.0.shape() != Shape::Name)
+        .count();
+    let mut begun = ShortList::with_capacity(alloc, count)?;
     for entry in types {
         let shape = entry.0.shape();
         if shape == Shape::Name {
