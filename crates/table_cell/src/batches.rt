@@ -85,41 +85,7 @@ fn keep(
     Ok(())
 }
 
-/// Copies: the batch is taught, and the event is in the history. After `Memory` nothing has changed.
-fn copy(
-    table: &mut Table,
-    history: &mut Vec<(CellEvent, CellReply)>,
-    latest_copies: &mut BTreeMap<u32, usize>,
-    session: u32,
-    kind: CopyKind,
-    limit: usize,
-    now: Moment,
-) -> Result<Batch, Memory>
-    requires sound { IsSound table.old }
-    requires latest { AreLatestCopies latest_copies.old.entries history.old.items }
-    requires limit { limit ≤ 512 }
-    requires granted { copy_refusal false table.old session kind limit now ≡ None }
-    ensures step { IfOk result (λ batch. Step table.old (events.Copy session kind limit now) (replies.Copy batch) table.new) }
-    ensures event { IfOk result (λ batch. history.new.items ≡ history.old.items ++ (events.Copy session kind limit now, replies.Copy batch) ∷ []) }
-    ensures latest { AreLatestCopies latest_copies.new.entries history.new.items }
-    ensures stays { OnErr result (table.new ≡ table.old) }
-    ensures no_event { OnErr result (history.new.items ≡ history.old.items) }
-{
-    let batch = table.batch(session, kind, limit, now)?;
-    keep(
-        table,
-        history,
-        latest_copies,
-        session,
-        kind,
-        limit,
-        now,
-        &batch,
-    )?;
-    Ok(batch)
-}
-
-/// Copies: the batch is taught, and the event is in the history, and the batch is given twice. After `Memory` nothing has changed.
+/// Copies: the batch is taught, the event is in the history, and the batch is given twice. After `Memory` nothing has changed.
 fn copy_pair(
     table: &mut Table,
     history: &mut Vec<(CellEvent, CellReply)>,
@@ -179,22 +145,7 @@ impl TableCell {
         requires { (1 ≤ limit) × (limit ≤ 512) }
         ensures { Copies self.old session kind limit now result self.new }
     {
-        let full = self.is_history_full();
-        if let Some(error) = self.table.copy_refusal(full, session, kind, limit, now) {
-            self.table.pass_learned(session, kind, error);
-            return Err(error);
-        }
-        let Ok(batch) = copy(
-            &mut self.table,
-            &mut self.history,
-            &mut self.latest_copies,
-            session,
-            kind,
-            limit,
-            now,
-        ) else {
-            return Err(CopyError::Memory);
-        };
+        let (batch, _) = self.copy_pair(session, kind, limit, now)?;
         Ok(batch)
     }
 

@@ -26,11 +26,16 @@ impl Reply {
         })
     }
 
-    /// The same reply twice.
-    pub(crate) fn twice(alloc: Global, row: &Row) -> Result<(Reply, Reply), Memory>
-        ensures { IfOk result (λ replies. (replies.0 ≡ reply_of row.now) × (replies.1 ≡ reply_of row.now)) }
+    /// The reply to a change that made a row: the one that the history keeps, and the two that are given.
+    pub(crate) fn kept_and_given(
+        alloc: Global,
+        row: &Row,
+    ) -> Result<(Reply, (Reply, Reply)), Memory>
+        ensures kept { IfOk result (λ replies. replies.0 ≡ reply_of row.now) }
+        ensures given { IfOk result (λ replies. (replies.1.0 ≡ reply_of row.now) × (replies.1.1 ≡ reply_of row.now)) }
     {
-        Ok((Reply::of(alloc, row)?, Reply::of(alloc, row)?))
+        let given = (Reply::of(alloc, row)?, Reply::of(alloc, row)?);
+        Ok((Reply::of(alloc, row)?, given))
     }
 }
 

@@ -1,11 +1,12 @@
 //! Rows that are changed, and rows that are learned.
 
-ghost use Rattle.std.specs.Prelude.{◌≡◌, ◌≤◌, ◌<◌, ◌^◌, ◌∷◌, ◌++◌, [], IfOk, None, OnErr, OnOk, false};
-ghost use Rattle.table_cell.specs.Cells.{reply_of};
+ghost use Rattle.std.specs.Prelude.{◌≡◌, ◌≤◌, ◌<◌, ◌^◌, ◌∷◌, ◌++◌, [], IfOk, List, None, OnErr, OnOk, false};
+ghost use Rattle.table_types.specs.declared.key.Key.{Key};
+ghost use Rattle.table_types.specs.Rows.{StoredRow};
 ghost use Rattle.table_cell.specs.declared.events.CellEvent.TheVariants as events;
 ghost use Rattle.table_cell.specs.declared.events.CellReply.TheVariants as replies;
 ghost use Rattle.table_cell.specs.Histories.{Learns, Tracks, first_of};
-ghost use Rattle.table_cell.specs.Machine.{Step, learn_refusal, learned, track_refusal, tracked};
+ghost use Rattle.table_cell.specs.Machine.{Leaves, Step, learn_refusal, learned, stored, track_refusal, tracked};
 
 use crate::cell::TableCell;
 use crate::errors::{LearnError, TrackError};
@@ -13,71 +14,32 @@ use crate::events::{CellEvent, CellReply, Reply};
 use crate::table::Table;
 use table_types::{Change, Key, Memory, Moment, Row, Update};
 
-/// Stores the row that a change made, and puts the event into the history with the reply. After `Memory` nothing has changed.
-fn put_tracked(
+/// Stores a row under the next number, and puts its entry into the history: the event with the event's reply. After
+/// `Memory` nothing has changed.
+fn store_with_event(
     table: &mut Table,
     history: &mut Vec<(CellEvent, CellReply)>,
-    seat: u32,
     key: Key,
-    change: Change,
-    now: Moment,
     row: Row,
-    reply: Reply,
+    now: Moment,
+    entry: (CellEvent, CellReply),
 ) -> Result<(), Memory>
     requires some { 1 ≤ table.old.size }
-    requires granted { track_refusal false table.old key change now ≡ None }
-    requires row { row ≡ tracked table.old key change now }
-    requires reply { reply ≡ reply_of row }
-    ensures step { OnOk result (Step table.old (events.Track seat key change now) (replies.Track reply) table.new) }
-    ensures event { OnOk result (history.new.items ≡ history.old.items ++ (events.Track seat key change now, replies.Track reply) ∷ []) }
+    requires number { row.number ≡ table.old.next }
+    requires left { table.old.next < 2 ^ 32 }
+    ensures stored { OnOk result ((rest : List (Key × StoredRow)) × Leaves table.old key rest × (table.new ≡ stored table.old key row now rest)) }
+    ensures event { OnOk result (history.new.items ≡ history.old.items ++ entry ∷ []) }
     ensures stays { OnErr result (table.new ≡ table.old) }
     ensures no_event { OnErr result (history.new.items ≡ history.old.items) }
 {
     history.reserve(1)?;
-    table.store(key.copy(table.alloc)?, row, now)?;
-    let event = CellEvent::Track {
-        seat,
-        key,
-        change,
-        moment: now,
-    };
-    history.push_reserved((event, CellReply::Track(reply)));
+    table.store(key, row, now)?;
+    history.push_reserved(entry);
     Ok(())
 }
 
-/// Stores the row that an update taught, and puts the event into the history with the reply. After `Memory` nothing has
-/// changed.
-fn put_learned(
-    table: &mut Table,
-    history: &mut Vec<(CellEvent, CellReply)>,
-    session: u32,
-    update: Update,
-    now: Moment,
-    row: Row,
-    reply: Reply,
-) -> Result<(), Memory>
-    requires some { 1 ≤ table.old.size }
-    requires granted { learn_refusal false table.old session update now ≡ None }
-    requires row { row ≡ learned table.old update now }
-    requires reply { reply ≡ reply_of row }
-    ensures step { OnOk result (Step table.old (events.Learn session update now) (replies.Learn reply) table.new) }
-    ensures event { OnOk result (history.new.items ≡ history.old.items ++ (events.Learn session update now, replies.Learn reply) ∷ []) }
-    ensures stays { OnErr result (table.new ≡ table.old) }
-    ensures no_event { OnErr result (history.new.items ≡ history.old.items) }
-{
-    history.reserve(1)?;
-    table.store(update.key.copy(table.alloc)?, row, now)?;
-    let event = CellEvent::Learn {
-        session,
-        update,
-        moment: now,
-    };
-    history.push_reserved((event, CellReply::Learn(reply)));
-    Ok(())
-}
-
-/// Tracks with the row that the change makes: the row is stored, and the event is in the history. After `Memory` nothing has
-/// changed.
+/// Tracks with the row that the change makes: the row is stored, the event is in the history, and the reply is given
+/// twice. After `Memory` nothing has changed.
 fn track_row(
     table: &mut Table,
     history: &mut Vec<(CellEvent, CellReply)>,
@@ -86,23 +48,37 @@ fn track_row(
     change: Change,
     now: Moment,
     row: Row,
-) -> Result<Reply, Memory>
+) -> Result<(Reply, Reply), Memory>
     requires some { 1 ≤ table.old.size }
     requires granted { track_refusal false table.old key change now ≡ None }
     requires row { row ≡ tracked table.old key change now }
-    ensures step { IfOk result (λ reply. Step table.old (events.Track seat key change now) (replies.Track reply) table.new) }
-    ensures event { IfOk result (λ reply. history.new.items ≡ history.old.items ++ (events.Track seat key change now, replies.Track reply) ∷ []) }
-    ensures reply { IfOk result (λ reply. reply ≡ reply_of row) }
+    ensures step { IfOk result (λ pair. Step table.old (events.Track seat key change now) (replies.Track pair.0) table.new) }
+    ensures event { IfOk result (λ pair. history.new.items ≡ history.old.items ++ (events.Track seat key change now, replies.Track pair.0) ∷ []) }
+    ensures both { IfOk result (λ pair. pair.1 ≡ pair.0) }
     ensures stays { OnErr result (table.new ≡ table.old) }
     ensures no_event { OnErr result (history.new.items ≡ history.old.items) }
 {
-    let (kept, reply) = Reply::twice(table.alloc, &row)?;
-    put_tracked(table, history, seat, key, change, now, row, kept)?;
-    Ok(reply)
+    let stored_key = key.copy(table.alloc)?;
+    let (kept, given) = Reply::kept_and_given(table.alloc, &row)?;
+    let event = CellEvent::Track {
+        seat,
+        key,
+        change,
+        moment: now,
+    };
+    store_with_event(
+        table,
+        history,
+        stored_key,
+        row,
+        now,
+        (event, CellReply::Track(kept)),
+    )?;
+    Ok(given)
 }
 
-/// Learns with the row that the update teaches: the row is stored, and the event is in the history. After `Memory` nothing has
-/// changed.
+/// Learns with the row that the update teaches: the row is stored, the event is in the history, and the reply is given
+/// twice. After `Memory` nothing has changed.
 fn learn_row(
     table: &mut Table,
     history: &mut Vec<(CellEvent, CellReply)>,
@@ -110,61 +86,35 @@ fn learn_row(
     update: Update,
     now: Moment,
     row: Row,
-) -> Result<Reply, Memory>
+) -> Result<(Reply, Reply), Memory>
     requires some { 1 ≤ table.old.size }
     requires granted { learn_refusal false table.old session update now ≡ None }
     requires row { row ≡ learned table.old update now }
-    ensures step { IfOk result (λ reply. Step table.old (events.Learn session update now) (replies.Learn reply) table.new) }
-    ensures event { IfOk result (λ reply. history.new.items ≡ history.old.items ++ (events.Learn session update now, replies.Learn reply) ∷ []) }
-    ensures reply { IfOk result (λ reply. reply ≡ reply_of row) }
+    ensures step { IfOk result (λ pair. Step table.old (events.Learn session update now) (replies.Learn pair.0) table.new) }
+    ensures event { IfOk result (λ pair. history.new.items ≡ history.old.items ++ (events.Learn session update now, replies.Learn pair.0) ∷ []) }
+    ensures both { IfOk result (λ pair. pair.1 ≡ pair.0) }
     ensures stays { OnErr result (table.new ≡ table.old) }
     ensures no_event { OnErr result (history.new.items ≡ history.old.items) }
 {
-    let (kept, reply) = Reply::twice(table.alloc, &row)?;
-    put_learned(table, history, session, update, now, row, kept)?;
-    Ok(reply)
+    let stored_key = update.key.copy(table.alloc)?;
+    let (kept, given) = Reply::kept_and_given(table.alloc, &row)?;
+    let event = CellEvent::Learn {
+        session,
+        update,
+        moment: now,
+    };
+    store_with_event(
+        table,
+        history,
+        stored_key,
+        row,
+        now,
+        (event, CellReply::Learn(kept)),
+    )?;
+    Ok(given)
 }
 
-/// Tracks: the row is stored, and the event is in the history. After `Memory` nothing has changed.
-fn track(
-    table: &mut Table,
-    history: &mut Vec<(CellEvent, CellReply)>,
-    seat: u32,
-    key: Key,
-    change: Change,
-    now: Moment,
-) -> Result<Reply, Memory>
-    requires some { 1 ≤ table.old.size }
-    requires granted { track_refusal false table.old key change now ≡ None }
-    ensures step { IfOk result (λ reply. Step table.old (events.Track seat key change now) (replies.Track reply) table.new) }
-    ensures event { IfOk result (λ reply. history.new.items ≡ history.old.items ++ (events.Track seat key change now, replies.Track reply) ∷ []) }
-    ensures stays { OnErr result (table.new ≡ table.old) }
-    ensures no_event { OnErr result (history.new.items ≡ history.old.items) }
-{
-    let row = table.tracked(&key, &change, now)?;
-    track_row(table, history, seat, key, change, now, row)
-}
-
-/// Learns: the row is stored, and the event is in the history. After `Memory` nothing has changed.
-fn learn(
-    table: &mut Table,
-    history: &mut Vec<(CellEvent, CellReply)>,
-    session: u32,
-    update: Update,
-    now: Moment,
-) -> Result<Reply, Memory>
-    requires some { 1 ≤ table.old.size }
-    requires granted { learn_refusal false table.old session update now ≡ None }
-    ensures step { IfOk result (λ reply. Step table.old (events.Learn session update now) (replies.Learn reply) table.new) }
-    ensures event { IfOk result (λ reply. history.new.items ≡ history.old.items ++ (events.Learn session update now, replies.Learn reply) ∷ []) }
-    ensures stays { OnErr result (table.new ≡ table.old) }
-    ensures no_event { OnErr result (history.new.items ≡ history.old.items) }
-{
-    let row = table.learned(&update, now)?;
-    learn_row(table, history, session, update, now, row)
-}
-
-/// Tracks: the row is stored, and the event is in the history, and the reply is given twice. After `Memory` nothing has changed.
+/// Tracks: the row is stored, the event is in the history, and the reply is given twice. After `Memory` nothing has changed.
 fn track_pair(
     table: &mut Table,
     history: &mut Vec<(CellEvent, CellReply)>,
@@ -182,12 +132,10 @@ fn track_pair(
     ensures no_event { OnErr result (history.new.items ≡ history.old.items) }
 {
     let row = table.tracked(&key, &change, now)?;
-    let second = Reply::of(table.alloc, &row)?;
-    let first = track_row(table, history, seat, key, change, now, row)?;
-    Ok((first, second))
+    track_row(table, history, seat, key, change, now, row)
 }
 
-/// Learns: the row is stored, and the event is in the history, and the reply is given twice. After `Memory` nothing has changed.
+/// Learns: the row is stored, the event is in the history, and the reply is given twice. After `Memory` nothing has changed.
 fn learn_pair(
     table: &mut Table,
     history: &mut Vec<(CellEvent, CellReply)>,
@@ -204,9 +152,7 @@ fn learn_pair(
     ensures no_event { OnErr result (history.new.items ≡ history.old.items) }
 {
     let row = table.learned(&update, now)?;
-    let second = Reply::of(table.alloc, &row)?;
-    let first = learn_row(table, history, session, update, now, row)?;
-    Ok((first, second))
+    learn_row(table, history, session, update, now, row)
 }
 
 impl TableCell {
@@ -222,13 +168,7 @@ impl TableCell {
     ) -> Result<Reply, TrackError>
         ensures { Tracks self.old seat key change now result self.new }
     {
-        let full = self.is_history_full();
-        if let Some(error) = self.table.track_refusal(full, &key, &change, now) {
-            return Err(error);
-        }
-        let Ok(reply) = track(&mut self.table, &mut self.history, seat, key, change, now) else {
-            return Err(TrackError::Memory);
-        };
+        let (reply, _) = self.track_pair(seat, key, change, now)?;
         Ok(reply)
     }
 
@@ -237,13 +177,7 @@ impl TableCell {
     pub fn learn(&mut self, session: u32, update: Update, now: Moment) -> Result<Reply, LearnError>
         ensures { Learns self.old session update now result self.new }
     {
-        let full = self.is_history_full();
-        if let Some(error) = self.table.learn_refusal(full, session, &update, now) {
-            return Err(error);
-        }
-        let Ok(reply) = learn(&mut self.table, &mut self.history, session, update, now) else {
-            return Err(LearnError::Memory);
-        };
+        let (reply, _) = self.learn_pair(session, update, now)?;
         Ok(reply)
     }
 
