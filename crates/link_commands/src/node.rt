@@ -1,6 +1,6 @@
 //! A node that meets another.
 
-ghost use Rattle.std.specs.Prelude.{◌≡◌, ◌≢◌, ◌⊎◌, ℕ, List, true, IfErr, IfOk, string_bytes};
+ghost use Rattle.std.specs.Prelude.{◌≡◌, ◌≢◌, ◌⊎◌, ℕ, List, Ok, true, IfErr, IfOk, string_bytes};
 ghost use Rattle.std.specs.Io.KnownBytes.{Appends, Consumes};
 ghost use Rattle.scene_text.specs.declared.scene.Scene.{Scene};
 ghost use Rattle.scene_commands.specs.Endings.{IsEarly, line_of};
@@ -68,6 +68,32 @@ fn opened(
     Ok((shards, seat))
 }
 
+/// The node of this session with these tables and a seat, or why there is no session: tables and seat are let go of then.
+fn node_of(
+    session: Result<Session, Memory>,
+    shards: Shards,
+    seat: Seat,
+    leaves: bool,
+) -> Result<Node, Ending>
+    ensures session { IfOk result (λ node. session ≡ Ok node.session) }
+    ensures node { IfOk result (λ node. (node.shards ≡ shards) × (node.seat ≡ seat) × (node.leaves ≡ leaves)) }
+    ensures early { IfErr result IsEarly }
+{
+    match session {
+        Ok(session) => Ok(Node {
+            session,
+            shards,
+            seat,
+            leaves,
+        }),
+        Err(error) => {
+            drop(shards);
+            drop(seat);
+            Err(Ending::from(error))
+        }
+    }
+}
+
 /// The node that serves a scene.
 #[tactic(auto, using(crate::proofs::NodeLaws::serving_with))]
 fn serving_of(alloc: Global, name: Name, peer: Name, scene: Scene) -> Result<Node, Ending>
@@ -80,16 +106,11 @@ fn serving_of(alloc: Global, name: Name, peer: Name, scene: Scene) -> Result<Nod
         ..
     } = scene;
     let roster = rising_roster(tables)?;
-    let (shards, seat) = opened(alloc, roster.tables(), updates.as_slice())?;
     let mut peers = Vec::new(alloc);
     peers.push(peer).map_err(Memory::from)?;
-    let session = Session::accept(alloc, name, peers, roster, true)?;
-    Ok(Node {
-        session,
-        shards,
-        seat,
-        leaves: false,
-    })
+    let (shards, seat) = opened(alloc, roster.tables(), updates.as_slice())?;
+    let session = Session::accept(alloc, name, peers, roster, true);
+    node_of(session, shards, seat, false)
 }
 
 /// The node that joins with the tables of a scene.
@@ -107,13 +128,8 @@ fn joining_of(alloc: Global, name: Name, peer: Name, scene: Scene) -> Result<Nod
         pid: 1,
         relative: 1,
     };
-    let session = Session::connect(alloc, hello, roster, false)?;
-    Ok(Node {
-        session,
-        shards,
-        seat,
-        leaves: true,
-    })
+    let session = Session::connect(alloc, hello, roster, false);
+    node_of(session, shards, seat, true)
 }
 
 /// Whether rows are printed after a session that ended so.
@@ -137,13 +153,17 @@ fn early(ending: Ending) -> Ending
     }
 }
 
-/// What is to be printed after a session: how many turns were made, and the rows that the tables have then.
+/// What is to be printed after a session: how many turns were made, and the rows that the tables have then. Refuses where the
+/// session ended so that no rows are printed, and for want of memory.
 fn report_of(alloc: Global, shards: Shards, played: Played) -> Result<Report, Ending>
-    requires { has_rows played.ending ≡ true }
     ensures text { IfOk result (λ report. (tables : List UnlockedTable) × (table_rounds tables ≡ shards.tables) × IsText played.turns tables report.text.items) }
     ensures ending { IfOk result (λ report. report.ending ≡ played.ending) }
-    ensures early { IfErr result (λ ending. ending ≡ endings.Memory) }
+    ensures early { IfErr result (λ ending. (ending ≡ endings.Memory) ⊎ (ending ≡ endings.Device)) }
 {
+    if !has_rows(played.ending) {
+        drop(shards);
+        return Err(early(played.ending));
+    }
     let Ok(unlocked) = shards.unlock(alloc) else {
         return Err(Ending::Memory);
     };
@@ -218,9 +238,7 @@ impl Node {
             from,
             to,
         );
-        if !has_rows(played.ending) {
-            return Err(early(played.ending));
-        }
+        drop(session);
         report_of(alloc, shards, played)
     }
 }

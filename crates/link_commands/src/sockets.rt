@@ -58,7 +58,10 @@ fn met<H: Wait>(
             &mut Counting::new(&stream),
             &mut Counting::new(&stream),
         ),
-        Err(_) => Err(Ending::Device),
+        Err(_) => {
+            drop(node);
+            Err(Ending::Device)
+        }
     }
 }
 

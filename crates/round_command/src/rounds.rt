@@ -34,9 +34,9 @@ pub struct RoundSize {
 ///
 /// Threads, at most 8, change one table, each under its lock, while a session's worker in a thread of its own copies, plans, settles and
 /// acknowledges until there is nothing to copy. Once all have ended, this thread goes on as the worker until there is nothing
-/// again, and audits all seats. Where no thread is to be had, all that ran are joined, and the end is `Device`. Nothing is written
-/// on the output before the audit has found nothing wrong: where the round ends early, the output is as it was, unless the output
-/// itself fails, which may have taken a part of the text.
+/// again, and audits all seats. Where no thread is to be had, all that ran are joined, and the end is `Device`. Nothing is
+/// written before the audit has found nothing wrong. Where the round doesn't end with `Done`, the output is as it was, unless it ends
+/// with `Device`: then the output may have the beginning of such a text, and never all of it.
 pub fn round<R: Threads + Wait + Sync, W: Write + Faults, E: Write + Faults>(
     rt: &R,
     alloc: Global,
@@ -118,7 +118,19 @@ fn seats_after<R: Threads + Wait + Sync>(
     };
     let own = opened(rt, shards, own)?;
     let worker = Worker { seat, known };
-    let (mut seats, worker) = run_threads(rt, alloc, shards, tracks, seats, worker)?;
+    let (seats, worker) = run_threads(rt, alloc, shards, tracks, seats, worker)?;
+    seats_at_last(rt, alloc, shards, own, seats, worker)
+}
+
+/// Goes on as the worker, at this thread's own seat, until there is nothing to copy. All seats come back.
+fn seats_at_last<R: Wait>(
+    rt: &R,
+    alloc: Global,
+    shards: &Shards,
+    own: Seat,
+    mut seats: Vec<Seat>,
+    worker: Worker,
+) -> Result<Vec<Seat>, RoundFailure> {
     let Worker { seat, known } = worker;
     seats.push(seat)?;
     let (worker, ended) = work(rt, alloc, &Open, shards, Worker { seat: own, known });

@@ -74,11 +74,25 @@ fn printed_for(alloc: Global, scene: Scene) -> Result<(Vec<u8>, Ending), Ending>
     ensures early { IfErr result IsEarly }
 {
     let (mut learner, answer) = fed(alloc, scene)?;
+    let printed = printed_after(alloc, &mut learner, answer);
+    drop(learner);
+    printed
+}
+
+/// What is printed of a learner that gave that answer to a scene's stream, and how the subcommand then ends.
+fn printed_after(
+    alloc: Global,
+    learner: &mut Learner,
+    answer: Result<usize, Fault>,
+) -> Result<(Vec<u8>, Ending), Ending>
+    ensures printed { (scene : Scene) → IsLearned scene answer learner.old → IfOk result (λ printed. IsPrinted scene printed.0.items printed.1) }
+    ensures early { IfErr result IsEarly }
+{
     let mut text = Vec::new(alloc);
-    push_all_rows(&mut text, &learner)?;
+    push_all_rows(&mut text, learner)?;
     match answer {
         Ok(_) => {
-            push_due_acks(&mut text, &mut learner)?;
+            push_due_acks(&mut text, learner)?;
             Ok((text, Ending::Done))
         }
         Err(Fault::Memory) => Err(Ending::Memory),
