@@ -2,21 +2,10 @@
 //! which reads its input, writes its answer, and gives the exit status.
 #![tactic(auto)]
 
-mod borrowed;
-mod choice;
-mod command_line;
-mod given_words;
-mod laws;
-mod options_error;
-mod program;
 mod run;
-mod settings;
 
-pub use choice::Options;
-pub use command_line::options;
-pub use laws::plain_words_choose;
 pub use link_commands::{Link, join, serve};
-pub use options_error::OptionsError;
+pub use node_options::{Options, OptionsError, options, plain_words_choose};
 pub use round_command::{RoundSize, round};
 pub use scene_commands::{Ending, check, learn, lesson};
 pub use script_commands::table;

@@ -1,11 +1,8 @@
 //! From the words of the command line to the exit status.
 ghost use Rattle.std.specs.Prelude.{◌≤◌};
 
-use crate::choice::Options;
-use crate::command_line::{Refusal, read_words};
-use crate::given_words::choice_of;
-use crate::options_error::OptionsError;
 use link_commands::{Link, join, serve};
+use node_options::{Options, OptionsError, Refusal, choice_of, read_words};
 use peers_devices::{Counting, Faults, write_all};
 use round_command::{RoundSize, round};
 use scene_commands::{Ending, check, learn, lesson};
@@ -63,7 +60,7 @@ fn texts<'a>(alloc: Global, arguments: &'a [String]) -> Result<Vec<&'a str>, All
 
 /// Runs what these words choose. Each subcommand runs in a function that isn't inlined, so that the stack holds the part of one
 /// alone.
-#[tactic(auto, using(crate::proofs::Choices::few_threads))]
+#[tactic(auto, using(node_options::proofs::Choices::few_threads))]
 fn dispatched<
     'a,
     R: Threads + Wait + Sync + Net<Listener = TcpListener, Stream = TcpStream>,
