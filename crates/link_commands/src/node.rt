@@ -106,9 +106,9 @@ fn serving_of(alloc: Global, name: Name, peer: Name, scene: Scene) -> Result<Nod
         ..
     } = scene;
     let roster = rising_roster(tables)?;
+    let (shards, seat) = opened(alloc, roster.tables(), updates.as_slice())?;
     let mut peers = Vec::new(alloc);
     peers.push(peer).map_err(Memory::from)?;
-    let (shards, seat) = opened(alloc, roster.tables(), updates.as_slice())?;
     let session = Session::accept(alloc, name, peers, roster, true);
     node_of(session, shards, seat, false)
 }
