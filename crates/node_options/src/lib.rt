@@ -10,6 +10,7 @@ mod options_error;
 mod program;
 mod settings;
 
+pub use borrowed::{Choice, LinkWords};
 pub use choice::Options;
 pub use command_line::{Refusal, options, read_words};
 pub use given_words::choice_of;
