@@ -10,11 +10,12 @@ use Rattle.session_core.specs.declared.state.State.TheVariants as states
 use Rattle.table_shards.specs.Receipts.{SeatState}
 use Rattle.table_types.specs.Rows.{later_by}
 use Rattle.session_core.specs.Sessions.{SessionState, state_of}
-use Rattle.peers_engine.specs.declared.errors.EngineError.{EngineError}
-use Rattle.peers_engine.specs.declared.errors.Turned.{Turned}
-use Rattle.peers_engine.specs.declared.errors.Turned.TheVariants as turned
-use Rattle.peers_engine.specs.Doing.{Worker, worker}
-use Rattle.peers_engine.specs.Turns.{IsRead, StopsTurn, TakesTurn}
+use Rattle.session_actions.specs.declared.errors.EngineError.{EngineError}
+use Rattle.peers_engine.specs.declared.turned.Turned.{Turned}
+use Rattle.peers_engine.specs.declared.turned.Turned.TheVariants as turned
+use Rattle.session_actions.specs.Doing.{Worker, worker}
+use Rattle.session_actions.specs.Reading.{IsRead}
+use Rattle.peers_engine.specs.Turns.{StopsTurn, TakesTurn}
 use Rattle.scene_commands.specs.declared.ending.Ending.{Ending}
 use Rattle.scene_commands.specs.declared.ending.Ending.TheVariants as endings
 use Rattle.link_commands.specs.Loading.{loaded_at}

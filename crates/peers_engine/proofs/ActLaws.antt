@@ -8,7 +8,7 @@ use Rattle.session_core.specs.declared.phase.Phase.TheVariants as phases
 use Rattle.session_core.specs.Courses.{state_of_course}
 use Rattle.session_core.specs.Sessions.{SessionState, Goes, GoesIn, ended, state_of}
 use Rattle.table_shards.specs.Receipts.{SeatState}
-use Rattle.peers_engine.specs.Doing.{Acts, Done, IsGiven, IsGivenIn, Worker, asked, stands}
+use Rattle.session_actions.specs.Doing.{Acts, Done, IsGiven, IsGivenIn, Worker, asked, stands}
 
 pub acts_on : (s mid e : Worker) (before after : List Action) (answers more : List (Event × List Action)) (out rest : List ℕ)
     → Acts s before answers out mid → Acts mid after more rest e → Acts s (before ++ after) (answers ++ more) (out ++ rest) e

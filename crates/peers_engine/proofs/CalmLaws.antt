@@ -22,7 +22,7 @@ use Rattle.session_core.specs.Shares.{any_out, all_quiet, out_set, quiet_set}
 use Rattle.session_core.specs.Actions.{reopens}
 use Rattle.session_core.specs.Courses.{Course}
 use Rattle.session_core.specs.Sessions.{SessionState, Goes, GoesIn, GoesOpen, HasNothing, FinishesResync, StartsPendingResync, Settles, state_of}
-use Rattle.peers_engine.specs.Doing.{Acts, Done, IsGiven, IsGivenIn, Worker, asked, stands}
+use Rattle.session_actions.specs.Doing.{Acts, Done, IsGiven, IsGivenIn, Worker, asked, stands}
 
 -- an action that a table doesn't answer
 abbrev pub is_calm : Action → Bool

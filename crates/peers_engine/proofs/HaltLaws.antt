@@ -16,9 +16,9 @@ use Rattle.session_core.specs.declared.event.Event.{Event}
 use Rattle.session_core.specs.declared.state.State.TheVariants as states
 use Rattle.session_core.specs.Sessions.{SessionState, Goes, ended, state_of}
 use Rattle.session_core.specs.Runs.{Runs}
-use Rattle.peers_engine.specs.declared.errors.EngineError.{EngineError}
-use Rattle.peers_engine.specs.declared.errors.EngineError.TheVariants as errors
-use Rattle.peers_engine.specs.Doing.{Acts, Done, Fails, Falls, IsAtTable, IsCut, IsLost, IsRefusal, DoesNotGoOn, Stops, IsGiven, Worker, asked, stands}
+use Rattle.session_actions.specs.declared.errors.EngineError.{EngineError}
+use Rattle.session_actions.specs.declared.errors.EngineError.TheVariants as errors
+use Rattle.session_actions.specs.Doing.{Acts, Done, Fails, Falls, IsAtTable, IsCut, IsLost, IsRefusal, DoesNotGoOn, Stops, IsGiven, Worker, asked, stands}
 use Rattle.peers_engine.specs.Turns.{Breaks, Halts, HaltsAt, Receives, Idles, Reacts, StopsTurn, TakesTurn, Turns, first_event, is_push}
 use Rattle.peers_engine.proofs.ActLaws.{acts_on, one_act, given_some}
 use Rattle.peers_engine.proofs.CalmLaws.{acts_calm, acts_last}
@@ -37,24 +37,6 @@ pub act_more : (s mid : Worker) (e : SessionState) (seat : SeatState) (acts : Li
     → Acts s (acts ++ (act ∷ [])) (answers ++ steps) (out ++ bytes) (stands mid e seat)
 act_more s mid e seat acts act answer answers steps out bytes acted done gives =
     acts_on s mid (stands mid e seat) acts (act ∷ []) answers steps out bytes acted (one_act mid e seat act answer steps bytes done gives)
-
--- a write failed
-pub falls_short : (error : EngineError) (n now : ℕ) (k : KnownState) (s : SeatState) (act : Action) (bytes : List ℕ) (answer : Option Event) (old new : Option (List ℕ))
-    → Done n now k s act bytes answer s → Falls bytes error old new → (out : List ℕ) × Fails n now k s act error out × Appends old new out
-falls_short (errors.Write sent) n now k s act bytes answer old new done (within, appended) = (take sent bytes, (bytes, answer, done, within, refl), appended)
-falls_short errors.Read n now k s act bytes answer old new done falls = absurd falls
-falls_short errors.Memory n now k s act bytes answer old new done falls = absurd falls
-falls_short errors.Strange n now k s act bytes answer old new done falls = absurd falls
-falls_short (errors.Session refused) n now k s act bytes answer old new done falls = absurd falls
-
--- a table refused, and nothing was written
-pub nothing_done : (error : EngineError) (n now : ℕ) (k : KnownState) (s : SeatState) (act : Action) (known : Option (List ℕ)) → IsRefusal error → IsAtTable act
-    → (out : List ℕ) × Fails n now k s act error out × Appends known known out
-nothing_done errors.Memory n now k s act known refusal here = ([], (refusal, here, refl), Appends-nil known)
-nothing_done errors.Strange n now k s act known refusal here = ([], (refusal, here, refl), Appends-nil known)
-nothing_done errors.Read n now k s act known refusal here = absurd refusal
-nothing_done (errors.Write sent) n now k s act known refusal here = absurd refusal
-nothing_done (errors.Session refused) n now k s act known refusal here = absurd refusal
 
 -- an action failed
 pub act_stops : (s mid : Worker) (all before rest : List Action) (act : Action) (error : EngineError) (answers : List (Event × List Action)) (first last : List ℕ)

@@ -1,9 +1,7 @@
 mod ActLaws
-mod AnswerLaws
 mod CalmLaws
 mod EndLaws
 mod HaltLaws
 mod RunLaws
 mod TakenLaws
 mod TurnLaws
-mod CallLaws

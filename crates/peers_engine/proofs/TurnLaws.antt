@@ -15,9 +15,10 @@ use Rattle.session_core.specs.declared.phase.Phase.TheVariants as phases
 use Rattle.session_core.specs.declared.state.State.TheVariants as states
 use Rattle.session_core.specs.Courses.{state_of_course}
 use Rattle.session_core.specs.Sessions.{SessionState, Goes, Refuses, ended, state_of}
-use Rattle.peers_engine.specs.declared.errors.EngineError.{EngineError}
-use Rattle.peers_engine.specs.Doing.{Acts, Done, Fails, DoesNotGoOn, Stops, IsGiven, Worker, asked, stands}
-use Rattle.peers_engine.specs.Turns.{Breaks, Halts, HaltsAt, Receives, Idles, IsRead, Reacts, StopsTurn, TakesTurn, Turns, first_event, is_push}
+use Rattle.session_actions.specs.declared.errors.EngineError.{EngineError}
+use Rattle.session_actions.specs.Doing.{Acts, Done, Fails, DoesNotGoOn, Stops, IsGiven, Worker, asked, stands}
+use Rattle.session_actions.specs.Reading.{IsRead}
+use Rattle.peers_engine.specs.Turns.{Breaks, Halts, HaltsAt, Receives, Idles, Reacts, StopsTurn, TakesTurn, Turns, first_event, is_push}
 use Rattle.peers_engine.proofs.HaltLaws.{act_more, act_stops, breaks_of, halted, idle_done, react_done, react_stops, react_stops_later, give_stops, turns_of}
 
 -- what is known of a result whose variant is known

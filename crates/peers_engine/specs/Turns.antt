@@ -10,9 +10,10 @@ use Rattle.session_core.specs.declared.state.State.{State}
 use Rattle.session_core.specs.declared.state.State.TheVariants as states
 use Rattle.session_core.specs.Sessions.{SessionState, Goes, ended, state_of}
 use Rattle.session_core.specs.Runs.{Runs}
-use Rattle.peers_engine.specs.declared.errors.EngineError.{EngineError}
-use Rattle.peers_engine.specs.declared.errors.EngineError.TheVariants as errors
-use Rattle.peers_engine.specs.Doing.{Acts, IsRefused, Stops, Worker, asked, stands}
+use Rattle.session_actions.specs.declared.errors.EngineError.{EngineError}
+use Rattle.session_actions.specs.declared.errors.EngineError.TheVariants as errors
+use Rattle.session_actions.specs.Reading.{IsUnread}
+use Rattle.session_actions.specs.Doing.{Acts, IsRefused, Stops, Worker, asked, stands}
 
 -- the event with which a turn begins: a new session is opened, and any other may teach
 abbrev pub first_event : State → Event
@@ -67,17 +68,6 @@ Idles w event e =
     × (list_all is_push acts ≡ true)
     × Acts (stands w mid w.seat) acts answers [] e
     × (asked answers ≡ [])
-
--- what a read gives, and the event that comes of it: none, 1 to 4,096 bytes, or the end, where the reader is at its end
-abbrev pub IsRead : Type 0 → Option Event → List ℕ → Type 0
-IsRead at_end None bytes = bytes ≡ []
-IsRead at_end (Some (events.Bytes read)) bytes = (bytes ≡ read) × (0 < length read) × (length read ≤ 4096)
-IsRead at_end (Some events.End) bytes = at_end × (bytes ≡ [])
-IsRead at_end (Some event) bytes = ⊥
-
--- a read failed, or there was no memory for it
-abbrev pub IsUnread : EngineError → Type 0
-IsUnread error = (error ≡ errors.Read) ⊎ (error ≡ errors.Memory)
 
 -- An event is received, if there is one; and up to an error, which may come before there is one.
 abbrev pub Receives : Worker → Option Event → List ℕ → Worker → Type 0

@@ -12,13 +12,14 @@ use crate::tracking::{have_tracked, track_all};
 use crate::worker::{Worker, work};
 use known_state::Known;
 use peers_devices::{Faults, write_all};
-use peers_engine::Open;
 use scene_commands::Ending;
+use session_actions::Open;
 use std::alloc::Global;
 use std::io::Write;
 use std::sync::Wait;
 use std::thread;
-use std::thread::Threads;
+use std::thread::{JoinHandle, Threads};
+use table_cell::Reply;
 use table_shards::{Audit, Seat, Shards, held};
 
 /// How many threads track, and how often each of them does.
@@ -151,6 +152,24 @@ fn opened<R: Wait>(rt: &R, shards: &Shards, seat: Seat) -> Result<Seat, RoundFai
     }
 }
 
+/// What a tracking thread hands back: its seat, and what its last change answered.
+type Tracked = (Seat, Result<Option<Reply>, RoundFailure>);
+
+/// Joins the tracking threads. All their seats come back.
+fn joined<R: Threads + Wait>(
+    rt: &R,
+    alloc: Global,
+    trackers: Vec<JoinHandle<Tracked>>,
+) -> Result<Vec<Seat>, RoundFailure> {
+    let mut seats = Vec::new(alloc);
+    for tracker in trackers {
+        let (seat, ended) = tracker.join(rt);
+        ended?;
+        seats.push(seat)?;
+    }
+    Ok(seats)
+}
+
 /// Starts a tracking thread for each seat, whose key is the seat's number, and one for the worker, and joins them all. Where
 /// no thread is to be had, those that run end before it answers.
 fn run_threads<R: Threads + Wait + Sync>(
@@ -173,14 +192,9 @@ fn run_threads<R: Threads + Wait + Sync>(
         let Ok(teaching) = scope.spawn(move || work(rt, alloc, &Open, shards, worker)) else {
             return Err(RoundFailure::NoThread);
         };
-        let mut back = Vec::new(alloc);
-        for tracker in trackers {
-            let (seat, ended) = tracker.join(rt);
-            ended?;
-            back.push(seat)?;
-        }
+        let seats = joined(rt, alloc, trackers)?;
         let (worker, ended) = teaching.join(rt);
         ended?;
-        Ok((back, worker))
+        Ok((seats, worker))
     })
 }

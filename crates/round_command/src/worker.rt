@@ -6,7 +6,7 @@ ghost use Rattle.known_state.specs.Lessons.{IsLessonFor};
 use crate::failure::{RoundFailure, failure_of};
 use crate::table::{SESSION, TABLE};
 use known_state::Known;
-use peers_engine::{Gate, Stage};
+use session_actions::{Gate, Stage};
 use std::alloc::Global;
 use std::sync::Wait;
 use table_cell::{CopyError, TableCell};

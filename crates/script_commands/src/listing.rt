@@ -3,8 +3,9 @@ ghost use Rattle.std.specs.Prelude.{◌≡◌, ◌+◌, ◌++◌, ◌≤◌, Lis
 ghost use Rattle.table_types.specs.declared.key.Key.{Key};
 ghost use Rattle.table_types.specs.declared.update.Update.{Update};
 ghost use Rattle.table_types.specs.Rows.{StoredRow};
-ghost use Rattle.table_cell.specs.declared.errors.CopyError.{CopyError};
-ghost use Rattle.table_cell.specs.Histories.{AreInRisingKey, Copies, event_in, events_of, room_of};
+ghost use Rattle.stick_table.specs.declared.errors.CopyError.{CopyError};
+ghost use Rattle.stick_table.specs.Machine.{AreInRisingKey};
+ghost use Rattle.table_cell.specs.Histories.{Copies, event_in, events_of, room_of};
 ghost use Rattle.script_text.specs.Updates.{update_line};
 ghost use Rattle.script_commands.specs.Answers.{Adds, batch_lines, copied, event_line, events_line, row_line, rows_lines};
 ghost use Rattle.script_commands.specs.Running.{definition_of, with_batch};

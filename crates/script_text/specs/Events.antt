@@ -5,8 +5,8 @@ use Rattle.table_types.specs.declared.change.Change.{Change}
 use Rattle.table_types.specs.declared.change.Change.TheVariants as changes
 use Rattle.table_types.specs.declared.copies.CopyKind.{CopyKind}
 use Rattle.table_types.specs.declared.copies.CopyKind.TheVariants as kinds
-use Rattle.table_cell.specs.declared.events.CellEvent.{CellEvent}
-use Rattle.table_cell.specs.declared.events.CellEvent.TheVariants as events
+use Rattle.stick_table.specs.declared.events.CellEvent.{CellEvent}
+use Rattle.stick_table.specs.declared.events.CellEvent.TheVariants as events
 use Rattle.table_types.specs.declared.key.Key.{Key}
 use Rattle.table_types.specs.declared.update.Update.{Update}
 use Rattle.table_types.specs.DataTypes.{name_of}

@@ -1,16 +1,3 @@
-pub mod RowsLaws
-pub mod OneStep
-pub mod SessionLaws
-pub mod CellLaws
-pub mod StockLaws
-pub mod StockSteps
-pub mod StepLaws
 pub mod RunLaws
-pub mod RefusalLaws
 pub mod HistoryLaws
-pub mod UnackedLaws
-pub mod LiveLaws
-pub mod SomeStep
-pub mod BatchLaws
-pub mod CopyLaws
-pub mod LearnedLaws
+pub mod RefusedLaws

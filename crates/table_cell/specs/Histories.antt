@@ -1,43 +1,34 @@
 -- A table with its history: each event and its reply, from a state at which the history begins (profile).
-use Rattle.std.specs.Prelude.{◌≡◌, ℕ, ◌+◌, ◌-◌, ◌^◌, Bool, false, nat_lt, ◌==◌, min, List, [], ◌∷◌, ◌++◌, length, take, slice_get, Option, Some, None, Result, Ok, Err, if◌then◌else◌}
+use Rattle.std.specs.Prelude.{◌≡◌, ℕ, ◌+◌, ◌-◌, ◌≤◌, ◌^◌, Bool, false, nat_lt, ◌==◌, min, List, [], ◌∷◌, ◌++◌, length, take, slice_get, Option, Some, None, Result, Ok, Err, if◌then◌else◌}
 use Rattle.table_types.specs.declared.key.Key.{Key}
 use Rattle.table_types.specs.declared.update.Update.{Update}
-use Rattle.std.specs.List.Sorted.{IsStrictlySortedBy}
-use Rattle.std.specs.Map.{keys_of}
 use Rattle.table_types.specs.Tables.{Definition}
-use Rattle.table_types.specs.Keys.{key_cmp}
-use Rattle.table_types.specs.Rows.{StoredRow}
-use Rattle.table_rows.specs.Rows.{row_at}
-use Rattle.table_cell.specs.Machine.{TableState, Step, unacked, track_refusal, learn_refusal, copy_refusal, ack_refusal, open_refusal, close_refusal, purge_refusal}
+use Rattle.stick_table.specs.Machine.{TableState, Step, Replays, new_table, unacked, track_refusal, learn_refusal, copy_refusal, ack_refusal, open_refusal, close_refusal, purge_refusal}
 use Rattle.table_types.specs.declared.change.Change.{Change}
 use Rattle.table_types.specs.declared.copies.CopyKind.{CopyKind}
 use Rattle.table_types.specs.declared.copies.Settled.{Settled}
-use Rattle.table_cell.specs.declared.events.Reply.{Reply}
-use Rattle.table_cell.specs.declared.events.CellEvent.{CellEvent}
-use Rattle.table_cell.specs.declared.events.CellEvent.TheVariants as events
-use Rattle.table_cell.specs.declared.events.CellReply.{CellReply}
-use Rattle.table_cell.specs.declared.events.CellReply.TheVariants as replies
-use Rattle.table_cell.specs.declared.errors.TrackError.{TrackError}
-use Rattle.table_cell.specs.declared.errors.TrackError.TheVariants as untracked
-use Rattle.table_cell.specs.declared.errors.LearnError.{LearnError}
-use Rattle.table_cell.specs.declared.errors.LearnError.TheVariants as unlearned
-use Rattle.table_cell.specs.declared.errors.CopyError.{CopyError}
-use Rattle.table_cell.specs.declared.errors.CopyError.TheVariants as uncopied
-use Rattle.table_cell.specs.declared.errors.AckError.{AckError}
-use Rattle.table_cell.specs.declared.errors.AckError.TheVariants as unacknowledged
-use Rattle.table_cell.specs.declared.errors.OpenError.{OpenError}
-use Rattle.table_cell.specs.declared.errors.OpenError.TheVariants as unopened
-use Rattle.table_cell.specs.declared.errors.CloseError.{CloseError}
-use Rattle.table_cell.specs.declared.errors.CloseError.TheVariants as unclosed
-use Rattle.table_cell.specs.declared.errors.PurgeError.{PurgeError}
-use Rattle.table_cell.specs.declared.errors.PurgeError.TheVariants as unpurged
+use Rattle.stick_table.specs.Soundness.{IsSound}
+use Rattle.stick_table.specs.declared.events.Reply.{Reply}
+use Rattle.stick_table.specs.declared.events.CellEvent.{CellEvent}
+use Rattle.stick_table.specs.declared.events.CellEvent.TheVariants as events
+use Rattle.stick_table.specs.declared.events.CellReply.{CellReply}
+use Rattle.stick_table.specs.declared.events.CellReply.TheVariants as replies
+use Rattle.stick_table.specs.declared.errors.TrackError.{TrackError}
+use Rattle.stick_table.specs.declared.errors.TrackError.TheVariants as untracked
+use Rattle.stick_table.specs.declared.errors.LearnError.{LearnError}
+use Rattle.stick_table.specs.declared.errors.LearnError.TheVariants as unlearned
+use Rattle.stick_table.specs.declared.errors.CopyError.{CopyError}
+use Rattle.stick_table.specs.declared.errors.CopyError.TheVariants as uncopied
+use Rattle.stick_table.specs.declared.errors.AckError.{AckError}
+use Rattle.stick_table.specs.declared.errors.AckError.TheVariants as unacknowledged
+use Rattle.stick_table.specs.declared.errors.OpenError.{OpenError}
+use Rattle.stick_table.specs.declared.errors.OpenError.TheVariants as unopened
+use Rattle.stick_table.specs.declared.errors.CloseError.{CloseError}
+use Rattle.stick_table.specs.declared.errors.CloseError.TheVariants as unclosed
+use Rattle.stick_table.specs.declared.errors.PurgeError.{PurgeError}
+use Rattle.stick_table.specs.declared.errors.PurgeError.TheVariants as unpurged
 
 -- ---- replay
-
--- the machine goes through these events with these replies, from s to e
-abbrev pub Replays : TableState → List (CellEvent × CellReply) → TableState → Type 0
-Replays s [] e = e ≡ s
-Replays s (h ∷ hs) e = (mid : TableState) × Step s h.0 h.1 mid × Replays mid hs e
 
 -- A table with its history: where the history begins, how many events were dropped before that, the events with their
 -- replies, and the state after them.
@@ -154,15 +145,17 @@ latest_batch session (h ∷ hs) = or_former (batch_of session h) (latest_batch s
 abbrev pub IsLatestBatch : CellState → ℕ → List Update → Type 0
 IsLatestBatch c session us = latest_batch session c.history ≡ Some us
 
--- the rows in rising key
-abbrev pub AreInRisingKey : List (Key × StoredRow) → List (Key × StoredRow) → Type 0
-AreInRisingKey rows list = IsStrictlySortedBy key_cmp (keys_of list) × ((key : Key) → row_at key list ≡ row_at key rows)
-
 -- ---- a new table
-
--- a table without rows and sessions, which gives that number next
-abbrev pub new_table : Definition → ℕ → Bool → ℕ → TableState
-new_table d size nopurge first = record { definition = d; size = size; nopurge = nopurge; rows = []; next = first; latest = 2 ^ 32; sessions = [] }
 
 abbrev pub new_cell : Definition → ℕ → Bool → ℕ → CellState
 new_cell d size nopurge first = record { base = new_table d size nopurge first; dropped = 0; history = []; state = new_table d size nopurge first }
+
+-- ---- soundness
+
+-- What holds of a table with its history at all times: the state is the replay of the history, it is sound, and the
+-- history keeps to its bounds.
+pub record IsSoundCell (c : CellState) : Type 0 where
+  pub replayed : IsReplayed c
+  pub sound : IsSound c.state
+  pub within : length c.history ≤ 1000000
+  pub few : events_of c ≤ 2 ^ 63

@@ -2,54 +2,18 @@
 
 ghost use Rattle.std.specs.Prelude.{◌≡◌, ◌↔◌, ◌≤◌, ◌∷◌, ◌++◌, [], IfOk, IsOk, None, OnErr, OnOk, false, option_and_then, option_copied, slice_get};
 ghost use Rattle.table_cell.specs.Cells.{AreLatestCopies};
-ghost use Rattle.table_cell.specs.declared.events.CellEvent.TheVariants as events;
-ghost use Rattle.table_cell.specs.declared.events.CellReply.TheVariants as replies;
+ghost use Rattle.stick_table.specs.declared.events.CellEvent.TheVariants as events;
+ghost use Rattle.stick_table.specs.declared.events.CellReply.TheVariants as replies;
 ghost use Rattle.table_cell.specs.Histories.{Copies, IsLatestBatch, batch_in, first_of, latest_batch};
-ghost use Rattle.table_cell.specs.Machine.{Step, copy_refusal, unacked};
-ghost use Rattle.table_cell.specs.Soundness.{IsSound};
+ghost use Rattle.stick_table.specs.Machine.{Step, copy_refusal, unacked};
+ghost use Rattle.stick_table.specs.Soundness.{IsSound};
 ghost use Rattle.table_types.specs.Batches.{IsBatchFor};
 
 use crate::cell::TableCell;
-use crate::copying::last_number;
-use crate::errors::{CopyError, StrangeBatch};
-use crate::events::{CellEvent, CellReply};
-use crate::table::Table;
-use std::alloc::Global;
+use crate::errors::StrangeBatch;
 use std::collections::BTreeMap;
-use table_types::{Batch, BatchError, CopyKind, Memory, Moment, TableDef, Update};
-
-/// The batch of these updates, which are one for that table: only memory can be wanted for it.
-fn batch_of(alloc: Global, definition: &TableDef, updates: Vec<Update>) -> Result<Batch, Memory>
-    requires { IsBatchFor (definition.now ∷ []) updates.items }
-    ensures { IfOk result (λ batch. batch ≡ updates.items) }
-{
-    match Batch::of_table(alloc, definition, updates) {
-        Ok(made) => Ok(made),
-        Err(error) => {
-            prove!(error == BatchError::Memory);
-            Err(Memory)
-        }
-    }
-}
-
-impl Table {
-    /// The batch that a copy gives.
-    fn batch(
-        &self,
-        session: u32,
-        kind: CopyKind,
-        limit: usize,
-        now: Moment,
-    ) -> Result<Batch, Memory>
-        requires sound { IsSound self.now }
-        requires later { self.now.latest ≤ now }
-        requires limit { limit ≤ 512 }
-        ensures { IfOk result (λ batch. batch ≡ unacked self.now session kind now limit) }
-    {
-        let updates = self.unacked(self.acknowledged(session), kind, limit, now)?;
-        batch_of(self.alloc, &self.definition, updates)
-    }
-}
+use stick_table::{CellEvent, CellReply, CopyError, Table, last_number};
+use table_types::{Batch, CopyKind, Memory, Moment};
 
 /// Keeps a batch that the session is taught: its event is in the history. After `Memory` nothing has changed.
 fn keep(

@@ -1,15 +1,13 @@
 //! The events of a table.
 
 ghost use Rattle.std.specs.Prelude.{◌≡◌, ◌∷◌, ◌++◌, [], IfOk, None, OnErr, false};
-ghost use Rattle.table_cell.specs.declared.events.CellEvent.TheVariants as events;
-ghost use Rattle.table_cell.specs.declared.events.CellReply.TheVariants as replies;
+ghost use Rattle.stick_table.specs.declared.events.CellEvent.TheVariants as events;
+ghost use Rattle.stick_table.specs.declared.events.CellReply.TheVariants as replies;
 ghost use Rattle.table_cell.specs.Histories.{Acknowledges, Closes, Opens, Purges};
-ghost use Rattle.table_cell.specs.Machine.{Step, open_refusal};
+ghost use Rattle.stick_table.specs.Machine.{Step, open_refusal};
 
 use crate::cell::TableCell;
-use crate::errors::{AckError, CloseError, OpenError, PurgeError};
-use crate::events::{CellEvent, CellReply};
-use crate::table::Table;
+use stick_table::{AckError, CellEvent, CellReply, CloseError, OpenError, PurgeError, Table};
 use table_types::{Memory, Moment, Settled};
 
 /// Opens: the session is there, and the event is in the history. After `Memory` nothing has changed.

@@ -1,14 +1,13 @@
 //! Stick tables with their history.
 
 ghost use Rattle.std.specs.Prelude.{◌≡◌, ◌↔◌, ◌≤◌, IfOk, IsOk, option_map};
-ghost use Rattle.table_cell.specs.Histories.{AreInRisingKey, Kept, events_of, event_in, is_history_full, new_cell, room_of};
-ghost use Rattle.table_cell.specs.Soundness.{IsSoundCell};
+ghost use Rattle.stick_table.specs.Machine.{AreInRisingKey};
+ghost use Rattle.table_cell.specs.Histories.{IsSoundCell, Kept, events_of, event_in, is_history_full, new_cell, room_of};
 
-use crate::events::{CellEvent, CellReply};
-use crate::table::Table;
 use std::alloc::Global;
 use std::collections::BTreeMap;
 use std::marker::Model;
+use stick_table::{CellEvent, CellReply, Table};
 use table_types::{Key, Memory, Row, TableDef};
 
 /// A stick table that keeps its history: each event with its reply, the batches that it handed out among them.
@@ -72,7 +71,7 @@ impl TableCell {
     pub fn definition(&self) -> &TableDef
         ensures { result.now ≡ self.now.state.definition }
     {
-        &self.table.definition
+        self.table.definition()
     }
 
     /// How many events there were ever.
@@ -110,6 +109,6 @@ impl TableCell {
     pub fn rows(&self) -> Result<Vec<(Key, Row)>, Memory>
         ensures { IfOk result (λ list. AreInRisingKey self.now.state.rows list.items) }
     {
-        self.table.stock.list()
+        self.table.rows()
     }
 }

@@ -3,39 +3,35 @@
 ghost use Rattle.std.specs.Prelude.{◌≡◌, ◌≤◌, ◌<◌, ◌^◌, ◌∷◌, ◌++◌, [], IfOk, List, None, OnErr, OnOk, false};
 ghost use Rattle.table_types.specs.declared.key.Key.{Key};
 ghost use Rattle.table_types.specs.Rows.{StoredRow};
-ghost use Rattle.table_cell.specs.declared.events.CellEvent.TheVariants as events;
-ghost use Rattle.table_cell.specs.declared.events.CellReply.TheVariants as replies;
+ghost use Rattle.stick_table.specs.declared.events.CellEvent.TheVariants as events;
+ghost use Rattle.stick_table.specs.declared.events.CellReply.TheVariants as replies;
 ghost use Rattle.table_cell.specs.Histories.{Learns, Tracks, first_of};
-ghost use Rattle.table_cell.specs.Machine.{Leaves, Step, learn_refusal, learned, stored, track_refusal, tracked};
+ghost use Rattle.stick_table.specs.Machine.{Leaves, Step, learn_refusal, learned, reply_of, stored, track_refusal, tracked};
 
 use crate::cell::TableCell;
-use crate::errors::{LearnError, TrackError};
-use crate::events::{CellEvent, CellReply, Reply};
-use crate::table::Table;
+use stick_table::{CellEvent, CellReply, LearnError, Reply, Table, TrackError};
 use table_types::{Change, Key, Memory, Moment, Row, Update};
 
-/// Stores a row under the next number, and puts its entry into the history: the event with the event's reply. After
-/// `Memory` nothing has changed.
-fn store_with_event(
+/// Stores a row under the next number in place of the key's, and answers the reply that the history keeps with the two
+/// that are given. After `Memory` nothing has changed.
+fn store_row(
     table: &mut Table,
-    history: &mut Vec<(CellEvent, CellReply)>,
-    key: Key,
+    key: &Key,
     row: Row,
     now: Moment,
-    entry: (CellEvent, CellReply),
-) -> Result<(), Memory>
+) -> Result<(Reply, (Reply, Reply)), Memory>
     requires some { 1 ≤ table.old.size }
     requires number { row.number ≡ table.old.next }
     requires left { table.old.next < 2 ^ 32 }
-    ensures stored { OnOk result ((rest : List (Key × StoredRow)) × Leaves table.old key rest × (table.new ≡ stored table.old key row now rest)) }
-    ensures event { OnOk result (history.new.items ≡ history.old.items ++ entry ∷ []) }
+    ensures stored { OnOk result ((rest : List (Key × StoredRow)) × Leaves table.old key.now rest × (table.new ≡ stored table.old key.now row now rest)) }
+    ensures kept { IfOk result (λ replies. replies.0 ≡ reply_of row) }
+    ensures given { IfOk result (λ replies. (replies.1.0 ≡ reply_of row) × (replies.1.1 ≡ reply_of row)) }
     ensures stays { OnErr result (table.new ≡ table.old) }
-    ensures no_event { OnErr result (history.new.items ≡ history.old.items) }
 {
-    history.reserve(1)?;
-    table.store(key, row, now)?;
-    history.push_reserved(entry);
-    Ok(())
+    let stored_key = key.copy(table.alloc())?;
+    let replies = Reply::kept_and_given(table.alloc(), &row)?;
+    table.store(stored_key, row, now)?;
+    Ok(replies)
 }
 
 /// Tracks with the row that the change makes: the row is stored, the event is in the history, and the reply is given
@@ -58,22 +54,15 @@ fn track_row(
     ensures stays { OnErr result (table.new ≡ table.old) }
     ensures no_event { OnErr result (history.new.items ≡ history.old.items) }
 {
-    let stored_key = key.copy(table.alloc)?;
-    let (kept, given) = Reply::kept_and_given(table.alloc, &row)?;
+    history.reserve(1)?;
+    let (kept, given) = store_row(table, &key, row, now)?;
     let event = CellEvent::Track {
         seat,
         key,
         change,
         moment: now,
     };
-    store_with_event(
-        table,
-        history,
-        stored_key,
-        row,
-        now,
-        (event, CellReply::Track(kept)),
-    )?;
+    history.push_reserved((event, CellReply::Track(kept)));
     Ok(given)
 }
 
@@ -96,21 +85,14 @@ fn learn_row(
     ensures stays { OnErr result (table.new ≡ table.old) }
     ensures no_event { OnErr result (history.new.items ≡ history.old.items) }
 {
-    let stored_key = update.key.copy(table.alloc)?;
-    let (kept, given) = Reply::kept_and_given(table.alloc, &row)?;
+    history.reserve(1)?;
+    let (kept, given) = store_row(table, &update.key, row, now)?;
     let event = CellEvent::Learn {
         session,
         update,
         moment: now,
     };
-    store_with_event(
-        table,
-        history,
-        stored_key,
-        row,
-        now,
-        (event, CellReply::Learn(kept)),
-    )?;
+    history.push_reserved((event, CellReply::Learn(kept)));
     Ok(given)
 }
 

@@ -1,8 +1,7 @@
 -- An audit (profile): whether the receipts of all seats agree with the histories of all tables.
 use Rattle.std.specs.Prelude.{◌≡◌, ℕ, ◌<◌, ◌==◌, ◌&&◌, ◌⊎◌, Bool, true, false, nat_le, List, Option, Some, None, map, if◌then◌else◌}
 use Rattle.std.specs.List.{AllByRecursion}
-use Rattle.table_cell.specs.Histories.{CellState, Kept}
-use Rattle.table_cell.specs.Soundness.{IsSoundCell}
+use Rattle.table_cell.specs.Histories.{CellState, IsSoundCell, Kept}
 use Rattle.table_shards.specs.declared.unlocked.UnlockedTable.{UnlockedTable}
 use Rattle.table_shards.specs.declared.errors.AuditError.{AuditError}
 use Rattle.table_shards.specs.declared.errors.AuditError.TheVariants as errors

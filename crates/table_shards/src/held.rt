@@ -3,8 +3,8 @@
 
 ghost use Rattle.std.specs.Prelude.{◌≡◌, ◌≤◌, ◌<◌, IfErr, IfOk};
 ghost use Rattle.table_cell.specs.Histories.{Acknowledges, Closes, Copies, Learns, Opens, Purges, Tracks, events_of};
-ghost use Rattle.table_cell.specs.declared.events.CellEvent.TheVariants as events;
-ghost use Rattle.table_cell.specs.declared.events.CellReply.TheVariants as replies;
+ghost use Rattle.stick_table.specs.declared.events.CellEvent.TheVariants as events;
+ghost use Rattle.stick_table.specs.declared.events.CellReply.TheVariants as replies;
 ghost use Rattle.table_shards.specs.Receipts.{seen_of, with_receipt};
 ghost use Rattle.table_shards.specs.Holding.{Holds, Looks, MayCall, MayNot, Refuses, Settles, receipted};
 
@@ -132,9 +132,9 @@ pub fn learn(
     };
     match locked.cell.learn_pair(session, update, now) {
         Err(error) => (prepared.leave(), Err(ShardError::Cell(error))),
-        Ok((reply, copy)) => (
+        Ok((learned, copy)) => (
             finish(locked, prepared, event, CellReply::Learn(copy)),
-            Ok(reply),
+            Ok(learned),
         ),
     }
 }

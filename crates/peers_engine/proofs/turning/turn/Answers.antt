@@ -1,5 +1,5 @@
 use Rattle.std.proofs.lemmas.Result.{IfErr-weaker}
-use Rattle.peers_engine.specs.Doing.{worker}
+use Rattle.session_actions.specs.Doing.{worker}
 use Rattle.peers_engine.proofs.TurnLaws.{broken, of_err, of_ok, stopped, turned}
 use Rattle.peers_engine.proofs.turning.turn.Goals as goal
 

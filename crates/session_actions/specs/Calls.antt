@@ -1,0 +1,60 @@
+-- The calls on tables with which a session's actions are done (profile). Which cell a call finds behind the lock is in no clause:
+-- these say of some cell of that table what the call does. A call that makes an event of the table leaves its receipt at the seat,
+-- with the answer; one that makes none leaves the seat as it was.
+use Rattle.std.specs.Prelude.{◌⊎◌, ℕ, List, Result, Ok, Err}
+use Rattle.table_types.specs.declared.update.Update.{Update}
+use Rattle.table_types.specs.declared.copies.CopyKind.{CopyKind}
+use Rattle.table_types.specs.declared.copies.Settled.{Settled}
+use Rattle.table_cell.specs.Histories.{Acknowledges, CellState, Closes, Copies, Learns, Opens}
+use Rattle.stick_table.specs.declared.errors.AckError.{AckError}
+use Rattle.stick_table.specs.declared.errors.CloseError.{CloseError}
+use Rattle.stick_table.specs.declared.errors.CopyError.{CopyError}
+use Rattle.stick_table.specs.declared.errors.LearnError.{LearnError}
+use Rattle.stick_table.specs.declared.errors.LearnError.TheVariants as learn_errors
+use Rattle.stick_table.specs.declared.errors.OpenError.{OpenError}
+use Rattle.stick_table.specs.declared.events.CellEvent.TheVariants as events
+use Rattle.stick_table.specs.declared.events.CellReply.TheVariants as replies
+use Rattle.stick_table.specs.declared.events.Reply.{Reply}
+use Rattle.table_shards.specs.declared.errors.ShardError.{ShardError}
+use Rattle.table_shards.specs.declared.errors.ShardError.TheVariants as errors
+use Rattle.table_shards.specs.Holding.{Holds, Looks, Settles, receipted}
+use Rattle.table_shards.specs.Receipts.{SeatState}
+
+-- Session n calls a table from the seat s at that moment, which answers so and leaves the seat as t.
+abbrev pub CallsLearn : ℕ → ℕ → SeatState → Update → Result Reply (ShardError LearnError) → SeatState → Type 0
+CallsLearn n now s u answer t =
+    (c e : CellState)
+    × Holds (λ x r y. Learns x n u now r y) (λ reply. receipted u.table c s (events.Learn n u now) (replies.Learn reply)) u.table c s answer e t
+
+abbrev pub CallsCopy : ℕ → ℕ → SeatState → ℕ → CopyKind → Result (List Update) (ShardError CopyError) → SeatState → Type 0
+CallsCopy n now s table kind answer t =
+    (c e : CellState)
+    × Holds (λ x r y. Copies x n kind 512 now r y) (λ batch. receipted table c s (events.Copy n kind 512 now) (replies.Copy batch)) table c s answer e t
+
+abbrev pub CallsAck : ℕ → SeatState → ℕ → ℕ → Result Settled (ShardError AckError) → SeatState → Type 0
+CallsAck n s table number answer t =
+    (c e : CellState)
+    × Holds (λ x r y. Acknowledges x n number r y) (λ settled. receipted table c s (events.Ack n number) (replies.Ack settled)) table c s answer e t
+
+abbrev pub CallsOpen : ℕ → SeatState → ℕ → Result (Unit {0}) (ShardError OpenError) → SeatState → Type 0
+CallsOpen n s table answer t =
+    (c e : CellState) × Holds (λ x r y. Opens x n r y) (λ done. receipted table c s (events.Open n) replies.Open) table c s answer e t
+
+abbrev pub CallsClose : ℕ → SeatState → ℕ → Result (Unit {0}) (ShardError CloseError) → SeatState → Type 0
+CallsClose n s table answer t =
+    (c e : CellState) × Holds (λ x r y. Closes x n r y) (λ done. receipted table c s (events.Close n) replies.Close) table c s answer e t
+
+-- ---- what is done with them
+
+-- a row is learned, or left out by a table that is full
+abbrev pub IsLearned : ℕ → ℕ → SeatState → Update → SeatState → Type 0
+IsLearned n now s u t =
+    ((reply : Reply) × CallsLearn n now s u (Ok reply) t) ⊎ CallsLearn n now s u (Err (errors.Cell learn_errors.TableFull)) t
+
+-- the session is closed in the table, and opened anew
+abbrev pub IsReopened : ℕ → SeatState → ℕ → SeatState → Type 0
+IsReopened n s table t = (mid : SeatState) × CallsClose n s table (Ok tt) mid × CallsOpen n mid table (Ok tt) t
+
+-- some cell of a table has the batch as the session's latest one
+abbrev pub IsSettled : ℕ → SeatState → List Update → Type 0
+IsSettled n s batch = (table : ℕ) × (c e : CellState) × Looks (λ x r y. Settles x n batch r y) table c s (Ok tt) e s

@@ -1,0 +1,5 @@
+pub mod Copying
+pub mod Machine
+pub mod Soundness
+pub mod Stock
+pub mod LearnedRuns

@@ -1,0 +1,114 @@
+//! What happens to a table, and what it answers.
+
+ghost use Rattle.std.specs.Prelude.{◌≡◌, IfOk};
+ghost use Rattle.stick_table.specs.Machine.{reply_of};
+
+use std::alloc::Global;
+use table_types::{Batch, Change, CopyKind, Key, Memory, Moment, Row, Settled, Update};
+
+/// What a row has become.
+#[derive(Debug, Drop)]
+pub struct Reply {
+    /// The number that it was given.
+    pub number: u32,
+    /// The row after the change.
+    pub row: Row,
+}
+
+impl Reply {
+    /// The reply to a change that made a row.
+    pub(crate) fn of(alloc: Global, row: &Row) -> Result<Reply, Memory>
+        ensures { IfOk result (λ reply. reply ≡ reply_of row.now) }
+    {
+        Ok(Reply {
+            number: row.number(),
+            row: row.copy(alloc)?,
+        })
+    }
+
+    /// The reply to a change that made a row: the one that the history keeps, and the two that are given.
+    pub fn kept_and_given(alloc: Global, row: &Row) -> Result<(Reply, (Reply, Reply)), Memory>
+        ensures kept { IfOk result (λ replies. replies.0 ≡ reply_of row.now) }
+        ensures given { IfOk result (λ replies. (replies.1.0 ≡ reply_of row.now) × (replies.1.1 ≡ reply_of row.now)) }
+    {
+        let given = (Reply::of(alloc, row)?, Reply::of(alloc, row)?);
+        Ok((Reply::of(alloc, row)?, given))
+    }
+}
+
+/// An event of a table: a call that changed it, with its arguments.
+#[derive(Debug, Drop)]
+pub enum CellEvent {
+    /// A change of a row of this node's own.
+    Track {
+        /// The seat that made it.
+        seat: u32,
+        /// The row's key.
+        key: Key,
+        /// The change.
+        change: Change,
+        /// When it was made.
+        moment: Moment,
+    },
+    /// A row that a peer taught.
+    Learn {
+        /// The session with the peer.
+        session: u32,
+        /// What the peer sent.
+        update: Update,
+        /// When it was learned.
+        moment: Moment,
+    },
+    /// A batch for a session.
+    Copy {
+        /// The session.
+        session: u32,
+        /// Which rows it has.
+        kind: CopyKind,
+        /// How many of them at most.
+        limit: usize,
+        /// When they were copied.
+        moment: Moment,
+    },
+    /// An acknowledgement.
+    Ack {
+        /// The session.
+        session: u32,
+        /// The number acknowledged.
+        number: u32,
+    },
+    /// A session was opened.
+    Open {
+        /// The session.
+        session: u32,
+    },
+    /// A session was closed.
+    Close {
+        /// The session.
+        session: u32,
+    },
+    /// Rows that had ended were taken out.
+    Purge {
+        /// At which moment.
+        moment: Moment,
+    },
+}
+
+/// What a table answered to an event.
+#[derive(Debug, Drop)]
+pub enum CellReply {
+    /// The row that was changed.
+    Track(Reply),
+    /// The row that was learned.
+    Learn(Reply),
+    /// The batch, which is kept here.
+    Copy(Batch),
+    /// What was settled.
+    Ack(Settled),
+    /// The session is open.
+    Open,
+    /// The session is closed.
+    Close,
+    /// How many rows were taken out.
+    Purge(usize),
+}

@@ -1,0 +1,43 @@
+//! What holds of the definitions, whatever the program does.
+
+ghost use Rattle.std.specs.Prelude.{◌≡◌, ◌≤◌, ◌∷◌, ◌++◌, ◌^◌, [], Bool, ℕ, List, true};
+ghost use Rattle.table_types.specs.Tables.{Definition, is_definition};
+ghost use Rattle.table_types.specs.Batches.{IsBatchFor};
+ghost use Rattle.table_types.specs.declared.copies.CopyKind.{CopyKind};
+ghost use Rattle.stick_table.specs.declared.events.CellEvent.{CellEvent};
+ghost use Rattle.stick_table.specs.declared.events.CellReply.{CellReply};
+ghost use Rattle.stick_table.specs.Machine.{IsGranted, Replays, Step, TableState, new_table, unacked};
+ghost use Rattle.stick_table.specs.Soundness.{AreTimely, IsSound, IsTimely};
+
+/// A run goes on by one step.
+pub fn a_run_goes_on()
+    ensures { (s mid e : TableState) (hs : List (CellEvent × CellReply)) (event : CellEvent) (reply : CellReply) →
+        Replays s hs mid → Step mid event reply e → Replays s (hs ++ (event, reply) ∷ []) e }
+{}
+
+/// From a state an event has no more than one answer and leads to no more than one state; so a history leads to no more than one.
+pub fn a_step_is_unique()
+    ensures step { (s e f : TableState) (event : CellEvent) (a b : CellReply) → Step s event a e → Step s event b f → (a ≡ b) × (e ≡ f) }
+    ensures run { (s e f : TableState) (hs : List (CellEvent × CellReply)) → Replays s hs e → Replays s hs f → e ≡ f }
+{}
+
+/// A sound table answers each event that it doesn't refuse.
+pub fn a_step_exists()
+    ensures { (s : TableState) (event : CellEvent) → IsSound s → IsGranted s event → (reply : CellReply) × (e : TableState) × Step s event reply e }
+{}
+
+/// Each step leaves a sound table sound, if its moment, where it has one, is below 2^63, and so does a whole run of such. A new table is
+/// sound.
+pub fn a_table_stays_sound()
+    ensures step { (s e : TableState) (event : CellEvent) (reply : CellReply) → IsTimely event → IsSound s → Step s event reply e → IsSound e }
+    ensures run { (s e : TableState) (hs : List (CellEvent × CellReply)) → AreTimely hs → IsSound s → Replays s hs e → IsSound e }
+    ensures new { (d : Definition) (size first : ℕ) (nopurge : Bool) → is_definition d ≡ true → 1 ≤ size → 1 ≤ first → first ≤ 2 ^ 32 →
+        IsSound (new_table d size nopurge first) }
+{}
+
+/// What a session hasn't acknowledged of a sound table is a batch for that table, and so for each roster in which the
+/// table's id stands for it: it has a life of 1 to the table's expire, and all else is in its range.
+pub fn what_is_copied_is_a_batch()
+    ensures { (s : TableState) (session limit now : ℕ) (kind : CopyKind) → IsSound s → s.latest ≤ now → limit ≤ 512 →
+        IsBatchFor (s.definition ∷ []) (unacked s session kind now limit) }
+{}

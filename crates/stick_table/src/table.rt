@@ -1,0 +1,193 @@
+//! A stick table at a time.
+
+ghost use Rattle.std.specs.Prelude.{◌≡◌, ◌≤◌, ◌<◌, ◌^◌, IfOk, IfSome, List, nat_lt, OnErr, OnOk, false, filter, length, not, option_copied};
+ghost use Rattle.std.specs.List.{list_all};
+ghost use Rattle.table_types.specs.declared.key.Key.{Key};
+ghost use Rattle.table_types.specs.Rows.{StoredRow};
+ghost use Rattle.table_rows.specs.Rows.{IsFirstToEnd, is_live, row_at};
+ghost use Rattle.stick_table.specs.Machine.{AreInRisingKey, Leaves, has_room, is_full, learned, live_row, new_table, stored, tracked};
+ghost use Rattle.stick_table.specs.Stock.{left_for};
+
+use crate::learned_run::LearnedRun;
+use crate::progress::Progress;
+use crate::stock::Stock;
+use std::alloc::Global;
+use std::marker::Model;
+use table_rows::{MapRows, is_live};
+use table_types::{Change, Key, Memory, Moment, Row, TableDef, Update};
+
+/// A stick table at a time: what it was made with, its rows, the latest moment, and the sessions that are open.
+#[derive(Drop)]
+pub struct Table {
+    pub(crate) alloc: Global,
+    pub(crate) definition: TableDef,
+    pub(crate) size: usize,
+    pub(crate) nopurge: bool,
+    pub(crate) stock: Stock<MapRows>,
+    pub(crate) latest: Moment,
+    pub(crate) sessions: Vec<(u32, Progress)>,
+    pub(crate) learned_run: LearnedRun,
+}
+
+impl Model for Table {
+    ghost use Rattle.stick_table.specs.LearnedRuns.{IsLearnedRun};
+    ghost use Rattle.stick_table.specs.Machine.{TableState};
+
+    ghost Value = { TableState };
+
+    ghost view = { λ t. record { definition = t.definition; size = t.size; nopurge = t.nopurge; rows = t.stock.rows; next = t.stock.next; latest = t.latest; sessions = t.sessions.items } };
+
+    ghost invariant = { λ t. IsLearnedRun t.learned_run.after t.learned_run.last t.stock.next t.stock.rows };
+}
+
+impl Table {
+    /// A table without rows and sessions, which gives that number next. Takes no memory.
+    pub fn new(alloc: Global, definition: TableDef, size: usize, nopurge: bool, first: u32) -> Table
+        requires { 1 ≤ first }
+        ensures { result ≡ new_table definition size nopurge first }
+    {
+        Table {
+            alloc,
+            definition,
+            size,
+            nopurge,
+            stock: Stock::new(alloc, MapRows::new(alloc), first),
+            latest: Moment::least(),
+            sessions: Vec::new(alloc),
+            learned_run: LearnedRun { after: 0, last: 0 },
+        }
+    }
+
+    /// Where the table's memory comes from.
+    pub fn alloc(&self) -> Global {
+        self.alloc
+    }
+
+    /// The table's definition.
+    pub fn definition(&self) -> &TableDef
+        ensures { result.now ≡ self.now.definition }
+    {
+        &self.definition
+    }
+
+    /// Copies of the rows with their keys, in rising key.
+    pub fn rows(&self) -> Result<Vec<(Key, Row)>, Memory>
+        ensures { IfOk result (λ list. AreInRisingKey self.now.rows list.items) }
+    {
+        self.stock.list()
+    }
+
+    /// Whether the moment is before that of an event.
+    pub(crate) fn is_past(&self, now: Moment) -> bool
+        ensures past { result ≡ nat_lt now self.now.latest }
+        ensures timely { now < 2 ^ 63 }
+    {
+        now.milliseconds() < self.latest.milliseconds()
+    }
+
+    /// Whether a row of that key takes no other's place.
+    pub(crate) fn has_room(&self, key: &Key) -> bool
+        ensures { result ≡ has_room self.now key.now }
+    {
+        self.stock.len() < self.size || self.stock.row(key).is_some()
+    }
+
+    fn are_live(&self, now: Moment) -> bool
+        ensures { result ≡ list_all (λ e. is_live now e.1) self.now.rows }
+    {
+        let Some(first) = self.stock.first_to_end() else {
+            return true;
+        };
+        match self.stock.row(first) {
+            Some(row) => is_live(row, now),
+            None => true,
+        }
+    }
+
+    /// Whether a row of that key would have to take another's place, and all rows are live in a table that purges none.
+    pub(crate) fn is_full(&self, key: &Key, now: Moment) -> bool
+        ensures { result ≡ is_full self.now key.now now }
+    {
+        self.nopurge && !self.has_room(key) && self.are_live(now)
+    }
+
+    /// The row of a key, where it is live.
+    fn live_row(&self, key: &Key, now: Moment) -> Option<&Row>
+        ensures { option_copied result ≡ live_row key.now now self.now }
+    {
+        match self.stock.row(key) {
+            Some(row) if is_live(row, now) => Some(row),
+            _ => None,
+        }
+    }
+
+    /// The number that is given next, where not all are spent.
+    pub(crate) fn next(&self) -> u32
+        requires { self.now.next < 2 ^ 32 }
+        ensures { result ≡ self.now.next }
+    {
+        self.stock.next() as u32
+    }
+
+    /// The row that a change makes, under the next number.
+    pub fn tracked(&self, key: &Key, change: &Change, now: Moment) -> Result<Row, Memory>
+        requires { self.now.next < 2 ^ 32 }
+        ensures { IfOk result (λ row. row ≡ tracked self.now key.now change.now now) }
+    {
+        let live = self.live_row(key, now);
+        Row::tracked(self.alloc, &self.definition, live, change, self.next(), now)
+    }
+
+    /// The row that an update teaches, under the next number.
+    pub fn learned(&self, update: &Update, now: Moment) -> Result<Row, Memory>
+        requires { self.now.next < 2 ^ 32 }
+        ensures { IfOk result (λ row. row ≡ learned self.now update.now now) }
+    {
+        Row::learned_as(
+            self.alloc,
+            update,
+            self.next(),
+            self.definition.expire(),
+            now,
+        )
+    }
+
+    /// The key of the row that leaves where one of a new key is to be stored, if one does.
+    fn leaving(&self) -> Result<Option<Key>, Memory>
+        requires { 1 ≤ self.now.size }
+        ensures leaves { IfOk result (λ leaving. (key : Key) → Leaves self.now key (left_for key leaving self.now.rows)) }
+        ensures first { IfOk result (λ leaving. IfSome leaving (IsFirstToEnd self.now.rows)) }
+    {
+        if self.stock.len() < self.size {
+            return Ok(None);
+        }
+        match self.stock.first_to_end() {
+            Some(first) => Ok(Some(first.copy(self.alloc)?)),
+            None => Ok(None),
+        }
+    }
+
+    /// Stores a row, which has the next number, in place of the key's, and takes out the first to end where there is no
+    /// room for it. After `Memory` nothing has changed.
+    pub fn store(&mut self, key: Key, row: Row, now: Moment) -> Result<(), Memory>
+        requires some { 1 ≤ self.old.size }
+        requires number { row.number ≡ self.old.next }
+        requires left { self.old.next < 2 ^ 32 }
+        ensures stored { OnOk result ((rest : List (Key × StoredRow)) × Leaves self.old key rest × (self.new ≡ stored self.old key row now rest)) }
+        ensures stays { OnErr result (self.new ≡ self.old) }
+    {
+        let leaving = self.leaving()?;
+        self.stock.put(key, row, leaving)?;
+        self.latest = now;
+        Ok(())
+    }
+
+    /// Takes out what isn't live at that moment, and says how many rows that was. Takes no memory.
+    pub fn purge(&mut self, now: Moment) -> usize
+        ensures live { self.new ≡ record self.old { rows = filter (λ row. is_live now row.1) self.old.rows; latest = now } }
+        ensures count { result ≡ length (filter (λ row. not (is_live now row.1)) self.old.rows) }
+    {
+        self.latest = now;
+        self.stock.take_ended(now)
+    }
+}
