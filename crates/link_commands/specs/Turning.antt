@@ -11,7 +11,7 @@ use Rattle.session_actions.specs.declared.errors.EngineError.{EngineError}
 use Rattle.session_actions.specs.declared.errors.EngineError.TheVariants as errors
 use Rattle.peers_engine.specs.declared.turned.Turned.{Turned}
 use Rattle.peers_engine.specs.declared.turned.Turned.TheVariants as turned
-use Rattle.session_actions.specs.Doing.{Worker, worker}
+use Rattle.peers_engine.specs.Acting.{Worker, worker}
 use Rattle.session_actions.specs.Reading.{IsRead}
 use Rattle.peers_engine.specs.Turns.{StopsTurn, TakesTurn}
 use Rattle.scene_commands.specs.declared.ending.Ending.{Ending}

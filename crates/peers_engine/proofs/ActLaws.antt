@@ -1,14 +1,15 @@
 -- Actions done one after another.
-use Rattle.std.proofs.Common.{◌≡◌, ◌⊎◌, ℕ, Bool, true, false, List, [], ◌∷◌, ◌++◌, Option, Some, None, refl, sym, ap, ◌∙◌, subst, inl, inr, append_assoc}
+use Rattle.std.proofs.Common.{◌≡◌, ℕ, Bool, true, false, List, [], ◌∷◌, ◌++◌, Option, Some, refl, sym, ap, ◌∙◌, subst, append_assoc}
 use Rattle.std.proofs.lemmas.List.{append-nil}
 use Rattle.session_core.specs.declared.action.Action.{Action}
 use Rattle.session_core.specs.declared.event.Event.{Event}
 use Rattle.session_core.specs.declared.phase.Phase.{Phase}
 use Rattle.session_core.specs.declared.phase.Phase.TheVariants as phases
 use Rattle.session_core.specs.Courses.{state_of_course}
-use Rattle.session_core.specs.Sessions.{SessionState, Goes, GoesIn, ended, state_of}
+use Rattle.session_core.specs.Sessions.{SessionState, Goes, GoesIn, state_of}
 use Rattle.table_shards.specs.Receipts.{SeatState}
-use Rattle.session_actions.specs.Doing.{Acts, Done, IsGiven, IsGivenIn, Worker, asked, stands}
+use Rattle.session_actions.specs.Doing.{Done}
+use Rattle.peers_engine.specs.Acting.{Acts, IsGiven, IsGivenIn, Worker, asked, stands}
 
 pub acts_on : (s mid e : Worker) (before after : List Action) (answers more : List (Event × List Action)) (out rest : List ℕ)
     → Acts s before answers out mid → Acts mid after more rest e → Acts s (before ++ after) (answers ++ more) (out ++ rest) e

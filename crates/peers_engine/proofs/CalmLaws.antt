@@ -1,5 +1,5 @@
 -- What an answer asks for is answered once more at most, and what that asks for is nothing.
-use Rattle.std.proofs.Common.{◌≡◌, ◌⊎◌, ℕ, Bool, true, false, List, [], ◌∷◌, ◌++◌, Option, Some, None, refl, sym, ap, ◌∙◌, subst, inl, inr}
+use Rattle.std.proofs.Common.{◌≡◌, ℕ, Bool, true, false, List, [], ◌∷◌, ◌++◌, Option, Some, None, refl, sym, ap, ◌∙◌, subst, inl, inr}
 use Rattle.std.specs.List.{list_all}
 use Rattle.std.proofs.lemmas.Bool.{false≢true, and_parts, and_from}
 use Rattle.std.proofs.lemmas.List.Folds.{list_all-append}
@@ -18,11 +18,12 @@ use Rattle.session_core.specs.declared.phase.Phase.{Phase}
 use Rattle.session_core.specs.declared.phase.Phase.TheVariants as phases
 use Rattle.session_core.specs.declared.state.State.{State}
 use Rattle.session_core.specs.declared.state.State.TheVariants as states
-use Rattle.session_core.specs.Shares.{any_out, all_quiet, out_set, quiet_set}
+use Rattle.session_core.specs.Shares.{all_quiet, out_set, quiet_set}
 use Rattle.session_core.specs.Actions.{reopens}
 use Rattle.session_core.specs.Courses.{Course}
 use Rattle.session_core.specs.Sessions.{SessionState, Goes, GoesIn, GoesOpen, HasNothing, FinishesResync, StartsPendingResync, Settles, state_of}
-use Rattle.session_actions.specs.Doing.{Acts, Done, IsGiven, IsGivenIn, Worker, asked, stands}
+use Rattle.session_actions.specs.Doing.{Done}
+use Rattle.peers_engine.specs.Acting.{Acts, IsGiven, IsGivenIn, Worker, asked, stands}
 
 -- an action that a table doesn't answer
 abbrev pub is_calm : Action → Bool

@@ -1,12 +1,10 @@
 -- Where an error ends what a session asked for.
-use Rattle.std.proofs.Common.{◌≡◌, ◌⊎◌, ℕ, Bool, true, false, List, [], ◌∷◌, ◌++◌, Option, Some, None, refl, sym, ap, ◌∙◌, subst, inl, inr, append_assoc}
-use Rattle.std.proofs.KnownBytes.{Appends-nil}
+use Rattle.std.proofs.Common.{◌≡◌, ◌⊎◌, ℕ, true, false, List, [], ◌∷◌, ◌++◌, Option, Some, None, refl, sym, ap, ◌∙◌, subst, inl, inr, append_assoc}
 use Rattle.std.proofs.lemmas.List.{append-nil}
 use Rattle.std.proofs.lemmas.List.Concat.{flat_map-append}
 use Rattle.std.proofs.lemmas.Bool.{false≢true, and_parts}
-use Rattle.std.specs.Prelude.{◌≢◌, take}
+use Rattle.std.specs.Prelude.{◌≢◌}
 use Rattle.std.specs.List.{list_all}
-use Rattle.std.specs.Io.KnownBytes.{Appends}
 use Rattle.table_shards.specs.Receipts.{SeatState}
 use Rattle.known_state.specs.Known.{KnownState}
 use Rattle.table_types.specs.declared.copies.CopyKind.TheVariants as copies
@@ -17,8 +15,8 @@ use Rattle.session_core.specs.declared.state.State.TheVariants as states
 use Rattle.session_core.specs.Sessions.{SessionState, Goes, ended, state_of}
 use Rattle.session_core.specs.Runs.{Runs}
 use Rattle.session_actions.specs.declared.errors.EngineError.{EngineError}
-use Rattle.session_actions.specs.declared.errors.EngineError.TheVariants as errors
-use Rattle.session_actions.specs.Doing.{Acts, Done, Fails, Falls, IsAtTable, IsCut, IsLost, IsRefusal, DoesNotGoOn, Stops, IsGiven, Worker, asked, stands}
+use Rattle.session_actions.specs.Doing.{Done, Fails}
+use Rattle.peers_engine.specs.Acting.{Acts, IsCut, IsLost, DoesNotGoOn, Stops, IsGiven, Worker, asked, stands}
 use Rattle.peers_engine.specs.Turns.{Breaks, Halts, HaltsAt, Receives, Idles, Reacts, StopsTurn, TakesTurn, Turns, first_event, is_push}
 use Rattle.peers_engine.proofs.ActLaws.{acts_on, one_act, given_some}
 use Rattle.peers_engine.proofs.CalmLaws.{acts_calm, acts_last}

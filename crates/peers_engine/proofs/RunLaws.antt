@@ -6,7 +6,7 @@ use Rattle.session_core.specs.declared.state.State.{State}
 use Rattle.session_core.specs.declared.state.State.TheVariants as states
 use Rattle.session_core.specs.Sessions.{SessionState, Goes, state_of}
 use Rattle.session_core.specs.Runs.{Runs}
-use Rattle.session_actions.specs.Doing.{Acts, IsGiven, IsGivenIn, Worker, stands}
+use Rattle.peers_engine.specs.Acting.{Acts, IsGiven, IsGivenIn, Worker, stands}
 
 pub runs_on : (s mid e : SessionState) (before after : List (Event × List Action)) → Runs s before mid → Runs mid after e → Runs s (before ++ after) e
 runs_on s mid e [] after first second = subst (λ (x : SessionState). Runs x after e) first second

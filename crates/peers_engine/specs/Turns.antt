@@ -1,5 +1,5 @@
 -- A turn of a session (profile).
-use Rattle.std.specs.Prelude.{◌≡◌, ◌⊎◌, ◌<◌, ◌≤◌, ℕ, Bool, true, false, List, [], ◌∷◌, ◌++◌, length, Option, Some, None}
+use Rattle.std.specs.Prelude.{◌≡◌, ◌⊎◌, ℕ, Bool, true, false, List, [], ◌∷◌, ◌++◌, Option, Some, None}
 use Rattle.std.specs.List.{list_all}
 use Rattle.table_types.specs.declared.copies.CopyKind.TheVariants as copies
 use Rattle.session_core.specs.declared.action.Action.{Action}
@@ -11,9 +11,8 @@ use Rattle.session_core.specs.declared.state.State.TheVariants as states
 use Rattle.session_core.specs.Sessions.{SessionState, Goes, ended, state_of}
 use Rattle.session_core.specs.Runs.{Runs}
 use Rattle.session_actions.specs.declared.errors.EngineError.{EngineError}
-use Rattle.session_actions.specs.declared.errors.EngineError.TheVariants as errors
 use Rattle.session_actions.specs.Reading.{IsUnread}
-use Rattle.session_actions.specs.Doing.{Acts, IsRefused, Stops, Worker, asked, stands}
+use Rattle.peers_engine.specs.Acting.{Acts, IsRefused, Stops, Worker, asked, stands}
 
 -- the event with which a turn begins: a new session is opened, and any other may teach
 abbrev pub first_event : State → Event

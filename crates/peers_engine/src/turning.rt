@@ -1,6 +1,6 @@
 //! A turn of a session.
 
-ghost use Rattle.std.specs.Prelude.{◌≡◌, ◌≢◌, ◌↔◌, ◌++◌, [], ℕ, Bool, true, List, Option, Some, Ok, Err, IfErr, IfOk, OnErr, OnOk};
+ghost use Rattle.std.specs.Prelude.{◌≡◌, ◌≢◌, ◌↔◌, ◌++◌, [], ℕ, true, List, Option, Some, Ok, Err, IfErr, IfOk, OnErr, OnOk};
 ghost use Rattle.std.specs.List.{list_all};
 ghost use Rattle.std.specs.Io.KnownBytes.{Appends, Consumes, IsAtEnd};
 ghost use Rattle.peers_devices.specs.Failures.{Rose};
@@ -12,7 +12,7 @@ ghost use Rattle.session_core.specs.declared.state.State.TheVariants as states;
 ghost use Rattle.session_core.specs.Sessions.{Goes, Refuses, ended, state_of};
 ghost use Rattle.session_actions.specs.declared.errors.EngineError.TheVariants as errors;
 ghost use Rattle.peers_engine.specs.declared.turned.Turned.TheVariants as turns;
-ghost use Rattle.session_actions.specs.Doing.{Acts, DoesNotGoOn, Stops, IsGiven, asked, worker};
+ghost use Rattle.peers_engine.specs.Acting.{Acts, DoesNotGoOn, Stops, IsGiven, asked, worker};
 ghost use Rattle.session_actions.specs.Reading.{IsRead};
 ghost use Rattle.peers_engine.specs.Turns.{Breaks, Halts, HaltsAt, Receives, Idles, Reacts, StopsTurn, TakesTurn, Turns, first_event, is_push};
 

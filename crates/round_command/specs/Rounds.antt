@@ -4,7 +4,7 @@ use Rattle.std.specs.List.{AllByRecursion}
 use Rattle.std.specs.Io.KnownBytes.{Appends}
 use Rattle.table_types.specs.declared.key.Key.{Key}
 use Rattle.table_types.specs.Rows.{StoredRow}
-use Rattle.stick_table.specs.Machine.{AreInRisingKey}
+use Rattle.stick_table.specs.Stock.{AreInRisingKey}
 use Rattle.table_shards.specs.declared.unlocked.UnlockedTable.{UnlockedTable}
 use Rattle.table_shards.specs.Audits.{AuditState, Audits, rounds_of}
 use Rattle.round_command.specs.Tracks.{HasTracked}

@@ -4,7 +4,7 @@ ghost use Rattle.std.specs.Prelude.{◌≡◌, ◌++◌, List, IfOk, OnOk, flat_
 ghost use Rattle.scene_text.specs.Rows.{row_line};
 ghost use Rattle.table_types.specs.declared.key.Key.{Key};
 ghost use Rattle.table_types.specs.Rows.{StoredRow};
-ghost use Rattle.stick_table.specs.Machine.{AreInRisingKey};
+ghost use Rattle.stick_table.specs.Stock.{AreInRisingKey};
 ghost use Rattle.round_command.specs.Rounds.{IsPrinted};
 
 use crate::failure::RoundFailure;

@@ -155,7 +155,7 @@ fn opened<R: Wait>(rt: &R, shards: &Shards, seat: Seat) -> Result<Seat, RoundFai
 /// What a tracking thread hands back: its seat, and what its last change answered.
 type Tracked = (Seat, Result<Option<Reply>, RoundFailure>);
 
-/// Joins the tracking threads. All their seats come back.
+/// Joins the tracking threads, and gives their seats back, unless one of them failed: the scope joins the others then.
 fn joined<R: Threads + Wait>(
     rt: &R,
     alloc: Global,

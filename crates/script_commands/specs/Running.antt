@@ -15,7 +15,7 @@ use Rattle.table_cell.specs.declared.errors.StrangeBatch.{StrangeBatch}
 use Rattle.stick_table.specs.declared.errors.OpenError.{OpenError}
 use Rattle.stick_table.specs.declared.errors.CloseError.{CloseError}
 use Rattle.stick_table.specs.declared.errors.PurgeError.{PurgeError}
-use Rattle.stick_table.specs.Machine.{AreInRisingKey}
+use Rattle.stick_table.specs.Stock.{AreInRisingKey}
 use Rattle.table_cell.specs.Histories.{Acknowledges, CellState, Closes, Copies, IsLatestBatch, Learns, Opens, Purges, Tracks, event_in, events_of, new_cell, room_of}
 use Rattle.script_text.specs.declared.calls.Call.{Call}
 use Rattle.script_text.specs.declared.calls.Call.TheVariants as calls

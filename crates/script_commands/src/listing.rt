@@ -4,7 +4,7 @@ ghost use Rattle.table_types.specs.declared.key.Key.{Key};
 ghost use Rattle.table_types.specs.declared.update.Update.{Update};
 ghost use Rattle.table_types.specs.Rows.{StoredRow};
 ghost use Rattle.stick_table.specs.declared.errors.CopyError.{CopyError};
-ghost use Rattle.stick_table.specs.Machine.{AreInRisingKey};
+ghost use Rattle.stick_table.specs.Stock.{AreInRisingKey};
 ghost use Rattle.table_cell.specs.Histories.{Copies, event_in, events_of, room_of};
 ghost use Rattle.script_text.specs.Updates.{update_line};
 ghost use Rattle.script_commands.specs.Answers.{Adds, batch_lines, copied, event_line, events_line, row_line, rows_lines};

@@ -1,9 +1,8 @@
 //! Doing what a session asks for.
 
-ghost use Rattle.std.specs.Prelude.{◌≡◌, ◌≢◌, ◌∷◌, ◌⊎◌, [], Ok, Err, Some, None, IsOk, IfErr, IfOk, OnOk, List, ℕ};
+ghost use Rattle.std.specs.Prelude.{◌≡◌, ◌≢◌, ◌⊎◌, Ok, Err, Some, None, IsOk, IfErr, IfOk, OnOk, List, ℕ};
 ghost use Rattle.std.specs.Io.KnownBytes.{Appends};
 ghost use Rattle.table_types.specs.declared.update.Update.{Update};
-ghost use Rattle.table_types.specs.Batches.{IsBatchFor};
 ghost use Rattle.known_state.specs.Known.{KnownState};
 ghost use Rattle.session_core.specs.declared.action.Action.TheVariants as actions;
 ghost use Rattle.session_core.specs.declared.event.Event.{Event};

@@ -1,4 +1,4 @@
-//! Why a turn ends early.
+//! Why an action isn't done, or a turn ends early.
 
 ghost use Rattle.std.specs.Prelude.{◌≡◌};
 ghost use Rattle.session_actions.specs.declared.errors.EngineError.TheVariants as errors;
@@ -6,7 +6,7 @@ ghost use Rattle.session_actions.specs.declared.errors.EngineError.TheVariants a
 use session_core::SessionError;
 use thiserror::Error;
 
-/// Why a turn ended early. The session is over then, and what it still asked for isn't done.
+/// Why an action isn't done, or a turn ended early. A turn that ends so ends its session, and what it still asked for isn't done.
 #[derive(Clone, Copy, Debug, PartialEq, Eq, Error)]
 pub enum EngineError {
     /// The session refused an event.

@@ -18,13 +18,13 @@ use table_cell::{AckError, CloseError, CopyError, LearnError, OpenError};
 use table_shards::{Locked, Seat, ShardError, held};
 use table_types::{Batch, CopyKind, Update};
 
-/// A table under its lock, if there is one of that id. It waits for the lock. Nothing else in this crate takes one, and what
-/// calls this gives no lock away: so each is held for one call of a table.
+/// A table under its lock, if there is one of that id. It waits for the lock. Nothing else in this crate takes one, nor does
+/// `peers_engine`, and what calls this gives no lock away: so each is held for one call of a table.
 fn lock<'a, H: Wait, G>(context: &Context<'a, H, G>, table: u64) -> Option<MutexGuard<'a, Locked>> {
     Some(context.shards.cell(table)?.lock(context.rt))
 }
 
-/// What a call's refusal, which no session answers, makes of a turn. `memory` is the cell's own want of memory.
+/// What a call's refusal, which no session answers, makes of an action. `memory` is the cell's own want of memory.
 fn refused<E: Copy + PartialEq>(error: ShardError<E>, memory: E) -> EngineError
     ensures { IsRefusal result }
 {

@@ -80,8 +80,8 @@ unless b x y rest differs never at = elim (cases_Bool b) [
   | inr later ↦ never (sym (cond-false b (Some x) rest later) ∙ at)
 ]
 
-pub learn_wants_none : (full : Bool) (s : TableState) (session : ℕ) (u : Update) (now : ℕ) → learn_refusal full s session u now ≡ Some unlearned.Memory → ⊥
-learn_wants_none full s session u now is =
+pub memory_is_no_learn_refusal : (full : Bool) (s : TableState) (session : ℕ) (u : Update) (now : ℕ) → learn_refusal full s session u now ≡ Some unlearned.Memory → ⊥
+memory_is_no_learn_refusal full s session u now is =
     unless _ unlearned.NoSession unlearned.Memory _ (λ e. cc)
     (unless _ unlearned.Misfit unlearned.Memory _ (λ e. cc)
     (unless _ unlearned.MomentBack unlearned.Memory _ (λ e. cc)

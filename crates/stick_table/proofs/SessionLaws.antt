@@ -6,7 +6,8 @@ use Rattle.std.proofs.lemmas.Option.{slice_get-get_or}
 use Rattle.std.proofs.lemmas.List.{set-get_or}
 use Rattle.std.proofs.lemmas.Bool.{lt-leb, le-leb, cases_Bool, cases_eq, eq-eqb, ne_eqb, cond-true, cond-false, cond_both}
 use Rattle.stick_table.specs.declared.progress.Progress.{Progress}
-use Rattle.stick_table.specs.Machine.{index_of, acknowledging, with_progress}
+use Rattle.stick_table.specs.Parts.{index_of}
+use Rattle.stick_table.specs.Machine.{acknowledging, with_progress}
 use Rattle.stick_table.specs.Soundness.{SessionsDiffer}
 use Rattle.stick_table.proofs.RowsLaws.{some_none}
 

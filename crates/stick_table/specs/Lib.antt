@@ -3,3 +3,4 @@ pub mod Machine
 pub mod Soundness
 pub mod Stock
 pub mod LearnedRuns
+pub mod Parts

@@ -1,11 +1,10 @@
--- A stick table as a machine: what a table is at a time, and what each event makes of it (HAProxy Configuration Manual,
+-- A stick table as a machine: what a table is as it stands, and what each event makes of it (HAProxy Configuration Manual,
 -- stick-table `size`, `expire` and `nopurge`, and doc/peers-v2.0.txt, "Update Messages" and "Acknowledgement Messages";
 -- the order of refusals, and that each change takes the next number, are the profile's choices).
-use Rattle.std.specs.Prelude.{◌≡◌, ℕ, ◌+◌, ◌^◌, Bool, true, false, not, ◌&&◌, ◌||◌, ◌==◌, nat_lt, nat_le, MatchBool, is_some, is_none, List, [], ◌∷◌, ◌++◌, length, map, filter, take, fold, Option, Some, None, option_and_then, option_map, if◌then◌else◌}
+use Rattle.std.specs.Prelude.{◌≡◌, ℕ, ◌+◌, ◌^◌, Bool, true, false, not, ◌&&◌, ◌||◌, ◌==◌, nat_lt, nat_le, MatchBool, is_some, is_none, List, [], ◌∷◌, ◌++◌, length, map, filter, take, fold, Option, Some, None, option_and_then, if◌then◌else◌}
 use Rattle.std.specs.List.{list_all}
 use Rattle.std.specs.Ordering.{is_eq}
-use Rattle.std.specs.List.Sorted.{IsStrictlySortedBy}
-use Rattle.std.specs.Map.{keys_of, lookup}
+use Rattle.std.specs.Map.{lookup}
 use Rattle.table_types.specs.declared.key.Key.{Key}
 use Rattle.table_types.specs.declared.update.Update.{Update}
 use Rattle.table_types.specs.Keys.{key_cmp, key_fits}
@@ -20,7 +19,6 @@ use Rattle.table_types.specs.declared.copies.CopyKind.{CopyKind}
 use Rattle.table_types.specs.declared.copies.CopyKind.TheVariants as kinds
 use Rattle.table_types.specs.declared.copies.Settled.{Settled}
 use Rattle.table_types.specs.declared.copies.Settled.TheVariants as settled
-use Rattle.stick_table.specs.declared.events.Reply.{Reply}
 use Rattle.stick_table.specs.declared.events.CellEvent.{CellEvent}
 use Rattle.stick_table.specs.declared.events.CellEvent.TheVariants as events
 use Rattle.stick_table.specs.declared.events.CellReply.{CellReply}
@@ -41,7 +39,7 @@ use Rattle.stick_table.specs.declared.errors.CloseError.TheVariants as unclosed
 use Rattle.stick_table.specs.declared.errors.PurgeError.{PurgeError}
 use Rattle.stick_table.specs.declared.errors.PurgeError.TheVariants as unpurged
 
--- What a table is at a time: what it was made with; its rows by their keys, in rising number; the number that is given
+-- What a table is as it stands: what it was made with; its rows by their keys, in rising number; the number that is given
 -- next; the latest moment of an event; and the sessions that are open, each with the number acknowledged and the number
 -- taught last.
 pub record TableState : Type 0 where
@@ -94,14 +92,6 @@ Leaves s key rest =
 abbrev pub stored : TableState → Key → StoredRow → ℕ → List (Key × StoredRow) → TableState
 stored s key row now rest = record s { rows = without key rest ++ (key, row) ∷ []; next = s.next + 1; latest = now }
 
--- the rows in rising key
-abbrev pub AreInRisingKey : List (Key × StoredRow) → List (Key × StoredRow) → Type 0
-AreInRisingKey rows list = IsStrictlySortedBy key_cmp (keys_of list) × ((key : Key) → row_at key list ≡ row_at key rows)
-
--- what is answered of a row
-abbrev pub reply_of : StoredRow → Reply
-reply_of row = record { number = row.number; row = row }
-
 -- ---- sessions
 
 -- how far a session is where it begins
@@ -122,11 +112,6 @@ acknowledged_by (Some progress) = progress.acknowledged
 abbrev pub with_progress : ℕ → (Progress → Progress) → List (ℕ × Progress) → List (ℕ × Progress)
 with_progress session f [] = []
 with_progress session f (e ∷ es) = if e.0 == session then (e.0, f e.1) ∷ es else e ∷ with_progress session f es
-
--- where a session stands among the sessions
-abbrev pub index_of : ℕ → List (ℕ × Progress) → Option ℕ
-index_of session [] = None
-index_of session (e ∷ es) = if e.0 == session then Some 0 else option_map (λ index. index + 1) (index_of session es)
 
 -- ---- copies
 

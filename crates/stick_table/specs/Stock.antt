@@ -30,6 +30,10 @@ leave (Some key) rows = without key rows
 abbrev pub left_for : Key → Option Key → List (Key × StoredRow) → List (Key × StoredRow)
 left_for key leaving rows = cond (is_some (row_at key rows)) rows (leave leaving rows)
 
+-- the rows in rising key
+abbrev pub AreInRisingKey : List (Key × StoredRow) → List (Key × StoredRow) → Type 0
+AreInRisingKey rows list = IsStrictlySortedBy key_cmp (keys_of list) × ((key : Key) → row_at key list ≡ row_at key rows)
+
 -- ---- how a stock keeps its rows: by key, and the keys in rising number beside them
 
 -- the number and the key of a row

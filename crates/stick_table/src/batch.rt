@@ -24,7 +24,8 @@ fn batch_of(alloc: Global, definition: &TableDef, updates: Vec<Update>) -> Resul
 }
 
 impl Table {
-    /// The batch that a copy gives.
+    /// The batch that a copy gives: what the session hasn't acknowledged, no more than `limit` rows, which is at most 512, at a
+    /// moment that isn't before the latest one.
     pub fn batch(
         &self,
         session: u32,

@@ -1,4 +1,4 @@
-//! Why a table refuses a call. A refused call changes nothing, and leaves no event.
+//! Why a table refuses an event.
 
 use thiserror::Error;
 

@@ -1,7 +1,7 @@
 //! What happens to a table, and what it answers.
 
 ghost use Rattle.std.specs.Prelude.{◌≡◌, IfOk};
-ghost use Rattle.stick_table.specs.Machine.{reply_of};
+ghost use Rattle.stick_table.specs.Parts.{reply_of};
 
 use std::alloc::Global;
 use table_types::{Batch, Change, CopyKind, Key, Memory, Moment, Row, Settled, Update};
@@ -17,22 +17,13 @@ pub struct Reply {
 
 impl Reply {
     /// The reply to a change that made a row.
-    pub(crate) fn of(alloc: Global, row: &Row) -> Result<Reply, Memory>
+    pub fn of(alloc: Global, row: &Row) -> Result<Reply, Memory>
         ensures { IfOk result (λ reply. reply ≡ reply_of row.now) }
     {
         Ok(Reply {
             number: row.number(),
             row: row.copy(alloc)?,
         })
-    }
-
-    /// The reply to a change that made a row: the one that the history keeps, and the two that are given.
-    pub fn kept_and_given(alloc: Global, row: &Row) -> Result<(Reply, (Reply, Reply)), Memory>
-        ensures kept { IfOk result (λ replies. replies.0 ≡ reply_of row.now) }
-        ensures given { IfOk result (λ replies. (replies.1.0 ≡ reply_of row.now) × (replies.1.1 ≡ reply_of row.now)) }
-    {
-        let given = (Reply::of(alloc, row)?, Reply::of(alloc, row)?);
-        Ok((Reply::of(alloc, row)?, given))
     }
 }
 

@@ -1,4 +1,4 @@
-//! A stick table at a time: its rows and their numbers, the sessions that are open, and what each event makes of it.
+//! A stick table as it stands: its rows and their numbers, the sessions that are open, and what each event makes of it.
 #![tactic(auto)]
 
 mod above;

@@ -2,7 +2,8 @@
 
 ghost use Rattle.std.specs.Prelude.{◌≡◌, ◌==◌, ◌++◌, ◌∷◌, [], OnErr, OnOk, filter, not};
 ghost use Rattle.std.specs.Map.{lookup};
-ghost use Rattle.stick_table.specs.Machine.{index_of, acknowledged_by, acknowledging, no_progress, progress_of, settled_by, teaching, with_progress};
+ghost use Rattle.stick_table.specs.Parts.{index_of};
+ghost use Rattle.stick_table.specs.Machine.{acknowledged_by, acknowledging, no_progress, progress_of, settled_by, teaching, with_progress};
 
 use crate::progress::Progress;
 use crate::table::Table;
@@ -74,7 +75,8 @@ impl Table {
         }
     }
 
-    /// Opens a session. After `Memory` nothing has changed.
+    /// Opens a session, which isn't open: it has acknowledged nothing, and was taught nothing. After `Memory` nothing has
+    /// changed.
     pub fn open(&mut self, session: u32) -> Result<(), Memory>
         ensures open { OnOk result (self.new ≡ record self.old { sessions = self.old.sessions ++ (session, no_progress) ∷ [] }) }
         ensures stays { OnErr result (self.new ≡ self.old) }
@@ -117,7 +119,7 @@ impl Table {
         acknowledge(&mut self.sessions, session, number);
     }
 
-    /// A batch is taught to a session, of which that is the last number.
+    /// Notes that a session was taught a batch whose last number is that.
     pub fn teach(&mut self, session: u32, last: u32, now: Moment)
         ensures { self.new ≡ record self.old { sessions = with_progress session (teaching last) self.old.sessions; latest = now } }
     {

@@ -1,11 +1,12 @@
-//! A stick table at a time.
+//! A stick table as it stands.
 
-ghost use Rattle.std.specs.Prelude.{◌≡◌, ◌≤◌, ◌<◌, ◌^◌, IfOk, IfSome, List, nat_lt, OnErr, OnOk, false, filter, length, not, option_copied};
+ghost use Rattle.std.specs.Prelude.{◌≡◌, ◌≤◌, ◌<◌, ◌^◌, IfOk, IfSome, List, nat_lt, OnErr, OnOk, filter, length, not, option_copied};
 ghost use Rattle.std.specs.List.{list_all};
 ghost use Rattle.table_types.specs.declared.key.Key.{Key};
 ghost use Rattle.table_types.specs.Rows.{StoredRow};
-ghost use Rattle.table_rows.specs.Rows.{IsFirstToEnd, is_live, row_at};
-ghost use Rattle.stick_table.specs.Machine.{AreInRisingKey, Leaves, has_room, is_full, learned, live_row, new_table, stored, tracked};
+ghost use Rattle.table_rows.specs.Rows.{IsFirstToEnd, is_live};
+ghost use Rattle.stick_table.specs.Stock.{AreInRisingKey};
+ghost use Rattle.stick_table.specs.Machine.{Leaves, has_room, is_full, learned, live_row, new_table, stored, tracked};
 ghost use Rattle.stick_table.specs.Stock.{left_for};
 
 use crate::learned_run::LearnedRun;
@@ -16,7 +17,7 @@ use std::marker::Model;
 use table_rows::{MapRows, is_live};
 use table_types::{Change, Key, Memory, Moment, Row, TableDef, Update};
 
-/// A stick table at a time: what it was made with, its rows, the latest moment, and the sessions that are open.
+/// A stick table as it stands: what it was made with, its rows, the latest moment, and the sessions that are open.
 #[derive(Drop)]
 pub struct Table {
     pub(crate) alloc: Global,
@@ -129,7 +130,7 @@ impl Table {
         self.stock.next() as u32
     }
 
-    /// The row that a change makes, under the next number.
+    /// The row that a change makes, under the next number, where not all are spent.
     pub fn tracked(&self, key: &Key, change: &Change, now: Moment) -> Result<Row, Memory>
         requires { self.now.next < 2 ^ 32 }
         ensures { IfOk result (λ row. row ≡ tracked self.now key.now change.now now) }
@@ -138,7 +139,7 @@ impl Table {
         Row::tracked(self.alloc, &self.definition, live, change, self.next(), now)
     }
 
-    /// The row that an update teaches, under the next number.
+    /// The row that an update teaches, under the next number, where not all are spent.
     pub fn learned(&self, update: &Update, now: Moment) -> Result<Row, Memory>
         requires { self.now.next < 2 ^ 32 }
         ensures { IfOk result (λ row. row ≡ learned self.now update.now now) }

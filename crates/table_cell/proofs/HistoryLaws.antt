@@ -1,6 +1,6 @@
 -- A table with its history goes on by an event.
 use Rattle.std.proofs.Common.{◌≡◌, ℕ, zero, suc, true, false, List, [], ◌∷◌, ◌++◌, length, Option, Some, None, refl, sym, ap, subst, ◌∙◌, inl, inr, true≢false}
-use Rattle.std.specs.Prelude.{slice_get, option_and_then, cond, nat_eq}
+use Rattle.std.specs.Prelude.{Err, slice_get, option_and_then, cond, nat_eq}
 use Rattle.std.specs.Ordering.{is_eq, nat_cmp}
 use Rattle.std.specs.Cmp.{nat_cmp_is}
 use Rattle.std.specs.declared.cmp.Ordering.{Ordering}
@@ -11,14 +11,17 @@ use Rattle.std.specs.BTreeMap.{is_at}
 use Rattle.std.proofs.lemmas.Bool.{cases_Bool, cond-true, cond-false, cases_eq, eq-eqb, ne_eqb}
 use Rattle.table_types.specs.declared.update.Update.{Update}
 use Rattle.table_types.specs.declared.copies.CopyKind.{CopyKind}
+use Rattle.stick_table.specs.declared.errors.LearnError.{LearnError}
+use Rattle.stick_table.specs.declared.errors.LearnError.TheVariants as unlearned
 use Rattle.stick_table.specs.declared.events.CellEvent.{CellEvent}
 use Rattle.stick_table.specs.declared.events.CellEvent.TheVariants as events
 use Rattle.stick_table.specs.declared.events.CellReply.{CellReply}
 use Rattle.stick_table.specs.declared.events.CellReply.TheVariants as replies
-use Rattle.stick_table.specs.Machine.{TableState, Step, new_table}
-use Rattle.table_cell.specs.Histories.{Made, batch_in, batch_of, is_copy_of, is_history_full, latest_batch, or_former}
+use Rattle.stick_table.specs.Machine.{TableState, Step, learn_refusal, new_table}
+use Rattle.table_cell.specs.Histories.{CellState, Learns, Made, batch_in, batch_of, is_copy_of, is_history_full, latest_batch, or_former}
 use Rattle.stick_table.specs.Soundness.{IsTimely}
 use Rattle.table_cell.specs.Cells.{AreLatestCopies, IsCell, IsLatestCopy, cell_of}
+use Rattle.stick_table.proofs.RefusalLaws.{memory_is_no_learn_refusal}
 use Rattle.stick_table.proofs.RowsLaws.{some_none}
 use Rattle.table_cell.proofs.RunLaws.{made_sound}
 
@@ -154,3 +157,14 @@ pub latest_at : (session : ℕ) (hs : List (CellEvent × CellReply)) (index : �
 latest_at session hs index (us, latest, at) =
     let found = then_some (batch_of session) (slice_get hs index) us at in
     ap (option_and_then (λ (h : CellEvent × CellReply). batch_in h.1)) found.1 ∙ of_copy session found.0 us found.2 ∙ sym latest
+
+-- ---- what a call refuses
+
+pub learn_refused : (c : CellState) (session : ℕ) (u : Update) (now : ℕ) (error : LearnError) → learn_refusal (is_history_full c) c.state session u now ≡ Some error → Learns c session u now (Err error) c
+learn_refused c session u now unlearned.NoSession is = (is, refl)
+learn_refused c session u now unlearned.Misfit is = (is, refl)
+learn_refused c session u now unlearned.MomentBack is = (is, refl)
+learn_refused c session u now unlearned.HistoryFull is = (is, refl)
+learn_refused c session u now unlearned.Spent is = (is, refl)
+learn_refused c session u now unlearned.TableFull is = (is, refl)
+learn_refused c session u now unlearned.Memory is = absurd (memory_is_no_learn_refusal (is_history_full c) c.state session u now is)

@@ -1,3 +1,2 @@
 pub mod RunLaws
 pub mod HistoryLaws
-pub mod RefusedLaws

@@ -145,8 +145,9 @@ latest_batch session (h ∷ hs) = or_former (batch_of session h) (latest_batch s
 abbrev pub IsLatestBatch : CellState → ℕ → List Update → Type 0
 IsLatestBatch c session us = latest_batch session c.history ≡ Some us
 
--- ---- a new table
+-- ---- a new table with its history
 
+-- a new table, no event of which happened yet
 abbrev pub new_cell : Definition → ℕ → Bool → ℕ → CellState
 new_cell d size nopurge first = record { base = new_table d size nopurge first; dropped = 0; history = []; state = new_table d size nopurge first }
 

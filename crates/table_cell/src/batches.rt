@@ -7,7 +7,6 @@ ghost use Rattle.stick_table.specs.declared.events.CellReply.TheVariants as repl
 ghost use Rattle.table_cell.specs.Histories.{Copies, IsLatestBatch, batch_in, first_of, latest_batch};
 ghost use Rattle.stick_table.specs.Machine.{Step, copy_refusal, unacked};
 ghost use Rattle.stick_table.specs.Soundness.{IsSound};
-ghost use Rattle.table_types.specs.Batches.{IsBatchFor};
 
 use crate::cell::TableCell;
 use crate::errors::StrangeBatch;

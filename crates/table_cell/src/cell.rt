@@ -1,7 +1,7 @@
 //! Stick tables with their history.
 
-ghost use Rattle.std.specs.Prelude.{◌≡◌, ◌↔◌, ◌≤◌, IfOk, IsOk, option_map};
-ghost use Rattle.stick_table.specs.Machine.{AreInRisingKey};
+ghost use Rattle.std.specs.Prelude.{◌≡◌, ◌≤◌, IfOk, IsOk, option_map};
+ghost use Rattle.stick_table.specs.Stock.{AreInRisingKey};
 ghost use Rattle.table_cell.specs.Histories.{IsSoundCell, Kept, events_of, event_in, is_history_full, new_cell, room_of};
 
 use std::alloc::Global;

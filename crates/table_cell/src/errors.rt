@@ -1,4 +1,4 @@
-//! Why a call that changes nothing is refused.
+//! Why a batch isn't settled.
 
 use thiserror::Error;
 

@@ -6,11 +6,22 @@ ghost use Rattle.table_types.specs.Rows.{StoredRow};
 ghost use Rattle.stick_table.specs.declared.events.CellEvent.TheVariants as events;
 ghost use Rattle.stick_table.specs.declared.events.CellReply.TheVariants as replies;
 ghost use Rattle.table_cell.specs.Histories.{Learns, Tracks, first_of};
-ghost use Rattle.stick_table.specs.Machine.{Leaves, Step, learn_refusal, learned, reply_of, stored, track_refusal, tracked};
+ghost use Rattle.stick_table.specs.Machine.{Leaves, Step, learn_refusal, learned, stored, track_refusal, tracked};
+ghost use Rattle.stick_table.specs.Parts.{reply_of};
 
 use crate::cell::TableCell;
+use std::alloc::Global;
 use stick_table::{CellEvent, CellReply, LearnError, Reply, Table, TrackError};
 use table_types::{Change, Key, Memory, Moment, Row, Update};
+
+/// The reply to a change that made a row: the one that the history keeps, and the two that are given.
+fn replies_of(alloc: Global, row: &Row) -> Result<(Reply, (Reply, Reply)), Memory>
+    ensures kept { IfOk result (λ replies. replies.0 ≡ reply_of row.now) }
+    ensures given { IfOk result (λ replies. (replies.1.0 ≡ reply_of row.now) × (replies.1.1 ≡ reply_of row.now)) }
+{
+    let given = (Reply::of(alloc, row)?, Reply::of(alloc, row)?);
+    Ok((Reply::of(alloc, row)?, given))
+}
 
 /// Stores a row under the next number in place of the key's, and answers the reply that the history keeps with the two
 /// that are given. After `Memory` nothing has changed.
@@ -29,7 +40,7 @@ fn store_row(
     ensures stays { OnErr result (table.new ≡ table.old) }
 {
     let stored_key = key.copy(table.alloc())?;
-    let replies = Reply::kept_and_given(table.alloc(), &row)?;
+    let replies = replies_of(table.alloc(), &row)?;
     table.store(stored_key, row, now)?;
     Ok(replies)
 }

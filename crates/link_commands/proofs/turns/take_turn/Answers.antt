@@ -1,7 +1,7 @@
 use Rattle.std.proofs.Common.{◌≡◌, ◌∙◌, ◌+◌, ap}
 use Rattle.std.specs.Io.KnownBytes.{IsAtEnd}
 use Rattle.table_types.specs.Rows.{later_by}
-use Rattle.session_actions.specs.Doing.{worker}
+use Rattle.peers_engine.specs.Acting.{worker}
 use Rattle.link_commands.proofs.TurningLaws.{both_ways, taken_after}
 use Rattle.link_commands.specs.Loading.{loaded_at}
 use Rattle.link_commands.proofs.turns.take_turn.Goals as goal

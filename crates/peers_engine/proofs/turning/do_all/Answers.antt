@@ -1,6 +1,6 @@
 use Rattle.std.proofs.Common.{◌∙◌}
 use Rattle.std.specs.Vec.Iter.{into_iter_items}
-use Rattle.session_actions.specs.Doing.{worker}
+use Rattle.peers_engine.specs.Acting.{worker}
 use Rattle.peers_engine.proofs.TakenLaws.{taken_next}
 use Rattle.peers_engine.proofs.TurnLaws.{next_fails, one_more, give_fails}
 use Rattle.peers_engine.proofs.turning.do_all.Goals as goal

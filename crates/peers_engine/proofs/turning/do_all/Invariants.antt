@@ -2,7 +2,7 @@ use Rattle.std.proofs.Common.{◌≡◌, ℕ, List}
 use Rattle.std.specs.Io.KnownBytes.{Appends}
 use Rattle.session_core.specs.declared.action.Action.{Action}
 use Rattle.session_core.specs.declared.event.Event.{Event}
-use Rattle.session_actions.specs.Doing.{Acts, asked, worker}
+use Rattle.peers_engine.specs.Acting.{Acts, asked, worker}
 use Rattle.peers_engine.proofs.turning.do_all.Given as goal
 
 -- the actions so far are done, their answers given, and what these ask for kept

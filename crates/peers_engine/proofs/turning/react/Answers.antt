@@ -4,7 +4,7 @@ use Rattle.std.proofs.lemmas.Bool.{eqb-true, false≢true}
 use Rattle.std.proofs.lemmas.List.{nil_from_length}
 use Rattle.std.specs.List.{list_all}
 use Rattle.session_core.specs.Sessions.{ended}
-use Rattle.session_actions.specs.Doing.{worker}
+use Rattle.peers_engine.specs.Acting.{worker}
 use Rattle.peers_engine.specs.Turns.{is_push}
 use Rattle.peers_engine.proofs.TurnLaws.{AreDone, both_done, both_idle, first_fails, idle_of, of_ok, second_fails}
 use Rattle.peers_engine.proofs.turning.react.Goals as goal

@@ -2,7 +2,7 @@ use Rattle.std.proofs.Common.{refl, [], None}
 use Rattle.std.proofs.KnownBytes.{Appends-nil}
 use Rattle.std.proofs.lemmas.Result.{IfErr-weaker}
 use Rattle.peers_engine.proofs.EndLaws.{nothing_consumed}
-use Rattle.session_actions.specs.Doing.{worker}
+use Rattle.peers_engine.specs.Acting.{worker}
 use Rattle.peers_engine.proofs.TurnLaws.{read_fails}
 use Rattle.peers_engine.proofs.turning.receive.Goals as goal
 

@@ -1,6 +1,6 @@
 use Rattle.std.proofs.Common.{Ok, ◌∙◌, ap, refl}
 use Rattle.std.proofs.lemmas.Result.{IfErr-weaker, on_ok_weaker}
-use Rattle.session_actions.specs.Doing.{worker}
+use Rattle.peers_engine.specs.Acting.{worker}
 use Rattle.peers_engine.specs.Turns.{first_event}
 use Rattle.peers_engine.proofs.TurnLaws.{HasHalted, HasReacted, alone_done, alone_fails, of_err, of_ok, then_done, then_fails}
 use Rattle.peers_engine.proofs.turning.take_turn.Goals as goal

@@ -1,5 +1,4 @@
-use Rattle.std.proofs.lemmas.Result.{IfErr-weaker}
-use Rattle.session_actions.specs.Doing.{worker}
+use Rattle.peers_engine.specs.Acting.{worker}
 use Rattle.peers_engine.proofs.TurnLaws.{broken, of_err, of_ok, stopped, turned}
 use Rattle.peers_engine.proofs.turning.turn.Goals as goal
 

@@ -1,6 +1,7 @@
 use Rattle.std.proofs.Common.{◌≡◌, ◌<◌, List, ℕ, Some, None, length, slice_set, sym, ap, ◌∙◌, arith}
 use Rattle.stick_table.specs.declared.progress.Progress.{Progress}
-use Rattle.stick_table.specs.Machine.{index_of, acknowledging}
+use Rattle.stick_table.specs.Parts.{index_of}
+use Rattle.stick_table.specs.Machine.{acknowledging}
 use Rattle.stick_table.proofs.SessionLaws.{index_within, one_default, set_placed, stays_placed, stays_absent, acknowledging_above, acknowledging_older}
 use Rattle.stick_table.proofs.sessions.acknowledge.Goals as goal
 

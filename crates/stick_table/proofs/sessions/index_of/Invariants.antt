@@ -1,6 +1,6 @@
 use Rattle.std.proofs.Common.{◌≡◌, ◌+◌, drop}
 use Rattle.std.specs.Prelude.{option_map}
-use Rattle.stick_table.specs.Machine.{index_of}
+use Rattle.stick_table.specs.Parts.{index_of}
 use Rattle.stick_table.proofs.sessions.index_of.Given as goal
 
 abbrev pub invariant-loop-index : goal.invariant-loop-index

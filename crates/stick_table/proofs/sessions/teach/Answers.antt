@@ -1,6 +1,7 @@
 use Rattle.std.proofs.Common.{◌≡◌, List, ℕ, Some, None, length, sym, ap, ◌∙◌, arith}
 use Rattle.stick_table.specs.declared.progress.Progress.{Progress}
-use Rattle.stick_table.specs.Machine.{index_of, teaching}
+use Rattle.stick_table.specs.Parts.{index_of}
+use Rattle.stick_table.specs.Machine.{teaching}
 use Rattle.stick_table.proofs.SessionLaws.{index_within, set_placed, stays_absent}
 use Rattle.stick_table.proofs.sessions.teach.Goals as goal
 

@@ -7,8 +7,7 @@ use Rattle.stick_table.specs.declared.errors.LearnError.{LearnError}
 use Rattle.stick_table.specs.Machine.{learn_refusal}
 use Rattle.table_cell.specs.Histories.{CellState, Made, is_history_full}
 use Rattle.stick_table.proofs.RefusalLaws.{learn_free}
-use Rattle.table_cell.proofs.RefusedLaws.{learn_refused}
-use Rattle.table_cell.proofs.HistoryLaws.{cell_goes_on, is_made}
+use Rattle.table_cell.proofs.HistoryLaws.{cell_goes_on, is_made, learn_refused}
 use Rattle.table_cell.proofs.cell.TableCell.learn_pair.Goals as goal
 
 pub returns-in-Some-clause-call : goal.returns-in-Some-clause-call
