@@ -1,10 +1,11 @@
 //! A node that meets another.
 
-ghost use Rattle.std.specs.Prelude.{◌≡◌, ◌≢◌, ◌⊎◌, ℕ, List, Ok, true, IfErr, IfOk, string_bytes};
+ghost use Rattle.std.specs.Prelude.{◌≡◌, ◌≢◌, ◌⊎◌, ℕ, List, Ok, true, false, IfErr, IfOk, string_bytes};
 ghost use Rattle.std.specs.Io.KnownBytes.{Appends, Consumes};
 ghost use Rattle.scene_text.specs.declared.scene.Scene.{Scene};
 ghost use Rattle.scene_commands.specs.Endings.{IsEarly, line_of};
 ghost use Rattle.scene_commands.specs.declared.ending.Ending.TheVariants as endings;
+ghost use Rattle.session_core.specs.Sessions.{connecting};
 ghost use Rattle.table_shards.specs.Audits.{table_rounds};
 ghost use Rattle.table_shards.specs.declared.unlocked.UnlockedTable.{UnlockedTable};
 ghost use Rattle.link_commands.specs.Nodes.{AppendsSome, AreOpened, IsJoining, IsPrinted, IsServing, has_rows};
@@ -22,7 +23,7 @@ use std::alloc::Global;
 use std::io::{Read, Write};
 use std::sync::Wait;
 use table_shards::{Seat, Shards};
-use table_types::{Memory, Name, TableDef, Update};
+use table_types::{Memory, Name, Roster, TableDef, Update};
 
 /// A node that is about to meet another: its tables, the seat from which its session works on them, and the session.
 #[derive(Drop)]
@@ -113,6 +114,19 @@ fn serving_of(alloc: Global, name: Name, peer: Name, scene: Scene) -> Result<Nod
     node_of(session, shards, seat, false)
 }
 
+/// The session of a node that joins, and isn't up to date.
+fn joining_session(alloc: Global, name: Name, peer: Name, roster: Roster) -> Result<Session, Memory>
+    ensures { IfOk result (λ session. session ≡ connecting (record { remote = peer; local = name; pid = 1; relative = 1 }) roster false) }
+{
+    let hello = Hello {
+        remote: peer,
+        local: name,
+        pid: 1,
+        relative: 1,
+    };
+    Session::connect(alloc, hello, roster, false)
+}
+
 /// The node that joins with the tables of a scene.
 #[tactic(auto, using(crate::proofs::NodeLaws::joining_with))]
 fn joining_of(alloc: Global, name: Name, peer: Name, scene: Scene) -> Result<Node, Ending>
@@ -122,13 +136,7 @@ fn joining_of(alloc: Global, name: Name, peer: Name, scene: Scene) -> Result<Nod
     let Scene { tables, .. } = scene;
     let roster = rising_roster(tables)?;
     let (shards, seat) = opened(alloc, roster.tables(), &[])?;
-    let hello = Hello {
-        remote: peer,
-        local: name,
-        pid: 1,
-        relative: 1,
-    };
-    let session = Session::connect(alloc, hello, roster, false);
+    let session = joining_session(alloc, name, peer, roster);
     node_of(session, shards, seat, true)
 }
 
@@ -143,7 +151,7 @@ fn has_rows(ending: Ending) -> bool
     }
 }
 
-/// How a session ended of which no rows are printed: a device failed, or else memory was wanted.
+/// The ending of a session of which no rows are printed: a device failed, or memory was wanted.
 fn early(ending: Ending) -> Ending
     ensures { (result ≡ Ending.Memory) ⊎ (result ≡ Ending.Device) }
 {

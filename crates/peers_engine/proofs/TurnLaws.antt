@@ -8,13 +8,9 @@ use Rattle.std.proofs.lemmas.List.Concat.{flat_map-append}
 use Rattle.table_shards.specs.Receipts.{SeatState}
 use Rattle.known_state.specs.Known.{KnownState}
 use Rattle.session_core.specs.declared.action.Action.{Action}
-use Rattle.session_core.specs.declared.error.SessionError.TheVariants as refusals
 use Rattle.session_core.specs.declared.event.Event.{Event}
-use Rattle.session_core.specs.declared.phase.Phase.{Phase}
-use Rattle.session_core.specs.declared.phase.Phase.TheVariants as phases
 use Rattle.session_core.specs.declared.state.State.TheVariants as states
-use Rattle.session_core.specs.Courses.{state_of_course}
-use Rattle.session_core.specs.Sessions.{SessionState, Goes, Refuses, ended, state_of}
+use Rattle.session_core.specs.Sessions.{SessionState, Goes, ended, state_of}
 use Rattle.session_actions.specs.declared.errors.EngineError.{EngineError}
 use Rattle.session_actions.specs.Doing.{Done, Fails}
 use Rattle.peers_engine.specs.Acting.{Acts, DoesNotGoOn, Stops, IsGiven, Worker, asked, stands}
@@ -214,18 +210,3 @@ broken s e new error from to a b (received, read, out, reads, stops, consumed, a
 pub stopped : {at_end untouched : Type 0} (s : Worker) (e new : SessionState) (error : EngineError) (from to a b : Option (List ℕ)) → HasStopped at_end untouched s e from to a b error → new ≡ ended e → HasStopped at_end untouched s new from to a b error
 stopped s e new error from to a b (received, read, out, reads, stops, consumed, appended) is =
     (received, read, out, reads, halted s e new received error out stops is, consumed, appended)
-
--- ---- a session that is over refuses each event for that
-
-open_on : (teaching : Bool) → state_of_course teaching ≢ states.Ended
-open_on true is = cc is
-open_on false is = cc is
-
-in_over : (phase : Phase) (event : Event) → state_of phase ≡ states.Ended → Refuses phase event refusals.Ended
-in_over (phases.New hello c) event is = cc is
-in_over (phases.Hello greeter bytes c) event is = cc is
-in_over (phases.Open c) event is = absurd (open_on c.teaching is)
-in_over phases.Ended event is = refl
-
-pub over_refuses : (s : SessionState) → state_of s.phase ≡ states.Ended → Refuses s.phase (first_event (state_of s.phase)) refusals.Ended
-over_refuses s is = in_over s.phase (first_event (state_of s.phase)) is

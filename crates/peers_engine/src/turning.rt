@@ -182,7 +182,7 @@ fn receive<H: Wait, G: Gate, R: Read + Faults, W: Write + Faults>(
     }
 }
 
-/// A turn, after an error of which the session isn't over yet. Answers whether nothing was to be done.
+/// A turn, except that an error doesn't end the session yet. Answers whether nothing was to be done.
 fn take_turn<H: Wait, G: Gate, R: Read + Faults, W: Write + Faults>(
     context: &Context<H, G>,
     session: &mut Session,
@@ -212,16 +212,29 @@ fn take_turn<H: Wait, G: Gate, R: Read + Faults, W: Write + Faults>(
     }
 }
 
-/// Ends the session after an error.
-fn end(session: &mut Session, error: EngineError, now: Moment)
-    ensures { session.new ≡ ended session.old }
+/// Ends the session after an error, and returns the seat.
+fn end<H, G>(context: &Context<H, G>, session: &mut Session, seat: Seat, error: EngineError) -> Seat
+    ensures session { session.new ≡ ended session.old }
+    ensures seat { result ≡ seat }
 {
     let event = match error {
         EngineError::Read => Event::ReadFault,
         EngineError::Write { sent: _ } => Event::WriteFault,
         EngineError::Session(_) | EngineError::Memory | EngineError::Strange => Event::End,
     };
-    let _closing = session.on(event, now);
+    let _closing = session.on(event, context.moment);
+    seat
+}
+
+/// The answer of a turn that ended without an error.
+fn outcome(session: &Session) -> Turned
+    ensures { (result ≡ turns.Closed) ↔ (state_of session.now.phase ≡ states.Ended) }
+{
+    if session.state() == State::Ended {
+        Turned::Closed
+    } else {
+        Turned::Going
+    }
 }
 
 /// One turn of a session, which has that number in the tables and works from that seat. The caller has opened it in each table
@@ -278,13 +291,11 @@ pub fn turn<H: Wait, R: Read + Faults, W: Write + Faults, G: Gate>(
         moment: now,
     };
     let (seat, done) = take_turn(&context, session, input, output, seat);
-    if let Err(error) = done {
-        end(session, error, now);
-        return (seat, Err(error));
-    }
-    if session.state() == State::Ended {
-        (seat, Ok(Turned::Closed))
-    } else {
-        (seat, Ok(Turned::Going))
+    match done {
+        Ok(_) => (seat, Ok(outcome(session))),
+        Err(error) => {
+            let seat = end(&context, session, seat, error);
+            (seat, Err(error))
+        }
     }
 }

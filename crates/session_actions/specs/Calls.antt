@@ -1,7 +1,7 @@
 -- The calls on tables with which a session's actions are done (profile). Which cell a call finds behind the lock is in no clause:
 -- these say of some cell of that table what the call does. A call that makes an event of the table leaves its receipt at the seat,
 -- with the answer; one that makes none leaves the seat as it was.
-use Rattle.std.specs.Prelude.{◌⊎◌, ℕ, List, Result, Ok, Err}
+use Rattle.std.specs.Prelude.{◌≡◌, ◌⊎◌, ℕ, List, Result, Ok, Err, Some, slice_get}
 use Rattle.table_types.specs.declared.update.Update.{Update}
 use Rattle.table_types.specs.declared.copies.CopyKind.{CopyKind}
 use Rattle.table_types.specs.declared.copies.Settled.{Settled}
@@ -55,6 +55,7 @@ IsLearned n now s u t =
 abbrev pub IsReopened : ℕ → SeatState → ℕ → SeatState → Type 0
 IsReopened n s table t = (mid : SeatState) × CallsClose n s table (Ok tt) mid × CallsOpen n mid table (Ok tt) t
 
--- some cell of a table has the batch as the session's latest one
+-- the table of the batch's first update, which is that of each, has the batch as the session's latest one
 abbrev pub IsSettled : ℕ → SeatState → List Update → Type 0
-IsSettled n s batch = (table : ℕ) × (c e : CellState) × Looks (λ x r y. Settles x n batch r y) table c s (Ok tt) e s
+IsSettled n s batch =
+    (u : Update) × (slice_get batch 0 ≡ Some u) × (c e : CellState) × Looks (λ x r y. Settles x n batch r y) u.table c s (Ok tt) e s

@@ -17,7 +17,6 @@ use table_types::{Key, Memory, Row, TableDef};
 /// nothing, and leaves no event.
 #[derive(Drop)]
 pub struct TableCell {
-    pub(crate) alloc: Global,
     /// The number that the table gave first.
     pub(crate) first: u32,
     pub(crate) table: Table,
@@ -59,7 +58,6 @@ impl TableCell {
         ensures cell { IfOk result (λ cell. cell ≡ new_cell definition size nopurge first) }
     {
         Ok(TableCell {
-            alloc,
             first,
             table: Table::new(alloc, definition, size, nopurge, first),
             history: Vec::new(alloc),

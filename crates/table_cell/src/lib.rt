@@ -15,3 +15,4 @@ pub use stick_table::{
     AckError, CellEvent, CellReply, CloseError, CopyError, LearnError, OpenError, PurgeError,
     Reply, TrackError,
 };
+pub use table_types::{CopyKind, Settled};

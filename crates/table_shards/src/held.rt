@@ -19,7 +19,7 @@ use table_cell::{
 };
 use table_types::{Batch, Change, CopyKind, Key, Memory, Moment, Settled, Update};
 
-/// Whether the call may be made: the cell is that table's, and the seat has seen no more events than it has.
+/// Why the call may not be made, if so: the cell is another table's, or the seat has seen more events than it has.
 fn refusal<E>(locked: &Locked, seat: &Seat, table: u64) -> Option<ShardError<E>>
     ensures { MayNot table locked.now seat.now result }
 {
@@ -75,6 +75,22 @@ fn track_event(
     })
 }
 
+/// Adds the receipt of a track that was just made. Returns the seat, and one of the table's two copies of the reply.
+fn with_track_receipt(
+    locked: &Locked,
+    prepared: Prepared,
+    event: CellEvent,
+    copies: (Reply, Reply),
+) -> (Seat, Reply)
+    requires { seen_of prepared.table prepared.seat < events_of locked.now }
+    ensures seat { result.0 ≡ with_receipt prepared.seat prepared.table (record { place = events_of locked.now; event = event; reply = replies.Track copies.1 }) }
+    ensures reply { result.1 ≡ copies.0 }
+{
+    let (reply, copy) = copies;
+    let seat = finish(locked, prepared, event, CellReply::Track(copy));
+    (seat, reply)
+}
+
 /// `TableCell::track` by the seat.
 pub fn track(
     locked: &mut Locked,
@@ -98,10 +114,10 @@ pub fn track(
     };
     match locked.cell.track_pair(number, key, change, now) {
         Err(error) => (prepared.leave(), Err(ShardError::Cell(error))),
-        Ok((reply, copy)) => (
-            finish(locked, prepared, event, CellReply::Track(copy)),
-            Ok(reply),
-        ),
+        Ok(copies) => {
+            let (seat, reply) = with_track_receipt(locked, prepared, event, copies);
+            (seat, Ok(reply))
+        }
     }
 }
 

@@ -5,7 +5,8 @@ ghost use Rattle.std.specs.Prelude.{◌≡◌};
 use std::marker::Model;
 use table_cell::TableCell;
 
-/// A table under its lock. It is lent for reading alone: only the calls of the module `held` change it.
+/// A table under its lock. Only the calls of the module `held` change the table; who holds two locks may swap what is under
+/// them, which an audit finds.
 #[derive(Drop)]
 pub struct Locked {
     pub(crate) cell: TableCell,
