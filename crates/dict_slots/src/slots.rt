@@ -45,7 +45,7 @@ impl Slots {
     /// How many slots there are, and the number of the last.
     pub const COUNT: u8 = SLOT_COUNT as u8;
 
-    /// The slots, all empty. It takes no memory.
+    /// The slots, all empty. It doesn't allocate.
     pub fn new(_alloc: Global) -> Slots
         ensures { result ≡ no_names }
     {
@@ -84,7 +84,7 @@ impl Slots {
         self.names[usize::from(id) - 1].as_ref()
     }
 
-    /// Writes a name into slot `id`, 1 to 128, and hands out the one that it held. It takes no memory.
+    /// Writes a name into slot `id`, 1 to 128, and hands out the one that it held. It doesn't allocate.
     pub fn write(&mut self, id: u8, name: Name) -> Option<Name>
         requires slot { is_slot id ≡ true }
         ensures old { result ≡ slot_at self.old id }

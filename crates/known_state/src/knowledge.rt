@@ -42,7 +42,7 @@ fn last_known(known: &Known, table: u64) -> Option<u32>
 }
 
 impl<'a> KnowledgeSoFar<'a> {
-    /// What bears on the cost of a lesson from the known state on. Takes no memory.
+    /// What bears on the cost of a lesson from the known state on. Doesn't allocate.
     pub fn of(alloc: Global, known: &'a Known) -> KnowledgeSoFar<'a>
         ensures { known_so_far result ≡ knowledge_of known.now.state }
     {

@@ -129,7 +129,7 @@ impl Model for Known {
 }
 
 impl Known {
-    /// The state of a learner that received nothing. Takes no memory.
+    /// The state of a learner that received nothing. Doesn't allocate.
     pub fn fresh(alloc: Global, roster: Roster) -> Known
         ensures { result ≡ fresh_of roster }
     {
@@ -253,7 +253,7 @@ impl Known {
     }
 
     /// Why a message is refused, if it is: `NoTable`, `Foreign`, `NotDefined`, `NoNumber` or `EmptySlot`, as `after` refuses
-    /// it. Takes no memory.
+    /// it. Doesn't allocate.
     pub fn refusal(&self, message: &Message) -> Option<StepError>
         ensures refused { IfSome result (λ e. Refuses self.now message.now e) }
         ensures taken { result ≡ None → IsTakenBy self.now message.now }

@@ -97,7 +97,7 @@ fn is_own_id(received: &Received, roster: &Roster, id: u64) -> bool
 }
 
 impl LastNumbers {
-    /// No table has a last number. Takes no memory.
+    /// No table has a last number. Doesn't allocate.
     pub fn new(alloc: Global) -> LastNumbers
         ensures { result ≡ [] }
     {

@@ -73,7 +73,7 @@ fn write(slots: &mut Slots, written: Option<(u8, Name)>)
 }
 
 impl State {
-    /// Nothing was received. Takes no memory.
+    /// Nothing was received. Doesn't allocate.
     pub fn new(alloc: Global) -> State
         ensures { result ≡ fresh }
     {
@@ -174,7 +174,7 @@ impl State {
         }
     }
 
-    /// Why an update of this number and name field is refused, if it is. Takes no memory.
+    /// Why an update of this number and name field is refused, if it is. Doesn't allocate.
     pub fn refusal(&self, number: Option<u32>, field: NameFieldRef<'_>) -> Option<Refusal>
         ensures { result ≡ refusal_of self.now number (owned_name field.entry) }
     {

@@ -64,7 +64,7 @@ fn selected_local(roster: &Roster, received: &Received) -> Option<u64>
 }
 
 impl Intake {
-    /// An intake that keeps the rows of the roster's tables, and was fed nothing. Takes no memory.
+    /// An intake that keeps the rows of the roster's tables, and was fed nothing. Doesn't allocate.
     pub fn new(alloc: Global, roster: Roster) -> Intake
         ensures { result ≡ begun roster }
     {

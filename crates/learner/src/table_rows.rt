@@ -27,7 +27,7 @@ impl Model for TableRows {
 }
 
 impl TableRows {
-    /// No rows. Takes no memory.
+    /// No rows. Doesn't allocate.
     pub fn new(alloc: Global) -> TableRows
         ensures { result ≡ [] }
     {

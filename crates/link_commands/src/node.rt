@@ -69,7 +69,7 @@ fn opened(
     Ok((shards, seat))
 }
 
-/// The node of this session with these tables and a seat, or why there is no session: tables and seat are let go of then.
+/// The node of this session with these tables and a seat, or why there is no session: tables and seat are dropped then.
 fn node_of(
     session: Result<Session, Memory>,
     shards: Shards,

@@ -39,7 +39,7 @@ fn connected<N: Net<Listener = TcpListener, Stream = TcpStream>>(
     Ok(stream)
 }
 
-/// Runs a node's session over a connection, which is closed then.
+/// Runs a node's session over a connection, and closes it.
 fn met<H: Wait>(
     rt: &H,
     alloc: Global,

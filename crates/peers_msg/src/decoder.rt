@@ -49,7 +49,7 @@ fn receive(alloc: Global, received: &mut Received, message: &Message) -> Result<
 }
 
 impl Decoder {
-    /// A decoder that has received nothing. Takes no memory.
+    /// A decoder that has received nothing. Doesn't allocate.
     pub fn new(alloc: Global) -> Decoder
         ensures { result ≡ begun nothing_received }
     {

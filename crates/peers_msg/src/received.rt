@@ -67,7 +67,7 @@ fn index_of(tables: &[TableDef], id: u64) -> usize
 }
 
 impl Received {
-    /// Nothing is received yet. Takes no memory.
+    /// Nothing is received yet. Doesn't allocate.
     pub fn new(alloc: Global) -> Received
         ensures { result ≡ nothing_received }
     {

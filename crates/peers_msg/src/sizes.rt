@@ -170,7 +170,7 @@ fn name_sizes(name: &Name) -> (usize, usize)
 }
 
 /// How many bytes an update message of these parts has with its name read from a slot, and how many with the slot
-/// written, whichever of the 128 it is. This takes no memory.
+/// written, whichever of the 128 it is. This doesn't allocate.
 #[tactic(auto, unfolding(crate::specs::Spelling::size_of, crate::specs::Spelling::spelled))]
 pub fn named_sizes(
     number: Option<u32>,
@@ -192,7 +192,7 @@ pub fn named_sizes(
 }
 
 /// How many bytes an update message of these parts has without a name, of a table that stores names or of one that
-/// doesn't. This takes no memory.
+/// doesn't. This doesn't allocate.
 #[tactic(auto, unfolding(crate::specs::Spelling::size_of, crate::specs::Spelling::spelled))]
 pub fn nameless_size(
     number: Option<u32>,
@@ -214,7 +214,7 @@ pub fn nameless_size(
     }
 }
 
-/// How many bytes the definition of a table has as a message. This takes no memory.
+/// How many bytes the definition of a table has as a message. This doesn't allocate.
 #[tactic(auto, unfolding(crate::specs::Spelling::size_of, crate::specs::Spelling::spelled))]
 pub fn define_size(table: &TableDef) -> usize
     ensures exact { result ≡ size_of (messages.Define table.now) }
@@ -223,7 +223,7 @@ pub fn define_size(table: &TableDef) -> usize
     framed_size(definition_size(table))
 }
 
-/// How many bytes a switch to that id has. This takes no memory.
+/// How many bytes a switch to that id has. This doesn't allocate.
 #[tactic(auto, unfolding(crate::specs::Spelling::size_of, crate::specs::Spelling::spelled))]
 pub fn switch_size(id: u64) -> usize
     ensures exact { result ≡ size_of (messages.Switch id) }
@@ -232,7 +232,7 @@ pub fn switch_size(id: u64) -> usize
     framed_size(len(id))
 }
 
-/// How many bytes a message has. This takes no memory.
+/// How many bytes a message has. This doesn't allocate.
 #[tactic(auto, unfolding(crate::specs::Spelling::size_of, crate::specs::Spelling::spelled))]
 pub fn size(message: &Message) -> usize
     ensures { result ≡ size_of message.now }

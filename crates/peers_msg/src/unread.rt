@@ -51,7 +51,7 @@ pub fn front<'a>(
 }
 
 impl Unread {
-    /// No bytes. Takes no memory.
+    /// No bytes. Doesn't allocate.
     pub fn new(alloc: Global) -> Unread
         ensures { result ≡ [] }
     {

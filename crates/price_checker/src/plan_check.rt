@@ -25,7 +25,7 @@ pub fn are_prices(prices: &[u64]) -> bool
 /// Whether the plan is accepted, for requests where these names are held at the start, with so many slots. It has one mark
 /// and one price for each request; no price is above 2^32; each kept request has a link; no place is inside of more
 /// kept links than there are slots but one; and the kept links together save what links can save at most with these
-/// prices. So no other choice of requests that are read saves more. It takes no memory.
+/// prices. So no other choice of requests that are read saves more. It doesn't allocate.
 ///
 /// There are 1 to 128 slots, at most as many names held, and at most 512 requests.
 pub fn check_plan(slots: usize, held: &[Name], requests: &[Request], plan: &Plan) -> bool

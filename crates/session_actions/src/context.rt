@@ -1,10 +1,10 @@
-//! What a session's worker works with.
+//! What stays the same throughout a turn.
 
 use std::alloc::Global;
 use table_shards::Shards;
 use table_types::Moment;
 
-/// What a session's worker works with, the same for all that it does in a turn.
+/// What a session's worker needs, and what stays the same throughout a turn.
 #[derive(Drop)]
 pub struct Context<'a, H, G> {
     /// The runtime, with which it waits for locks.

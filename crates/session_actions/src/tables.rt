@@ -24,7 +24,7 @@ fn lock<'a, H: Wait, G>(context: &Context<'a, H, G>, table: u64) -> Option<Mutex
     Some(context.shards.cell(table)?.lock(context.rt))
 }
 
-/// What a call's refusal, which no session answers, makes of an action. `memory` is the cell's own want of memory.
+/// The engine's error for a refusal to which the session machine has no answer. `memory` is the cell's own want of memory.
 fn refused<E: Copy + PartialEq>(error: ShardError<E>, memory: E) -> EngineError
     ensures { IsRefusal result }
 {

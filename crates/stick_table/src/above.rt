@@ -10,7 +10,7 @@ use table_rows::Rows;
 use table_types::{Key, Row};
 use update_numbers::Rising;
 
-/// The rows that are left to go over, with their keys, in rising number. Takes no memory.
+/// The rows that are left to go over, with their keys, in rising number. Doesn't allocate.
 #[derive(Drop)]
 pub(crate) struct Above<'a, R: Rows> {
     pairs: Rising<'a>,

@@ -130,7 +130,7 @@ fn update_of(
 }
 
 impl Table {
-    /// The first row above that number that a copy of that kind would have, in rising number. Takes no memory.
+    /// The first row above that number that a copy of that kind would have, in rising number. Doesn't allocate.
     pub(crate) fn first_unacked(
         &self,
         number: u32,

@@ -19,7 +19,7 @@ pub(crate) struct LearnedRun {
 
 impl<R: Rows> Stock<R> {
     /// Up to which number all rows above that one are learned: to the one before the first row that isn't, or to the last
-    /// that was given. Takes no memory.
+    /// that was given. Doesn't allocate.
     fn last_learned(&self, number: u32) -> u32
         ensures { IsLearnedRun number result self.now.next self.now.rows }
     {
@@ -60,8 +60,8 @@ impl Table {
         }
     }
 
-    /// Where a push is refused since it finds nothing, goes over the learned rows above what the session has acknowledged,
-    /// so that pushes that begin among them don't go over them again. The table stays as it is. Takes no memory.
+    /// Where a push is refused because it finds nothing, notes the learned rows above what the session has acknowledged,
+    /// so that later pushes skip them. The table stays as it is. Doesn't allocate.
     pub fn pass_learned(&mut self, session: u32, kind: CopyKind, error: CopyError)
         ensures { self.new ≡ self.old }
     {
@@ -73,7 +73,7 @@ impl Table {
         }
     }
 
-    /// Above which number a copy of that kind begins where that one is acknowledged: it has no row between them.
+    /// The number above which a copy of that kind has to look where `number` is acknowledged: it has no row between them.
     pub(crate) fn copy_start(&self, kind: CopyKind, number: u32) -> u32
         ensures { (now : ℕ) → filter (is_unacked kind number now) self.now.rows ≡ filter (is_unacked kind result now) self.now.rows }
     {

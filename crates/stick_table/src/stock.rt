@@ -37,7 +37,7 @@ impl<R: Rows> Model for Stock<R> {
     ghost invariant = { λ a. AreKept (R.content a.rows) a.numbers.pairs a.numbers.next };
 }
 
-/// Takes out the number of a row, if there is one. Takes no memory.
+/// Takes out the number of a row, if there is one. Doesn't allocate.
 fn drop_number(numbers: &mut NumberedKeys, row: Option<Row>)
     ensures { numbers.new ≡ record { pairs = pairs_without (number_of row) numbers.old.pairs; next = numbers.old.next } }
 {
@@ -46,7 +46,7 @@ fn drop_number(numbers: &mut NumberedKeys, row: Option<Row>)
     }
 }
 
-/// Takes back the number that was given last. Takes no memory.
+/// Takes back the number that was given last. Doesn't allocate.
 fn take_back(numbers: &mut NumberedKeys)
     ensures { (before : Numbering) (key : Key) → numbers.old ≡ pushed key before → numbers.new ≡ before }
 {
@@ -54,7 +54,7 @@ fn take_back(numbers: &mut NumberedKeys)
 }
 
 impl<R: Rows> Stock<R> {
-    /// No rows, and `first` given next. Takes no memory.
+    /// No rows, and `first` given next. Doesn't allocate.
     pub(crate) fn new(alloc: Global, rows: R, first: u32) -> Stock<R>
         requires none { R.content rows ≡ [] }
         requires first { 1 ≤ first }
@@ -113,7 +113,7 @@ impl<R: Rows> Stock<R> {
         Ok(())
     }
 
-    /// Takes out the row of a key. Takes no memory.
+    /// Takes out the row of a key. Doesn't allocate.
     fn take(&mut self, key: &Key)
         ensures { self.new ≡ record { rows = without key.now self.old.rows; next = self.old.next } }
     {
@@ -141,7 +141,7 @@ impl<R: Rows> Stock<R> {
         Ok(())
     }
 
-    /// Takes out one row that isn't live at that moment, and answers whether there was one. Takes no memory.
+    /// Takes out one row that isn't live at that moment, and answers whether there was one. Doesn't allocate.
     fn take_one_ended(&mut self, now: Moment) -> bool
         ensures live { filter (λ e. is_live now e.1) self.new.rows ≡ filter (λ e. is_live now e.1) self.old.rows }
         ensures next { self.new.next ≡ self.old.next }
@@ -155,7 +155,7 @@ impl<R: Rows> Stock<R> {
         true
     }
 
-    /// Takes out what isn't live at that moment. Takes no memory.
+    /// Takes out what isn't live at that moment. Doesn't allocate.
     fn drop_ended(&mut self, now: Moment)
         ensures { self.new ≡ record { rows = filter (λ e. is_live now e.1) self.old.rows; next = self.old.next } }
     {
@@ -167,7 +167,7 @@ impl<R: Rows> Stock<R> {
         }
     }
 
-    /// Takes out what isn't live at that moment, and says how many rows that was. Takes no memory.
+    /// Takes out what isn't live at that moment, and says how many rows that was. Doesn't allocate.
     pub(crate) fn take_ended(&mut self, now: Moment) -> usize
         ensures live { self.new ≡ record { rows = filter (λ e. is_live now e.1) self.old.rows; next = self.old.next } }
         ensures count { result ≡ length (filter (λ e. not (is_live now e.1)) self.old.rows) }
@@ -177,7 +177,7 @@ impl<R: Rows> Stock<R> {
         before - self.len()
     }
 
-    /// The rows above that number with their keys, in rising number. Takes no memory.
+    /// The rows above that number with their keys, in rising number. Doesn't allocate.
     pub(crate) fn above(&self, number: u32) -> Above<'_, R>
         ensures { result ≡ filter (λ e. nat_lt number e.1.number) self.now.rows }
     {

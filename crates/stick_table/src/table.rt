@@ -42,7 +42,7 @@ impl Model for Table {
 }
 
 impl Table {
-    /// A table without rows and sessions, which gives that number next. Takes no memory.
+    /// A table without rows and sessions, which gives that number next. Doesn't allocate.
     pub fn new(alloc: Global, definition: TableDef, size: usize, nopurge: bool, first: u32) -> Table
         requires { 1 ≤ first }
         ensures { result ≡ new_table definition size nopurge first }
@@ -183,7 +183,7 @@ impl Table {
         Ok(())
     }
 
-    /// Takes out what isn't live at that moment, and says how many rows that was. Takes no memory.
+    /// Takes out what isn't live at that moment, and says how many rows that was. Doesn't allocate.
     pub fn purge(&mut self, now: Moment) -> usize
         ensures live { self.new ≡ record self.old { rows = filter (λ row. is_live now row.1) self.old.rows; latest = now } }
         ensures count { result ≡ length (filter (λ row. not (is_live now row.1)) self.old.rows) }

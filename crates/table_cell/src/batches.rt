@@ -153,7 +153,7 @@ impl TableCell {
         }
     }
 
-    /// Whether the batch is the one that the session was given last, open or closed since. Takes no memory.
+    /// Whether the batch is the one that the session was given last, open or closed since. Doesn't allocate.
     pub fn settle(&self, session: u32, batch: &Batch) -> Result<(), StrangeBatch>
         ensures { IsOk result ↔ IsLatestBatch self.now session batch.now }
     {

@@ -44,7 +44,7 @@ impl TableCell {
     pub const MOST_EVENTS: usize = 1_000_000;
 
     /// A table without rows and sessions, which gives the number `first` next. It has at most `size` rows, up to
-    /// `MOST_ROWS`; one that purges none refuses a row of a new key where it is full of live ones. Takes no memory.
+    /// `MOST_ROWS`; one that purges none refuses a row of a new key where it is full of live ones. Doesn't allocate.
     pub fn new(
         alloc: Global,
         definition: TableDef,

@@ -86,7 +86,7 @@ fn first_place(rows: &[(Key, Row)]) -> Option<usize>
 }
 
 impl ListRows {
-    /// No rows. Takes no memory.
+    /// No rows. Doesn't allocate.
     pub fn new(alloc: Global) -> ListRows
         ensures { result ≡ [] }
     {

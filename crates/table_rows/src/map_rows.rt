@@ -92,7 +92,7 @@ fn put(
 }
 
 impl MapRows {
-    /// No rows. Takes no memory.
+    /// No rows. Doesn't allocate.
     pub fn new(alloc: Global) -> MapRows
         ensures { result ≡ [] }
     {

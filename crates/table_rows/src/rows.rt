@@ -36,7 +36,7 @@ pub trait Rows: Drop {
         ensures put { OnOk result (content self.new ≡ insert_entry key_cmp (content self.old) key row) }
         ensures stays { OnErr result (content self.new ≡ content self.old) };
 
-    /// Takes out the row of a key. Takes no memory.
+    /// Takes out the row of a key. Doesn't allocate.
     fn take(&mut self, key: &Key) -> Option<Row>
         ensures taken { result ≡ row_at key.now (content self.old) }
         ensures others { content self.new ≡ rows_without key.now (content self.old) };
@@ -48,7 +48,7 @@ pub trait Rows: Drop {
         ensures none { IfNone result (content self.now ≡ []) };
 
     /// Takes out the first row to end, with its key, if it isn't live at that moment; `None` where all rows are.
-    /// Takes no memory.
+    /// Doesn't allocate.
     fn take_ended(&mut self, now: Moment) -> Option<(Key, Row)>
         ensures first { IfSome result (λ ended. IsFirstToEnd (content self.old) ended.0) }
         ensures taken { IfSome result (λ ended. row_at ended.0 (content self.old) ≡ Some ended.1) }

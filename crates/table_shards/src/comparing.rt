@@ -85,7 +85,7 @@ fn are_one_for_one(cell: &TableCell, from: u64, seats: &[Seat]) -> bool
 
 /// Compares the seats' receipts of the table with its events after the first `from`: `None` where each of these events is
 /// the receipt of exactly one seat, exactly once, and the seats have no other receipts of the table. Otherwise the least
-/// seat with a receipt that isn't the table's event at its place, and 0 where there is none. Takes no memory.
+/// seat with a receipt that isn't the table's event at its place, and 0 where there is none. Doesn't allocate.
 pub fn compare(cell: &TableCell, from: u64, seats: &[Seat]) -> Option<u32>
     ensures { Compares cell.now from seats.now result }
 {

@@ -217,7 +217,7 @@ pub fn ack(
     }
 }
 
-/// `TableCell::settle`. It makes no event, takes no memory, and the seat comes back as it was.
+/// `TableCell::settle`. It makes no event, doesn't allocate, and the seat comes back as it was.
 pub fn settle(
     locked: &mut Locked,
     seat: Seat,

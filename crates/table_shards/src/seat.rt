@@ -52,7 +52,7 @@ impl Model for Prepared {
 }
 
 impl Seat {
-    /// A seat that has seen nothing yet. Takes no memory.
+    /// A seat that has seen nothing yet. Doesn't allocate.
     pub(crate) fn fresh(alloc: Global, number: u32) -> Seat
         ensures { result ≡ fresh_seat number }
     {
@@ -136,7 +136,7 @@ impl Prepared {
         self.alloc
     }
 
-    /// The seat with a receipt more. Takes no memory.
+    /// The seat with a receipt more. Doesn't allocate.
     pub(crate) fn add(self, receipt: Receipt) -> Seat
         requires { seen_of self.table self.seat < receipt.place }
         ensures { result ≡ with_receipt self.seat self.table receipt }
@@ -156,7 +156,7 @@ impl Prepared {
         }
     }
 
-    /// The seat as it was. Takes no memory.
+    /// The seat as it was. Doesn't allocate.
     pub(crate) fn leave(self) -> Seat
         ensures { result ≡ self.seat }
     {

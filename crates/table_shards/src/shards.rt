@@ -128,7 +128,7 @@ impl Shards {
         Ok((Shards { seats, shards }, made))
     }
 
-    /// The lock of a table. Takes no memory, and waits for nobody.
+    /// The lock of a table. Doesn't allocate, and waits for nobody.
     pub fn cell(&self, table: u64) -> Option<&Mutex<Locked>>
         ensures { is_some result ≡ list_any (λ t. t.0 == table) self.now.tables }
     {

@@ -161,7 +161,7 @@ impl Unlocked {
     }
 
     /// Audits the round: the seats are those that were made with the tables, each once, and each event of each table in the
-    /// round is the receipt of exactly one seat. A refusal hands back the tables and the seats. Takes no memory.
+    /// round is the receipt of exactly one seat. A refusal hands back the tables and the seats. Doesn't allocate.
     pub fn audit(self, seats: Vec<Seat>) -> Result<Audit, (AuditError, Unlocked, Vec<Seat>)>
         ensures audited { IfOk result (λ audit. (audit ≡ record { unlocked = self; seats = seats.items }) × Audits self seats.items None) }
         ensures refused { IfErr result (λ back. Audits self seats.items (Some back.0) × (back.1 ≡ self) × (back.2 ≡ seats)) }

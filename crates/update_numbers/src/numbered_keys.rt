@@ -40,7 +40,7 @@ impl Model for NumberedKeys {
 }
 
 impl NumberedKeys {
-    /// No keys yet, and `first` given next. Takes no memory.
+    /// No keys yet, and `first` given next. Doesn't allocate.
     pub fn new(alloc: Global, first: u32) -> NumberedKeys
         requires { 1 ≤ first }
         ensures { result ≡ record { pairs = []; next = first } }
@@ -79,7 +79,7 @@ impl NumberedKeys {
         Ok(())
     }
 
-    /// Takes the greatest number back, which is given next then, and answers it with its key. Takes no memory.
+    /// Takes the greatest number back, which is given next then, and answers it with its key. Doesn't allocate.
     pub fn pop(&mut self) -> Option<(u32, Key)>
         ensures last { IfSome result (λ pair. self.old.pairs ≡ self.new.pairs ++ pair ∷ []) }
         ensures next { IfSome result (λ pair. self.new.next ≡ pair.0) }
@@ -91,7 +91,7 @@ impl NumberedKeys {
         Some((number, key))
     }
 
-    /// Takes out the pair of a number, and answers its key. Takes no memory.
+    /// Takes out the pair of a number, and answers its key. Doesn't allocate.
     pub fn remove(&mut self, number: u32) -> Option<Key>
         ensures key { result ≡ key_at self.old.pairs number }
         ensures removed { self.new ≡ record { pairs = pairs_without (Some number) self.old.pairs; next = self.old.next } }
@@ -99,7 +99,7 @@ impl NumberedKeys {
         self.keys.remove(&Reverse(number))
     }
 
-    /// The pairs above that number, in rising number. Takes no memory.
+    /// The pairs above that number, in rising number. Doesn't allocate.
     pub fn above(&self, number: u32) -> Rising<'_>
         ensures { result ≡ above number self.now.pairs }
     {

@@ -84,7 +84,7 @@ fn drop_older(by_number: &mut BTreeMap<u32, Key>, older: Option<u32>)
 }
 
 impl Numbers {
-    /// No numbers given yet, and `first` given next. Takes no memory.
+    /// No numbers given yet, and `first` given next. Doesn't allocate.
     pub fn new(alloc: Global, first: u32) -> Numbers
         requires { 1 ≤ first }
         ensures { result ≡ record { pairs = []; next = first } }
@@ -131,7 +131,7 @@ impl Numbers {
         Ok(number)
     }
 
-    /// Drops the number of a key, and answers whether it had one. Takes no memory.
+    /// Drops the number of a key, and answers whether it had one. Doesn't allocate.
     pub fn drop_key(&mut self, key: &Key) -> bool
         ensures had { result ≡ list_any (is_of key.now) self.old.pairs }
         ensures dropped { self.new ≡ dropped key.now self.old }

@@ -10,7 +10,7 @@ use std::collections::btree_map::Range;
 use std::marker::Model;
 use table_types::Key;
 
-/// The numbers that are left to go over, with their keys, in rising number. Takes no memory.
+/// The numbers that are left to go over, with their keys, in rising number. Doesn't allocate.
 #[derive(Drop)]
 pub struct Rising<'a> {
     /// The greatest number first.

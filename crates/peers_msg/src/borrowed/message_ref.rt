@@ -12,7 +12,7 @@ use std::alloc::Global;
 use table_types::Memory;
 
 /// A message of the peers protocol, version 2.1, as its bytes stand where they were received (HAProxy,
-/// doc/peers-v2.0.txt, "Messages"). It is what a `Message` is, and takes no memory.
+/// doc/peers-v2.0.txt, "Messages"). It is what a `Message` is, and doesn't allocate.
 #[derive(Debug, Drop)]
 pub enum MessageRef<'a> {
     /// Class 0.

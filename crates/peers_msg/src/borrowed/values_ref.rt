@@ -113,7 +113,7 @@ impl<'a> ValuesRef<'a> {
         value_count(self.types)
     }
 
-    /// The first value, in rising id, and `None` after the last. The values after it are left. Takes no memory.
+    /// The first value, in rising id, and `None` after the last. The values after it are left. Doesn't allocate.
     pub fn next(&mut self) -> Option<Value>
         ensures value { IfSome result (λ value. self.old ≡ value ∷ self.new) }
         ensures none { result ≡ None → (self.old ≡ []) × (self.new ≡ []) }
