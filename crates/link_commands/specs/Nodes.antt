@@ -48,7 +48,7 @@ IsJoining scene name peer n =
     × (n.leaves ≡ true)
 
 -- What is printed after a node's session of at most so many turns, in which the first bytes were received and the others sent:
--- how many turns were made, and the rows that the node's tables have then.
+-- how many turns were made, and the rows of as many tables as the node has, under the same ids.
 unfoldable pub IsPrinted : Node → ℕ → Ending → List ℕ → List ℕ → List ℕ → Type 0
 IsPrinted n turns ending received sent text =
     (made : ℕ)

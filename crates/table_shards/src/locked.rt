@@ -5,8 +5,8 @@ ghost use Rattle.std.specs.Prelude.{◌≡◌};
 use std::marker::Model;
 use table_cell::TableCell;
 
-/// A table under its lock. Only the calls of the module `held` change the table; who holds two locks may swap what is under
-/// them, which an audit finds.
+/// A table under its lock. Only the calls of the module `held` change the table. Who holds two locks may swap what is under
+/// them; where it is still swapped, the audit finds a table that isn't the lock's own.
 #[derive(Drop)]
 pub struct Locked {
     pub(crate) cell: TableCell,
