@@ -3,9 +3,9 @@
 /// Which rows a batch teaches.
 #[derive(Clone, Copy, Debug, PartialEq, Eq)]
 pub enum CopyKind {
-    /// Only this node's own rows.
+    /// This node's own rows.
     Push,
-    /// All rows, learned ones included.
+    /// This node's own rows and learned rows.
     Resync,
 }
 

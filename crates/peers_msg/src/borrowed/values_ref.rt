@@ -86,7 +86,7 @@ fn first_shape(types: &[(DataType, Option<u32>)]) -> Option<(Shape, &[(DataType,
 }
 
 impl<'a> ValuesRef<'a> {
-    /// Makes the values of these types at the front of `bytes`.
+    /// Makes a reference to the values of `types` at the front of `bytes`.
     #[inline(always)]
     pub(crate) fn new(types: &'a [(DataType, Option<u32>)], bytes: &'a [u8]) -> ValuesRef<'a>
         requires { is_read (values_at types.now bytes.now) ≡ true }
