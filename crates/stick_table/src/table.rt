@@ -122,7 +122,7 @@ impl Table {
         }
     }
 
-    /// Returns the next number to assign. Not all may be assigned.
+    /// Returns the next number to assign. There must be one left.
     pub(crate) fn next(&self) -> u32
         requires { self.now.next < 2 ^ 32 }
         ensures { result ≡ self.now.next }
@@ -130,7 +130,7 @@ impl Table {
         self.stock.next() as u32
     }
 
-    /// Returns the row that `change` makes, under the next number. Not all numbers may be assigned.
+    /// Returns the row that `change` makes, under the next number. There must be a number left.
     pub fn tracked(&self, key: &Key, change: &Change, now: Moment) -> Result<Row, Memory>
         requires { self.now.next < 2 ^ 32 }
         ensures { IfOk result (λ row. row ≡ tracked self.now key.now change.now now) }
@@ -139,7 +139,7 @@ impl Table {
         Row::tracked(self.alloc, &self.definition, live, change, self.next(), now)
     }
 
-    /// Returns the row that `update` makes, under the next number. Not all numbers may be assigned.
+    /// Returns the row that `update` makes, under the next number. There must be a number left.
     pub fn learned(&self, update: &Update, now: Moment) -> Result<Row, Memory>
         requires { self.now.next < 2 ^ 32 }
         ensures { IfOk result (λ row. row ≡ learned self.now update.now now) }

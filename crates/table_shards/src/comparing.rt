@@ -51,7 +51,8 @@ fn lesser(least: Option<u32>, number: u32) -> u32
     }
 }
 
-/// Returns the least stray so far, after one more seat.
+/// Returns the least number of a stray seat so far, after one more seat. A seat is a stray if it has a receipt that isn't
+/// the table's event at its place.
 fn with_seat(cell: &TableCell, least: Option<u32>, seat: &Seat) -> Option<u32>
     ensures { (before : List SeatState) → Strays cell.now before least → Strays cell.now (before ++ seat.now ∷ []) result }
 {
@@ -62,7 +63,7 @@ fn with_seat(cell: &TableCell, least: Option<u32>, seat: &Seat) -> Option<u32>
     }
 }
 
-/// Returns the least number of a seat with a receipt that isn't the table's event at its place.
+/// Returns the least number of a stray seat, or `None` if there is none.
 fn least_stray(cell: &TableCell, seats: &[Seat]) -> Option<u32>
     ensures { Strays cell.now seats.now result }
 {
