@@ -21,8 +21,8 @@ pub trait Gate {
 
 /// A gate that holds nobody up.
 #[derive(Clone, Copy, Debug)]
-pub struct Open;
+pub struct AlwaysOpen;
 
-impl Gate for Open {
+impl Gate for AlwaysOpen {
     fn at<R: Wait>(&self, _: &R, _: Stage) {}
 }

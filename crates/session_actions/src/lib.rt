@@ -13,6 +13,6 @@ mod writing;
 pub use context::Context;
 pub use doing::do_action;
 pub use errors::EngineError;
-pub use gate::{Gate, Open, Stage};
+pub use gate::{AlwaysOpen, Gate, Stage};
 pub use reading::read_event;
 pub use writing::{WriteFault, write_lesson};
