@@ -1,5 +1,5 @@
-//! Doing what a session asks for: the calls on tables, each under the table's lock for itself alone, lessons that are planned
-//! and written whole, reads, and the gate at which a session's worker stops between its steps.
+//! Performing a session's actions: calls on tables, each of which takes the table's lock for that call only, lessons
+//! that are planned and written whole, reads, and the gate at which a session's worker stops between its steps.
 #![tactic(auto)]
 
 mod context;
