@@ -1,4 +1,4 @@
-//! What moves a session's bytes: its turns, and devices that fail after a while.
+//! Driving a session: its turns, and devices that fail after some calls.
 #![tactic(auto)]
 
 mod fused;
