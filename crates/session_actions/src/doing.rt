@@ -143,8 +143,8 @@ fn unanswered(done: (Seat, Result<(), EngineError>)) -> (Seat, Result<Option<Eve
 
 /// Performs one action of a session whose known state is `known`, and returns its answer, if it has one.
 ///
-/// Fails with `Write` if a write fails, after some of its bytes, and with `Memory` or `Strange` before anything is
-/// written. Returns the seat in any case.
+/// Fails with `Write` if not all of its bytes are written, and with `Memory` or `Strange` before any are. Returns the
+/// seat in any case.
 pub fn do_action<H: Wait, G: Gate, W: Write + Faults>(
     context: &Context<H, G>,
     known: &Known,
