@@ -82,7 +82,7 @@ IsCut w (act ∷ rest) error out =
 abbrev pub IsLost : List (Event × List Action) → EngineError → List ℕ → Type 0
 IsLost answers error out = (answers ≢ []) × (error ≡ errors.Memory) × (out ≡ [])
 
--- The first of the actions were performed, and then an error came: what was written, and the session, except that it is
+-- The actions up to one were performed, and then an error came: what was written, and the session, except that it is
 -- then over.
 abbrev pub Stops : Worker → List Action → EngineError → List (Event × List Action) → List ℕ → SessionState → Type 0
 Stops w acts error answers out e =

@@ -55,7 +55,7 @@ IsLearned n now s u t =
 abbrev pub IsReopened : ℕ → SeatState → ℕ → SeatState → Type 0
 IsReopened n s table t = (mid : SeatState) × CallsClose n s table (Ok tt) mid × CallsOpen n mid table (Ok tt) t
 
--- in the table of the batch's updates, as its first one gives it, the batch is the session's latest one
+-- the batch is the session's latest one in the table of its first update, to which all its updates belong
 abbrev pub IsSettled : ℕ → SeatState → List Update → Type 0
 IsSettled n s batch =
     (u : Update) × (slice_get batch 0 ≡ Some u) × (c e : CellState) × Looks (λ x r y. Settles x n batch r y) u.table c s (Ok tt) e s

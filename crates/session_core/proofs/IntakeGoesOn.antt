@@ -78,7 +78,7 @@ always_answered t (messages.Other other) unrefused = (effects.Nothing, taken.Pas
 
 -- ---- what an intake does
 
--- it waits for more bytes; or takes a message and has fewer bytes left; or stops other than for memory
+-- it waits for more bytes; takes a message and has fewer bytes left; or stops at a fault, though memory suffices
 abbrev pub Does : Taking → Type 0
 Does t =
     IntakeNext t (Ok None) t

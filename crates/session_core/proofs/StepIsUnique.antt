@@ -52,7 +52,7 @@ ending (Err fault) = Some (Err (halts.Fault fault))
 abbrev Shows : Course → Option (Result (Unit {0}) Halt) → Taking → Result (Option Taken) Fault → Type 0
 Shows c end e answer = IntakeNext c.intake answer e × (answer ≢ Err faults.Memory) × (ending answer ≡ end)
 
--- no complete message is left, or one halts the session other than for memory
+-- no complete message is left, or one halts the session, though memory suffices
 abbrev pub Ends : Course → Result (Unit {0}) Halt → Type 0
 Ends c (Ok _) = IntakeNext c.intake (Ok None) c.intake
 Ends c (Err halts.Memory) = ⊥
