@@ -1,10 +1,10 @@
-//! How far learning came.
+//! How much was learned.
 
-/// What was learned of some bytes.
+/// How much was learned from some bytes.
 #[derive(Clone, Copy, Debug)]
-pub struct Progress {
-    /// How many rows were put.
+pub struct Learned {
+    /// The number of rows that were put.
     pub rows: usize,
-    /// How many bytes the messages have.
+    /// The length of the learned messages in bytes.
     pub used: usize,
 }
