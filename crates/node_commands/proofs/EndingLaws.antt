@@ -4,9 +4,9 @@ use Rattle.std.proofs.Math.Seq.{take-length}
 use Rattle.std.proofs.lemmas.Bool.{false≢true}
 use Rattle.std.specs.Prelude.{Err, IfOk, Ok, Result}
 use Rattle.std.specs.Io.KnownBytes.{Appends}
-use Rattle.scene_commands.specs.Endings.{IsEarly}
-use Rattle.scene_commands.specs.declared.ending.Ending.{Ending}
-use Rattle.scene_commands.specs.declared.ending.Ending.TheVariants as endings
+use Rattle.text_commands.specs.Endings.{IsEarly}
+use Rattle.text_commands.specs.declared.endings.Ending.{Ending}
+use Rattle.text_commands.specs.declared.endings.Ending.TheVariants as endings
 use Rattle.node_commands.specs.Nodes.{AppendsSome, HasRows, has_rows}
 
 -- not after a device failed

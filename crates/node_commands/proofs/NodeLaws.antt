@@ -10,9 +10,9 @@ use Rattle.table_shards.specs.Rounds.{ShardsState, begun}
 use Rattle.table_shards.specs.Audits.{table_rounds}
 use Rattle.table_shards.specs.declared.unlocked.UnlockedTable.{UnlockedTable}
 use Rattle.session_core.specs.Sessions.{SessionState, accepting, connecting}
-use Rattle.scene_text.specs.declared.scene.Scene.{Scene}
-use Rattle.scene_commands.specs.Learning.{AreInRisingId}
-use Rattle.scene_commands.specs.declared.ending.Ending.{Ending}
+use Rattle.node_text.specs.declared.scenes.Scene.{Scene}
+use Rattle.text_commands.specs.Learning.{AreInRisingId}
+use Rattle.text_commands.specs.declared.endings.Ending.{Ending}
 use Rattle.node_commands.specs.declared.node.Node.{Node}
 use Rattle.node_commands.specs.declared.node.Report.{Report}
 use Rattle.node_commands.specs.Loading.{AreLoaded}

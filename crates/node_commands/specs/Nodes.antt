@@ -9,10 +9,10 @@ use Rattle.table_shards.specs.Rounds.{ShardsState, begun}
 use Rattle.table_shards.specs.Audits.{table_rounds}
 use Rattle.table_shards.specs.declared.unlocked.UnlockedTable.{UnlockedTable}
 use Rattle.session_core.specs.Sessions.{SessionState, accepting, connecting}
-use Rattle.scene_text.specs.declared.scene.Scene.{Scene}
-use Rattle.scene_commands.specs.Learning.{AreInRisingId}
-use Rattle.scene_commands.specs.declared.ending.Ending.{Ending}
-use Rattle.scene_commands.specs.declared.ending.Ending.TheVariants as endings
+use Rattle.node_text.specs.declared.scenes.Scene.{Scene}
+use Rattle.text_commands.specs.Learning.{AreInRisingId}
+use Rattle.text_commands.specs.declared.endings.Ending.{Ending}
+use Rattle.text_commands.specs.declared.endings.Ending.TheVariants as endings
 use Rattle.node_commands.specs.declared.link.Link.{Link}
 use Rattle.node_commands.specs.declared.node.Node.{Node}
 use Rattle.node_commands.specs.Loading.{AreLoaded}

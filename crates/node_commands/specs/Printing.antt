@@ -6,7 +6,7 @@ use Rattle.table_types.specs.Rows.{StoredRow}
 use Rattle.stick_table.specs.Stock.{AreInRisingKey}
 use Rattle.table_cell.specs.Histories.{CellState}
 use Rattle.table_shards.specs.declared.unlocked.UnlockedTable.{UnlockedTable}
-use Rattle.scene_text.specs.Rows.{row_line}
+use Rattle.node_text.specs.Rows.{row_line}
 
 -- the line that says how many turns the session made
 abbrev pub turns_line : ℕ → List ℕ

@@ -14,8 +14,8 @@ use Rattle.peers_engine.specs.declared.turned.Turned.TheVariants as turned
 use Rattle.peers_engine.specs.Acting.{Worker, worker}
 use Rattle.session_actions.specs.Reading.{IsRead}
 use Rattle.peers_engine.specs.Turns.{StopsTurn, TakesTurn}
-use Rattle.scene_commands.specs.declared.ending.Ending.{Ending}
-use Rattle.scene_commands.specs.declared.ending.Ending.TheVariants as endings
+use Rattle.text_commands.specs.declared.endings.Ending.{Ending}
+use Rattle.text_commands.specs.declared.endings.Ending.TheVariants as endings
 use Rattle.node_commands.specs.Loading.{loaded_at}
 
 -- how a session ends that closed the connection: with the fault of the other node's messages if there was one

@@ -1,12 +1,12 @@
 //! The texts that `serve`, `join` and `round` print.
 
 ghost use Rattle.std.specs.Prelude.{◌≡◌, ◌++◌, ℕ, List, IfOk, OnOk, flat_map};
-ghost use Rattle.scene_text.specs.Rows.{row_line};
+ghost use Rattle.node_text.specs.Rows.{row_line};
 ghost use Rattle.node_commands.specs.Printing.{AreRowsOf, IsText, turns_line};
 ghost use Rattle.node_commands.specs.Rounds.{IsPrinted};
 
-use scene_commands::Ending;
-use scene_text::push_row;
+use text_commands::Ending;
+use node_text::push_row;
 use std::alloc::{AllocError, Global};
 use table_cell::TableCell;
 use table_shards::{Audit, UnlockedTable};

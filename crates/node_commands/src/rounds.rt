@@ -7,7 +7,7 @@ mod worker;
 
 ghost use Rattle.std.specs.Prelude.{◌≡◌, ◌≢◌, ◌≤◌, ◌⊎◌, ℕ, List, IfOk};
 ghost use Rattle.std.specs.Io.KnownBytes.{Appends};
-ghost use Rattle.scene_commands.specs.Endings.{line_of};
+ghost use Rattle.text_commands.specs.Endings.{line_of};
 ghost use Rattle.node_commands.specs.Rounds.{IsCleanAudit, IsCutShort, IsTextOf};
 
 use crate::printing::round_text;
@@ -15,7 +15,7 @@ use crate::rounds::table::{SESSION, TABLE, new_table, refused, roster};
 use crate::rounds::tracking::have_tracked;
 use known_state::Known;
 use peers_devices::{Faults, write_all};
-use scene_commands::Ending;
+use text_commands::Ending;
 use session_actions::Open;
 use std::alloc::Global;
 use std::io::Write;

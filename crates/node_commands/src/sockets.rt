@@ -2,16 +2,16 @@
 
 ghost use Rattle.std.specs.Prelude.{◌≡◌, ◌≢◌, ◌⊎◌, ℕ, List, Ok, IfErr, IfOk};
 ghost use Rattle.std.specs.Io.KnownBytes.{Appends};
-ghost use Rattle.scene_text.specs.declared.scene.Scene.{Scene};
-ghost use Rattle.scene_commands.specs.Endings.{IsEarly, line_of};
-ghost use Rattle.scene_commands.specs.declared.ending.Ending.{Ending};
+ghost use Rattle.node_text.specs.declared.scenes.Scene.{Scene};
+ghost use Rattle.text_commands.specs.Endings.{IsEarly, line_of};
+ghost use Rattle.text_commands.specs.declared.endings.Ending.{Ending};
 ghost use Rattle.node_commands.specs.declared.node.Report.{Report};
 ghost use Rattle.node_commands.specs.Nodes.{AppendsSome, HasRows, IsJoined, IsPrinted, IsServed};
 
 use crate::link::Link;
 use crate::node::{Node, Report};
 use peers_devices::{Counting, Faults};
-use scene_commands::Ending;
+use text_commands::Ending;
 use std::alloc::Global;
 use std::io;
 use std::io::{Read, Write};

@@ -4,10 +4,10 @@ ghost use Rattle.std.specs.Prelude.{◌≡◌, ◌==◌, ◌++◌, ◌∷◌, []
 ghost use Rattle.stick_table.specs.declared.events.Reply.{Reply};
 ghost use Rattle.table_cell.specs.Histories.{Learns, Opens, new_cell};
 ghost use Rattle.table_shards.specs.Agreement.{id_of};
-ghost use Rattle.scene_commands.specs.Endings.{IsEarly};
+ghost use Rattle.text_commands.specs.Endings.{IsEarly};
 ghost use Rattle.node_commands.specs.Loading.{AreLoaded, IsLoaded, Loads, loaded_at};
 
-use scene_commands::Ending;
+use text_commands::Ending;
 use std::alloc::Global;
 use table_cell::{LearnError, OpenError, TableCell};
 use table_types::{Memory, Moment, TableDef, Update};

@@ -7,7 +7,7 @@ ghost use Rattle.node_commands.specs.Turning.{Plays, Takes, broken_by, closed_by
 use crate::node::loading::SESSION;
 use peers_devices::Faults;
 use peers_engine::{EngineError, Open, Turned, turn};
-use scene_commands::Ending;
+use text_commands::Ending;
 use session_core::{Session, SessionError};
 use std::alloc::Global;
 use std::io::{Read, Write};

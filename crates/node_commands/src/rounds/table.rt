@@ -3,7 +3,7 @@
 ghost use Rattle.std.specs.Prelude.{◌≡◌, IfOk};
 ghost use Rattle.table_shards.specs.Rounds.{begun};
 
-use scene_commands::Ending;
+use text_commands::Ending;
 use std::alloc::Global;
 use table_cell::TableCell;
 use table_shards::ShardError;

@@ -5,7 +5,7 @@ ghost use Rattle.std.specs.List.{AllByRecursion};
 ghost use Rattle.node_commands.specs.Tracks.{GainsTracks, HasTracked, IsTrack};
 
 use crate::rounds::table::{TABLE, refused};
-use scene_commands::Ending;
+use text_commands::Ending;
 use std::sync::Wait;
 use table_cell::{CellEvent, Reply, TrackError};
 use table_shards::{Receipt, Seat, Shards, held};

@@ -1,6 +1,6 @@
 use Rattle.std.proofs.Common.{◌≡◌, ◌++◌, drop}
 use Rattle.std.specs.List.{flat_map}
-use Rattle.scene_text.specs.Rows.{row_line}
+use Rattle.node_text.specs.Rows.{row_line}
 use Rattle.node_commands.proofs.printing.push_rows.Given as goal
 
 abbrev pub invariant-loop-key : goal.invariant-loop-key

@@ -1,5 +1,5 @@
 use Rattle.std.proofs.Common.{inl, inr, subst}
-use Rattle.scene_commands.specs.declared.ending.Ending.{Ending}
+use Rattle.text_commands.specs.declared.endings.Ending.{Ending}
 use Rattle.node_commands.specs.Nodes.{IsServed}
 use Rattle.node_commands.proofs.EndingLaws.{of_ok}
 use Rattle.node_commands.proofs.sockets.serve.Goals as goal
