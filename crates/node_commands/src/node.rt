@@ -17,16 +17,16 @@ ghost use Rattle.node_commands.specs.Printing.{IsText};
 use crate::node::loading::loaded;
 use crate::node::turns::{Played, play};
 use crate::printing::session_text;
+use node_text::{Scene, read_scene};
 use peers_devices::{Faults, read_to_end, write_all};
 use peers_hello::Hello;
-use text_commands::{Ending, rising_roster};
-use node_text::{Scene, read_scene};
 use session_core::Session;
 use std::alloc::Global;
 use std::io::{Read, Write};
 use std::sync::Wait;
 use table_shards::{Seat, Shards};
 use table_types::{Memory, Name, Roster, TableDef, Update};
+use text_commands::{Ending, rising_roster};
 
 /// A node that is about to meet another: its tables under their locks, its session, and the seat from which the session works on
 /// the tables.

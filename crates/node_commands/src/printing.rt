@@ -5,12 +5,12 @@ ghost use Rattle.node_text.specs.Rows.{row_line};
 ghost use Rattle.node_commands.specs.Printing.{AreRowsOf, IsText, turns_line};
 ghost use Rattle.node_commands.specs.Rounds.{IsPrinted};
 
-use text_commands::Ending;
 use node_text::push_row;
 use std::alloc::{AllocError, Global};
 use table_cell::TableCell;
 use table_shards::{Audit, UnlockedTable};
 use table_types::{Key, Memory, Row, TableDef};
+use text_commands::Ending;
 
 /// Returns the line that says how many turns a session made.
 fn turns_line(alloc: Global, turns: u32) -> Result<Vec<u8>, AllocError>

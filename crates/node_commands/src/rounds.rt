@@ -15,8 +15,7 @@ use crate::rounds::table::{SESSION, TABLE, new_table, refused, roster};
 use crate::rounds::tracking::have_tracked;
 use known_state::Known;
 use peers_devices::{Faults, write_all};
-use text_commands::Ending;
-use session_actions::Open;
+use session_actions::AlwaysOpen;
 use std::alloc::Global;
 use std::io::Write;
 use std::sync::Wait;
@@ -25,6 +24,7 @@ use std::thread::{JoinHandle, Threads};
 use table_cell::{OpenError, Reply};
 use table_shards::{Audit, Seat, Shards, held};
 use table_types::Memory;
+use text_commands::Ending;
 pub use tracking::track_all;
 pub use worker::{Worker, work};
 
@@ -139,7 +139,7 @@ fn seats_at_last<R: Wait>(
 ) -> Result<Vec<Seat>, Ending> {
     let Worker { seat, known } = worker;
     seats.push(seat).map_err(Memory::from)?;
-    let (worker, ended) = work(rt, alloc, &Open, shards, Worker { seat: own, known });
+    let (worker, ended) = work(rt, alloc, &AlwaysOpen, shards, Worker { seat: own, known });
     ended?;
     seats.push(worker.seat).map_err(Memory::from)?;
     Ok(seats)
@@ -195,7 +195,7 @@ fn run_threads<R: Threads + Wait + Sync>(
                 Err(_) => return Err(Ending::Device),
             }
         }
-        let Ok(teaching) = scope.spawn(move || work(rt, alloc, &Open, shards, worker)) else {
+        let Ok(teaching) = scope.spawn(move || work(rt, alloc, &AlwaysOpen, shards, worker)) else {
             return Err(Ending::Device);
         };
         let seats = joined(rt, alloc, trackers)?;

@@ -11,12 +11,12 @@ ghost use Rattle.node_commands.specs.Nodes.{AppendsSome, HasRows, IsJoined, IsPr
 use crate::link::Link;
 use crate::node::{Node, Report};
 use peers_devices::{Counting, Faults};
-use text_commands::Ending;
 use std::alloc::Global;
 use std::io;
 use std::io::{Read, Write};
 use std::net::{Ipv4Addr, Net, TcpListener, TcpStream};
 use std::sync::Wait;
+use text_commands::Ending;
 
 /// Listens on `port` of 127.0.0.1, and accepts one connection.
 fn accepted<N: Net<Listener = TcpListener, Stream = TcpStream>>(

@@ -7,10 +7,10 @@ ghost use Rattle.table_shards.specs.Agreement.{id_of};
 ghost use Rattle.text_commands.specs.Endings.{IsEarly};
 ghost use Rattle.node_commands.specs.Loading.{AreLoaded, IsLoaded, Loads, loaded_at};
 
-use text_commands::Ending;
 use std::alloc::Global;
 use table_cell::{LearnError, OpenError, TableCell};
 use table_types::{Memory, Moment, TableDef, Update};
+use text_commands::Ending;
 
 /// The number of the node's session in each of its tables.
 pub(crate) const SESSION: u32 = 1;

@@ -6,14 +6,14 @@ ghost use Rattle.node_commands.specs.Turning.{Plays, Takes, broken_by, closed_by
 
 use crate::node::loading::SESSION;
 use peers_devices::Faults;
-use peers_engine::{EngineError, Open, Turned, turn};
-use text_commands::Ending;
+use peers_engine::{AlwaysOpen, EngineError, Turned, turn};
 use session_core::{Session, SessionError};
 use std::alloc::Global;
 use std::io::{Read, Write};
 use std::sync::Wait;
 use table_shards::{Seat, Shards};
 use table_types::Moment;
+use text_commands::Ending;
 
 /// The course of a session: the number of turns that it made, and how it ended.
 #[derive(Clone, Copy, Debug)]
@@ -86,7 +86,16 @@ fn take_turn<H: Wait, R: Read + Faults, W: Write + Faults>(
 {
     let now = Moment::least().later_by(before + 1);
     turn(
-        rt, alloc, session, from, to, &Open, shards, seat, SESSION, now,
+        rt,
+        alloc,
+        session,
+        from,
+        to,
+        &AlwaysOpen,
+        shards,
+        seat,
+        SESSION,
+        now,
     )
 }
 

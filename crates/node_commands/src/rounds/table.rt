@@ -3,11 +3,11 @@
 ghost use Rattle.std.specs.Prelude.{◌≡◌, IfOk};
 ghost use Rattle.table_shards.specs.Rounds.{begun};
 
-use text_commands::Ending;
 use std::alloc::Global;
 use table_cell::TableCell;
 use table_shards::ShardError;
 use table_types::{DataType, DefError, KeyKind, Memory, Roster, TableDef};
+use text_commands::Ending;
 
 /// The id of the table.
 pub(crate) const TABLE: u64 = 1;

@@ -5,11 +5,11 @@ ghost use Rattle.std.specs.List.{AllByRecursion};
 ghost use Rattle.node_commands.specs.Tracks.{GainsTracks, HasTracked, IsTrack};
 
 use crate::rounds::table::{TABLE, refused};
-use text_commands::Ending;
 use std::sync::Wait;
 use table_cell::{CellEvent, Reply, TrackError};
 use table_shards::{Receipt, Seat, Shards, held};
 use table_types::{Change, DataType, Key, Moment};
+use text_commands::Ending;
 
 /// Adds 1 to gpc0 of `key` at the least moment, while it holds the table's lock.
 #[tactic(auto, using(crate::proofs::TrackLaws::one_tracked))]

@@ -5,7 +5,6 @@ ghost use Rattle.known_state.specs.Lessons.{IsLessonFor};
 
 use crate::rounds::table::{SESSION, TABLE, refused};
 use known_state::Known;
-use text_commands::Ending;
 use session_actions::{Gate, Stage};
 use std::alloc::Global;
 use std::sync::Wait;
@@ -13,6 +12,7 @@ use table_cell::{AckError, CopyError, TableCell};
 use table_shards::{Seat, ShardError, Shards, held};
 use table_types::{Batch, CopyKind, Moment};
 use teach_writer::teach;
+use text_commands::Ending;
 
 /// The worker of a session: its seat, and what its learner knows.
 #[derive(Debug, Drop)]
