@@ -8,7 +8,7 @@ use Rattle.clap.specs.declared.builder.value_parser.ValueParser.TheVariants as p
 use Rattle.clap.specs.declared.error.kind.ErrorKind.{ErrorKind}
 use Rattle.clap.specs.declared.error.kind.ErrorKind.TheVariants as kinds
 use Rattle.table_types.specs.Names.{is_name}
-use Rattle.link_commands.specs.declared.link.Link.{Link}
+use Rattle.node_commands.specs.declared.link.Link.{Link}
 use Rattle.peers_node.specs.declared.choice.Options.{Options}
 use Rattle.peers_node.specs.declared.choice.Options.TheVariants.{Round, Serve, Join}
 use Rattle.peers_node.specs.declared.command_line.Refusal.{Refusal}

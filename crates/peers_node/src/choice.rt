@@ -1,6 +1,6 @@
 //! What a command line asks for.
 
-use link_commands::Link;
+use node_commands::Link;
 
 /// The most threads of a round.
 pub(crate) const MOST_THREADS: u32 = 8;

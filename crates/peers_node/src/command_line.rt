@@ -2,7 +2,7 @@
 ghost use Rattle.std.specs.Prelude.{◌≡◌, ℕ, List, Err, IfErr, IfOk, IfSome, None, Ok, codes, option_map, true};
 ghost use Rattle.clap.specs.Words.{first_of, found_of, rows_of, subcommand_of, subcommand_rows_of};
 ghost use Rattle.table_types.specs.Names.{is_name};
-ghost use Rattle.link_commands.specs.declared.link.Link.{Link};
+ghost use Rattle.node_commands.specs.declared.link.Link.{Link};
 ghost use Rattle.peers_node.specs.declared.choice.Options.{Options};
 ghost use Rattle.peers_node.specs.declared.choice.Options.TheVariants as choices;
 ghost use Rattle.peers_node.specs.declared.options_error.OptionsError.TheVariants as errors;
@@ -14,7 +14,7 @@ use crate::options_error::OptionsError;
 use crate::program::command;
 use clap::error::ErrorKind;
 use clap::{ArgMatches, Error};
-use link_commands::Link;
+use node_commands::Link;
 use std::alloc::{AllocError, Global};
 use table_types::{Name, is_name};
 

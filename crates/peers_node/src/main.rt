@@ -11,12 +11,10 @@ mod settings;
 
 pub use choice::Options;
 pub use command_line::{Refusal, options, read_words};
-pub use link_commands::{Link, join, serve};
+pub use node_commands::{Link, RoundSize, join, round, serve};
 pub use options_error::OptionsError;
-pub use round_command::{RoundSize, round};
-pub use scene_commands::{Ending, check, learn, lesson};
-pub use script_commands::table;
 use std::process::ExitCode;
+pub use text_commands::{Ending, check, learn, lesson, table};
 
 fn main(rt: HostRuntime) -> ExitCode {
     ExitCode::from(run::status(&rt, &rt))

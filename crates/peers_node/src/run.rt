@@ -4,17 +4,15 @@ ghost use Rattle.std.specs.Prelude.{◌≤◌};
 use crate::choice::Options;
 use crate::command_line::{Refusal, read_words};
 use crate::options_error::OptionsError;
-use link_commands::{Link, join, serve};
+use node_commands::{Link, RoundSize, join, round, serve};
 use peers_devices::{Counting, Faults, write_all};
-use round_command::{RoundSize, round};
-use scene_commands::{Ending, check, learn, lesson};
-use script_commands::table;
 use std::alloc::{AllocError, Global};
 use std::env;
 use std::io::{ErrorKind, Read, Write};
 use std::net::{Net, TcpListener, TcpStream};
 use std::sync::Wait;
 use std::thread::Threads;
+use text_commands::{Ending, check, learn, lesson, table};
 
 /// The exit status if the command line is refused or asks for help.
 const WORDS: u8 = 2;

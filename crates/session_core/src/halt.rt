@@ -1,4 +1,4 @@
-//! Why no message is received any more.
+//! Why a session receives no further messages.
 
 ghost use Rattle.std.specs.Prelude.{◌≡◌};
 ghost use Rattle.session_core.specs.declared.halt.Halt.TheVariants as halts;
@@ -7,14 +7,14 @@ ghost use Rattle.session_core.specs.Courses.{halt_of};
 use learner::Fault;
 use table_types::Memory;
 
-/// Why no message is received any more.
+/// Why a session receives no further messages.
 #[derive(Clone, Copy, Debug, PartialEq, Eq)]
 pub(crate) enum Halt {
     /// The remote peer sent an error message.
     Failed,
     /// The remote peer's messages have this fault.
     Fault(Fault),
-    /// Memory was wanted, and the growth was refused.
+    /// Memory ran out.
     Memory,
 }
 

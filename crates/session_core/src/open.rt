@@ -26,7 +26,7 @@ use std::alloc::Global;
 use std::mem;
 use table_types::{Batch, Items, Memory, Settled};
 
-/// Has the course ask the table of that id.
+/// Makes `course` ask `table` for a batch, and returns the action for it.
 fn asked(alloc: Global, course: &mut Course, table: u64) -> Result<Vec<Action>, Memory>
     ensures actions { IfOk result (λ acts. acts.items ≡ actions.Copy table (kind_of course.old.teaching) ∷ []) }
     ensures course { OnOk result (course.new ≡ record course.old { asked = Some table; due = dues.Copy table ∷ [] }) }
@@ -36,7 +36,7 @@ fn asked(alloc: Global, course: &mut Course, table: u64) -> Result<Vec<Action>, 
     only(alloc, Action::Copy { table, kind })
 }
 
-/// Has the course owe the lesson of a batch of the table of that id, which is out.
+/// Marks a batch of `table` as outstanding and its lesson as due, and returns the action for it.
 fn taught(
     alloc: Global,
     course: &mut Course,
@@ -54,7 +54,7 @@ fn taught(
     only(alloc, Action::Teach(batch))
 }
 
-/// Has the course begin a resync.
+/// Makes `course` begin a resync, and returns the actions for it.
 fn begun_teaching(alloc: Global, course: &mut Course) -> Result<Vec<Action>, Memory>
     ensures actions { IfOk result (λ acts. acts.items ≡ reopens course.old.shares) }
     ensures course { OnOk result (course.new ≡ teaching_anew course.old) }
@@ -65,7 +65,7 @@ fn begun_teaching(alloc: Global, course: &mut Course) -> Result<Vec<Action>, Mem
 }
 
 impl Session {
-    /// An event of an open session.
+    /// Handles an event of an open session.
     pub(crate) fn go_open(
         &mut self,
         course: Course,
@@ -95,7 +95,7 @@ impl Session {
         }
     }
 
-    /// Goes on with that course, and asks for nothing.
+    /// Goes on with `course` and asks for nothing.
     fn wait(&mut self, course: Course) -> Vec<Action>
         ensures actions { result.items ≡ [] }
         ensures session { self.new ≡ going self.old course }
@@ -104,7 +104,7 @@ impl Session {
         Vec::new(self.alloc)
     }
 
-    /// There is time to teach.
+    /// Handles a turn: asks the next table for a batch, if there is one.
     fn turn(&mut self, course: Course) -> Result<Vec<Action>, SessionError>
         requires { self.old.phase ≡ phases.Ended }
         ensures goes { IfOk result (λ acts. GoesOpen self.old course events.Turn acts.items self.new) }
@@ -121,7 +121,7 @@ impl Session {
         }
     }
 
-    /// Asks for a copy of the table of that id.
+    /// Asks `table` for a batch.
     fn ask(&mut self, course: Course, table: u64) -> Result<Vec<Action>, Memory>
         requires { self.old.phase ≡ phases.Ended }
         ensures goes { IfOk result (λ acts. Turns (Some table) self.old course acts.items self.new) }
@@ -132,7 +132,7 @@ impl Session {
         self.stand_with(Phase::Open(course), asked)
     }
 
-    /// Bytes came.
+    /// Handles received bytes.
     fn bytes(&mut self, course: Course, bytes: Items<u8>) -> Result<Vec<Action>, SessionError>
         requires { self.old.phase ≡ phases.Ended }
         ensures goes { IfOk result (λ acts. GoesOpen self.old course (events.Bytes bytes) acts.items self.new) }
@@ -146,7 +146,7 @@ impl Session {
         Ok(self.receive(course, bytes.as_slice(), Vec::new(self.alloc))?)
     }
 
-    /// A batch of the table of that id was copied.
+    /// Handles a batch that was copied from `table`.
     fn copied(
         &mut self,
         course: Course,
@@ -167,7 +167,7 @@ impl Session {
         Ok(self.teach(course, table, batch)?)
     }
 
-    /// The batch is out, and is to be taught.
+    /// Marks `batch` as outstanding and asks for its lesson.
     fn teach(&mut self, course: Course, table: u64, batch: Batch) -> Result<Vec<Action>, Memory>
         requires { self.old.phase ≡ phases.Ended }
         ensures goes { IfOk result (λ acts. IsCopied self.old course table batch acts.items self.new) }
@@ -178,7 +178,7 @@ impl Session {
         self.stand_with(Phase::Open(course), taught)
     }
 
-    /// The table of that id has nothing to teach.
+    /// Handles the answer that `table` has nothing to teach.
     fn nothing(&mut self, course: Course, table: u64) -> Result<Vec<Action>, SessionError>
         requires { self.old.phase ≡ phases.Ended }
         ensures goes { IfOk result (λ acts. GoesOpen self.old course (events.Nothing table) acts.items self.new) }
@@ -193,7 +193,7 @@ impl Session {
         Ok(self.note_nothing(course, table)?)
     }
 
-    /// In a resync the table of that id is quiet.
+    /// In a resync, marks `table` as quiet and ends the resync if all tables are.
     fn note_nothing(&mut self, course: Course, table: u64) -> Result<Vec<Action>, Memory>
         requires { self.old.phase ≡ phases.Ended }
         ensures goes { IfOk result (λ acts. HasNothing course.teaching self.old course table acts.items self.new) }
@@ -207,7 +207,7 @@ impl Session {
         self.finish(course)
     }
 
-    /// Ends the resync where all tables are quiet.
+    /// Ends the resync if all tables are quiet.
     fn finish(&mut self, course: Course) -> Result<Vec<Action>, Memory>
         requires { self.old.phase ≡ phases.Ended }
         ensures goes { IfOk result (λ acts. FinishesResync (all_quiet course.shares) self.old course acts.items self.new) }
@@ -222,7 +222,7 @@ impl Session {
         Ok(self.wait(course))
     }
 
-    /// The lesson was written, and ends in that known state.
+    /// Handles the end of a lesson, which leads to `known`.
     fn written(&mut self, course: Course, known: Known) -> Result<Vec<Action>, SessionError>
         requires { self.old.phase ≡ phases.Ended }
         ensures goes { IfOk result (λ acts. GoesOpen self.old course (events.Written known) acts.items self.new) }
@@ -239,7 +239,7 @@ impl Session {
         Ok(self.wait(course))
     }
 
-    /// An acknowledgement settled that much of the table of that id.
+    /// Handles what an acknowledgement settled in `table`.
     fn settled(
         &mut self,
         course: Course,
@@ -262,7 +262,7 @@ impl Session {
         }
     }
 
-    /// The table of that id isn't out any more. A request that waits begins its resync where none is.
+    /// Marks `table` as acknowledged. Starts a deferred resync once every table is.
     fn free(&mut self, course: Course, table: u64) -> Result<Vec<Action>, Memory>
         requires { self.old.phase ≡ phases.Ended }
         ensures goes { IfOk result (λ acts. Settles settles.All self.old course table acts.items self.new) }
@@ -277,7 +277,7 @@ impl Session {
         Ok(self.wait(course))
     }
 
-    /// The remote peer acknowledged what the table of that id didn't teach.
+    /// Handles an acknowledgement above every number that `table` taught: ends the session with an error message.
     fn refused(&mut self, course: Course, table: u64) -> Result<Vec<Action>, SessionError>
         requires { self.old.phase ≡ phases.Ended }
         ensures goes { IfOk result (λ acts. GoesOpen self.old course (events.Refused table) acts.items self.new) }

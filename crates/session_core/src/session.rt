@@ -33,19 +33,19 @@ use std::marker::Model;
 use std::mem;
 use table_types::{Items, Memory, Moment, Name, Roster};
 
-/// A session between this node and another peer (HAProxy, doc/peers-v2.0.txt). It does no work itself: at each event it
-/// gives the actions that are to be done, in this order.
+/// A session between this node and another peer (HAProxy, doc/peers-v2.0.txt). It does no I/O itself: at each event it
+/// returns the actions that its caller performs, in order.
 ///
-/// These are answered in the order in which they were given, before the next `Bytes` or `Turn`:
+/// The caller answers these actions in the order in which it received them, before the next `Bytes` or `Turn`:
 ///
 /// | Action | Answer |
 /// |---|---|
-/// | `Copy` | `Copied`, or `Nothing` where the table has nothing to teach |
+/// | `Copy` | `Copied`, or `Nothing` if the table has nothing to teach |
 /// | `Teach` | `Written` |
-/// | `Ack` | `Settled`, or `Refused` where the number is above all that were taught |
+/// | `Ack` | `Settled`, or `Refused` if the number is above every number taught |
 ///
-/// What stands before a `Close` or a `Part` is still to be done, but isn't answered. `End`, `ReadFault` and `WriteFault`
-/// may come whenever the session isn't over.
+/// The caller performs the actions before a `Close` or a `Part` too, but doesn't answer them. `End`, `ReadFault` and
+/// `WriteFault` may happen whenever the session isn't over.
 #[derive(Drop)]
 pub struct Session {
     pub(crate) alloc: Global,
@@ -63,7 +63,7 @@ impl Model for Session {
     ghost view = { λ s. record { phase = s.phase; known = s.known; fault = s.fault; confirmed = s.confirmed } };
 }
 
-/// The bytes after the first so many.
+/// Returns the bytes after the first `used`.
 fn after(bytes: &[u8], used: usize) -> &[u8]
     ensures { result.now ≡ drop used bytes.now }
 {
@@ -74,7 +74,7 @@ fn after(bytes: &[u8], used: usize) -> &[u8]
     }
 }
 
-/// The line of a status.
+/// Returns the status line with `code`.
 fn status_text(alloc: Global, code: u16) -> Result<Items<u8>, Memory>
     ensures { IfOk result (λ bytes. bytes ≡ status_text code) }
 {
@@ -84,28 +84,28 @@ fn status_text(alloc: Global, code: u16) -> Result<Items<u8>, Memory>
     Ok(Items::new(bytes))
 }
 
-/// The bytes of a hello.
+/// Returns the bytes of a hello.
 fn hello_text(alloc: Global, hello: &Hello) -> Result<Items<u8>, Memory>
     ensures { IfOk result (λ bytes. bytes ≡ hello_text hello.now) }
 {
     Ok(Items::new(hello.write(alloc)?))
 }
 
-/// What a connection that this node opens begins with.
+/// Returns the action that sends `hello`, with which this node opens the handshake.
 fn greeting(alloc: Global, hello: &Hello) -> Result<Vec<Action>, Memory>
     ensures { IfOk result (λ acts. acts.items ≡ actions.Send (hello_text hello.now) ∷ []) }
 {
     only(alloc, Action::Send(hello_text(alloc, hello)?))
 }
 
-/// What a hello that is accepted is answered with.
+/// Returns the action that accepts a hello.
 fn welcome(alloc: Global) -> Result<Vec<Action>, Memory>
     ensures { IfOk result (λ acts. acts.items ≡ actions.Send (status_text 200) ∷ []) }
 {
     only(alloc, Action::Send(status_text(alloc, 200)?))
 }
 
-/// What a hello that is refused with that code is answered with.
+/// Returns the actions that refuse a hello with `code`.
 fn turn_away(alloc: Global, code: u16) -> Result<Vec<Action>, Memory>
     ensures { IfOk result (λ acts. acts.items ≡ actions.Send (status_text code) ∷ (actions.Close ∷ [])) }
 {
@@ -114,14 +114,14 @@ fn turn_away(alloc: Global, code: u16) -> Result<Vec<Action>, Memory>
     Ok(actions)
 }
 
-/// The request for a resync.
+/// Returns the action that requests a resync.
 fn request(alloc: Global) -> Result<Vec<Action>, Memory>
     ensures { IfOk result (λ acts. acts.items ≡ sends_control controls.ResyncRequest ∷ []) }
 {
     only_control(alloc, Control::ResyncRequest)
 }
 
-/// The error message that a breach is answered with.
+/// Returns the error message that answers a breach.
 fn kind_of_breach(breach: Breach) -> ErrorKind
     ensures { result ≡ kind_of_breach breach }
 {
@@ -132,7 +132,7 @@ fn kind_of_breach(breach: Breach) -> ErrorKind
     }
 }
 
-/// The error message that a fault is answered with.
+/// Returns the error message that answers a fault.
 fn kind_of(fault: Fault) -> ErrorKind
     ensures { result ≡ kind_of_fault fault }
 {
@@ -143,9 +143,9 @@ fn kind_of(fault: Fault) -> ErrorKind
 }
 
 impl Session {
-    /// A session of the side that opens the connection, and sends that hello. It begins as `New`, and waits for `Opened`.
-    /// `up_to_date` says whether this node has all rows itself: so it ends the resyncs that it teaches as finished,
-    /// otherwise as partial. Refuses with `Memory`.
+    /// Returns a session for the side that opens the connection and sends `hello`. It starts as `New` and awaits
+    /// `Opened`. `up_to_date` says whether this node has every row itself: if so, it ends the resyncs that it teaches
+    /// with resync finished, otherwise with resync partial. Fails with `Memory` if memory runs out.
     pub fn connect(
         alloc: Global,
         hello: Hello,
@@ -164,8 +164,8 @@ impl Session {
         })
     }
 
-    /// A session of the side that was connected to: the peer `own`, which accepts these peers. It begins as `Hello`, and
-    /// `Opened` doesn't come. `up_to_date` is as at `connect`. Refuses with `Memory`.
+    /// Returns a session for the side that accepts the connection: this node is `own` and accepts `peers`. It starts as
+    /// `Hello` and receives no `Opened`. `up_to_date` is as for `connect`. Fails with `Memory` if memory runs out.
     pub fn accept(
         alloc: Global,
         own: Name,
@@ -187,7 +187,7 @@ impl Session {
         })
     }
 
-    /// Where the session stands.
+    /// Returns the state of the session.
     pub fn state(&self) -> State
         ensures { result ≡ state_of self.now.phase }
     {
@@ -199,31 +199,33 @@ impl Session {
         }
     }
 
-    /// What is known of the remote peer as a learner: what the lessons written so far make of it.
+    /// Returns what is known of the remote peer as a learner, as the lessons written so far leave it.
     pub fn known(&self) -> &Known
         ensures { result.now ≡ self.now.known }
     {
         &self.known
     }
 
-    /// The fault of the remote peer's messages that ended the session; `None` otherwise, also after `Memory`.
+    /// Returns the fault in the remote peer's messages that ended the session, if one did. After `Memory` it is `None`
+    /// too.
     pub fn fault(&self) -> Option<Fault>
         ensures { result ≡ self.now.fault }
     {
         self.fault
     }
 
-    /// Whether the session has given the `Send` of resync confirmed.
+    /// Returns whether the session has asked to send resync confirmed.
     pub fn confirmed(&self) -> bool
         ensures { result ≡ self.now.confirmed }
     {
         self.confirmed
     }
 
-    /// What is to be done at an event, in this order. The event comes at that moment, on which nothing depends.
+    /// Returns the actions to perform at `event`, in order. The moment makes no difference.
     ///
-    /// Refuses with `Ended` where the session was over, with `Unasked` where the event can't come there, and with
-    /// `Memory`. After each of these it is over, and no action is given; `known`, `fault` and `confirmed` are as before.
+    /// Refuses with `Ended` if the session was over, with `Unasked` if the event can't happen in its state, and with
+    /// `Memory` if memory runs out. The session is then over and returns no action; `known`, `fault` and `confirmed`
+    /// stay as they were.
     pub fn on(&mut self, event: Event, _now: Moment) -> Result<Vec<Action>, SessionError>
         ensures goes { IfOk result (λ acts. Goes self.old event acts.items self.new) }
         ensures refused { IfErr result (λ e. Refuses self.old.phase event e) }
@@ -246,14 +248,14 @@ impl Session {
         }
     }
 
-    /// Stands there.
+    /// Enters `phase`.
     pub(crate) fn stand(&mut self, phase: Phase)
         ensures { self.new ≡ in_phase self.old phase }
     {
         drop(mem::replace(&mut self.phase, phase));
     }
 
-    /// Stands there, where there was memory for the actions.
+    /// Enters `phase` if the actions could be allocated.
     pub(crate) fn stand_with(
         &mut self,
         phase: Phase,
@@ -271,7 +273,7 @@ impl Session {
         actions
     }
 
-    /// Closes.
+    /// Returns the action that closes the connection.
     pub(crate) fn close(&self) -> Result<Vec<Action>, SessionError>
         ensures actions { IfOk result (λ acts. acts.items ≡ actions.Close ∷ []) }
         ensures memory { IfErr result (λ e. e ≡ errors.Memory) }
@@ -279,7 +281,7 @@ impl Session {
         Ok(only(self.alloc, Action::Close)?)
     }
 
-    /// An event of a session that is new.
+    /// Handles an event of a new session.
     fn go_new(
         &mut self,
         hello: Hello,
@@ -325,7 +327,7 @@ impl Session {
         self.stand_with(Phase::Hello(Greeter::Connects, bytes, course), greeting)
     }
 
-    /// An event of a session in which the hello or the status isn't whole yet.
+    /// Handles an event of a session whose hello or status is incomplete.
     fn go_hello(
         &mut self,
         greeter: Greeter,
@@ -360,7 +362,7 @@ impl Session {
         }
     }
 
-    /// A piece came of the hello or the status.
+    /// Handles received bytes of the hello or the status.
     fn hear(
         &mut self,
         greeter: Greeter,
@@ -382,7 +384,7 @@ impl Session {
         }
     }
 
-    /// Reads the bytes that came of the hello or the status.
+    /// Reads the received bytes of the hello or the status.
     fn read_greeting(
         &mut self,
         greeter: Greeter,
@@ -425,7 +427,7 @@ impl Session {
         }
     }
 
-    /// Asks for a resync, and receives the messages in these bytes.
+    /// Requests a resync, and receives the messages in `bytes`.
     fn begin(&mut self, course: Course, bytes: &[u8]) -> Result<Vec<Action>, Memory>
         requires { self.old.phase ≡ phases.Ended }
         ensures goes { IfOk result (λ acts. ReceivesBytes self.old (course_fed course bytes.now) (sends_control controls.ResyncRequest ∷ []) acts.items self.new) }
@@ -475,7 +477,7 @@ impl Session {
         }
     }
 
-    /// Answers that the peer is let in, and receives the messages in these bytes.
+    /// Answers that the peer is accepted, and receives the messages in `bytes`.
     fn let_in(&mut self, course: Course, bytes: &[u8]) -> Result<Vec<Action>, Memory>
         requires { self.old.phase ≡ phases.Ended }
         ensures goes { IfOk result (λ acts. ReceivesBytes self.old (course_fed course bytes.now) (actions.Send (status_text 200) ∷ []) acts.items self.new) }
@@ -490,7 +492,7 @@ impl Session {
         }
     }
 
-    /// Receives the messages in these bytes, after these first actions.
+    /// Receives the messages in `bytes`, after the actions `first`.
     pub(crate) fn receive(
         &mut self,
         course: Course,
@@ -506,7 +508,7 @@ impl Session {
         self.conclude(course, received, actions)
     }
 
-    /// What follows the messages that were received.
+    /// Follows up the received messages, and goes on unless one of them halted the session.
     fn conclude(
         &mut self,
         course: Course,
@@ -529,7 +531,8 @@ impl Session {
         }
     }
 
-    /// Gives what follows the messages that were received: the acknowledgements that are due, or the end by what halted.
+    /// Returns the actions after the received messages: the acknowledgements that are due, or those that end a halted
+    /// session.
     fn follow_up(
         &mut self,
         course: &mut Course,
