@@ -74,8 +74,8 @@ fn plans(rt: HostRuntime) {
 }
 
 static IN_TURN: [InTurn; 3] = [
-    // 128 names in turn: each place is inside of 127 links, those of the other names, so all links fit, and each request is kept
-    // whose name was requested before.
+    // 128 names in turn: no place is inside of more than 127 links, those of the other names. So all links fit, and each request
+    // is kept whose name was requested before.
     InTurn {
         names: 128,
         rises: false,
@@ -83,7 +83,7 @@ static IN_TURN: [InTurn; 3] = [
         runs: Some(&[(129, 512)]),
     },
     // 200 names in turn: there are 312 links, one from each place up to 312, and inside of each are the 199 places after it. So
-    // 127 of any 199 links in a row may be kept: 127 of the first 199, and the 113 after them, like the first 113.
+    // 127 of any 199 links in a row may be kept: 127 of the first 199, among them the first 113, and the last 113.
     InTurn {
         names: 200,
         rises: false,

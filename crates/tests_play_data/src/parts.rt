@@ -82,13 +82,18 @@ fn items(alloc: Global, bytes: &[u8]) -> Option<Items<u8>> {
     Some(Items::new(Vec::from_slice(alloc, bytes).ok()?))
 }
 
+/// Makes the string key of these bytes.
+pub fn text_key(alloc: Global, bytes: &[u8]) -> Option<Key> {
+    Some(Key::Str(items(alloc, bytes)?))
+}
+
 /// Makes the key of these parts.
 pub fn key(alloc: Global, key: &KeyParts) -> Option<Key> {
     match key {
         KeyParts::Int(number) => Some(Key::Int(*number)),
         KeyParts::Ip4(address) => Some(Key::Ip4(*address)),
         KeyParts::Ip6(address) => Some(Key::Ip6(*address)),
-        KeyParts::Str(text) => Some(Key::Str(items(alloc, *text)?)),
+        KeyParts::Str(text) => text_key(alloc, *text),
         KeyParts::Bin(bytes) => Some(Key::Bin(items(alloc, *bytes)?)),
     }
 }
