@@ -2,13 +2,12 @@
 
 use peers_devices::{MOST_READS, ReadError, WriteError};
 use peers_engine::WriteFault;
-use tests_play_nodes::Then;
 use tests_play_nodes::devices::{
     Call, Called, Device, Reading, Writing, breaks_off, first_miscounted, first_misread,
     first_miswritten,
 };
-use tests_play_nodes::fused;
 use tests_play_nodes::fused::{Written, fails_after};
+use tests_play_nodes::{Then, fused};
 
 static CALLS: [Called; 4] = [
     (Call::Read, Some(1), 0),
@@ -90,6 +89,7 @@ fn an_output_that_stops_in_mid_stream(rt: HostRuntime) {
 /// The lesson of these updates, 42 bytes, and its first 20 bytes.
 const LESSON: &[u8] =
     b"\x0A\x82\x0A\x01\x02t1\x02\x04\x04\xF0\xC4\x0D\x0A\x85\x0D\x00\x00\x00\x01\x00\x00\x75\x30\x00\x00\x00\x07\x05\x0A\x86\x0A\x00\x00\x75\x30\x00\x00\x00\x08\xF0\x00";
+
 const FIRST: &[u8] = b"\x0A\x82\x0A\x01\x02t1\x02\x04\x04\xF0\xC4\x0D\x0A\x85\x0D\x00\x00\x00\x01";
 
 static WRITTEN: [Written; 2] = [

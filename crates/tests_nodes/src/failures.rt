@@ -3,7 +3,7 @@
 use crate::turns::{EMPTY, IS_ASKED, LESSON, OPENING, OVER};
 use peers_engine::{EngineError, Turned};
 use session_core::State;
-use tests_play_nodes::failures::{Failure, Fails, first_failing};
+use tests_play_nodes::failures::{Fails, Failure, first_failing};
 use tests_play_nodes::tables::Role;
 use tests_play_nodes::turns::{Exchange, Story};
 

@@ -5,6 +5,7 @@ use tests_play_nodes::hellos::{Answered, first_misread, first_other_status};
 
 /// Lines without an end, of the most bytes that a line has, and of one more.
 const LONGEST: &[u8] = &[b'x'; 512];
+
 const TOO_LONG: &[u8] = &[b'x'; 513];
 
 static HELLOS: [(&[u8], Answered); 21] = [

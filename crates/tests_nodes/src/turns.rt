@@ -250,7 +250,10 @@ static IS_AHEAD: Story = Story {
 
 #[test]
 fn a_seat_that_is_ahead(rt: HostRuntime) {
-    assert_eq!(rt; comes_true_ahead(&rt, rt.alloc(), &IS_AHEAD, &FILLED), Some(true));
+    assert_eq!(rt;
+        comes_true_ahead(&rt, rt.alloc(), &IS_AHEAD, &FILLED),
+        Some(true)
+    );
 }
 
 /// `b` accepts the hello and the request, and is about to teach its rows.

@@ -3,10 +3,9 @@
 
 mod player;
 
-pub use player::first_failing;
-
 use learner::Fault;
 use peers_msg::ErrorKind;
+pub use player::first_failing;
 use session_core::State;
 use table_types::{CopyKind, Settled};
 

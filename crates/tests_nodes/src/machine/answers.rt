@@ -13,7 +13,11 @@ const WRITTEN: &[Step] = &[
 ];
 
 /// Two acknowledgements of one table in one event: both are passed on.
-const ACKNOWLEDGED: &[Step] = &[(Given::Bytes(b"\x0A\x84\x05\x01\x00\x00\x00\x01\x0A\x84\x05\x01\x00\x00\x00\x01"), &[Asked::Ack(1, 1), Asked::Ack(1, 1)], State::Ready)];
+const ACKNOWLEDGED: &[Step] = &[(
+    Given::Bytes(b"\x0A\x84\x05\x01\x00\x00\x00\x01\x0A\x84\x05\x01\x00\x00\x00\x01"),
+    &[Asked::Ack(1, 1), Asked::Ack(1, 1)],
+    State::Ready,
+)];
 
 /// Both are settled.
 const TWICE: &[Step] = &[
@@ -24,8 +28,16 @@ const TWICE: &[Step] = &[
 
 /// An acknowledgement of a number above all that were taught.
 const AHEAD: &[Step] = &[
-    (Given::Bytes(b"\x0A\x84\x05\x01\x00\x00\x00\x09"), &[Asked::Ack(1, 9)], State::Ready),
-    (Given::Refused(1), &[Asked::Part(ErrorKind::Protocol)], State::Ended),
+    (
+        Given::Bytes(b"\x0A\x84\x05\x01\x00\x00\x00\x09"),
+        &[Asked::Ack(1, 9)],
+        State::Ready,
+    ),
+    (
+        Given::Refused(1),
+        &[Asked::Part(ErrorKind::Protocol)],
+        State::Ended,
+    ),
 ];
 
 /// The connection ends.

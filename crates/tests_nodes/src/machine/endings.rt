@@ -16,7 +16,11 @@ const NOT_WRITTEN: &[Step] = &[(Given::WriteFault, &[Asked::Close], State::Ended
 
 /// The hello is sent, and its status has begun; a turn waits for the rest.
 const GREETED: &[Step] = &[
-    (Given::Opened, &[Asked::Send(b"HAProxyS 2.1\nb\na 1 1\n")], State::Hello),
+    (
+        Given::Opened,
+        &[Asked::Send(b"HAProxyS 2.1\nb\na 1 1\n")],
+        State::Hello,
+    ),
     (Given::Bytes(b"2"), &[], State::Hello),
     (Given::Turn, &[], State::Hello),
 ];
@@ -25,12 +29,23 @@ const GREETED: &[Step] = &[
 const NO_STATUS: &[Step] = &[(Given::Bytes(b"x0\n\x00\x00"), &[Asked::Close], State::Ended)];
 
 /// What asks for nothing: no bytes, and then `resync confirmed`, `heartbeat` and an acknowledgement while no batch is out.
-const NOTHING: &[Step] = &[(Given::Bytes(b""), &[], State::Ready), (Given::Bytes(b"\x00\x03\x00\x04\x0A\x84\x05\x01\x00\x00\x00\x01"), &[], State::Ready)];
+const NOTHING: &[Step] = &[
+    (Given::Bytes(b""), &[], State::Ready),
+    (
+        Given::Bytes(b"\x00\x03\x00\x04\x0A\x84\x05\x01\x00\x00\x00\x01"),
+        &[],
+        State::Ready,
+    ),
+];
 
 /// An error message after an update, which is learned. The bytes after it aren't read.
-const FAILED: &[Step] = &[(Given::Bytes(
+const FAILED: &[Step] = &[(
+    Given::Bytes(
         b"\x0A\x82\x0A\x01\x02t1\x02\x04\x04\xF0\xC4\x0D\x0A\x85\x0D\x00\x00\x00\x01\x00\x00\x75\x30\x00\x00\x00\x07\x05\x01\x01\x00\x00",
-    ), &[Asked::Learn(1, 1), Asked::Close], State::Ended)];
+    ),
+    &[Asked::Learn(1, 1), Asked::Close],
+    State::Ended,
+)];
 
 static ENDINGS: [Story; 12] = [
     Story {

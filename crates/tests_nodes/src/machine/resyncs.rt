@@ -7,21 +7,49 @@ use tests_play_nodes::machine::{After, Asked, Given, Peer, Step, Story, first_fa
 
 /// Two requests in one event, and a resync of no rows.
 const TWO_REQUESTS: &[Step] = &[
-    (Given::Bytes(b"\x00\x00\x00\x00"), &[Asked::Reopen(1), Asked::Reopen(1)], State::Teaching),
-    (Given::Turn, &[Asked::Copy(1, CopyKind::Resync)], State::Teaching),
+    (
+        Given::Bytes(b"\x00\x00\x00\x00"),
+        &[Asked::Reopen(1), Asked::Reopen(1)],
+        State::Teaching,
+    ),
+    (
+        Given::Turn,
+        &[Asked::Copy(1, CopyKind::Resync)],
+        State::Teaching,
+    ),
     (Given::Nothing(1), &[Asked::Send(b"\x00\x02")], State::Ready),
 ];
 
 /// A request during the next resync, while a batch isn't acknowledged yet: it waits for the acknowledgement, and the resync begins anew.
 const ASKED_AGAIN: &[Step] = &[
-    (Given::Bytes(b"\x00\x00"), &[Asked::Reopen(1)], State::Teaching),
-    (Given::Turn, &[Asked::Copy(1, CopyKind::Resync)], State::Teaching),
+    (
+        Given::Bytes(b"\x00\x00"),
+        &[Asked::Reopen(1)],
+        State::Teaching,
+    ),
+    (
+        Given::Turn,
+        &[Asked::Copy(1, CopyKind::Resync)],
+        State::Teaching,
+    ),
     (Given::Copied(1), &[Asked::Teach], State::Teaching),
     (Given::Written, &[], State::Teaching),
     (Given::Bytes(b"\x00\x00"), &[], State::Teaching),
-    (Given::Bytes(b"\x0A\x84\x05\x01\x00\x00\x00\x01"), &[Asked::Ack(1, 1)], State::Teaching),
-    (Given::Settled(1, Settled::All), &[Asked::Reopen(1)], State::Teaching),
-    (Given::Turn, &[Asked::Copy(1, CopyKind::Resync)], State::Teaching),
+    (
+        Given::Bytes(b"\x0A\x84\x05\x01\x00\x00\x00\x01"),
+        &[Asked::Ack(1, 1)],
+        State::Teaching,
+    ),
+    (
+        Given::Settled(1, Settled::All),
+        &[Asked::Reopen(1)],
+        State::Teaching,
+    ),
+    (
+        Given::Turn,
+        &[Asked::Copy(1, CopyKind::Resync)],
+        State::Teaching,
+    ),
 ];
 
 /// Turns ask for copies of the two tables in turn, the first again after the last.
@@ -36,17 +64,37 @@ const IN_TURN: &[Step] = &[
 
 /// A resync begins with the table after the one asked last, and ends when both tables have nothing left.
 const RESYNC: &[Step] = &[
-    (Given::Bytes(b"\x00\x00"), &[Asked::Reopen(1), Asked::Reopen(3)], State::Teaching),
-    (Given::Turn, &[Asked::Copy(3, CopyKind::Resync)], State::Teaching),
+    (
+        Given::Bytes(b"\x00\x00"),
+        &[Asked::Reopen(1), Asked::Reopen(3)],
+        State::Teaching,
+    ),
+    (
+        Given::Turn,
+        &[Asked::Copy(3, CopyKind::Resync)],
+        State::Teaching,
+    ),
     (Given::Nothing(3), &[], State::Teaching),
-    (Given::Turn, &[Asked::Copy(1, CopyKind::Resync)], State::Teaching),
+    (
+        Given::Turn,
+        &[Asked::Copy(1, CopyKind::Resync)],
+        State::Teaching,
+    ),
     (Given::Nothing(1), &[Asked::Send(b"\x00\x01")], State::Ready),
 ];
 
 /// The next resync asks each table again.
 const RESYNC_AGAIN: &[Step] = &[
-    (Given::Bytes(b"\x00\x00"), &[Asked::Reopen(1), Asked::Reopen(3)], State::Teaching),
-    (Given::Turn, &[Asked::Copy(3, CopyKind::Resync)], State::Teaching),
+    (
+        Given::Bytes(b"\x00\x00"),
+        &[Asked::Reopen(1), Asked::Reopen(3)],
+        State::Teaching,
+    ),
+    (
+        Given::Turn,
+        &[Asked::Copy(3, CopyKind::Resync)],
+        State::Teaching,
+    ),
     (Given::Nothing(3), &[], State::Teaching),
 ];
 

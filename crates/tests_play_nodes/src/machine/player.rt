@@ -168,8 +168,7 @@ fn is_left(alloc: Global, session: &mut Session, after: &After) -> bool {
         After::Confirmed => says(session, true, None),
         After::Fault(fault) => says(session, false, Some(*fault)),
         After::Over => {
-            says(session, false, None)
-                && refuses(alloc, session, &Given::Turn, SessionError::Ended)
+            says(session, false, None) && refuses(alloc, session, &Given::Turn, SessionError::Ended)
         }
         After::Unasked(given) => {
             says(session, false, None) && refuses(alloc, session, given, SessionError::Unasked)
