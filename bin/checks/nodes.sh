@@ -206,20 +206,20 @@ tell() {
     echo "$@" >&"${FAR[1]}"
 }
 
-# far_from serve|join WORDS: has the far side follow the words against a node that reads $scratch/served. Sets `came` to what came
-# over the connection; how the node ended is in `status`, $scratch/NODE.output and $scratch/NODE.errors.
+# far_from serve|join WORDS [TURNS]: has the far side follow the words against a node that reads $scratch/served and makes TURNS turns, or
+# 100. Sets `came` to what came over the connection; how the node ended is in `status`, $scratch/NODE.output and $scratch/NODE.errors.
 far_from() {
     local port
     came=
     if [ "$1" = serve ]; then
         tell port
         read -r -t 20 port <&"${FAR[0]}"
-        start serve "$port" 100
+        start serve "$port" "${3-100}"
         tell connect "$port" "$2"
     else
         tell listen "$2"
         read -r -t 20 port <&"${FAR[0]}"
-        timeout 60 "$program" join --turns 100 --port "$port" --name a --peer b \
+        timeout 60 "$program" join --turns "${3-100}" --port "$port" --name a --peer b \
             <"$scratch/served" >"$scratch/join.output" 2>"$scratch/join.errors" &
         server=$!
     fi
@@ -317,12 +317,22 @@ far_requests() {
     far serve 'resets in a resync' "${HELLO}0000 <46 reset" "$taught" 4 $'device\n' ''
     far serve 'reads nothing of a resync' "${HELLO}0000 pause leave" '' 4 $'device\n' ''
     far serve 'an acknowledgement ahead' "${HELLO}0000 <46 0A84050100000003" "$taught 0100" 0 '' "$rows"
+    far serve 'an acknowledgement ahead after a resync' "${HELLO}0000 <46 $ack <2 0A84050100000003 0003 end" "$taught 0001" 0 '' "$rows"
     far serve 'acknowledgements of a stranger, of a part, and twice' \
         "${HELLO}0000 <46 0A840509000000090A840501000000010A84050100000001 pause $ack <2 ${ack}0003 end" "$taught 0001" 0 '' "$rows"
     far serve 'a request in a resync' "${HELLO}0000 <46 0000 pause $ack <29 $ack <2 0003 end" "$taught $again 0001" 0 '' "$rows"
     far serve 'a fault in a resync' "${HELLO}0000 <46 0A830109" "$taught 0100" 1 $'fault NoTable\n' "$rows"
     far serve 'an error message in a resync' "${HELLO}0000 <46 0101" "$taught" 0 '' "$rows"
     far serve 'bytes of 255' "$HELLO$(repeat 200 F)" "$ACCEPTED 0100" 1 $'fault BadInteger\n' "$rows"
+}
+
+# One turn of a node that serves: it reads the hello and the request, and teaches no row.
+far_turns() {
+    far_from serve "${HELLO}0000" 1
+    slurp "$scratch/serve.output"
+    if [ "$came" = "$ACCEPTED" ] && [ "$status" -eq 0 ] && [ "$text" = $'turns 1\nrow 1 4294997296 7 5\nrow 1 4294997296 8 240\n' ]; then pass; else
+        fail "serve: one turn: status $status, came $came, $text"
+    fi
 }
 
 # A far side that asks for a resync and then reads nothing until it leaves. The lesson has 4 MB, more than the connection buffers, so
@@ -370,6 +380,7 @@ far_sides() {
     far_lessons
     far_hellos
     far_requests
+    far_turns
     far_that_stops_reading
     far_faults
     kill "$FAR_PID"
@@ -401,6 +412,11 @@ two_nodes() {
     wait "$server" 2>/dev/null
     run serve --turns 5 --port "$port" --name b --peer a </dev/null
     ends 'serve: no table' 1 '' $'scene: refused\n'
+    echo 'table 0 t1 integer 4 30000 gpc0' >"$scene"
+    for words in serve join; do
+        run "$words" --turns 5 --port "$port" --name b --peer a <"$scene"
+        ends "$words: a table of id 0" 1 '' $'line 1: refused\n'
+    done
     refuses '?*' : serve
     refuses '?*' : serve --turns 0 --port 1 --name b --peer a
     refuses '?*' : serve --turns 1000001 --port 1 --name b --peer a

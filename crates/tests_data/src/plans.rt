@@ -1,0 +1,118 @@
+//! Plans: which are accepted and at which prices, and which requests the planner keeps.
+
+use tests_play_data::plans::{
+    Case, InTurn, Story, first_failing, first_failing_in_turn, is_planned_again,
+};
+
+static STORIES: [Story; 4] = [
+    // `A`, `B`, `C`, `B` and `A`, with two slots that are empty at the start.
+    Story {
+        case: Case {
+            slots: 2,
+            held: b"",
+            asked: &[(b'A', 30), (b'B', 22), (b'C', 22), (b'B', 22), (b'A', 30)],
+        },
+        plans: &[
+            (5, &[5], &[0, 0, 10, 0, 0], true),
+            (5, &[5], &[0, 0, 2, 0, 0], true),
+            (5, &[5], &[0, 0, 1, 0, 0], false),
+            (5, &[4], &[0, 0, 10, 0, 0], false),
+            (5, &[4], &[0, 0, 1, 0, 0], false),
+            (5, &[4, 5], &[0, 0, 0, 0, 0], false),
+            (4, &[], &[0, 0, 10, 0, 0], false),
+            (5, &[5], &[0, 0, 10, 0], false),
+            (5, &[5], &[0, 0, 4_294_967_296, 0, 0], false),
+        ],
+        kept: &[5],
+    },
+    // `A` twice, `B` and `A`, with one empty slot.
+    Story {
+        case: Case {
+            slots: 1,
+            held: b"",
+            asked: &[(b'A', 30), (b'A', 30), (b'B', 30), (b'A', 30)],
+        },
+        plans: &[
+            (4, &[2], &[0, 0, 10, 0], true),
+            (4, &[2], &[0, 0, 9, 0], false),
+            (4, &[2], &[0, 0, 4_294_967_296, 0], true),
+            (4, &[2], &[0, 0, 4_294_967_297, 0], false),
+            (4, &[1, 2], &[0, 0, 10, 0], false),
+            (4, &[2, 4], &[0, 0, 10, 0], false),
+        ],
+        kept: &[2],
+    },
+    // `B` and `A`, with two slots, one of which holds `A`.
+    Story {
+        case: Case {
+            slots: 2,
+            held: b"A",
+            asked: &[(b'B', 30), (b'A', 30)],
+        },
+        plans: &[(2, &[2], &[0, 0], true), (2, &[], &[0, 0], false)],
+        kept: &[2],
+    },
+    // The same with one slot, which holds `A`.
+    Story {
+        case: Case {
+            slots: 1,
+            held: b"A",
+            asked: &[(b'B', 30), (b'A', 30)],
+        },
+        plans: &[
+            (2, &[2], &[10, 0], false),
+            (2, &[], &[10, 0], true),
+            (2, &[], &[9, 0], false),
+        ],
+        kept: &[],
+    },
+];
+
+#[test]
+fn plans(rt: HostRuntime) {
+    assert_eq!(rt; first_failing(rt.alloc(), &STORIES), None);
+}
+
+static IN_TURN: [InTurn; 3] = [
+    // 128 names in turn: no place is inside of more than 127 links, those of the other names. So all links fit, and each request
+    // is kept whose name was requested before.
+    InTurn {
+        names: 128,
+        rises: false,
+        count: 384,
+        runs: Some(&[(129, 512)]),
+    },
+    // 200 names in turn: there are 312 links, one from each place up to 312, and inside of each are the 199 places after it. So
+    // 127 of any 199 links in a row may be kept: 127 of the first 199, among them the first 113, and the last 113.
+    InTurn {
+        names: 200,
+        rises: false,
+        count: 240,
+        runs: None,
+    },
+    // 256 names twice: the Nth link saves N bytes, and both places in the middle are inside of all links but the first and the
+    // last, each of which has one of them inside. So the 127 links from the 130th on are kept, and the first beside the last.
+    InTurn {
+        names: 256,
+        rises: true,
+        count: 128,
+        runs: Some(&[(257, 257), (386, 512)]),
+    },
+];
+
+#[test]
+fn names_in_turn(rt: HostRuntime) {
+    assert_eq!(rt; first_failing_in_turn(rt.alloc(), &IN_TURN), None);
+}
+
+/// May be run with any allocation failing: the planner refuses, and plans when it is asked again.
+#[test]
+fn a_plan_is_made_again(rt: HostRuntime) {
+    assert!(rt; is_planned_again(rt.alloc(), &STORIES[0]) != Some(false));
+}
+
+/// The same if a slot holds a name.
+#[test]
+fn a_plan_of_a_name_held_is_made_again(rt: HostRuntime) {
+    assert!(rt; is_planned_again(rt.alloc(), &STORIES[3]) != Some(false));
+}

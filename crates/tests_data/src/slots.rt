@@ -1,0 +1,8 @@
+//! The slots of the dictionary of server names.
+
+use tests_play_data::slots::returns_the_old_name;
+
+#[test]
+fn a_write_returns_the_old_name(rt: HostRuntime) {
+    assert!(rt; returns_the_old_name(rt.alloc()) == Some(true));
+}

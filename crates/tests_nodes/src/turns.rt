@@ -1,0 +1,267 @@
+//! Turns of one side whose tables aren't what its session shares, or don't fit it; and what other turns begin with.
+
+use peers_engine::{EngineError, Turned};
+use session_core::{SessionError, State};
+use table_types::{DataType, KeyKind, Value};
+use tests_play_data::parts::{KeyParts, T1, T2, TableParts, UpdateParts};
+use tests_play_nodes::tables::{Role, Tables};
+use tests_play_nodes::turns::{Exchange, Story, comes_true_ahead, first_failing};
+
+/// The hello of `a` to `b`.
+const HELLO: &[u8] = b"HAProxyS 2.1\nb\na 1 1\n";
+
+/// The hello, and a request for all rows.
+const HELLO_AND_REQUEST: &[u8] = b"HAProxyS 2.1\nb\na 1 1\n\x00\x00";
+
+/// The lesson of two updates: 5 for key 7, and 240 for key 8.
+pub const LESSON: &[u8] =
+    b"\x0A\x82\x0A\x01\x02t1\x02\x04\x04\xF0\xC4\x0D\x0A\x85\x0D\x00\x00\x00\x01\x00\x00\x75\x30\x00\x00\x00\x07\x05\x0A\x86\x0A\x00\x00\x75\x30\x00\x00\x00\x08\xF0\x00";
+
+/// An acknowledgement of its second update.
+const TAKEN: &[u8] = b"\x0A\x84\x05\x01\x00\x00\x00\x02";
+
+/// The rows that it teaches.
+const ROWS: &[UpdateParts] = &[
+    UpdateParts {
+        table: 1,
+        number: 1,
+        life: Some(30_000),
+        key: KeyParts::Int(7),
+        values: &[Value::Count(5)],
+        name: b"",
+    },
+    UpdateParts {
+        table: 1,
+        number: 2,
+        life: Some(30_000),
+        key: KeyParts::Int(8),
+        values: &[Value::Count(240)],
+        name: b"",
+    },
+];
+
+const TABLE: &[TableParts] = &[T1];
+
+/// A table with the id and the name of `t1`, and string keys.
+const OF_TEXTS: TableParts = TableParts {
+    id: 1,
+    name: b"t1",
+    kind: KeyKind::String,
+    key_length: 32,
+    expire: 30_000,
+    types: &[(DataType::Gpc0, None)],
+};
+
+/// A table with the id, the name and the keys of `t1`, and a count that may be wider.
+const OF_LONG_COUNTS: TableParts = TableParts {
+    id: 1,
+    name: b"t1",
+    kind: KeyKind::Integer,
+    key_length: 4,
+    expire: 30_000,
+    types: &[(DataType::BytesInCnt, None)],
+};
+
+/// A row with such a count: 2^32.
+const LONG_ROWS: &[UpdateParts] = &[UpdateParts {
+    table: 1,
+    number: 1,
+    life: Some(30_000),
+    key: KeyParts::Int(7),
+    values: &[Value::Count(1 << 32)],
+    name: b"",
+}];
+
+/// `t1` without rows, in which the session is open.
+pub const EMPTY: Tables = Tables {
+    roster: TABLE,
+    tables: TABLE,
+    rows: &[],
+    are_full: false,
+    are_open: true,
+};
+
+/// `t1` with the two rows.
+pub const FILLED: Tables = Tables {
+    roster: TABLE,
+    tables: TABLE,
+    rows: ROWS,
+    are_full: false,
+    are_open: true,
+};
+
+/// `t1` with room for one row.
+const NARROW: Tables = Tables {
+    roster: TABLE,
+    tables: TABLE,
+    rows: &[],
+    are_full: true,
+    are_open: true,
+};
+
+/// `t1`, in which the session isn't open.
+const UNOPENED: Tables = Tables {
+    roster: TABLE,
+    tables: TABLE,
+    rows: &[],
+    are_full: false,
+    are_open: false,
+};
+
+/// `t2` alone, although the session shares `t1`.
+const UNSHARED: Tables = Tables {
+    roster: TABLE,
+    tables: &[T2],
+    rows: &[],
+    are_full: false,
+    are_open: true,
+};
+
+/// A table with string keys in place of `t1`, which the session shares.
+const UNLIKE: Tables = Tables {
+    roster: TABLE,
+    tables: &[OF_TEXTS],
+    rows: &[],
+    are_full: false,
+    are_open: true,
+};
+
+/// A table with a wide count in place of `t1`, which the session shares.
+const TOO_WIDE: Tables = Tables {
+    roster: TABLE,
+    tables: &[OF_LONG_COUNTS],
+    rows: LONG_ROWS,
+    are_full: false,
+    are_open: true,
+};
+
+/// `a` connects, and asks for all rows.
+pub const OPENING: &[Exchange] = &[
+    Exchange {
+        comes: b"",
+        sends: HELLO,
+        ends: Ok(Turned::Going),
+    },
+    Exchange {
+        comes: b"200\n",
+        sends: b"\x00\x00",
+        ends: Ok(Turned::Going),
+    },
+];
+
+/// It learns the rows of a lesson that its table has room for, and acknowledges all.
+const LEARNING: &[Exchange] = &[Exchange {
+    comes: LESSON,
+    sends: TAKEN,
+    ends: Ok(Turned::Going),
+}];
+
+/// `b` accepts the hello, and is asked for its rows.
+const ASKING: &[Exchange] = &[Exchange {
+    comes: HELLO_AND_REQUEST,
+    sends: b"200\n",
+    ends: Ok(Turned::Going),
+}];
+
+/// A turn of a session that is over.
+pub const OVER: Exchange = Exchange {
+    comes: LESSON,
+    sends: b"",
+    ends: Err(EngineError::Session(SessionError::Ended)),
+};
+
+/// A turn in which a table refuses what its session asks for.
+const STRANGE: Exchange = Exchange {
+    comes: b"",
+    sends: b"",
+    ends: Err(EngineError::Strange),
+};
+
+/// Each story, and why it goes so.
+static STORIES: [Story; 5] = [
+    // The second row finds no room and is passed over.
+    Story {
+        tables: NARROW,
+        role: Role::Connects,
+        opening: OPENING,
+        turns: LEARNING,
+        state: State::Ready,
+        rows: &[(7, 5)],
+    },
+    // The session isn't open in the table from which the turn would copy.
+    Story {
+        tables: UNOPENED,
+        role: Role::Connects,
+        opening: OPENING,
+        turns: &[STRANGE, OVER],
+        state: State::Ended,
+        rows: &[],
+    },
+    // There is no lock for the table from which the turn would copy.
+    Story {
+        tables: UNSHARED,
+        role: Role::Connects,
+        opening: OPENING,
+        turns: &[STRANGE, OVER],
+        state: State::Ended,
+        rows: &[],
+    },
+    // The table has other keys than the session's definition of it, and refuses the first row.
+    Story {
+        tables: UNLIKE,
+        role: Role::Connects,
+        opening: OPENING,
+        turns: &[
+            Exchange {
+                comes: LESSON,
+                sends: b"",
+                ends: Err(EngineError::Strange),
+            },
+            OVER,
+        ],
+        state: State::Ended,
+        rows: &[],
+    },
+    // The table has a row that doesn't fit the session's definition of it, so no lesson is made.
+    Story {
+        tables: TOO_WIDE,
+        role: Role::Accepts,
+        opening: ASKING,
+        turns: &[STRANGE, OVER],
+        state: State::Ended,
+        rows: &[(7, 1 << 32)],
+    },
+];
+
+#[test]
+fn tables_that_do_not_fit(rt: HostRuntime) {
+    assert_eq!(rt; first_failing(&rt, rt.alloc(), &STORIES), None);
+}
+
+/// The seat has seen more events of the table than the table has had.
+static IS_AHEAD: Story = Story {
+    tables: EMPTY,
+    role: Role::Connects,
+    opening: OPENING,
+    turns: &[STRANGE, OVER],
+    state: State::Ended,
+    rows: &[],
+};
+
+#[test]
+fn a_seat_that_is_ahead(rt: HostRuntime) {
+    assert_eq!(rt;
+        comes_true_ahead(&rt, rt.alloc(), &IS_AHEAD, &FILLED),
+        Some(true)
+    );
+}
+
+/// `b` accepts the hello and the request, and is about to teach its rows.
+pub const IS_ASKED: Story = Story {
+    tables: FILLED,
+    role: Role::Accepts,
+    opening: ASKING,
+    turns: &[],
+    state: State::Teaching,
+    rows: &[(7, 5), (8, 240)],
+};

@@ -1,0 +1,107 @@
+//! Known states: which parts make one, and which messages one accepts.
+
+use crate::parts::{KnownParts, T1, TableParts, alone, definition, known};
+use dict_slots::Slots;
+use known_state::{Known, KnownError, StepError};
+use peers_msg::{Message, NameField, UpdateMsg};
+use std::alloc::Global;
+use table_types::{Key, ShortList, Value};
+
+/// A selected table, the tables defined, the last numbers, and what a state of `t1` with them is refused for, if it is.
+pub type Parts = (
+    Option<u64>,
+    &'static [u64],
+    &'static [(u64, u32)],
+    Option<KnownError>,
+);
+
+/// A message, written in short.
+pub enum Sent {
+    Define(TableParts),
+    Switch(u64),
+    /// An update of an integer key, with its number if it has one.
+    Count(Option<u32>),
+    /// An incremental update of an IPv4 address, which fits no table here.
+    Address,
+}
+
+/// A message, why it is refused, if it is, and the table selected and the last number of the roster's table after it.
+pub type Step = (Sent, Option<StepError>, Option<u64>, Option<u32>);
+
+/// The parts of a state, and messages that come to it one after another.
+pub type Story = (KnownParts, &'static [Step]);
+
+/// Returns what a state of `t1` is refused for, if it is; `None` if memory runs out.
+fn build_fault(
+    alloc: Global,
+    selected: Option<u64>,
+    defined: &[u64],
+    last: &[(u64, u32)],
+) -> Option<Option<KnownError>> {
+    let roster = alone(alloc, &T1)?;
+    let defined = Vec::from_slice(alloc, defined).ok()?;
+    let last = Vec::from_slice(alloc, last).ok()?;
+    Some(Known::build(alloc, roster, selected, defined, last, Slots::new(alloc)).err())
+}
+
+/// Returns the place of the first parts that are refused for another fault, or accepted though they have one.
+pub fn first_refused_otherwise(alloc: Global, all: &[Parts]) -> Option<usize> {
+    for (place, (selected, defined, last, fault)) in all.iter().enumerate() {
+        if build_fault(alloc, *selected, *defined, *last) != Some(*fault) {
+            return Some(place);
+        }
+    }
+    None
+}
+
+fn update(alloc: Global, number: Option<u32>, key: Key) -> Option<Message> {
+    let values = ShortList::from_slice(alloc, &[Value::Count(5)]).ok()?;
+    let update = UpdateMsg::new(number, Some(30_000), key, values, NameField::NotStored);
+    Some(Message::Update(update))
+}
+
+fn message(alloc: Global, sent: &Sent) -> Option<Message> {
+    match sent {
+        Sent::Define(table) => Some(Message::Define(definition(alloc, table)?)),
+        Sent::Switch(id) => Some(Message::Switch(*id)),
+        Sent::Count(number) => update(alloc, *number, Key::Int(7)),
+        Sent::Address => update(alloc, None, Key::Ip4([127, 0, 0, 1])),
+    }
+}
+
+fn refusal(known: &mut Known, message: &Message) -> Option<StepError> {
+    known.after(message).err()
+}
+
+fn stands_at(known: &Known, id: u64, selected: Option<u64>, last: Option<u32>) -> bool {
+    known.received().selected() == selected && known.last_numbers().last(id) == last
+}
+
+/// Returns whether the message is refused or accepted as `step` says, and leaves the state that it says.
+fn is_step(alloc: Global, known: &mut Known, id: u64, step: &Step) -> Option<bool> {
+    let message = message(alloc, &step.0)?;
+    Some(refusal(known, &message) == step.1 && stands_at(known, id, step.2, step.3))
+}
+
+fn are_steps(alloc: Global, known: &mut Known, id: u64, steps: &[Step]) -> Option<bool> {
+    for step in steps {
+        if !is_step(alloc, known, id, step)? {
+            return Some(false);
+        }
+    }
+    Some(true)
+}
+
+fn goes_through(alloc: Global, state: &KnownParts, steps: &[Step]) -> Option<bool> {
+    are_steps(alloc, &mut known(alloc, state)?, state.table.id, steps)
+}
+
+/// Returns the place of the first story of which a step turns out otherwise.
+pub fn first_failing(alloc: Global, stories: &[Story]) -> Option<usize> {
+    for (place, (state, steps)) in stories.iter().enumerate() {
+        if goes_through(alloc, state, *steps) != Some(true) {
+            return Some(place);
+        }
+    }
+    None
+}

@@ -1,0 +1,22 @@
+//! Plays the examples that only a call can show: an example is data, written in short, and a function of this crate makes the
+//! calls and compares. The library has no tests, so it is proved once. A function that returns a place returns that of the
+//! first example that turns out otherwise. If memory runs out, an example counts as turned out otherwise.
+#![tactic(auto)]
+
+pub mod batches;
+pub mod changes;
+pub mod decoders;
+pub mod definitions;
+pub mod intakes;
+pub mod known_states;
+pub mod learners;
+pub mod lessons;
+pub mod lists;
+pub mod messages;
+pub mod parts;
+pub mod plans;
+pub mod rates;
+pub mod rosters;
+pub mod rows;
+pub mod slots;
+pub mod words;

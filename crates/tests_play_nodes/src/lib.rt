@@ -1,0 +1,23 @@
+//! Plays the examples of sessions and devices that only a call can show: an example is data, written in short, and a function of
+//! this crate makes the calls and compares. The library has no tests, so it is proved once. A function that returns a place
+//! returns that of the first example that turns out otherwise. If memory runs out, an example counts as turned out otherwise.
+//! All other examples go through the program, to a far side of its own (`bin/checks/nodes.sh`).
+#![tactic(auto)]
+
+pub mod cuttings;
+pub mod devices;
+pub mod failures;
+pub mod fused;
+pub mod gates;
+pub mod hellos;
+pub mod machine;
+mod narrow;
+pub mod pipes;
+pub mod rounds;
+pub mod sessions;
+pub mod sides;
+pub mod tables;
+pub mod turns;
+mod waiting;
+
+pub use narrow::Then;

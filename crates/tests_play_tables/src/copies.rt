@@ -1,0 +1,38 @@
+//! Batches that a table returns twice.
+
+use crate::cells::{added, cell, only};
+use std::alloc::Global;
+use table_cell::TableCell;
+use table_types::{Batch, CopyKind, Moment};
+use tests_play_data::parts::T1;
+
+/// Opens session 1, and adds 5 to key 7.
+fn is_begun(cell: &mut TableCell) -> Option<bool> {
+    Some(cell.open_session(1) == Ok(()) && added(cell, 7, 5, 0)? == (1, 5))
+}
+
+/// Returns whether both batches have the row, and equal the latest one of session 1.
+fn are_equal(cell: &mut TableCell, pair: &(Batch, Batch)) -> Option<bool> {
+    Some(
+        only(&pair.0)? == (1, 30_000, 5)
+            && only(&pair.1)? == (1, 30_000, 5)
+            && cell.settle(1, &pair.0) == Ok(())
+            && cell.settle(1, &pair.1) == Ok(())
+            && cell.events() == 3,
+    )
+}
+
+fn comes_twice(cell: &mut TableCell) -> Option<bool> {
+    if !is_begun(cell)? {
+        return None;
+    }
+    let pair = cell
+        .copy_pair(1, CopyKind::Push, 512, Moment::least())
+        .ok()?;
+    are_equal(cell, &pair)
+}
+
+/// Returns whether a batch of one row of `t1` comes twice, as one event.
+pub fn come_twice(alloc: Global) -> Option<bool> {
+    comes_twice(&mut cell(alloc, &T1, 10)?)
+}

@@ -1,0 +1,24 @@
+//! Plays the examples of tables that only a call can show: of update numbers, of rows and their ends, of tables with their
+//! history, under locks, with seats and audits, and of calls for which memory runs out. The library has no tests, so it is
+//! proved once. Others begin with its seats, tracks and threads that wait for each other. A function that returns an `Option`
+//! returns `None` also if memory runs out, so that a test of what it returns fails.
+#![tactic(auto)]
+
+pub mod audits;
+mod cells;
+pub mod copies;
+pub mod counts;
+pub mod ends;
+pub mod holders;
+pub mod locks;
+pub mod numbered;
+pub mod numbers;
+mod round;
+pub mod seats;
+pub mod swaps;
+mod tracks;
+mod two_seats;
+pub mod wide;
+
+pub use tracks::{comes, count, track};
+pub use two_seats::TwoSeats;

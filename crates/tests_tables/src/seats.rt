@@ -1,0 +1,47 @@
+//! Tables under their locks, what a seat has seen, and what an audit finds.
+
+use tests_play_tables::audits::{misses_one_of_two, wants_its_own_seats};
+use tests_play_tables::locks::are_apart;
+use tests_play_tables::seats::{
+    compares_receipts, is_ahead_of_others, leaves_receipts, looks_ahead, refuses_a_text,
+};
+
+#[test]
+fn a_table_is_changed_while_another_is_locked(rt: HostRuntime) {
+    assert!(rt; are_apart(&rt, rt.alloc()) == Some(true));
+}
+
+#[test]
+fn a_seat_looks_ahead(rt: HostRuntime) {
+    assert!(rt; looks_ahead(&rt, rt.alloc()) == Some(true));
+}
+
+#[test]
+fn receipts_are_compared(rt: HostRuntime) {
+    assert!(rt; compares_receipts(&rt, rt.alloc()) == Some(true));
+}
+
+#[test]
+fn a_seat_of_other_tables_is_ahead(rt: HostRuntime) {
+    assert!(rt; is_ahead_of_others(&rt, rt.alloc()) == Some(true));
+}
+
+#[test]
+fn an_audit_needs_its_own_seats(rt: HostRuntime) {
+    assert!(rt; wants_its_own_seats(&rt, rt.alloc()) == Some(true));
+}
+
+#[test]
+fn a_seat_in_the_place_of_another_is_not_enough(rt: HostRuntime) {
+    assert!(rt; misses_one_of_two(&rt, rt.alloc()) == Some(true));
+}
+
+#[test]
+fn another_table_gives_no_receipt(rt: HostRuntime) {
+    assert!(rt; leaves_receipts(&rt, rt.alloc()) == Some(true));
+}
+
+#[test]
+fn a_refused_call_gives_no_receipt(rt: HostRuntime) {
+    assert!(rt; refuses_a_text(&rt, rt.alloc()) == Some(true));
+}

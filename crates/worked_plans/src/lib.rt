@@ -1,8 +1,0 @@
-//! Plans and verdicts that were worked out by hand, and what the libraries below make of them. There is nothing here but
-//! tests, of public calls alone.
-#![tactic(auto)]
-
-#[cfg(test)]
-mod plans;
-#[cfg(test)]
-mod verdicts;
