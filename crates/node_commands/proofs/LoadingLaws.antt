@@ -1,5 +1,5 @@
 -- Tables that learn one update after another, and are loaded one after another.
-use Rattle.std.proofs.Common.{◌≡◌, ◌≤◌, ◌<◌, ◌+◌, ◌++◌, ◌∙◌, ℕ, Bool, true, false, ◌==◌, List, [], ◌∷◌, Ok, ap, append_assoc, drop, get_or, length, subst, sym}
+use Rattle.std.proofs.Common.{◌≡◌, ◌≤◌, ◌<◌, ◌+◌, ◌++◌, ◌∙◌, ℕ, Bool, true, false, ◌==◌, List, [], ◌∷◌, Ok, ap, append_assoc, drop, get_or, length, refl, subst, sym}
 use Rattle.std.proofs.lemmas.List.{append-nil, drop_all}
 use Rattle.std.specs.Prelude.{MatchBool, Result}
 use Rattle.table_types.specs.Tables.{Definition}

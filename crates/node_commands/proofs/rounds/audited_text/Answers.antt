@@ -10,4 +10,4 @@ pub returns-then-have_tracked : goal.returns-then-have_tracked
 returns-then-have_tracked g c =
     let told = c.have_tracked.ensures c.if-have_tracked.true in
     let tracked = subst (λ (ss : List SeatState). AllByRecursion (λ s. s.number ≤ c.args.asked.threads → HasTracked c.args.asked.tracks s) ss) c.seats.ensures.seats told in
-    IfOk-weaker c.printed.result _ _ (λ text is. (c.in_ok-audit.audit, (c.in_ok-audit.ensures, tracked), is)) c.printed.ensures
+    IfOk-weaker c.round_text.result _ _ (λ text is. (c.in_ok-audit.audit, (c.in_ok-audit.ensures, tracked), is)) c.round_text.ensures
