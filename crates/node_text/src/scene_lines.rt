@@ -7,7 +7,7 @@ use crate::bytes::hexadecimal;
 use crate::error::LineError;
 use crate::limits::{push_within, set_once};
 use crate::names::name;
-use crate::numbers::{moment, number, number32};
+use crate::numbers::{moment, number, number_from_one, number32};
 use crate::scenes::Scene;
 use crate::tables::table_of;
 use crate::updates::update_of;
@@ -172,6 +172,5 @@ fn slot(word: &[u8]) -> Option<u8>
     ensures exactly { result ≡ from_one (number_of word.now slot_count) }
     ensures slot { IfSome result (λ id. is_slot id ≡ true) }
 {
-    let id = number(word, SLOT_COUNT as u64)?;
-    if id == 0 { None } else { Some(id as u8) }
+    Some(number_from_one(word, SLOT_COUNT as u32)? as u8)
 }

@@ -151,7 +151,7 @@ fn push_rows(text: &mut Vec<u8>, table: &TableDef, rows: &BTreeMap<Key, Row>) ->
     Ok(())
 }
 
-/// Appends a line for each acknowledgement that is due. None is due then.
+/// Appends a line for each acknowledgement that is due. After that none is due.
 fn push_due_acks(text: &mut Vec<u8>, learner: &mut Learner) -> Result<(), Memory>
     ensures { OnOk result (text.new.items ≡ text.old.items ++ acks_text learner.old) }
 {

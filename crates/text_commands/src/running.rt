@@ -14,7 +14,7 @@ use std::alloc::Global;
 use table_cell::TableCell;
 use table_types::Batch;
 
-/// The greatest number of rows that a table stores unless the script says it.
+/// The greatest number of rows that a table stores unless the script says otherwise.
 const MOST_ROWS: u32 = TableCell::MOST_ROWS as u32;
 
 /// A script's run: its table, the batches that the table has returned, and the text printed so far.

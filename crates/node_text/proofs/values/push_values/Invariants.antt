@@ -1,6 +1,6 @@
 use Rattle.std.proofs.Common.{◌≡◌, ◌++◌, drop}
 use Rattle.std.specs.List.{flat_map}
-use Rattle.node_text.specs.Updates.{value_text}
+use Rattle.node_text.specs.Values.{value_text}
 use Rattle.node_text.proofs.values.push_values.Given as goal
 
 abbrev pub invariant-loop-value : goal.invariant-loop-value
