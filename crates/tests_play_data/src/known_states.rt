@@ -54,9 +54,17 @@ pub fn first_refused_otherwise(alloc: Global, all: &[Parts]) -> Option<usize> {
     None
 }
 
-fn update(alloc: Global, number: Option<u32>, key: Key) -> Option<Message> {
+fn count(alloc: Global, number: Option<u32>) -> Option<Message> {
     let values = ShortList::from_slice(alloc, &[Value::Count(5)]).ok()?;
+    let key = Key::Int(7);
     let update = UpdateMsg::new(number, Some(30_000), key, values, NameField::NotStored);
+    Some(Message::Update(update))
+}
+
+fn address(alloc: Global) -> Option<Message> {
+    let values = ShortList::from_slice(alloc, &[Value::Count(5)]).ok()?;
+    let key = Key::Ip4([127, 0, 0, 1]);
+    let update = UpdateMsg::new(None, Some(30_000), key, values, NameField::NotStored);
     Some(Message::Update(update))
 }
 
@@ -64,8 +72,8 @@ fn message(alloc: Global, sent: &Sent) -> Option<Message> {
     match sent {
         Sent::Define(table) => Some(Message::Define(definition(alloc, table)?)),
         Sent::Switch(id) => Some(Message::Switch(*id)),
-        Sent::Count(number) => update(alloc, *number, Key::Int(7)),
-        Sent::Address => update(alloc, None, Key::Ip4([127, 0, 0, 1])),
+        Sent::Count(number) => count(alloc, *number),
+        Sent::Address => address(alloc),
     }
 }
 
