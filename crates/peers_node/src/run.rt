@@ -58,8 +58,8 @@ fn texts<'a>(alloc: Global, arguments: &'a [String]) -> Result<Vec<&'a str>, All
     Ok(words)
 }
 
-/// Runs the subcommand that `words` choose. Each runs in a function that isn't inlined, so that the stack holds the frame of
-/// only one of them.
+/// Runs the subcommand that `words` choose. All but `learn`, whose frame is small, run in functions that aren't inlined, so that
+/// the stack holds the frame of only one of them.
 #[tactic(auto, using(crate::proofs::Choices::few_threads))]
 fn dispatched<
     'a,

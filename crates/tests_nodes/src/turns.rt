@@ -177,7 +177,7 @@ const STRANGE: Exchange = Exchange {
     ends: Err(EngineError::Strange),
 };
 
-/// Each story, and why it goes so.
+/// The stories, each with its reason.
 static STORIES: [Story; 5] = [
     // The second row finds no room and is passed over.
     Story {

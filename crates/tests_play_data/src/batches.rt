@@ -22,7 +22,7 @@ fn fault_of(alloc: Global, given: &[UpdateParts], times: u32) -> Option<Option<B
     Some(Batch::new(alloc, &alone(alloc, &T1)?, updates).err())
 }
 
-/// Returns the place of the first batch that is refused for another fault, or accepted though it has one.
+/// Returns the index of the first batch that is refused for another fault, or accepted though it has one.
 pub fn first_failing(alloc: Global, all: &[Parts]) -> Option<usize> {
     for (place, (given, times, fault)) in all.iter().enumerate() {
         if fault_of(alloc, *given, *times) != Some(*fault) {

@@ -54,7 +54,7 @@ fn are_same(alloc: Global, one: &ChangeParts, other: &ChangeParts) -> Option<boo
     Some(one.is_same(&change(alloc, other)?))
 }
 
-/// Returns the places of the first two of `changes` that are the same though their places differ, or differ though they are one.
+/// Returns the indices of the first two of `changes` that are the same though their places differ, or differ though they are one.
 pub fn first_confused(alloc: Global, changes: &[ChangeParts]) -> Option<(usize, usize)> {
     for (place, one) in changes.iter().enumerate() {
         for (other_place, other) in changes.iter().enumerate() {

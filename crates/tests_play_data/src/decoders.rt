@@ -62,7 +62,7 @@ fn reads(alloc: Global, stream: &Stream, length: usize) -> Option<bool> {
     Some(is_read(&mut decoder(alloc, stream.resumed)?, stream, length))
 }
 
-/// Returns the place of the first stream that is read otherwise, and the length of its pieces. Each length from 1 to `longest` is
+/// Returns the index of the first stream that is read differently, and the length of its pieces. Each length from 1 to `longest` is
 /// tried.
 pub fn first_failing(alloc: Global, streams: &[Stream], longest: usize) -> Option<(usize, usize)> {
     for (place, stream) in streams.iter().enumerate() {

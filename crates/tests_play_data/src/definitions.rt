@@ -19,7 +19,7 @@ fn fault_of(alloc: Global, parts: &Parts) -> Option<Option<DefError>> {
     Some(TableDef::new(alloc, parts.0, name, parts.2.0, parts.2.1, 30_000, types).err())
 }
 
-/// Returns the place of the first definition that is refused for another fault, or accepted though it has one.
+/// Returns the index of the first definition that is refused for another fault, or accepted though it has one.
 pub fn first_failing(alloc: Global, all: &[Parts]) -> Option<usize> {
     for (place, parts) in all.iter().enumerate() {
         if fault_of(alloc, parts) != Some(parts.4) {

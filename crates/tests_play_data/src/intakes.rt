@@ -127,7 +127,7 @@ fn is_taken(alloc: Global, stream: &Stream, length: usize) -> Option<bool> {
     )
 }
 
-/// Returns the place of the first stream of which something else comes, and the length of its pieces.
+/// Returns the index of the first stream of which something else comes, and the length of its pieces.
 pub fn first_failing(
     alloc: Global,
     streams: &[Stream],

@@ -44,7 +44,7 @@ fn build_fault(
     Some(Known::build(alloc, roster, selected, defined, last, Slots::new(alloc)).err())
 }
 
-/// Returns the place of the first parts that are refused for another fault, or accepted though they have one.
+/// Returns the index of the first parts that are refused for another fault, or accepted though they have one.
 pub fn first_refused_otherwise(alloc: Global, all: &[Parts]) -> Option<usize> {
     for (place, (selected, defined, last, fault)) in all.iter().enumerate() {
         if build_fault(alloc, *selected, *defined, *last) != Some(*fault) {
@@ -104,7 +104,7 @@ fn goes_through(alloc: Global, state: &KnownParts, steps: &[Step]) -> Option<boo
     are_steps(alloc, &mut known(alloc, state)?, state.table.id, steps)
 }
 
-/// Returns the place of the first story of which a step turns out otherwise.
+/// Returns the index of the first story of which a step fails.
 pub fn first_failing(alloc: Global, stories: &[Story]) -> Option<usize> {
     for (place, (state, steps)) in stories.iter().enumerate() {
         if goes_through(alloc, state, *steps) != Some(true) {

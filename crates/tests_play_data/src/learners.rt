@@ -129,7 +129,7 @@ fn is_made(alloc: Global, stream: &Stream, length: usize) -> Option<bool> {
     makes(&mut learner, stream, length)
 }
 
-/// Returns the place of the first stream that leaves something else, and the length of its pieces.
+/// Returns the index of the first stream that leaves something else, and the length of its pieces.
 pub fn first_failing(
     alloc: Global,
     streams: &[Stream],

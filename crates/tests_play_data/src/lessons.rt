@@ -51,7 +51,7 @@ fn is_taught(alloc: Global, taught: &Taught) -> Option<bool> {
     Some(is_right(&lesson_of(alloc, taught)?, taught))
 }
 
-/// Returns the place of the first lesson that is another.
+/// Returns the index of the first lesson that is another.
 pub fn first_failing(alloc: Global, all: &[Taught]) -> Option<usize> {
     for (place, taught) in all.iter().enumerate() {
         if is_taught(alloc, taught) != Some(true) {

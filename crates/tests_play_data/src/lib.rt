@@ -1,6 +1,6 @@
 //! Plays the examples that only a call can show: an example is data, written in short, and a function of this crate makes the
-//! calls and compares. The library has no tests, so it is proved once. A function that returns a place returns that of the
-//! first example that turns out otherwise. If memory runs out, an example counts as turned out otherwise.
+//! calls and compares. The library has no tests, so it is proved once. A function that returns an index returns that of the
+//! first example that fails. If memory runs out, an example counts as failed.
 #![tactic(auto)]
 
 pub mod batches;

@@ -32,7 +32,7 @@ fn are_grown(alloc: Global, bytes: &[u8]) -> Option<bool> {
     Some(has(alloc, with_room, bytes)? && has(alloc, without, bytes)? && has(alloc, copy, bytes)?)
 }
 
-/// Returns the place of the first of these lists that a list made of it differs from: made of a slice, of a `Vec`, element by
+/// Returns the index of the first of these lists that a list made of it differs from: made of a slice, of a `Vec`, element by
 /// element with room for all or for none, or as a copy.
 pub fn first_failing(alloc: Global, lists: &[&[u8]]) -> Option<usize> {
     for (place, bytes) in lists.iter().enumerate() {

@@ -52,7 +52,7 @@ fn spells(alloc: Global, short: &Short, bytes: &[u8]) -> Option<bool> {
     is_spelled(alloc, &message(alloc, short)?, bytes)
 }
 
-/// Returns the place of the first message that has other bytes, or another size.
+/// Returns the index of the first message that has other bytes, or another size.
 pub fn first_failing(alloc: Global, messages: &[(Short, &[u8])]) -> Option<usize> {
     for (place, (short, bytes)) in messages.iter().enumerate() {
         if spells(alloc, short, *bytes) != Some(true) {

@@ -116,7 +116,7 @@ fn is_planned(alloc: Global, slots: usize, asked: &Requested, kept: &[usize]) ->
     Some(keeps(&made, kept) && is_accepted(slots, asked, &made)?)
 }
 
-/// Returns the place of the first plan that is judged otherwise, or the number of plans if the planner keeps other requests, or
+/// Returns the index of the first plan that is judged differently, or the number of plans if the planner keeps other requests, or
 /// the checker refuses its plan.
 fn failing_plan(alloc: Global, story: &Story, asked: &Requested) -> Option<usize> {
     let slots = story.case.slots;
@@ -139,7 +139,7 @@ fn failing(alloc: Global, story: &Story) -> Option<usize> {
     }
 }
 
-/// Returns the place of the first story that turns out otherwise, and the place of its plan that does: the number of its plans
+/// Returns the index of the first story that fails, and the index of its plan that does: the number of its plans
 /// stands for the planner's.
 pub fn first_failing(alloc: Global, stories: &[Story]) -> Option<(usize, usize)> {
     for (place, story) in stories.iter().enumerate() {
@@ -238,7 +238,7 @@ fn is_planned_in_turn(alloc: Global, turn: &InTurn) -> Option<bool> {
     Some(is_kept(&made, turn) && is_accepted(128, &asked, &made)?)
 }
 
-/// Returns the place of the first of these for which the planner keeps other requests, or the checker refuses its plan.
+/// Returns the index of the first of these for which the planner keeps other requests, or the checker refuses its plan.
 pub fn first_failing_in_turn(alloc: Global, turns: &[InTurn]) -> Option<usize> {
     for (place, turn) in turns.iter().enumerate() {
         if is_planned_in_turn(alloc, turn) != Some(true) {

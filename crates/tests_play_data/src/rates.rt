@@ -22,7 +22,7 @@ fn is_turned(later: u64, cell: Cell, read: u64) -> Option<bool> {
     Some(rotate(RATE, PERIOD, moment) == cell && read_rate(RATE, PERIOD, moment) == read)
 }
 
-/// Returns the place of the first moment at which `RATE`, with periods of 10,000 ms, is another cell, or reads as another number.
+/// Returns the index of the first moment at which `RATE`, with periods of 10,000 ms, is another cell, or reads as another number.
 pub fn first_failing(moments: &[Turned]) -> Option<usize> {
     for (place, (later, cell, read)) in moments.iter().enumerate() {
         if is_turned(*later, *cell, *read) != Some(true) {

@@ -34,7 +34,7 @@ fn fault_of(alloc: Global, called: &[(u64, &'static [u8])]) -> Option<Option<Ros
     Some(Roster::new(tables(alloc, called)?).err())
 }
 
-/// Returns the place of the first roster that is refused for another fault, or accepted though it has one.
+/// Returns the index of the first roster that is refused for another fault, or accepted though it has one.
 pub fn first_failing(alloc: Global, all: &[Parts]) -> Option<usize> {
     for (place, (called, fault)) in all.iter().enumerate() {
         if fault_of(alloc, *called) != Some(*fault) {

@@ -9,7 +9,7 @@ fn is_below(alloc: Global, one: &KeyParts, other: &KeyParts) -> Option<bool> {
     Some(one < key(alloc, other)?)
 }
 
-/// Returns the places of the first two of `keys` whose order is another than that of their places.
+/// Returns the indices of the first two of `keys` whose order is another than that of their places.
 pub fn first_out_of_order(alloc: Global, keys: &[KeyParts]) -> Option<(usize, usize)> {
     for (place, one) in keys.iter().enumerate() {
         for (other_place, other) in keys.iter().enumerate() {
@@ -33,7 +33,7 @@ fn update_is_copied(alloc: Global, parts: &UpdateParts) -> Option<bool> {
     is_copied(alloc, &update(alloc, parts)?)
 }
 
-/// Returns the place of the first update whose copy isn't the same, or is still the same once its name is removed.
+/// Returns the index of the first update whose copy isn't the same, or is still the same once its name is removed.
 pub fn first_miscopied(alloc: Global, updates: &[UpdateParts]) -> Option<usize> {
     for (place, parts) in updates.iter().enumerate() {
         if update_is_copied(alloc, parts) != Some(true) {
@@ -104,7 +104,7 @@ fn are_learned(alloc: Global, learned: &Learned) -> Option<bool> {
     is_learned_at(alloc, &key, &row, learned)
 }
 
-/// Returns the place of the first row that is learned otherwise.
+/// Returns the index of the first row that is learned differently.
 pub fn first_mislearned(alloc: Global, rows: &[Learned]) -> Option<usize> {
     for (place, learned) in rows.iter().enumerate() {
         if are_learned(alloc, learned) != Some(true) {

@@ -15,7 +15,7 @@ fn is_data_type(id: u64, name: &str) -> Option<bool> {
     }
 }
 
-/// Returns the place of the first id and name of which something else holds for data types.
+/// Returns the index of the first id and name of which something else holds for data types.
 pub fn first_failing_data_type(all: &[Word]) -> Option<usize> {
     for (place, (id, name, is_one)) in all.iter().enumerate() {
         if is_data_type(*id, *name) != Some(*is_one) {
@@ -35,7 +35,7 @@ fn is_key_kind(number: u64, name: &str) -> Option<bool> {
     }
 }
 
-/// Returns the place of the first number and name of which something else holds for kinds of keys.
+/// Returns the index of the first number and name of which something else holds for kinds of keys.
 pub fn first_failing_key_kind(all: &[Word]) -> Option<usize> {
     for (place, (number, name, is_one)) in all.iter().enumerate() {
         if is_key_kind(*number, *name) != Some(*is_one) {

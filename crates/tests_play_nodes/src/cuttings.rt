@@ -89,7 +89,7 @@ fn agree<H: Wait>(
     Some(are_sent(sent.as_slice(), meeting) && shares == Some(true))
 }
 
-/// Does the same with a new joiner.
+/// Returns what `agree` does, with a new joiner.
 fn join<H: Wait>(
     rt: &H,
     alloc: Global,
@@ -103,7 +103,7 @@ fn join<H: Wait>(
     agreed
 }
 
-/// Does the same with a new joiner and a new server.
+/// Returns what `join` does, with a new server.
 fn serve<H: Wait>(rt: &H, alloc: Global, meeting: &Meeting, most: usize) -> Option<bool> {
     let mut server = meeting.server.side(alloc, Role::Accepts)?;
     let agreed = join(rt, alloc, &mut server, meeting, most);
@@ -111,7 +111,7 @@ fn serve<H: Wait>(rt: &H, alloc: Global, meeting: &Meeting, most: usize) -> Opti
     agreed
 }
 
-/// Does the same for each length of the pieces.
+/// Calls `serve` for each length of the pieces.
 fn end_alike<H: Wait>(rt: &H, alloc: Global, meeting: &Meeting) -> Option<bool> {
     for most in 1..=MOST_BYTES {
         if !serve(rt, alloc, meeting, most)? {
@@ -121,7 +121,7 @@ fn end_alike<H: Wait>(rt: &H, alloc: Global, meeting: &Meeting) -> Option<bool> 
     Some(true)
 }
 
-/// Cuts the bytes between two sides into pieces of at most 1, 2, .. 50 bytes. Returns the place of the first meeting in which, for
+/// Cuts the bytes between two sides into pieces of at most 1, 2, .. 50 bytes. Returns the index of the first meeting in which, for
 /// one of these lengths, the side that teaches sends other bytes or the two don't end with the same rows.
 pub fn first_failing<H: Wait>(rt: &H, alloc: Global, meetings: &[Meeting]) -> Option<usize> {
     for (place, meeting) in meetings.iter().enumerate() {

@@ -41,8 +41,8 @@ fn is_counted(device: &mut Counting<Narrow>, called: &Called) -> bool {
     make(device, made) == *bytes && device.failures() == *failures
 }
 
-/// Makes the calls of a device that gives or takes `bytes` bytes, then fails, and counts its failures. Returns the place of the first
-/// call that turns out otherwise, or the number of calls if more or fewer of them reach the device.
+/// Makes the calls of a device that gives or takes `bytes` bytes, then fails, and counts its failures. Returns the index of the first
+/// call that fails, or the number of calls if more or fewer of them reach the device.
 pub fn first_miscounted(bytes: u32, calls: &[Called]) -> Option<usize> {
     let mut narrow = Counting::new(Narrow::new(bytes, Then::Fails));
     for (place, called) in calls.iter().enumerate() {
@@ -85,7 +85,7 @@ fn is_read(alloc: Global, (device, expected, calls): &Reading) -> bool {
     }
 }
 
-/// Reads each device to its end. Returns the place of the first that turns out otherwise.
+/// Reads each device to its end. Returns the index of the first that fails.
 pub fn first_misread(alloc: Global, readings: &[Reading]) -> Option<usize> {
     for (place, reading) in readings.iter().enumerate() {
         if !is_read(alloc, reading) {
@@ -111,7 +111,7 @@ fn is_written((device, expected, calls): &Writing) -> bool {
     }
 }
 
-/// Writes to each device. Returns the place of the first that turns out otherwise.
+/// Writes to each device. Returns the index of the first that fails.
 pub fn first_miswritten(writings: &[Writing]) -> Option<usize> {
     for (place, writing) in writings.iter().enumerate() {
         if !is_written(writing) {

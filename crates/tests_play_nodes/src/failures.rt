@@ -106,7 +106,7 @@ fn comes_true<H: Wait>(rt: &H, alloc: Global, failure: &Failure) -> Option<bool>
     ended
 }
 
-/// Plays the failures. Returns the place of the first that goes otherwise.
+/// Plays the failures. Returns the index of the first that fails.
 pub fn first_failing<H: Wait>(rt: &H, alloc: Global, failures: &[Failure]) -> Option<usize> {
     for (place, failure) in failures.iter().enumerate() {
         if comes_true(rt, alloc, failure) != Some(true) {

@@ -21,7 +21,7 @@ fn is_written(alloc: Global, written: &Written) -> bool {
     ends == written.ends && counts && bytes.as_slice() == written.written
 }
 
-/// Writes the lessons. Returns the place of the first that turns out otherwise.
+/// Writes the lessons. Returns the index of the first that fails.
 pub fn first_miswritten(alloc: Global, all: &[Written]) -> Option<usize> {
     for (place, written) in all.iter().enumerate() {
         if !is_written(alloc, written) {

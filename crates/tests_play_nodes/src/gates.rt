@@ -17,7 +17,7 @@ use table_shards::{Seat, Shards, held};
 use table_types::{CopyKind, Moment};
 use tests_play_tables::{comes, track};
 
-/// A gate that holds a session at `stage` until another thread lets it go, at most about 10 s.
+/// A gate that holds a session at `stage` until another thread releases it, at most about 10 s.
 #[derive(Drop)]
 pub struct Held<'a, C> {
     pub clock: &'a C,
@@ -165,7 +165,7 @@ fn notes_stages<H: Wait>(rt: &H, alloc: Global, side: &mut Side) -> Option<bool>
     Some(turned == Ok(Turned::Going) && stages == 123 && !was_locked)
 }
 
-/// Does the same with a side after a story.
+/// Calls `notes_stages` with a side after a story.
 fn notes_after<H: Wait>(rt: &H, alloc: Global, side: &mut Side, story: &Story) -> Option<bool> {
     let was_lived = is_lived(rt, alloc, side, story)?;
     Some(was_lived && notes_stages(rt, alloc, side)?)
@@ -189,7 +189,7 @@ pub enum Meanwhile {
     Reopens,
 }
 
-/// Closes the session in `t1` and opens it again. Returns whether both calls did so.
+/// Closes the session in `t1` and opens it again. Returns whether both calls succeeded.
 fn reopens<R: Wait>(rt: &R, shards: &Shards, seat: &mut Option<Seat>) -> Option<bool> {
     let lock = shards.cell(1)?;
     let taken = seat.take()?;
@@ -211,7 +211,7 @@ fn copies<R: Wait>(rt: &R, shards: &Shards, seat: &mut Option<Seat>) -> Option<b
     Some(copied.is_ok_and(|batch| batch.updates().len() == 1))
 }
 
-/// Does that, and returns whether each call did so.
+/// Performs `meanwhile`, and returns whether every call succeeded.
 fn is_answered<R: Wait>(
     rt: &R,
     shards: &Shards,
@@ -229,7 +229,7 @@ fn is_answered<R: Wait>(
     }
 }
 
-/// Does that when the session has reached the gate, and lets it go. Returns whether all went so.
+/// Waits for the session to reach the gate, performs `meanwhile`, and releases the session. Returns whether all of it succeeded.
 fn lets_go<R: Wait + Clock>(
     rt: &R,
     shards: &Shards,
@@ -305,7 +305,7 @@ fn is_held_after<H: Threads + Wait + Clock + Sync>(
     Some(was_lived && outcome.turned == scene.ends && outcome.sent == scene.sends)
 }
 
-/// Does the same with a new side.
+/// Returns what `is_held_after` does, with a new side.
 fn is_held_so<H: Threads + Wait + Clock + Sync>(
     rt: &H,
     alloc: Global,
@@ -318,7 +318,7 @@ fn is_held_so<H: Threads + Wait + Clock + Sync>(
     held
 }
 
-/// Plays each scene in the turn after the story. Returns the place of the first that goes otherwise.
+/// Plays each scene in the turn after the story. Returns the index of the first that fails.
 pub fn first_failing<H: Threads + Wait + Clock + Sync>(
     rt: &H,
     alloc: Global,

@@ -4,7 +4,7 @@ use peers_hello::{Answer, Hello, Status, read_status};
 use std::alloc::Global;
 use tests_play_data::parts::named;
 
-/// What a hello is answered, and the number of its bytes. It is `a` that is accepted.
+/// The answer expected to a hello, with the number of its bytes. The peer accepted is `a`.
 pub enum Answered {
     Accepted(usize),
     Refused(u16, usize),
@@ -31,7 +31,7 @@ fn is_answered(alloc: Global, bytes: &[u8], answered: &Answered) -> bool {
     }
 }
 
-/// Reads the hellos. Returns the place of the first that is answered otherwise.
+/// Reads the hellos. Returns the index of the first that gets another answer.
 pub fn first_misread(alloc: Global, hellos: &[(&[u8], Answered)]) -> Option<usize> {
     for (place, (bytes, answered)) in hellos.iter().enumerate() {
         if !is_answered(alloc, *bytes, answered) {
@@ -41,7 +41,7 @@ pub fn first_misread(alloc: Global, hellos: &[(&[u8], Answered)]) -> Option<usiz
     None
 }
 
-/// Reads the statuses. Returns the place of the first that is another.
+/// Reads the statuses. Returns the index of the first that is another.
 pub fn first_other_status(statuses: &[(&[u8], Status)]) -> Option<usize> {
     for (place, (bytes, status)) in statuses.iter().enumerate() {
         if read_status(*bytes) != *status {

@@ -1,6 +1,6 @@
 //! Plays the examples of sessions and devices that only a call can show: an example is data, written in short, and a function of
-//! this crate makes the calls and compares. The library has no tests, so it is proved once. A function that returns a place
-//! returns that of the first example that turns out otherwise. If memory runs out, an example counts as turned out otherwise.
+//! this crate makes the calls and compares. The library has no tests, so it is proved once. A function that returns an index
+//! returns that of the first example that fails. If memory runs out, an example counts as failed.
 //! All other examples go through the program, to a far side of its own (`bin/checks/nodes.sh`).
 #![tactic(auto)]
 

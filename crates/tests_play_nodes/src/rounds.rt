@@ -25,7 +25,7 @@ fn opens<R: Wait>(rt: &R, shards: &Shards, seat: &mut Option<Seat>) -> Option<bo
     Some(answer.is_ok())
 }
 
-/// Does the same, and tracks key 7. Returns whether both went so.
+/// Calls `opens`, and tracks key 7. Returns whether both succeeded.
 fn is_begun<R: Wait>(rt: &R, shards: &Shards, seat: &mut Option<Seat>) -> Option<bool> {
     let opened = opens(rt, shards, seat)?;
     let counted = track(rt, shards, seat, 1, 7);
@@ -125,7 +125,7 @@ fn is_held_at<R: Threads + Wait + Clock + Sync>(
     Some(was_held == Some(true) && audited == Some(true))
 }
 
-/// Holds a worker at each stage. Returns the place of the first at which another thread can't change its table, or an audit finds a
+/// Holds a worker at each stage. Returns the index of the first at which another thread can't change its table, or an audit finds a
 /// fault.
 pub fn first_locked<R: Threads + Wait + Clock + Sync>(
     rt: &R,

@@ -113,7 +113,7 @@ pub(crate) fn is_lived<H: Wait>(
     Some(went && side.session.state() == story.state && has_rows)
 }
 
-/// Does the same with a new side.
+/// Returns what `is_lived` does, with a new side.
 fn comes_true<H: Wait>(rt: &H, alloc: Global, story: &Story) -> Option<bool> {
     let mut side = story.tables.side(alloc, story.role)?;
     let lived = is_lived(rt, alloc, &mut side, story);
@@ -121,7 +121,7 @@ fn comes_true<H: Wait>(rt: &H, alloc: Global, story: &Story) -> Option<bool> {
     lived
 }
 
-/// Plays each story with a new side. Returns the place of the first that goes otherwise.
+/// Plays each story with a new side. Returns the index of the first that fails.
 pub fn first_failing<H: Wait>(rt: &H, alloc: Global, stories: &[Story]) -> Option<usize> {
     for (place, story) in stories.iter().enumerate() {
         if comes_true(rt, alloc, story) != Some(true) {

@@ -112,7 +112,7 @@ fn misses_a_seat(
     }
 }
 
-/// Does the same with others that are made for it.
+/// Calls `misses_a_seat` with a round and other tables made for it.
 fn misses_the_second(
     alloc: Global,
     tables: Unlocked,

@@ -26,7 +26,7 @@ fn prepared(alloc: Global, size: usize) -> Option<TableCell>
     }
 }
 
-/// Does the same, a second time if memory ran out for it.
+/// Calls `prepared`, again if memory ran out the first time.
 fn prepared_at_last(alloc: Global, size: usize) -> Option<TableCell>
     requires { (1 ≤ size) × (size ≤ 1000000) }
 {
@@ -55,7 +55,7 @@ fn tracks(cell: &mut TableCell) -> Option<bool> {
     Some(last == Ok((2, 2)) && cell.events() == 3)
 }
 
-/// Does the same with the row of key 7 replaced by that of key 8.
+/// Does what `tracks` does, with the row of key 7 replaced by that of key 8.
 fn tracks_in_full(cell: &mut TableCell) -> Option<bool> {
     if !tracks(cell)? {
         return Some(false);

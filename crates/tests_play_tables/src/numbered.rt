@@ -78,7 +78,7 @@ fn failing_call(alloc: Global, first: u32, calls: &[Call]) -> Option<usize> {
     None
 }
 
-/// Returns the place of the first story of which a call returns something else, and the place of the call.
+/// Returns the index of the first story of which a call returns something else, and the index of the call.
 pub fn first_failing(alloc: Global, stories: &[Story]) -> Option<(usize, usize)> {
     for (place, (first, calls)) in stories.iter().enumerate() {
         if let Some(call) = failing_call(alloc, *first, *calls) {

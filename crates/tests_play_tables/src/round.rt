@@ -36,7 +36,7 @@ impl Round {
         track(rt, &self.shards, &mut self.seat, table, key)
     }
 
-    /// Does the same under the lock of table `lock`, and returns what the call returns.
+    /// Calls `track` under the lock of table `lock`, and returns what the call returns.
     pub(crate) fn track_at<R: Wait>(
         &mut self,
         rt: &R,
@@ -47,7 +47,7 @@ impl Round {
         track_at(rt, &self.shards, lock, &mut self.seat, table, key)
     }
 
-    /// Does the same, and returns why it is refused, if it is.
+    /// Calls `track_at`, and returns why it is refused, if it is.
     pub(crate) fn refusal<R: Wait>(
         &mut self,
         rt: &R,
@@ -79,7 +79,7 @@ impl Round {
         Some(tables.audit(seats))
     }
 
-    /// Does the same, and returns the error alone.
+    /// Calls `audit`, and returns the error alone.
     pub(crate) fn audited(self, alloc: Global) -> Option<Result<(), AuditError>> {
         match self.audit(alloc)? {
             Ok(_) => Some(Ok(())),

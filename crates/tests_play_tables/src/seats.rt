@@ -71,7 +71,7 @@ fn compares(alloc: Global, tracked: &Seat, other: &Seat) -> Option<bool> {
     Some(was_tracked && are_told_apart(&new, &changed, tracked, other))
 }
 
-/// Does the same with the seats of both rounds.
+/// Calls `compares` with the seats of both rounds.
 fn compares_seats(alloc: Global, tracked: &Round, other: &Round) -> Option<bool> {
     compares(alloc, tracked.seat.as_ref()?, other.seat.as_ref()?)
 }

@@ -1,5 +1,5 @@
-//! The same of a table of wide rows: string keys, two counts and the server's name. Each call that is tried makes the fifth
-//! event, for which the history grows.
+//! Calls that are made again after memory ran out, on a table of wide rows: string keys, two counts and the server's name. Each
+//! call that is tried makes the fifth event, for which the history grows.
 
 ghost use Rattle.std.specs.Prelude.{◌≤◌};
 
@@ -119,7 +119,7 @@ fn begun(alloc: Global, before: &Before) -> Option<TableCell> {
     }
 }
 
-/// Does the same, a second time if memory ran out for it.
+/// Calls `begun`, again if memory ran out the first time.
 fn begun_at_last(alloc: Global, before: &Before) -> Option<TableCell> {
     match begun(alloc, before) {
         Some(cell) => Some(cell),
@@ -136,7 +136,7 @@ fn has_only(cell: &TableCell, text: &[u8]) -> Option<bool> {
     Some(found.as_slice() == text)
 }
 
-/// Does the same, a second time if memory ran out for it.
+/// Calls `has_only`, again if memory ran out the first time.
 fn has_only_at_last(cell: &TableCell, text: &[u8]) -> bool {
     match has_only(cell, text) {
         Some(answer) => answer,
@@ -263,7 +263,7 @@ fn tracks_again(alloc: Global, before: &Before, change: &Tracking) -> Option<boo
     Some(tracked && (before.size > 1 || has_only_at_last(&cell, change.text)))
 }
 
-/// Returns the place of the first change that isn't tracked as it should be. In a table of size 1 its row is the only one then.
+/// Returns the index of the first change that isn't tracked as it should be. In a table of size 1 its row is the only one then.
 pub fn first_failing_track(alloc: Global, stories: &[(Before, Tracking)]) -> Option<usize> {
     for (place, (before, change)) in stories.iter().enumerate() {
         if tracks_again(alloc, before, change) != Some(true) {

@@ -19,7 +19,7 @@ use std::io::{Read, Write};
 /// Reads a scene, and writes the verdict on its stream and prices: whether the stream is legal for the learner of the scene,
 /// whether it teaches the scene's updates, and whether the prices show that no shorter stream does.
 ///
-/// It ends with `Done` only if the stream is a shortest one, and with `NotShortest` by every other verdict. If it ends early,
+/// It ends with `Done` only if the stream is a shortest one, and with `NotShortest` on every other verdict. If it ends early,
 /// it writes to `errors` a line that says why, and nothing to `output`, unless a device failed.
 pub fn check<R: Read + Faults, W: Write + Faults, E: Write + Faults>(
     alloc: Global,
@@ -67,7 +67,7 @@ fn verdict_of(alloc: Global, scene: Scene) -> Result<Verdict, Ending>
     Ok(verify(alloc, known, batch, stream, prices)?)
 }
 
-/// Returns how the subcommand ends by a verdict.
+/// Returns how the subcommand ends after `verdict`.
 fn ending_of(verdict: Verdict) -> Ending
     ensures { result ≡ ending_of verdict }
 {

@@ -30,7 +30,7 @@ static TAUGHT: KnownParts = KnownParts {
     held: &[],
 };
 
-/// Makes the session of that peer.
+/// Makes the session of `peer`.
 fn session(alloc: Global, peer: &Peer) -> Option<Session> {
     match peer {
         Peer::Connector => connecting(alloc, alone(alloc, &T1)?, false),
@@ -39,7 +39,7 @@ fn session(alloc: Global, peer: &Peer) -> Option<Session> {
     }
 }
 
-/// Makes the batch of these updates.
+/// Makes the batch of `updates`.
 fn batch_for(alloc: Global, roster: &Roster, updates: Vec<Update>) -> Option<Batch> {
     Batch::new(alloc, roster, updates).ok()
 }
@@ -185,7 +185,7 @@ fn is_played(alloc: Global, story: &Story, after: &After) -> bool {
     }
 }
 
-/// Returns the place of the first of the story's ends that its session doesn't reach, or 0 if it has none.
+/// Returns the index of the first of the story's ends that its session doesn't reach, or 0 if it has none.
 fn failing_end(alloc: Global, story: &Story) -> Option<usize> {
     for (place, after) in story.after.iter().enumerate() {
         if !is_played(alloc, story, after) {
@@ -199,7 +199,7 @@ fn failing_end(alloc: Global, story: &Story) -> Option<usize> {
     }
 }
 
-/// Plays the stories. Returns the name of the first that goes otherwise, and the place of the end that its session doesn't reach.
+/// Plays the stories. Returns the name of the first that fails, and the index of the end that its session doesn't reach.
 pub fn first_failing(alloc: Global, stories: &[Story]) -> Option<(&'static str, usize)> {
     for story in stories {
         if let Some(place) = failing_end(alloc, story) {
