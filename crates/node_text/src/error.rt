@@ -21,13 +21,11 @@ pub enum SceneError {
 }
 
 /// Why a line wasn't read.
-#[derive(Clone, Copy, Debug, PartialEq, Eq, Error)]
+#[derive(Clone, Copy)]
 pub(crate) enum LineError {
     /// The line breaks a rule or a limit.
-    #[error("refused")]
     Refused,
     /// Memory ran out.
-    #[error("memory")]
     Memory,
 }
 
