@@ -127,8 +127,7 @@ pub(crate) fn settle(
     ensures { OnOk result ((r : Result (Unit {0}) StrangeBatch) × Settles cell.now session batch.now r × Adds (settled r) text.old.items text.new.items) }
 {
     match cell.settle(session, batch) {
-        Ok(()) => push_line(text, "ok")?,
-        Err(_) => push_line(text, "StrangeBatch")?,
+        Ok(()) => Ok(push_line(text, "ok")?),
+        Err(_) => Ok(push_line(text, "StrangeBatch")?),
     }
-    Ok(())
 }
