@@ -12,8 +12,8 @@ use thiserror::Error;
 /// Why a learner stops. What is wrong with the bytes is the first breach from left to right; if a name field reads an
 /// empty slot and there is no number either, it is `NoNumber` (profile).
 ///
-/// After any fault but `Memory`, every later call that takes bytes returns `Closed`. The same holds after a `Memory`
-/// that a learner's `feed` returned.
+/// After any fault but `Memory`, every later call that takes bytes returns `Closed`. After `Memory` too, if a learner's
+/// `feed` returned it.
 #[derive(Clone, Copy, Debug, PartialEq, Eq, Error)]
 pub enum Fault {
     /// The bytes at the front are no message.

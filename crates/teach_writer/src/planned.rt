@@ -82,8 +82,8 @@ fn note_likely_slot(
     }
 }
 
-/// Sends the updates of a batch, one after another, keeping the requests that `keep` marks. Returns the bytes, and what
-/// the learner knows after them.
+/// Sends the updates of a batch, one after another, with the requests kept that `keep` marks. Returns the bytes, and
+/// what the learner knows after them.
 fn send_updates(
     alloc: Global,
     known: &Known,
