@@ -114,7 +114,8 @@ pub(crate) fn push_rows(alloc: Global, cell: &TableCell, text: &mut Vec<u8>) -> 
     let rows = cell.rows()?;
     let count = rows.len();
     text.extend_from_slice(format!(in alloc; "rows {count}\n")?.as_bytes())?;
-    push_entries(text, cell.definition(), rows.as_slice())
+    push_entries(text, cell.definition(), rows.as_slice())?;
+    Ok(())
 }
 
 /// Appends a line for each row.
