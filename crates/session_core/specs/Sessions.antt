@@ -36,6 +36,11 @@ use Rattle.session_core.specs.declared.phase.Greeter.{Greeter}
 use Rattle.session_core.specs.declared.phase.Greeter.TheVariants as greeters
 use Rattle.session_core.specs.declared.phase.Phase.{Phase}
 use Rattle.session_core.specs.declared.phase.Phase.TheVariants as phases
+use Rattle.session_core.specs.declared.phase.Stage.{Stage}
+use Rattle.session_core.specs.declared.phase.Stage.TheVariants as stages
+use Rattle.session_core.specs.declared.talk.Talk.{Talk}
+use Rattle.session_core.specs.declared.talk.Heard.{Heard}
+use Rattle.session_core.specs.declared.talk.Heard.TheVariants as heards
 use Rattle.session_core.specs.Shares.{any_out, all_quiet, out_set, quiet_set}
 use Rattle.session_core.specs.Actions.{sends_control, status_text, reopens, confirms}
 use Rattle.session_core.specs.Courses.{Course, course_begun, course_fed, teaching_anew, ReceivesAll, acks_sent, acks_given, kind_of, table_to_ask, is_due, none_due, Answered, finished, state_of_course}
@@ -47,6 +52,17 @@ pub record SessionState : Type 0 where
   pub known : KnownState
   pub fault : Option Fault
   pub confirmed : Bool
+
+-- how far it has come, with its course; a session that is over has none
+abbrev pub phase_of : Stage → Course → Phase
+phase_of (stages.New hello) c = phases.New hello c
+phase_of (stages.Hello greeter bytes) c = phases.Hello greeter bytes.items c
+phase_of stages.Open c = phases.Open c
+phase_of stages.Ended c = phases.Ended
+
+-- what is seen of it
+abbrev pub seen : Talk → SessionState
+seen t = record { phase = phase_of t.stage t.course; known = t.known; fault = t.fault; confirmed = t.confirmed }
 
 abbrev pub in_phase : SessionState → Phase → SessionState
 in_phase s phase = record { phase = phase; known = s.known; fault = s.fault; confirmed = s.confirmed }
@@ -210,6 +226,20 @@ GoesOpen s c events.End acts e = Closes s acts e
 GoesOpen s c events.ReadFault acts e = Closes s acts e
 GoesOpen s c events.WriteFault acts e = Closes s acts e
 GoesOpen s c events.Opened acts e = ⊥
+
+-- a step that failed leaves what stays readable
+abbrev pub Keeps : Talk → Talk → Type 0
+Keeps s e = (e.known ≡ s.known) × (e.fault ≡ s.fault) × (e.confirmed ≡ s.confirmed)
+
+-- what the bytes so far of a hello or a status make of a session
+abbrev pub IsHeard : Heard → SessionState → Greeter → List ℕ → Course → List Action → SessionState → Type 0
+IsHeard heards.More s greeter bytes c acts e = Stays s (phases.Hello greeter bytes c) acts e
+IsHeard (heards.Begins used first) s greeter bytes c acts e = ReceivesBytes s (course_fed c (drop used bytes)) first.items acts e
+IsHeard (heards.Over given) s greeter bytes c acts e = (acts ≡ given.items) × (e ≡ ended s)
+
+-- any session that stands at the course c goes at an event to the course e
+abbrev pub GoesOn : Course → Event → List Action → Course → Type 0
+GoesOn c event acts e = (s : SessionState) → GoesOpen s c event acts (going s e)
 
 -- ---- any phase
 

@@ -15,6 +15,7 @@ mod receiving;
 mod session;
 mod share;
 mod state;
+mod talk;
 
 pub use action::Action;
 pub use error::SessionError;

@@ -8,8 +8,8 @@ ghost use Rattle.session_core.specs.declared.due.Due.TheVariants as dues;
 ghost use Rattle.session_core.specs.declared.phase.Phase.TheVariants as phases;
 ghost use Rattle.session_core.specs.Shares.{all_quiet, out_set};
 ghost use Rattle.session_core.specs.Actions.{reopens};
-ghost use Rattle.session_core.specs.Courses.{teaching_anew, kind_of, table_to_ask, none_due, is_due};
-ghost use Rattle.session_core.specs.Sessions.{GoesOpen, Turns, IsCopied, HasNothing, FinishesResync, Settles, IsWhy, going, is_asked_open};
+ghost use Rattle.session_core.specs.Courses.{teaching_anew, kind_of, table_to_ask, none_due, is_due, Answered};
+ghost use Rattle.session_core.specs.Sessions.{GoesOpen, Turns, IsCopied, HasNothing, FinishesResync, Settles, IsWhy, going, is_asked_open, GoesOn};
 
 use crate::action::{Action, only};
 use crate::course::Course;
@@ -26,268 +26,86 @@ use std::alloc::Global;
 use std::mem;
 use table_types::{Batch, Items, Memory, Settled};
 
-/// Has the course ask the table of that id.
-fn asked(alloc: Global, course: &mut Course, table: u64) -> Result<Vec<Action>, Memory>
-    ensures actions { IfOk result (λ acts. acts.items ≡ actions.Copy table (kind_of course.old.teaching) ∷ []) }
-    ensures course { OnOk result (course.new ≡ record course.old { asked = Some table; due = dues.Copy table ∷ [] }) }
-{
-    let kind = course.kind();
-    course.ask(table)?;
-    only(alloc, Action::Copy { table, kind })
-}
-
-/// Has the course owe the lesson of a batch of the table of that id, which is out.
-fn taught(
-    alloc: Global,
-    course: &mut Course,
-    table: u64,
-    batch: Batch,
-) -> Result<Vec<Action>, Memory>
-    ensures actions { IfOk result (λ acts. acts.items ≡ actions.Teach batch ∷ []) }
-    ensures course { OnOk result (course.new ≡ record course.old { shares = out_set table true course.old.shares; due = dues.Teach ∷ course.old.due }) }
-{
-    course.set_out(table, true);
-    if let Err(refused) = course.owe_lesson() {
-        drop(batch);
-        return Err(refused);
-    }
-    only(alloc, Action::Teach(batch))
-}
-
-/// Has the course begin a resync.
-fn begun_teaching(alloc: Global, course: &mut Course) -> Result<Vec<Action>, Memory>
-    ensures actions { IfOk result (λ acts. acts.items ≡ reopens course.old.shares) }
-    ensures course { OnOk result (course.new ≡ teaching_anew course.old) }
-{
-    let mut actions = Vec::new(alloc);
-    course.begin_teaching(&mut actions)?;
-    Ok(actions)
-}
-
-impl Session {
-    /// An event of an open session.
-    pub(crate) fn go_open(
-        &mut self,
-        course: Course,
-        event: Event,
-    ) -> Result<Vec<Action>, SessionError>
-        requires { self.old.phase ≡ phases.Ended }
-        ensures goes { IfOk result (λ acts. GoesOpen self.old course event acts.items self.new) }
-        ensures refused { IfErr result (λ e. IsWhy (is_asked_open course.due event) e) }
-        ensures stays { OnErr result (self.new ≡ self.old) }
-    {
-        match event {
-            Event::Turn => self.turn(course),
-            Event::Bytes(bytes) => self.bytes(course, bytes),
-            Event::Copied(table, batch) => self.copied(course, table, batch),
-            Event::Nothing(table) => self.nothing(course, table),
-            Event::Written(known) => self.written(course, known),
-            Event::Settled(table, settled) => self.settled(course, table, settled),
-            Event::Refused(table) => self.refused(course, table),
-            Event::End | Event::ReadFault | Event::WriteFault => {
-                drop(course);
-                self.close()
-            }
-            Event::Opened => {
-                drop(course);
-                Err(SessionError::Unasked)
-            }
-        }
-    }
-
-    /// Goes on with that course, and asks for nothing.
-    fn wait(&mut self, course: Course) -> Vec<Action>
-        ensures actions { result.items ≡ [] }
-        ensures session { self.new ≡ going self.old course }
-    {
-        self.stand(Phase::Open(course));
-        Vec::new(self.alloc)
-    }
-
+impl Course {
     /// There is time to teach.
-    fn turn(&mut self, course: Course) -> Result<Vec<Action>, SessionError>
-        requires { self.old.phase ≡ phases.Ended }
-        ensures goes { IfOk result (λ acts. GoesOpen self.old course events.Turn acts.items self.new) }
-        ensures refused { IfErr result (λ e. IsWhy (none_due course.due) e) }
-        ensures stays { OnErr result (self.new ≡ self.old) }
+    pub(crate) fn turn(&mut self, alloc: Global) -> Result<Vec<Action>, SessionError>
+        ensures goes { IfOk result (λ acts. GoesOn self.old events.Turn acts.items self.new) }
+        ensures refused { IfErr result (λ e. IsWhy (none_due self.old.due) e) }
     {
-        if !course.none_due() {
-            drop(course);
+        if !self.none_due() {
             return Err(SessionError::Unasked);
         }
-        match course.table_to_ask() {
-            Some(table) => Ok(self.ask(course, table)?),
-            None => Ok(self.wait(course)),
+        match self.table_to_ask() {
+            Some(table) => {
+                let kind = self.kind();
+                self.ask(table)?;
+                Ok(only(alloc, Action::Copy { table, kind })?)
+            }
+            None => Ok(Vec::new(alloc)),
         }
     }
 
-    /// Asks for a copy of the table of that id.
-    fn ask(&mut self, course: Course, table: u64) -> Result<Vec<Action>, Memory>
-        requires { self.old.phase ≡ phases.Ended }
-        ensures goes { IfOk result (λ acts. Turns (Some table) self.old course acts.items self.new) }
-        ensures stays { OnErr result (self.new ≡ self.old) }
-    {
-        let mut course = course;
-        let asked = asked(self.alloc, &mut course, table);
-        self.stand_with(Phase::Open(course), asked)
-    }
-
-    /// Bytes came.
-    fn bytes(&mut self, course: Course, bytes: Items<u8>) -> Result<Vec<Action>, SessionError>
-        requires { self.old.phase ≡ phases.Ended }
-        ensures goes { IfOk result (λ acts. GoesOpen self.old course (events.Bytes bytes) acts.items self.new) }
-        ensures refused { IfErr result (λ e. IsWhy (none_due course.due) e) }
-        ensures stays { OnErr result (self.new ≡ self.old) }
-    {
-        if !course.none_due() {
-            drop(course);
-            return Err(SessionError::Unasked);
-        }
-        Ok(self.receive(course, bytes.as_slice(), Vec::new(self.alloc))?)
-    }
-
-    /// A batch of the table of that id was copied.
-    fn copied(
+    /// A batch of the table of that id was copied: it is out, and is to be taught.
+    pub(crate) fn copied(
         &mut self,
-        course: Course,
+        alloc: Global,
         table: u64,
         batch: Batch,
     ) -> Result<Vec<Action>, SessionError>
-        requires { self.old.phase ≡ phases.Ended }
-        ensures goes { IfOk result (λ acts. GoesOpen self.old course (events.Copied table batch) acts.items self.new) }
-        ensures refused { IfErr result (λ e. IsWhy (is_due (dues.Copy table) course.due) e) }
-        ensures stays { OnErr result (self.new ≡ self.old) }
+        ensures goes { IfOk result (λ acts. GoesOn self.old (events.Copied table batch) acts.items self.new) }
+        ensures refused { IfErr result (λ e. IsWhy (is_due (dues.Copy table) self.old.due) e) }
     {
-        let mut course = course;
-        if let Err(unasked) = course.answer(Due::Copy(table)) {
-            drop(course);
-            drop(batch);
-            return Err(unasked);
+        self.answer(Due::Copy(table))?;
+        self.set_out(table, true);
+        self.owe_lesson()?;
+        Ok(only(alloc, Action::Teach(batch))?)
+    }
+
+    /// The table of that id has nothing to teach: in a resync it is quiet then.
+    pub(crate) fn nothing(&mut self, alloc: Global, table: u64) -> Result<Vec<Action>, SessionError>
+        ensures goes { IfOk result (λ acts. GoesOn self.old (events.Nothing table) acts.items self.new) }
+        ensures refused { IfErr result (λ e. IsWhy (is_due (dues.Copy table) self.old.due) e) }
+    {
+        self.answer(Due::Copy(table))?;
+        if !self.teaching {
+            return Ok(Vec::new(alloc));
         }
-        Ok(self.teach(course, table, batch)?)
-    }
-
-    /// The batch is out, and is to be taught.
-    fn teach(&mut self, course: Course, table: u64, batch: Batch) -> Result<Vec<Action>, Memory>
-        requires { self.old.phase ≡ phases.Ended }
-        ensures goes { IfOk result (λ acts. IsCopied self.old course table batch acts.items self.new) }
-        ensures stays { OnErr result (self.new ≡ self.old) }
-    {
-        let mut course = course;
-        let taught = taught(self.alloc, &mut course, table, batch);
-        self.stand_with(Phase::Open(course), taught)
-    }
-
-    /// The table of that id has nothing to teach.
-    fn nothing(&mut self, course: Course, table: u64) -> Result<Vec<Action>, SessionError>
-        requires { self.old.phase ≡ phases.Ended }
-        ensures goes { IfOk result (λ acts. GoesOpen self.old course (events.Nothing table) acts.items self.new) }
-        ensures refused { IfErr result (λ e. IsWhy (is_due (dues.Copy table) course.due) e) }
-        ensures stays { OnErr result (self.new ≡ self.old) }
-    {
-        let mut course = course;
-        if let Err(unasked) = course.answer(Due::Copy(table)) {
-            drop(course);
-            return Err(unasked);
+        self.set_quiet(table);
+        if !all_quiet(self.shares.as_slice()) {
+            return Ok(Vec::new(alloc));
         }
-        Ok(self.note_nothing(course, table)?)
+        self.teaching = false;
+        Ok(only_control(alloc, self.finished())?)
     }
 
-    /// In a resync the table of that id is quiet.
-    fn note_nothing(&mut self, course: Course, table: u64) -> Result<Vec<Action>, Memory>
-        requires { self.old.phase ≡ phases.Ended }
-        ensures goes { IfOk result (λ acts. HasNothing course.teaching self.old course table acts.items self.new) }
-        ensures stays { OnErr result (self.new ≡ self.old) }
+    /// The lesson was written.
+    pub(crate) fn written(&mut self, alloc: Global) -> Result<Vec<Action>, SessionError>
+        ensures goes { IfOk result (λ acts. Answered self.old dues.Teach self.new × (acts.items ≡ [])) }
+        ensures refused { IfErr result (λ e. IsWhy (is_due dues.Teach self.old.due) e) }
     {
-        let mut course = course;
-        if !course.teaching {
-            return Ok(self.wait(course));
-        }
-        course.set_quiet(table);
-        self.finish(course)
+        self.answer(Due::Teach)?;
+        Ok(Vec::new(alloc))
     }
 
-    /// Ends the resync where all tables are quiet.
-    fn finish(&mut self, course: Course) -> Result<Vec<Action>, Memory>
-        requires { self.old.phase ≡ phases.Ended }
-        ensures goes { IfOk result (λ acts. FinishesResync (all_quiet course.shares) self.old course acts.items self.new) }
-        ensures stays { OnErr result (self.new ≡ self.old) }
-    {
-        let mut course = course;
-        if all_quiet(course.shares.as_slice()) {
-            let said = only_control(self.alloc, course.finished());
-            course.teaching = false;
-            return self.stand_with(Phase::Open(course), said);
-        }
-        Ok(self.wait(course))
-    }
-
-    /// The lesson was written, and ends in that known state.
-    fn written(&mut self, course: Course, known: Known) -> Result<Vec<Action>, SessionError>
-        requires { self.old.phase ≡ phases.Ended }
-        ensures goes { IfOk result (λ acts. GoesOpen self.old course (events.Written known) acts.items self.new) }
-        ensures refused { IfErr result (λ e. IsWhy (is_due dues.Teach course.due) e) }
-        ensures stays { OnErr result (self.new ≡ self.old) }
-    {
-        let mut course = course;
-        if let Err(unasked) = course.answer(Due::Teach) {
-            drop(course);
-            drop(known);
-            return Err(unasked);
-        }
-        drop(mem::replace(&mut self.known, known));
-        Ok(self.wait(course))
-    }
-
-    /// An acknowledgement settled that much of the table of that id.
-    fn settled(
+    /// An acknowledgement settled that much of the table of that id. A request that waits begins its resync where
+    /// nothing is out any more.
+    pub(crate) fn settled(
         &mut self,
-        course: Course,
+        alloc: Global,
         table: u64,
         settled: Settled,
     ) -> Result<Vec<Action>, SessionError>
-        requires { self.old.phase ≡ phases.Ended }
-        ensures goes { IfOk result (λ acts. GoesOpen self.old course (events.Settled table settled) acts.items self.new) }
-        ensures refused { IfErr result (λ e. IsWhy (is_due (dues.Ack table) course.due) e) }
-        ensures stays { OnErr result (self.new ≡ self.old) }
+        ensures goes { IfOk result (λ acts. GoesOn self.old (events.Settled table settled) acts.items self.new) }
+        ensures refused { IfErr result (λ e. IsWhy (is_due (dues.Ack table) self.old.due) e) }
     {
-        let mut course = course;
-        if let Err(unasked) = course.answer(Due::Ack(table)) {
-            drop(course);
-            return Err(unasked);
+        self.answer(Due::Ack(table))?;
+        let mut actions = Vec::new(alloc);
+        if settled == Settled::All {
+            self.set_out(table, false);
+            if self.waits && !any_out(self.shares.as_slice()) {
+                self.begin_teaching(&mut actions)?;
+            }
         }
-        match settled {
-            Settled::All => Ok(self.free(course, table)?),
-            Settled::Some | Settled::Older => Ok(self.wait(course)),
-        }
-    }
-
-    /// The table of that id isn't out any more. A request that waits begins its resync where none is.
-    fn free(&mut self, course: Course, table: u64) -> Result<Vec<Action>, Memory>
-        requires { self.old.phase ≡ phases.Ended }
-        ensures goes { IfOk result (λ acts. Settles settles.All self.old course table acts.items self.new) }
-        ensures stays { OnErr result (self.new ≡ self.old) }
-    {
-        let mut course = course;
-        course.set_out(table, false);
-        if course.waits && !any_out(course.shares.as_slice()) {
-            let begun = begun_teaching(self.alloc, &mut course);
-            return self.stand_with(Phase::Open(course), begun);
-        }
-        Ok(self.wait(course))
-    }
-
-    /// The remote peer acknowledged what the table of that id didn't teach.
-    fn refused(&mut self, course: Course, table: u64) -> Result<Vec<Action>, SessionError>
-        requires { self.old.phase ≡ phases.Ended }
-        ensures goes { IfOk result (λ acts. GoesOpen self.old course (events.Refused table) acts.items self.new) }
-        ensures refused { IfErr result (λ e. IsWhy (is_due (dues.Ack table) course.due) e) }
-        ensures stays { OnErr result (self.new ≡ self.old) }
-    {
-        let mut course = course;
-        let answered = course.answer(Due::Ack(table));
-        drop(course);
-        answered?;
-        Ok(only(self.alloc, Action::Part(ErrorKind::Protocol))?)
+        Ok(actions)
     }
 }

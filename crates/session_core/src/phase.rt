@@ -30,3 +30,16 @@ pub(crate) enum Phase {
     /// The session is over.
     Ended,
 }
+
+/// How far a session has come, beside its course.
+#[derive(Drop)]
+pub(crate) enum Stage {
+    /// The connection doesn't stand yet, on which that hello is to be sent.
+    New(Hello),
+    /// The hello or the status isn't whole yet; these bytes of it came.
+    Hello(Greeter, Vec<u8>),
+    /// Messages go to and fro.
+    Open,
+    /// The session is over.
+    Ended,
+}
