@@ -3,7 +3,7 @@
 
 # --- Two nodes
 
-# free_port: a port of 127.0.0.1 at which nobody listens.
+# free_port: prints a port of 127.0.0.1 at which nobody listens.
 free_port() {
     python3 -c 'import socket; s = socket.socket(); s.bind(("127.0.0.1", 0)); print(s.getsockname()[1])'
 }
@@ -19,7 +19,7 @@ listens() {
     return 1
 }
 
-# start serve|join PORT TURNS: starts a node. The one that serves reads $scratch/served, and the one that joins waits for its scene.
+# start serve|join PORT TURNS: starts a node. `serve` reads $scratch/served, and `join` waits for its scene.
 start() {
     case $1 in
         serve)
@@ -33,7 +33,7 @@ start() {
     esac
 }
 
-# meet FIRST SECOND: two nodes that are started in that order. The one that joins is given its scene when the other listens.
+# meet FIRST SECOND: starts two nodes in that order. `join` gets its scene once `serve` listens.
 meet() {
     local port
     port=$(free_port)
@@ -47,7 +47,7 @@ meet() {
     wait "$joiner"; joined=$?
 }
 
-# kept serve|join STATUS: the rows that a node printed after its turns, without the moments that go by its turns.
+# kept serve|join STATUS: checks how a node ended, and keeps the rows that it printed after its turns.
 kept() {
     slurp "$scratch/$1.errors"; errors=$text
     if [ "$2" -eq 0 ] && [ -z "$errors" ] && head -n 1 "$scratch/$1.output" | grep -qx 'turns [1-9][0-9]*'; then pass; else
@@ -56,13 +56,13 @@ kept() {
     sed 1d "$scratch/$1.output" >"$scratch/$1.rows"
 }
 
-# without_moments: rows without their ends and the starts of their rates.
+# without_moments: takes the ends of rows and the starts of rates out of them, since these depend on the number of turns.
 without_moments() {
     sed -E 's|^(row [0-9]+) [0-9]+ |\1 END |; s| [0-9]+/| START/|g' "$1"
 }
 
-# same_rows NAME: the one that serves has just the rows of NAME.rows, and the one that joins the same, which end and began as many
-# milliseconds later as there were turns.
+# same_rows NAME: `serve` has just the rows of NAME.rows, and `join` the same; theirs end and began as many milliseconds later as
+# it made turns.
 same_rows() {
     kept serve "$served"
     kept join "$joined"
@@ -81,8 +81,8 @@ both_orders() {
     same_rows "$1"
 }
 
-# answer_to BYTES PORT: sends bytes over a connection, and keeps all that is answered until it is closed as `answer`, with a full
-# stop behind it. Bytes from 0 to 9 are shown as digits.
+# answer_to BYTES PORT: sends bytes over a connection, and sets `answer` to all that comes back until it is closed, and a full
+# stop. Bytes from 0 to 9 are shown as digits.
 answer_to() {
     answer=$({
         exec 3<>"/dev/tcp/127.0.0.1/$2" && printf '%b' "$1" >&3
@@ -90,8 +90,7 @@ answer_to() {
     } 2>/dev/null)
 }
 
-# serve_to LINES BYTES STATUS WHAT ERRORS: what comes over a connection, all that is answered to it, and how `serve` ends; its rows
-# stay.
+# serve_to LINES BYTES STATUS WHAT ERRORS: sends LINES to `serve`; it answers BYTES, ends so, and its rows stay.
 serve_to() {
     local port answer
     port=$(free_port)
@@ -107,7 +106,7 @@ serve_to() {
     fi
 }
 
-# What comes that isn't a node's: the answer, the status, the line, and the rows, which stay.
+# Bytes that no node sends: the answer, the status, the line, and the rows, which stay.
 strangers() {
     local hello='HAProxyS 2.1\nb\na 1 1\n'
     printf 'row 1 4294997296 7 5\nrow 1 4294997296 8 240\n' >"$scratch/wanted"
@@ -123,10 +122,10 @@ strangers() {
 
 # --- A far side that is no node
 
-# What the far side is told, a line each, and what it answers. `port`: a port at which nobody listens. `listen WORD..` and
+# The far side takes a command a line, and answers each with a line. `port`: a port at which nobody listens. `listen WORD..` and
 # `connect PORT WORD..`: it plays the other side of one connection, and answers with all that came over it, in hexadecimal,
-# after the port at which it listens. The words are done in turn: hexadecimal is sent; `<N` reads N bytes; `end` sends no
-# more; `pause` waits a little; `leave` closes the connection, and `reset` resets it. In the end it reads until nothing comes.
+# after the port at which it listens. It follows the words in turn: it sends hexadecimal; `<N` reads N bytes; `end` sends no
+# more; `pause` waits a little; `leave` closes the connection, and `reset` resets it. At the end it reads until nothing comes.
 far_side() {
     python3 -c 'if True:
         import socket, struct, sys, time
@@ -202,13 +201,13 @@ far_side() {
     '
 }
 
-# tell WORD..: tells the far side what to do. It answers a line at a time.
+# tell WORD..: gives the far side a command and reads its line.
 tell() {
     echo "$@" >&"${FAR[1]}"
 }
 
-# far_from serve|join WORDS: the words are done by a far side of a node that has $scratch/served. What came over the connection is
-# `came`, and how the node ended are `status`, $scratch/NODE.output and $scratch/NODE.errors.
+# far_from serve|join WORDS: has the far side follow the words against a node that reads $scratch/served. Sets `came` to what came
+# over the connection; how the node ended is in `status`, $scratch/NODE.output and $scratch/NODE.errors.
 far_from() {
     local port
     came=
@@ -228,8 +227,8 @@ far_from() {
     wait "$server"; status=$?
 }
 
-# far serve|join WHAT WORDS CAME STATUS LINE ROWS: what comes to a node, all that it answers, and how it ends. It prints its rows,
-# whose moments go by its turns, unless a device failed.
+# far serve|join WHAT WORDS CAME STATUS LINE ROWS: sends WORDS to a node; it answers CAME, and ends with STATUS and LINE. Unless a
+# device failed it prints ROWS, whose moments depend on the number of turns.
 far() {
     local rows came
     far_from "$1" "$3"
@@ -241,12 +240,12 @@ far() {
     fi
 }
 
-# hex TEXT: its bytes in hexadecimal.
+# hex TEXT: prints its bytes in hexadecimal.
 hex() {
     printf '%b' "$1" | od -An -v -tx1 | tr -d ' \n' | tr a-f A-F
 }
 
-# What a node that joins is told in place of a status, and what comes after it.
+# What `join` gets in place of a status, and after one.
 far_answers() {
     local code text
     cp examples/two-updates.scene "$scratch/served"
@@ -263,7 +262,7 @@ far_answers() {
     far join 'resets after its status' "$ACCEPTED <23 reset" "$HELLO 0000" 4 $'device\n' ''
 }
 
-# What it is told once it was let in, where a lesson of two updates comes as well. It acknowledges it by its second update.
+# What it gets once it was accepted, with a lesson of two updates, whose second one it acknowledges.
 far_lessons() {
     local text length wanted rows ack=0A84050100000002 both=$'turns\nrow 1 END 7 5\nrow 1 END 8 240'
     far join 'a resync, finished' "$ACCEPTED${LESSON}0001" "$HELLO 0000 0003 $ack" 0 '' "$both"
@@ -285,7 +284,7 @@ far_lessons() {
     done
 }
 
-# What a node that serves is told in place of a hello.
+# What `serve` gets in place of a hello.
 far_hellos() {
     local length text rows=$'turns\nrow 1 END 7 5\nrow 1 END 8 240'
     for ((length = 0; length < 21; length++)); do
@@ -307,8 +306,8 @@ far_hellos() {
     far serve 'a hello in pieces' "${HELLO:0:8} pause ${HELLO:8:20} pause ${HELLO:28}0100" "$ACCEPTED" 0 '' "$rows"
 }
 
-# What it is told once it let the far side in, and has taught it its rows. They are taught in the second turn and those after it,
-# and each turn is a millisecond after the one before.
+# What it gets once it accepted the far side and taught it its rows. It teaches them from the second turn on, and each turn is a
+# millisecond after the one before.
 far_requests() {
     local rows=$'turns\nrow 1 END 7 5\nrow 1 END 8 240' ack=0A84050100000002
     local taught=${ACCEPTED}${LESSON//7530/752E} again=0A850D000000010000752B00000007050A860A0000752B00000008F000
@@ -326,8 +325,8 @@ far_requests() {
     far serve 'bytes of 255' "$HELLO$(repeat 200 F)" "$ACCEPTED 0100" 1 $'fault BadInteger\n' "$rows"
 }
 
-# A far side that asks for a resync and then reads nothing, until it leaves: its lesson has 4 MB, which is more than a connection with a
-# narrow far side holds, so that a write of the node waits, and then fails.
+# A far side that asks for a resync and then reads nothing until it leaves. The lesson has 4 MB, more than the connection buffers, so
+# a write of the node waits and then fails.
 far_that_stops_reading() {
     awk 'BEGIN {
         for (i = 0; i < 8180; i++) long = long "k"
@@ -338,7 +337,7 @@ far_that_stops_reading() {
     cp examples/two-updates.scene "$scratch/served"
 }
 
-# Each stream of examples/faults.tsv, sent to both nodes: none acknowledges what it learned before a fault of the same bytes.
+# Each stream of examples/faults.tsv, sent to both nodes: neither acknowledges what it learned before a fault in the same bytes.
 far_faults() {
     local before= rows= acks= fault why bytes more last wanted id number line ending
     while IFS=$'\t' read -r fault why bytes more last; do
@@ -361,7 +360,7 @@ far_faults() {
     done <examples/faults.tsv
 }
 
-# The far side's hello and that of `join` are the same bytes here: each has a peer of the other's name.
+# The far side's hello and that of `join` have the same bytes here: each has a peer of the other's name.
 far_sides() {
     local HELLO ACCEPTED LESSON=0A820A01027431020404F0C40D0A850D000000010000753000000007050A860A0000753000000008F000
     HELLO=$(hex 'HAProxyS 2.1\nb\na 1 1\n')

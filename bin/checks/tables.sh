@@ -8,7 +8,7 @@ answers_of() {
     ends "table of $1.script" 0 "$text" ''
 }
 
-# No file of answers may be without its script.
+# Each file of answers must have its script.
 scripts() {
     local file name
     for file in examples/scripts/*; do
@@ -34,7 +34,7 @@ short_scripts() {
     done <examples/script-lines.tsv
 }
 
-# last_of_a_million COUNT: how many answers there are to a million changes, in 1 GB, and the last ones.
+# last_of_a_million COUNT: prints how many answers a million changes get, in 1 GB, and the last COUNT of them.
 last_of_a_million() {
     in_kilobytes 1048576 table >"$scratch/answers" && wc -l <"$scratch/answers" && tail -n "$1" "$scratch/answers"
 }
@@ -62,7 +62,7 @@ none
     if [ "$took" -le 10000000 ]; then pass; else fail "1,000,001 changes took $took microseconds"; fi
 }
 
-# A table of 1,000,000 rows, each with a key of its own: it drops none to make room, and each change is answered.
+# A table of 1,000,000 rows, each with a key of its own: it drops none to make room, and answers each change.
 million_rows() {
     { printf '%s\n' 'table 1 t1 integer 4 30000 gpc0' nopurge
         repeat_lines 1000000 'track 0 4294967296 %d add gpc0 1'
@@ -76,7 +76,7 @@ events 1000000 room 0
 
 # --- Rounds
 
-# round_of THREADS TRACKS: the row of each thread has counted what it tracked.
+# round_of THREADS TRACKS: the row of each thread counts what it tracked.
 round_of() {
     run round --threads "$1" --tracks "$2"
     ends "a round of $1 threads that track $2 times" 0 "$(
@@ -92,8 +92,8 @@ quick_round() {
     if [ "$took" -lt 1000000 ]; then pass; else fail "a round of 3 threads that track 1000 times took $took microseconds"; fi
 }
 
-# A round with 2 MB less each time, until the program can't be loaded any more: it is whole, no thread is to be had, or memory
-# lacks. The first two come.
+# A round in 2 MB less each time, until the program can no longer be loaded: it is whole, no thread can be started, or memory runs
+# out. The first two come.
 round_in_less_and_less() {
     local kilobytes whole=0 threadless=0
     for ((kilobytes = 131072; kilobytes > 0; kilobytes -= 2048)); do

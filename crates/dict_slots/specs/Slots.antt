@@ -7,10 +7,10 @@ use Rattle.table_types.specs.SlotIds.{slot_count, is_slot}
 abbrev pub no_names : List (Option (List ℕ))
 no_names = replicate slot_count None
 
--- what a slot, 1 to 128, holds
+-- the name in a slot, 1 to 128, if it has one
 abbrev pub slot_at : List (Option (List ℕ)) → ℕ → Option (List ℕ)
 slot_at slots slot = slice_index_or slots (slot - 1) None
 
--- that slot holds the name
+-- the slot holds the name
 abbrev pub Holds : List (Option (List ℕ)) → ℕ → List ℕ → Type 0
 Holds slots slot name = (is_slot slot ≡ true) × (slot_at slots slot ≡ Some name)

@@ -8,8 +8,8 @@ use std::alloc::Global;
 use std::marker::Model;
 use table_types::{Memory, Name, SLOT_COUNT};
 
-/// The dictionary of server names of one direction of a session: slots 1 to 128, each empty or with a name.
-/// The slots lie in the value itself, so only the names take memory.
+/// The dictionary of server names of one direction of a session: slots 1 to 128, each empty or with a name. The slots
+/// are stored inline, so only the names take memory.
 #[derive(Debug, Drop)]
 pub struct Slots {
     names: [Option<Name>; SLOT_COUNT],
@@ -42,17 +42,17 @@ fn no_names() -> [Option<Name>; SLOT_COUNT]
 }
 
 impl Slots {
-    /// How many slots there are, and the number of the last.
+    /// The number of slots, which is also the greatest slot id.
     pub const COUNT: u8 = SLOT_COUNT as u8;
 
-    /// The slots, all empty. It doesn't allocate.
+    /// Returns slots that are all empty. Doesn't allocate.
     pub fn new(_alloc: Global) -> Slots
         ensures { result ≡ no_names }
     {
         Slots { names: no_names() }
     }
 
-    /// How many slots there are: 128.
+    /// Returns the number of slots: 128.
     pub fn len(&self) -> usize
         ensures count { result ≡ length self.now }
         ensures all { result ≡ slot_count }
@@ -60,7 +60,7 @@ impl Slots {
         self.names.as_slice().len()
     }
 
-    /// The lowest slot that holds this name, and `None` where no slot does.
+    /// Returns the lowest slot that holds `name`, or `None` if no slot does.
     pub fn find(&self, name: &Name) -> Option<u8>
         ensures found { IfSome result (λ slot. Holds self.now slot name.now) }
         ensures lowest { IfSome result (λ slot. (other : ℕ) → Holds self.now other name.now → slot ≤ other) }
@@ -75,7 +75,7 @@ impl Slots {
         None
     }
 
-    /// The name that slot `id`, 1 to 128, holds, and `None` where it is empty.
+    /// Returns the name in slot `id`, 1 to 128, or `None` if the slot is empty.
     pub fn name(&self, id: u8) -> Option<&Name>
         requires slot { is_slot id ≡ true }
         ensures held { option_copied result ≡ slot_at self.now id }
@@ -84,7 +84,7 @@ impl Slots {
         self.names[usize::from(id) - 1].as_ref()
     }
 
-    /// Writes a name into slot `id`, 1 to 128, and hands out the one that it held. It doesn't allocate.
+    /// Writes a name into slot `id`, 1 to 128, and returns the one it held before. Doesn't allocate.
     pub fn write(&mut self, id: u8, name: Name) -> Option<Name>
         requires slot { is_slot id ≡ true }
         ensures old { result ≡ slot_at self.old id }
@@ -94,7 +94,7 @@ impl Slots {
         self.names[usize::from(id) - 1].replace(name)
     }
 
-    /// Equal slots.
+    /// Returns an equal copy. Fails if memory runs out.
     pub fn copy(&self, alloc: Global) -> Result<Slots, Memory>
         ensures { IfOk result (λ copy. copy ≡ self.now) }
     {

@@ -4,7 +4,7 @@ use crate::sides::Side;
 use crate::turns::{Exchange, Story, are_so, goes_so, is_lived, is_so};
 use crate::waiting::Waiting;
 use peers_devices::{Counting, Faults};
-use peers_engine::{EngineError, Fused, Open, Turned};
+use peers_engine::{AlwaysOpen, EngineError, Fused, Turned};
 use session_core::State;
 use std::alloc::Global;
 use std::io::Write;
@@ -31,7 +31,7 @@ fn wrote<H: Wait, W: Write + Faults>(
     comes: &[u8],
     output: &mut W,
 ) -> Option<Result<Turned, EngineError>> {
-    side.take_turn(rt, alloc, &mut Waiting::new(comes), output, &Open)
+    side.take_turn(rt, alloc, &mut Waiting::new(comes), output, &AlwaysOpen)
 }
 
 /// Whether the turn over a writer that fails goes as it says.

@@ -3,7 +3,7 @@
 use crate::sides::Side;
 use crate::waiting::Waiting;
 use peers_devices::Counting;
-use peers_engine::{Open, Turned};
+use peers_engine::{AlwaysOpen, Turned};
 use std::alloc::Global;
 use std::sync::Wait;
 
@@ -47,7 +47,7 @@ impl Side {
     ) -> Option<(usize, Vec<u8>)> {
         let mut reader = Waiting::new(piece);
         let mut writer = Counting::new(Vec::new(alloc));
-        let turned = self.take_turn(rt, alloc, &mut reader, &mut writer, &Open)?;
+        let turned = self.take_turn(rt, alloc, &mut reader, &mut writer, &AlwaysOpen)?;
         let read = piece.len().saturating_sub(reader.left());
         let sent = writer.into_inner();
         if turned == Ok(Turned::Going) {

@@ -5,7 +5,7 @@ use crate::tables::{Role, Tables};
 use crate::waiting::Waiting;
 use example_shards::track;
 use peers_devices::{Counting, Faults};
-use peers_engine::{EngineError, Open, Turned};
+use peers_engine::{AlwaysOpen, EngineError, Turned};
 use session_core::State;
 use std::alloc::Global;
 use std::io::Read;
@@ -42,7 +42,7 @@ pub(crate) fn goes_so<H: Wait, R: Read + Faults>(
     turn: &Exchange,
 ) -> Option<bool> {
     let mut output = Counting::new(Vec::new(alloc));
-    let turned = side.take_turn(rt, alloc, input, &mut output, &Open)?;
+    let turned = side.take_turn(rt, alloc, input, &mut output, &AlwaysOpen)?;
     Some(turned == turn.ends && output.into_inner().as_slice() == turn.sends)
 }
 

@@ -1,4 +1,4 @@
--- No legal list is shorter than the bound allows, and an accepted plan reaches it.
+-- No legal list of messages is shorter than the bound allows, and an accepted plan attains the bound.
 use Rattle.std.proofs.Common.{◌≡◌, ℕ, ◌+◌, ◌≤◌, List, [], ◌∷◌, ◌++◌, length, Some, None, sym, ◌∙◌, subst, arith}
 use Rattle.std.specs.List.{AllByRecursion}
 use Rattle.table_types.specs.declared.update.Update.{Update}
@@ -21,7 +21,7 @@ use Rattle.known_state.proofs.ReadsPay.{reads_pay, marks_fit}
 use Rattle.known_state.proofs.SavingsAreBounded.{reads_save, savings_bounded}
 use Rattle.known_state.proofs.ReadsNeedSlots.{reads_linked, reads_room}
 
--- ---- what is carried is of tables of the roster
+-- ---- the updates carried belong to tables of the roster
 
 both : (p : Update → Type 0) (one rest : List Update) → AllByRecursion p one → AllByRecursion p rest → AllByRecursion p (one ++ rest)
 both p [] rest here later = later
@@ -57,7 +57,7 @@ legal_of_roster roster s e ms us own legal = of_roster roster s e ms us own lega
 
 -- ---- no legal list is shorter
 
--- a legal list has at least the size of the lesson with every name written, less what the links save that it reads
+-- a legal list is at least as long as the lesson with every name written, less what the links that it reads save
 pub links_pay : (roster : List Definition) (s e : State) (ms : List Message) (us : List Update) → roster_fault roster ≡ None → AreOwn roster s.received.tables → length s.slots ≡ 128 → Legal roster s ms us e
     → full roster s us ≤ size_of_all ms + kept_savings (links (names_in s.slots) (requests_of roster (knowledge_of s) us) (reads_of ms))
 links_pay roster s e ms us sound own many legal =
@@ -66,7 +66,7 @@ links_pay roster s e ms us sound own many legal =
     let saved = reads_save (names_in s.slots) (requests_of roster (knowledge_of s) us) (reads_of ms) linked in
     omega arith
 
--- so it has at least that size less the bound
+-- so it is at least that long less the bound
 pub none_below_bound : (roster : List Definition) (s e : State) (ms : List Message) (us : List Update) (prices : List ℕ) → roster_fault roster ≡ None → AreOwn roster s.received.tables → length s.slots ≡ 128 → Legal roster s ms us e
     → full roster s us ≤ size_of_all ms + bound 128 (all_links (names_in s.slots) (requests_of roster (knowledge_of s) us)) prices
 none_below_bound roster s e ms us prices sound own many legal =
@@ -83,7 +83,7 @@ tight_shortest k e ms us prices sound own many legal tight = (e, legal, λ other
     no_longer : (others : List Message) → full k.roster k.state us ≤ size_of_all others + bound 128 (all_links (names_in k.state.slots) (requests_of k.roster (knowledge_of k.state) us)) prices → size_of_all ms ≤ size_of_all others
     no_longer others le = omega arith
 
--- so is one that saves as much as an accepted plan, and it then saves the bound of the plan's prices
+-- so is a list that saves as much as an accepted plan, and its saving is the bound of the plan's prices
 pub accepted_shortest : (k : KnownState) (e : State) (ms : List Message) (us : List Update) (plan : Plan) → roster_fault k.roster ≡ None → AreOwn k.roster k.state.received.tables → length k.state.slots ≡ 128
     → Accepts 128 (names_in k.state.slots) (requests_of k.roster (knowledge_of k.state) us) plan → Legal k.roster k.state ms us e
     → size_of_all ms + kept_savings (links (names_in k.state.slots) (requests_of k.roster (knowledge_of k.state) us) plan.keep) ≤ full k.roster k.state us

@@ -1,4 +1,4 @@
--- Each update of a batch is one of a table of the roster.
+-- Each update of a batch belongs to a table of the roster.
 use Rattle.std.proofs.Common.{◌≡◌, Bool, true, false, ◌&&◌, refl}
 use Rattle.table_types.specs.declared.update.Update.{Update}
 use Rattle.table_types.specs.Tables.{Definition}
@@ -12,7 +12,7 @@ and-right : (a b : Bool) → (a && b) ≡ true → b ≡ true
 and-right true b h = h
 and-right false b h = cc
 
--- the parts of what fits
+-- the conditions that make up fitting
 pub row_of_fits : (d : Definition) (u : Update) → fits d u ≡ true → row_fits d u.key u.values ≡ true
 row_of_fits d u fit = and-left (row_fits d u.key u.values) (may_be_named d u.name) (and-left (row_fits d u.key u.values && may_be_named d u.name) (life_fits d u.life) fit)
 

@@ -1,4 +1,4 @@
--- What a built state holds.
+-- The contents of a built state.
 use Rattle.std.proofs.Common.{◌≡◌, ℕ, Bool, true, false, not, ◌&&◌, ◌||◌, cond, eqb, ◌==◌, List, [], ◌∷◌, Option, Some, None, refl, sym, ap, ◌∙◌, subst, inl, inr}
 use Rattle.std.specs.Prelude.{is_some, fold}
 use Rattle.std.specs.List.{list_all}
@@ -23,7 +23,7 @@ and-right : (a b : Bool) → (a && b) ≡ true → b ≡ true
 and-right true b h = h
 and-right false b h = cc
 
--- ---- what the fault rules out
+-- ---- what holds if there is no fault
 
 no_fault : (a b c d : Bool) → cond (not a) (Some build_errors.NoTable) (cond (not b) (Some build_errors.NotDefined) (cond (c || d) (Some build_errors.Repeated) None)) ≡ None → (a ≡ true) × (d ≡ false)
 no_fault true true c d h = (refl, last c d h)
@@ -47,7 +47,7 @@ or_swap true false c = refl
 or_swap false true c = refl
 or_swap false false c = refl
 
--- a definition of the roster's adds its id, and takes none away
+-- a definition of the roster's adds its id and removes none
 one_more : (roster : List Definition) (d : Definition) (ds : List Definition) (id : ℕ) → repeats_name roster ≡ false → table_at roster d.id ≡ Some d → AreOwn roster ds → is_some (table_at (defined d ds) id) ≡ (d.id == id || is_some (table_at ds id))
 one_more roster d ds id distinct listed own = elim (cases_eq d.id id) [
   | inl same ↦ subst (λ (n : ℕ). is_some (table_at (defined d ds) n) ≡ (eqb d.id n || is_some (table_at ds n))) same (rw (define_selects (record { tables = ds; selected = None }) d, eq-eqb d.id d.id refl) refl)
@@ -59,7 +59,7 @@ one_more roster d ds id distinct listed own = elim (cases_eq d.id id) [
     by false e false f apart = f ∙ sym e
     by false e true f apart = let bad : false ≡ true = sym (rw (ne_eqb id d.id apart, e) refl) ∙ found_before d ds id f in cc
 
--- so after the definitions of these ids, these are defined and those from before
+-- so after the definitions of these ids, these ids and the earlier ones are defined
 all_more : (roster : List Definition) (ids : List ℕ) (ds : List Definition) (id : ℕ) → repeats_name roster ≡ false → list_all (λ other. has_id other roster) ids ≡ true → AreOwn roster ds → is_some (table_at (fold (with_own roster) ds ids) id) ≡ (is_in id ids || is_some (table_at ds id))
 all_more roster [] ds id distinct listed own = refl
 all_more roster (i ∷ ids) ds id distinct listed own =
@@ -80,7 +80,7 @@ all_more roster (i ∷ ids) ds id distinct listed own =
         subst (λ (ts : List Definition). is_some (table_at (fold (with_own roster) ts ids) id) ≡ ((eqb i id || is_in id ids) || is_some (table_at ds id))) (sym put)
         (later ∙ ap (λ (b : Bool). is_in id ids || b) one ∙ or_swap (eqb i id) (is_in id ids) (is_some (table_at ds id)))
 
--- what is received is the roster's, where it is received
+-- a table that is received is the roster's
 own_at : (roster ds : List Definition) (id : ℕ) → AreOwn roster ds → table_at ds id ≡ cond (is_some (table_at ds id)) (table_at roster id) None
 own_at roster ds id own = at (table_at ds id) refl
   where

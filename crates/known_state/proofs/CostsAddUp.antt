@@ -1,4 +1,4 @@
--- The requests of updates and what they cost, one after another.
+-- The requests of updates and their costs, one update after another.
 use Rattle.std.proofs.Common.{◌≡◌, ℕ, ◌+◌, ◌*◌, ◌≤◌, true, false, ◌&&◌, Bool, List, [], ◌∷◌, ◌++◌, length, Option, Some, None, refl, sym, ap, ◌∙◌, arith, append_assoc, length-append}
 use Rattle.std.specs.Prelude.{fold}
 use Rattle.table_types.specs.declared.update.Update.{Update}
@@ -8,7 +8,7 @@ use Rattle.table_types.specs.Names.{is_name}
 use Rattle.known_state.specs.Cost.{Knowledge, knowledge_after, written_cost, selection_cost, cost_from}
 use Rattle.known_state.specs.Requests.{Asked, asked, requests_of}
 
--- what is known after updates
+-- what is known after the updates
 abbrev pub knowledge_after_all : Knowledge → List Update → Knowledge
 knowledge_after_all k us = fold knowledge_after k us
 
@@ -16,14 +16,14 @@ append-none : (xs : List Asked) → xs ++ [] ≡ xs
 append-none [] = refl
 append-none (x ∷ xs) = ap (λ (l : List Asked). x ∷ l) (append-none xs)
 
--- the requests of one more update come after those of the others
+-- the request of one more update comes after those of the others
 pub requests-more : (roster : List Definition) (k : Knowledge) (us : List Update) (u : Update) → requests_of roster k (us ++ u ∷ []) ≡ requests_of roster k us ++ asked roster (knowledge_after_all k us) u u.name
 requests-more roster k [] u = append-none (asked roster k u u.name)
 requests-more roster k (x ∷ xs) u =
     ap (λ (l : List Asked). asked roster k x x.name ++ l) (requests-more roster (knowledge_after k x) xs u)
     ∙ sym (append_assoc (asked roster k x x.name) (requests_of roster (knowledge_after k x) xs) (asked roster (knowledge_after_all k (x ∷ xs)) u u.name))
 
--- and what one more update costs adds to what the others cost
+-- and its cost adds to theirs
 pub cost-more : (roster : List Definition) (k : Knowledge) (us : List Update) (u : Update) → cost_from roster k (us ++ u ∷ []) ≡ cost_from roster k us + (selection_cost roster (knowledge_after_all k us) u.table + written_cost roster (knowledge_after_all k us) u)
 cost-more roster k [] u = omega arith
 cost-more roster k (x ∷ xs) u =
@@ -35,7 +35,7 @@ pub knowledge-more : (k : Knowledge) (us : List Update) (u : Update) → knowled
 knowledge-more k [] u = refl
 knowledge-more k (x ∷ xs) u = knowledge-more (knowledge_after k x) xs u
 
--- what was found of updates: their requests, what they cost, which of them there are, and what is known after them
+-- what was computed from the updates: their requests, their costs, which updates they are, and what is known after them
 abbrev pub AreCosted : List Definition → Knowledge → List Update → ℕ → List Asked → ℕ → Knowledge → Type 0
 AreCosted roster k us count requests full after =
     (requests ≡ requests_of roster k us)
@@ -43,7 +43,7 @@ AreCosted roster k us count requests full after =
     × (after ≡ knowledge_after_all k us)
     × (full ≤ 49164 * count)
 
--- and of one more
+-- and from one more
 pub costed-more : (roster : List Definition) (k before after : Knowledge) (us more : List Update) (u : Update) (count full cost : ℕ) (requests others : List Asked) → more ≡ us ++ u ∷ [] → AreCosted roster k us count requests full before
     → others ≡ requests ++ asked roster before u u.name → cost ≡ selection_cost roster before u.table + written_cost roster before u → after ≡ knowledge_after before u → cost ≤ 49164
     → AreCosted roster k more (count + 1) others (full + cost) after

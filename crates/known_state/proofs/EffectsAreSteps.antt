@@ -1,4 +1,4 @@
--- Effects are the steps that the definition says.
+-- Effects agree with the definition of `Step`.
 use Rattle.std.proofs.Common.{◌≡◌, ℕ, Bool, true, false, List, Option, Some, None, refl, sym, ap, subst, ◌∙◌}
 use Rattle.std.specs.Prelude.{is_none, option_and_then, if◌then◌else◌}
 use Rattle.known_state.specs.LastNumbers.{last_of}
@@ -18,14 +18,14 @@ use Rattle.known_state.specs.declared.effect.ResolvedUpdate.{ResolvedUpdate}
 use Rattle.known_state.proofs.NamedAsResolved.{named_by, named_so}
 use Rattle.known_state.proofs.StepIsDeterministic.{one_step}
 
--- a name that a field writes stands in its slot
+-- a name that a field writes is then in its slot
 pub slots_with_field : (slots : List (Option (List ℕ))) (field : NameField) → slots_with slots (written_by field) ≡ slots_after slots field
 slots_with_field slots names.NotStored = refl
 slots_with_field slots names.NoName = refl
 slots_with_field slots (names.Held slot) = refl
 slots_with_field slots (names.Written slot name) = refl
 
--- what an effect makes is a step
+-- making an effect is a step
 by : (s : State) (m : Message) (x effect : Effect) → effect ≡ x → Step s m (carried_by s m x) (made s x) → Step s m (carried_by s m effect) (made s effect)
 by s m x effect is step = subst (λ (y : Effect). Step s m (carried_by s m y) (made s y)) (sym is) step
 
@@ -51,16 +51,16 @@ step_fits s e (messages.Switch id) us step = step.0
 step_fits s e (messages.Ack table number) us step = step.0
 step_fits s e (messages.Other o) us step = step.0
 
--- and it makes no other
+-- and makes no other step
 pub no_other : (s e : State) (m : Message) (us : List Update) (effect : Effect) → IsEffect s m effect → Step s m us e → (us ≡ carried_by s m effect) × (e ≡ made s effect)
 no_other s e m us effect is step =
     one_step s e (made s effect) m us (carried_by s m effect) step (effect_steps s m effect (step_fits s e m us step) is)
 
--- an update that is resolved isn't refused
+-- an update that resolves isn't refused
 pub resolved_unrefused : (s : State) (number : Option ℕ) (field : NameField) (r : ResolvedUpdate) → Resolves s number field r → refusal_of s number field ≡ None
 resolved_unrefused s number field r (selected, is, reads, written) = rw (selected, is, reads) refl
 
--- what has an effect isn't refused
+-- a message with an effect isn't refused
 pub effect_unrefused : (s : State) (m : Message) (effect : Effect) → IsEffect s m effect → message_refusal s m ≡ None
 effect_unrefused s (messages.Update u) effect (r, is, resolves) = resolved_unrefused s u.number u.name r resolves
 effect_unrefused s (messages.Define d) effect is = refl
@@ -70,7 +70,7 @@ effect_unrefused s (messages.Error e) effect is = refl
 effect_unrefused s (messages.Ack table number) effect is = refl
 effect_unrefused s (messages.Other o) effect is = refl
 
--- nor is what makes a step
+-- nor is a message that makes a step
 pub step_unrefused : (s e : State) (m : Message) (us : List Update) → Step s m us e → message_refusal s m ≡ None
 step_unrefused s e (messages.Update u) us (fit, table, is_table, number, is_number, name, named, carried, received, last_numbers) =
     rw (is_table, is_number, (named_so s.slots u.name name e.slots named).0) refl
@@ -81,7 +81,7 @@ step_unrefused s e (messages.Error k) us step = refl
 step_unrefused s e (messages.Ack table number) us step = refl
 step_unrefused s e (messages.Other o) us step = refl
 
--- so a message that is refused makes none
+-- so a refused message makes no step
 pub refused_steps : (s e : State) (m : Message) (us : List Update) (refusal : Refusal) → message_refusal s m ≡ Some refusal → Step s m us e → ⊥
 refused_steps s e m us refusal refused step =
     let bad : None ≡ Some refusal = sym (step_unrefused s e m us step) ∙ refused in
@@ -99,7 +99,7 @@ numbered s number field unrefused none =
     let bad : true ≡ false = sym (ap (λ (o : Option ℕ). is_none o) none) ∙ some in
     cc
 
--- and comes to that number, and what its field writes
+-- and resolves to that number and to what its field writes
 pub resolves_so : (s : State) (number : Option ℕ) (field : NameField) (r : ResolvedUpdate) → refusal_of s number field ≡ None → s.received.selected ≡ Some r.table → selected_number s number ≡ Some r.number → r.written ≡ written_by field → Resolves s number field r
 resolves_so s number field r unrefused selected is written =
     let here : selected_number s number ≡ resolved_number number (last_of s.last_numbers r.table) = ap (λ (o : Option ℕ). option_and_then (λ table. resolved_number number (last_of s.last_numbers table)) o) selected in

@@ -1,4 +1,4 @@
--- The steps that a known state makes, and why it refuses.
+-- The steps that a known state makes, and why it refuses messages.
 use Rattle.std.proofs.Common.{◌≡◌, ℕ, ◌^◌, ◌<◌, ◌≤◌, true, false, List, [], ◌∷◌, length, Option, Some, None, refl, sym, ap, inl, inr, arith}
 use Rattle.std.specs.Option.{option_and_then}
 use Rattle.std.specs.Prelude.{is_some}
@@ -17,7 +17,7 @@ use Rattle.known_state.specs.declared.known.StepError.TheVariants as step_errors
 use Rattle.known_state.specs.Known.{KnownState, switch_refusal, update_refusal}
 use Rattle.known_state.proofs.ReceivedIsOwn.{table_at-id}
 
--- an id is one of the tables' where its table is found
+-- an id whose table is found is among the tables' ids
 pub has_id-table_at : (ds : List Definition) (id : ℕ) → has_id id ds ≡ is_some (table_at ds id)
 has_id-table_at [] id = refl
 has_id-table_at (x ∷ xs) id = elim (cases_eq x.id id) [
@@ -39,7 +39,7 @@ pub update_fits_received : (h : Received) (u : UpdateFields) (d : Definition) �
 unfolding fits data_of
 update_fits_received h u d sel fit is = rw (sel, fit, le-leb (length (update_text u)) most_data (update_small d u is fit)) refl
 
--- the table selected is that of the id selected
+-- the selected table is the table of the selected id
 pub selected-id : (h : Received) (d : Definition) → selected_table h ≡ Some d → h.selected ≡ Some d.id
 selected-id h d sel = at h.selected sel
   where
@@ -54,7 +54,7 @@ selected-found h d sel = at h.selected sel
     at None e = cc
     at (Some id) e = (id, e)
 
--- why switches are refused
+-- why a switch is refused
 pub foreign_switch : (k : KnownState) (id : ℕ) → table_at k.roster id ≡ None → switch_refusal k id ≡ Some step_errors.Foreign
 foreign_switch k id e = rw (has_id-table_at k.roster id, e) refl
 
@@ -65,6 +65,6 @@ unfitting : (h : Received) (u : UpdateFields) (d : Definition) → selected_tabl
 unfolding fits
 unfitting h u d sel not_fit = rw (sel, not_fit) refl
 
--- why updates are refused
+-- why an update is refused
 pub misfit : (k : KnownState) (u : UpdateFields) (d : Definition) → selected_table k.state.received ≡ Some d → update_fits d u ≡ false → update_refusal k u (selected_table k.state.received) ≡ Some step_errors.Foreign
 misfit k u d sel not_fit = rw (sel, unfitting k.state.received u d sel not_fit) refl

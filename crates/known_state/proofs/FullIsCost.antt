@@ -13,7 +13,7 @@ use Rattle.known_state.specs.Known.{AreOwn}
 use Rattle.known_state.specs.Cost.{Knowledge, knowledge_of, knowledge_after, is_selected, defining, definition_cost, selecting, selection_cost, written, written_lesson, full, cost, cost_from, IsOfRoster, Pays, Saves}
 use Rattle.known_state.proofs.StepPays.{step_pays, list_pays}
 
--- what selects a table has the size that it costs
+-- a message that selects a table is as long as the selection costs
 pub selecting_size : (roster : List Definition) (k : Knowledge) (id : ℕ) → size_of_all (selecting roster k id) ≡ selection_cost roster k id
 selecting_size roster k id = chosen (is_selected k.selected id) (k.is_defined id) (table_at roster id)
   where
@@ -36,11 +36,11 @@ lesson_size roster k (u ∷ us) =
     let later = lesson_size roster (knowledge_after k u) us in
     omega arith
 
--- the lesson has the size that its updates cost one after another
+-- the lesson's size is the sum of what its updates cost, one after another
 pub full_is_cost : (roster : List Definition) (s : State) (us : List Update) → full roster s us ≡ cost roster s us
 full_is_cost roster s us = lesson_size roster (knowledge_of s) us
 
--- so what pays, pays by the size of that lesson
+-- so what pays for the cost pays for the size of that lesson
 pub step_pays_full : (roster : List Definition) (s mid : State) (m : Message) (one rest : List Update) → AreOwn roster s.received.tables → IsOwn roster m → AllByRecursion (IsOfRoster roster) rest → Step s m one mid → Pays roster s m one rest mid
 step_pays_full roster s mid m one rest own is_own all step =
     let paid = step_pays roster s mid m one rest own is_own all step in

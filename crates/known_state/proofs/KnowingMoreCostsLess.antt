@@ -1,4 +1,4 @@
--- What a lesson costs falls with what is known, and no message saves more than it costs.
+-- A lesson costs less the more is known, and no message saves more than its own size.
 use Rattle.std.proofs.Common.{◌≡◌, ℕ, ◌==◌, ◌+◌, ◌-◌, ◌%◌, ◌^◌, ◌≤◌, Bool, true, false, not, ◌&&◌, ◌||◌, cond, eqb, List, [], ◌∷◌, ◌++◌, length, Option, Some, None, refl, sym, ap, ◌∙◌, subst, inl, inr, ◌⊎◌, arith, length-append}
 use Rattle.std.specs.Prelude.{is_some, flat_map, filter, nat_lt}
 use Rattle.std.specs.List.{AllByRecursion}
@@ -28,12 +28,12 @@ use Rattle.known_state.proofs.FitsOrIsRefused.{has_id-table_at}
 use Rattle.known_state.specs.Cost.{Knowledge, knowledge_after, follows, number_sent, sent_as, written_field, is_named_table, written_cost, is_selected, definition_cost, selection_cost, cost_from, saving, is_held, IsOfRoster}
 use Rattle.known_state.proofs.LesserKnowledge.{KnowsLess, with_selected}
 
--- framed data grow with the data
+-- longer data make a longer frame
 pub framed_longer : (c k c' k' : ℕ) (a b : List ℕ) → length a ≤ length b → length (framed c k a) ≤ length (framed c' k' b)
 framed_longer c k c' k' a b le =
     omega (arith, length-append (spelling (length a)) a, length-append (spelling (length b)) b, integers.longer (length a) (length b) le)
 
--- a switch is no longer than the definition
+-- a switch is no longer than a definition
 pub switch_shorter : (d : Definition) → size_of (messages.Switch d.id) ≤ size_of (messages.Define d)
 unfolding size_of spelled
 switch_shorter d = framed_longer 10 131 10 130 (spelling d.id) (definition_text d) (omega (arith, length-append {A = ℕ}))
@@ -79,7 +79,7 @@ written_falls roster less more u knows =
       | inr none ↦ rw none (sent_shorter (more.last u.table) field u)
     ]
 
--- after an update, too, less is known where less was
+-- lesser knowledge stays lesser after an update
 pub knows_after : (less more : Knowledge) (u : Update) → KnowsLess less more → KnowsLess (knowledge_after less u) (knowledge_after more u)
 knows_after less more u knows = record {
   defined = λ id h. or-implied (eqb id u.table) (less.is_defined id) (more.is_defined id) (knows.defined id) h;
@@ -95,7 +95,7 @@ knows_after less more u knows = record {
     last-chosen true x y h = inl refl
     last-chosen false x y h = h
 
--- a lesson costs no more where more is known
+-- a lesson costs no more if more is known
 pub falls : (roster : List Definition) (less more : Knowledge) (us : List Update) → KnowsLess less more → AllByRecursion (IsOfRoster roster) us → cost_from roster more us ≤ cost_from roster less us
 falls roster less more [] knows all = omega arith
 falls roster less more (u ∷ us) knows all =
@@ -114,7 +114,7 @@ or_swap true false c h = refl
 or_swap false true c h = refl
 or_swap false false c h = h
 
--- after an update of that table nothing is gained
+-- after an update of that table, nothing is gained
 gains_nothing : (k : Knowledge) (more : Knowledge) (t : ℕ) (u : Update) → u.table ≡ t → ((id : ℕ) → more.is_defined id ≡ true → (id == t || k.is_defined id) ≡ true) → ((id : ℕ) → more.last id ≡ k.last id) → KnowsLess (knowledge_after more u) (knowledge_after k u)
 gains_nothing k more t u same defined last = record {
   defined = λ id h. again id (eqb id u.table) refl h;
@@ -129,7 +129,7 @@ gains_nothing k more t u same defined last = record {
         let here : (eqb id t || k.is_defined id) ≡ true = defined id is in
         subst (λ (n : ℕ). (eqb id n || k.is_defined id) ≡ true) (sym same) here
 
--- a definition ahead of its time saves no more than itself
+-- an early definition saves no more than its own size
 defined_pays : (roster : List Definition) (k : Knowledge) (t : ℕ) (us : List Update) → AllByRecursion (IsOfRoster roster) us → cost_from roster k us ≤ definition_cost (table_at roster t) + cost_from roster (with_defined k t) us
 defined_pays roster k t [] all = omega arith
 defined_pays roster k t (u ∷ us) all =
@@ -155,7 +155,7 @@ defined_pays roster k t (u ∷ us) all =
     swapped : (k : Knowledge) (t : ℕ) (u : Update) → KnowsLess (knowledge_after (with_defined k t) u) (with_defined (knowledge_after k u) t)
     swapped k t u = record { defined = λ id h. or_swap (eqb id u.table) (eqb id t) (k.is_defined id) h; selected = refl; last = λ id. inl refl }
 
--- a choice that is made already costs nothing, and another costs no less than now
+-- selecting the selected table costs nothing, and selecting another costs no less than before
 selection_other : (roster : List Definition) (k : Knowledge) (t : ℕ) (u : Update) → (u.table ≡ t → ⊥) → selection_cost roster k u.table ≤ selection_cost roster (with_selected k t) u.table
 selection_other roster k t u other =
     rw (ne_eqb t u.table (λ e. other (sym e)), ne_eqb u.table t other) (none_least (is_selected k.selected u.table) (cond (k.is_defined u.table) (size_of (messages.Switch u.table)) (definition_cost (table_at roster u.table))))
@@ -167,7 +167,7 @@ selection_other roster k t u other =
 selection_same : (roster : List Definition) (k : Knowledge) (t : ℕ) (u : Update) → u.table ≡ t → selection_cost roster (with_selected k t) u.table ≡ 0
 selection_same roster k t u same = rw (eq-eqb t u.table (sym same)) refl
 
--- a switch saves no more than itself
+-- a switch saves no more than its own size
 pub switched_pays : (roster : List Definition) (k : Knowledge) (t : ℕ) (us : List Update) → k.is_defined t ≡ true → AllByRecursion (IsOfRoster roster) us → cost_from roster k us ≤ size_of (messages.Switch t) + cost_from roster (with_selected k t) us
 switched_pays roster k t [] known all = omega arith
 switched_pays roster k t (u ∷ us) known all =
@@ -200,7 +200,7 @@ switched_pays roster k t (u ∷ us) known all =
     known_already : (k : Knowledge) (t : ℕ) (u : Update) → k.is_defined t ≡ true → KnowsLess (knowledge_after (with_selected k t) u) (knowledge_after k u)
     known_already k t u known = record { defined = λ id h. or_right (eqb id u.table) (id == t || k.is_defined id) (k.is_defined id) (absorbed k t id known) h; selected = refl; last = λ id. inl refl }
 
--- and so does a definition
+-- nor does a definition
 pub defining_pays : (roster : List Definition) (k : Knowledge) (t : ℕ) (us : List Update) → AllByRecursion (IsOfRoster roster) us → cost_from roster k us ≤ definition_cost (table_at roster t) + cost_from roster (with_selected k t) us
 defining_pays roster k t [] all = omega arith
 defining_pays roster k t (u ∷ us) all =
@@ -239,7 +239,7 @@ and-right : (a b : Bool) → (a && b) ≡ true → b ≡ true
 and-right true b h = h
 and-right false b h = cc
 
--- an update in its shortest number form is no longer than in any that means its number
+-- an update in its shortest number form is no longer than in any other form that resolves to its number
 pub sent_least : (number last : Option ℕ) (field : NameField) (u : Update) → resolved_number number last ≡ Some u.number → size_of (messages.Update (sent_as last field u)) ≤ size_of (messages.Update (record { number = number; life = u.life; key = u.key; values = u.values; name = field }))
 sent_least (Some n) last field u is =
     let same : n ≡ u.number = cc in
@@ -251,7 +251,7 @@ sent_least None (Some last) field u is =
     let same : (last + 1) % 2 ^ 32 ≡ u.number = cc in
     rw (eq-eqb ((last + 1) % 2 ^ 32) u.number same) (omega arith)
 
--- a slot has one byte
+-- a slot takes one byte
 slot_byte : (slot : ℕ) → is_slot slot ≡ true → length (spelling slot) ≡ 1
 slot_byte slot is = (integers.table slot).0 (grind (arith, nat_tests))
 
@@ -260,18 +260,18 @@ counted_alike a b same =
     let digits : length (spelling (length a)) ≡ length (spelling (length b)) = ap (λ (n : ℕ). length (spelling n)) same in
     omega (arith, length-append (spelling (length a)) a, length-append (spelling (length b)) b)
 
--- a written name is as long in each slot
+-- a written name has the same length in every slot
 pub name_alike : (slot : ℕ) (name : List ℕ) → is_slot slot ≡ true → length (name_text (names.Written 1 name)) ≡ length (name_text (names.Written slot name))
 name_alike slot name is =
     let here = slot_byte slot is in
     let first = slot_byte 1 refl in
     counted_alike (spelling 1 ++ counted name) (spelling slot ++ counted name) (omega (arith, length-append (spelling 1) (counted name), length-append (spelling slot) (counted name)))
 
--- a name that is read takes as much in each slot
+-- reading a name takes the same number of bytes in every slot
 pub read_alike : (slot : ℕ) → is_slot slot ≡ true → length (name_text (names.Held slot)) ≡ length (name_text (names.Held 1))
 read_alike slot is = counted_alike (spelling slot) (spelling 1) (omega (arith, slot_byte slot is, slot_byte 1 refl))
 
--- and no more than one that is written
+-- and no more than writing it
 pub read_shorter : (name : List ℕ) → length (name_text (names.Held 1)) ≤ length (name_text (names.Written 1 name))
 read_shorter name =
     let digits = integers.longer (length (spelling 1)) (length (spelling 1 ++ counted name)) (omega (arith, length-append (spelling 1) (counted name))) in
@@ -289,7 +289,8 @@ written_alike number life key values slot name is =
     rows_alike a b c d x y same =
         omega (arith, length-append a (b ++ (c ++ (d ++ x))), length-append b (c ++ (d ++ x)), length-append c (d ++ x), length-append d x, length-append a (b ++ (c ++ (d ++ y))), length-append b (c ++ (d ++ y)), length-append c (d ++ y), length-append d y)
 
--- what an update costs with its name written is no more than the message that carries it, and what that saves
+-- an update's cost with its name written is at most the size of the message that carries it plus what that message
+-- saves
 pub update_pays : (roster : List Definition) (k : Knowledge) (d : Definition) (m : UpdateFields) (u : Update) (slots after : List (Option (List ℕ))) → table_at roster u.table ≡ Some d → name_fits d m.name ≡ true → Named slots m.name u.name after → m.life ≡ u.life → m.key ≡ u.key → m.values ≡ u.values → resolved_number m.number (k.last u.table) ≡ Some u.number → written_cost roster k u ≤ size_of (messages.Update m) + saving roster k (messages.Update m) (u ∷ [])
 update_pays roster k d m u slots after listed fit named life key values number = by m.name refl fit named
   where
@@ -350,7 +351,7 @@ filter_has p (x ∷ xs) id h = at (p x) refl (filter_has p xs id)
     at true e later = or_rest (eqb x.id id) (has_id id (filter p xs)) (has_id id xs) later (sym (rw e refl) ∙ h)
     at false e later = or_true (eqb x.id id) (has_id id xs) (later (sym (rw e refl) ∙ h))
 
--- a definition that is found after another was found before, or is the new one
+-- a definition found after another was found before, or is the new one
 pub found_before : (d : Definition) (ds : List Definition) (id : ℕ) → is_some (table_at (defined d ds) id) ≡ true → (id == d.id || is_some (table_at ds id)) ≡ true
 found_before d ds id h =
     let listed : has_id id (insert_table d (filter (outlives d) ds)) ≡ true = has_id-table_at (defined d ds) id ∙ h in
@@ -366,7 +367,7 @@ found_before d ds id h =
     or_true true b h = refl
     or_true false b h = h
 
--- no last number of an id that keeps none
+-- an id that doesn't keep its last number has none
 pub last-dropped : (q : ℕ → Bool) (ls : List (ℕ × ℕ)) (id : ℕ) → q id ≡ false → last_of (filter (λ l. q l.0) ls) id ≡ None
 last-dropped q [] id e = refl
 last-dropped q (l ∷ ls) id e = at (q l.0) refl (last-dropped q ls id e)
@@ -378,7 +379,7 @@ last-dropped q (l ∷ ls) id e = at (q l.0) refl (last-dropped q ls id e)
       | inr other ↦ rw (f, ne_eqb l.0 id other) later
     ]
 
--- those of an id that keeps them
+-- the last numbers of the ids that keep them
 pub last-kept : (q : ℕ → Bool) (ls : List (ℕ × ℕ)) (id : ℕ) → q id ≡ true → last_of (filter (λ l. q l.0) ls) id ≡ last_of ls id
 last-kept q [] id e = refl
 last-kept q (l ∷ ls) id e =
@@ -392,7 +393,7 @@ last-kept q (l ∷ ls) id e =
     passed true f other later = rw (f, ne_eqb l.0 id other) later
     passed false f other later = rw (f, ne_eqb l.0 id other) later
 
--- last numbers that are kept by their id
+-- last numbers filtered by id
 pub last-filter : (q : ℕ → Bool) (ls : List (ℕ × ℕ)) (id : ℕ) → (last_of (filter (λ l. q l.0) ls) id ≡ last_of ls id) ⊎ (last_of (filter (λ l. q l.0) ls) id ≡ None)
 last-filter q ls id = at (q id) refl
   where
@@ -400,7 +401,7 @@ last-filter q ls id = at (q id) refl
     at true e = inl (last-kept q ls id e)
     at false e = inr (last-dropped q ls id e)
 
--- the last number put is found, and the others are as before
+-- the last number that was put is found, and the others are unchanged
 pub last-put : (t n : ℕ) (ls : List (ℕ × ℕ)) (id : ℕ) → last_of (set_last t n ls) id ≡ cond (eqb id t) (Some n) (last_of ls id)
 last-put t n [] id = elim (cases_eq t id) [
   | inl same ↦ rw (eq-eqb t id same, eq-eqb id t (sym same)) refl

@@ -13,7 +13,7 @@ use Rattle.known_state.proofs.KnowingMoreCostsLess.{last-put}
 abbrev made : ℕ → (ℕ → Bool) → (ℕ → Option ℕ) → Knowledge
 made table is_defined last = record { is_defined = is_defined; selected = Some table; last = last }
 
--- the update's number is put among the last numbers sent
+-- the update's number becomes the last number sent
 pub followed : (k : KnowledgeSoFar) (u : Update) → known_so_far (record { known = k.known; selected = Some u.table; sent = set_last u.table u.number k.sent }) ≡ knowledge_after (known_so_far k) u
 followed k u = together (fun_ext defined) (fun_ext last)
   where

@@ -1,4 +1,4 @@
--- What a teacher knows of a learner is its roster's own.
+-- All that a teacher knows of a learner is the roster's own.
 use Rattle.std.proofs.Common.{◌≡◌, Bool, true, false, cond, List, [], ◌∷◌, Option, Some, None, refl, sym, ap, ◌∙◌}
 use Rattle.std.specs.Prelude.{filter}
 use Rattle.table_types.specs.Tables.{Definition}
@@ -8,7 +8,7 @@ use Rattle.peers_msg.specs.OwnTables.{is_own}
 use Rattle.table_types.proofs.OneTableByShape.{same_definition}
 use Rattle.known_state.specs.Known.{AreOwn}
 
--- an own table is the one that its id stands for
+-- a table that is the roster's own is the one that its id stands for
 pub own_is : (roster : List Definition) (d : Definition) → is_own roster d ≡ true → table_at roster d.id ≡ Some d
 own_is roster d h = at (table_at roster d.id) refl
   where

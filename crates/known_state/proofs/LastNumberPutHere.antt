@@ -1,4 +1,4 @@
--- A last number put where its id stands already.
+-- Putting a last number for an id that already has that one.
 use Rattle.std.proofs.Common.{◌≡◌, ℕ, ◌+◌, ◌<◌, List, ◌∷◌, ◌++◌, length, get_or, take, drop, set, refl, sym, ap, ◌∙◌}
 use Rattle.std.proofs.lemmas.List.{take-append-drop, take-set, drop-set, drop_more}
 use Rattle.std.proofs.lemmas.Bool.{eq-eqb}

@@ -1,4 +1,4 @@
--- Last numbers that stand in rising id stay so.
+-- Last numbers stay in ascending order of id.
 use Rattle.std.proofs.Common.{◌≡◌, ℕ, ◌<◌, ◌≤◌, Bool, true, false, cond, eqb, List, [], ◌∷◌, refl, sym, ap, subst, inl, inr, arith}
 use Rattle.std.specs.Prelude.{filter, nat_lt, Result, Ok, Err, OnOk, OnErr}
 use Rattle.std.specs.List.{AllByRecursion}
@@ -9,7 +9,7 @@ use Rattle.peers_msg.specs.declared.message.Message.TheVariants as messages
 use Rattle.known_state.specs.State.{State, Step}
 use Rattle.known_state.specs.LastNumbers.{set_last, AreRising}
 
--- last numbers of ids above that one
+-- last numbers of greater ids
 abbrev AreAbove : ℕ → List (ℕ × ℕ) → Type 0
 AreAbove id ls = AllByRecursion (λ l. id < l.0) ls
 
@@ -54,7 +54,7 @@ rising-put id n (l ∷ ls) rise = elim (cases_eq l.0 id) [
   ]
 ]
 
--- a last number below all others stands before them
+-- a last number whose id is below all others comes first
 put_first : (id n : ℕ) (ls : List (ℕ × ℕ)) → AreAbove id ls → set_last id n ls ≡ (id, n) ∷ ls
 put_first id n [] above = refl
 put_first id n (l ∷ ls) above =
@@ -62,7 +62,7 @@ put_first id n (l ∷ ls) above =
     let apart : l.0 ≡ id → ⊥ = λ same. omega arith in
     rw (ne_eqb l.0 id apart, lt-ltb id l.0 lt) refl
 
--- where an id keeps its last number, it is one whether that is put before the others are dropped or after
+-- if an id keeps its last number, that can be put before or after the others are dropped, with the same result
 pub put-filter : (keeps : ℕ → Bool) (id n : ℕ) (ls : List (ℕ × ℕ)) → keeps id ≡ true → AreRising ls → filter (λ l. keeps l.0) (set_last id n ls) ≡ set_last id n (filter (λ l. keeps l.0) ls)
 put-filter keeps id n [] kept rise = rw kept refl
 put-filter keeps id n (l ∷ ls) kept rise = elim (cases_eq l.0 id) [
@@ -83,7 +83,7 @@ put-filter keeps id n (l ∷ ls) kept rise = elim (cases_eq l.0 id) [
     in_rest true other le later = rw (ne_eqb l.0 id other, le-ltb id l.0 le) (ap (λ (xs : List (ℕ × ℕ)). l ∷ xs) later)
     in_rest false other le later = later
 
--- where one was put, and where none was
+-- whether or not one was put
 pub rising-put_or_not : {X E : Type 0} (result : Result X E) (id n : ℕ) (old new : List (ℕ × ℕ)) → OnOk result (new ≡ set_last id n old) → OnErr result (new ≡ old) → AreRising old → AreRising new
 rising-put_or_not (Ok x) id n old new put stays rise = subst AreRising (sym put) (rising-put id n old rise)
 rising-put_or_not (Err e) id n old new put stays rise = subst AreRising (sym stays) rise

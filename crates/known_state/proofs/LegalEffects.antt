@@ -1,4 +1,4 @@
--- What the effect of a legal message makes, and why a known state refuses an update.
+-- What the effect of a legal message does, and why a known state refuses an update.
 use Rattle.std.proofs.Common.{◌≡◌, ℕ, Bool, true, false, List, Option, Some, None, refl, sym, ap, subst, ◌∙◌}
 use Rattle.std.specs.Prelude.{◌≢◌, is_some, option_map}
 use Rattle.std.proofs.lemmas.Bool.{eq-eqb}
@@ -23,13 +23,13 @@ use Rattle.known_state.specs.declared.known.StepError.TheVariants as step_errors
 use Rattle.known_state.proofs.EffectsAreSteps.{effect_steps}
 use Rattle.known_state.proofs.StepPays.{own_stays}
 
--- the effect of a legal message makes its step, in a known state of these parts
+-- the effect of a legal message makes its step, in a known state with these parts
 pub legal_step : (k : KnownState) (roster : List Definition) (s e : State) (m : Message) (effect : Effect) → ◌≡◌ {A = KnownState} (record { roster = roster; state = s }) k → IsLegalEffect k m effect → e ≡ made s effect → (us : List Update) × Step k.state m us e × IsOwn k.roster m
 legal_step k roster s e m effect view (fit, own, is) made_is =
     let here : e ≡ made k.state effect = made_is ∙ ap (λ (x : KnownState). made x.state effect) view in
     (carried_by k.state m effect, subst (λ (x : State). Step k.state m (carried_by k.state m effect) x) (sym here) (effect_steps k.state m effect fit is), own)
 
--- and what is received after it is the roster's own
+-- and what is received afterwards is the roster's own
 pub legal_own : (k : KnownState) (roster : List Definition) (s e : State) (m : Message) (effect : Effect) → ◌≡◌ {A = KnownState} (record { roster = roster; state = s }) k → AreOwn roster s.received.tables → IsLegalEffect k m effect → e ≡ made s effect → AreOwn roster e.received.tables
 legal_own k roster s e m effect view all legal made_is =
     let step = legal_step k roster s e m effect view legal made_is in
@@ -39,22 +39,22 @@ legal_own k roster s e m effect view all legal made_is =
 
 -- ---- updates
 
--- an update of the selected table that fits is refused for what its state refuses it
+-- a known state refuses a fitting update of the selected table for the reason its state gives
 pub refused_so : (k : KnownState) (u : UpdateFields) (d : Definition) → selected_table k.state.received ≡ Some d → fits k.state.received (messages.Update u) ≡ true → update_refusal k u (selected_table k.state.received) ≡ option_map as_step_error (refusal_of k.state u.number u.name)
 refused_so k u d sel fit =
     let here : update_refusal k u (selected_table k.state.received) ≡ update_refusal k u (Some d) = ap (λ (o : Option Definition). update_refusal k u o) sel in
     here ∙ rw fit refl
 
--- whether its state refuses it, and why, is passed on
+-- the known state passes on whether its state refuses the update, and why
 pub refusal_here : (k : KnownState) (s : State) (u : UpdateFields) (d : Definition) (number : Option ℕ) (field : NameField) (refusal : Option Refusal) → s ≡ k.state → number ≡ u.number → field ≡ u.name → selected_table k.state.received ≡ Some d → fits k.state.received (messages.Update u) ≡ true
     → refusal ≡ refusal_of s number field → update_refusal k u (selected_table k.state.received) ≡ option_map as_step_error refusal
 refusal_here k s u d number field refusal is_s is_number is_field sel fit is =
     let here : refusal_of k.state u.number u.name ≡ refusal = rw (← is_s, ← is_number, ← is_field) (sym is) in
     refused_so k u d sel fit ∙ ap (λ (o : Option Refusal). option_map as_step_error o) here
 
--- ---- messages that are refused for no cause but want of memory
+-- ---- messages that are refused only if memory runs out
 
--- an update among them fits, and its state doesn't refuse it
+-- such an update fits, and its state doesn't refuse it
 pub taken_update : (k : KnownState) (u : UpdateFields) → IsTakenBy k (messages.Update u) → (d : Definition) × (selected_table k.state.received ≡ Some d) × (fits k.state.received (messages.Update u) ≡ true) × (refusal_of k.state u.number u.name ≡ None)
 taken_update k u taken = at (selected_table k.state.received) refl (fits k.state.received (messages.Update u)) refl (refusal_of k.state u.number u.name) refl
   where
@@ -64,7 +64,7 @@ taken_update k u taken = at (selected_table k.state.received) refl (fits k.state
     at (Some d) is true fit None refused = (d, is, fit, refused)
     at (Some d) is true fit (Some r) refused = absurd (taken (as_step_error r) (refused_so k u d is fit ∙ ap (λ (x : Option Refusal). option_map as_step_error x) refused))
 
--- a switch among them goes to a table that is defined
+-- such a switch selects a table that is defined
 pub taken_switch : (k : KnownState) (id : ℕ) → IsTakenBy k (messages.Switch id) → is_some (table_at k.state.received.tables id) ≡ true
 taken_switch k id taken = at (has_id id k.roster) refl (table_at k.state.received.tables id) refl
   where
@@ -83,7 +83,7 @@ not_own roster d other found =
     let bad : false ≡ true = sym other ∙ own in
     absurd cc
 
--- and a definition among them is the roster's own
+-- and such a definition is the roster's own
 pub taken_define : (k : KnownState) (d : Definition) → IsTakenBy k (messages.Define d) → table_at k.roster d.id ≡ Some d
 taken_define k d taken = at (table_at k.roster d.id) refl
   where

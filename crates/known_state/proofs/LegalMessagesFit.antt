@@ -1,4 +1,4 @@
--- Messages that make their steps fit all along.
+-- Messages that make their steps fit, each in its state.
 use Rattle.std.proofs.Common.{◌≡◌, true, List, [], ◌∷◌, ap, subst, ◌∙◌}
 use Rattle.std.specs.Prelude.{fold}
 use Rattle.table_types.specs.declared.update.Update.{Update}
@@ -9,7 +9,7 @@ use Rattle.peers_msg.specs.Fitting.{fits}
 use Rattle.peers_msg.specs.Stream.{AllFit}
 use Rattle.known_state.specs.State.{State, Step, Teaches}
 
--- what makes its step fits, and is received
+-- a message that makes its step fits, and is received
 pub step_fits : (s e : State) (m : Message) (us : List Update) → Step s m us e → (fits s.received m ≡ true) × (e.received ≡ received_after s.received m)
 step_fits s e (messages.Update u) us step = (step.0, step.8)
 step_fits s e (messages.Control c) us step = (step.0, ap (λ (x : State). x.received) step.2)

@@ -1,4 +1,4 @@
--- The places of links: each comes from before its end, and goes to the place of its own request.
+-- The places of links: each link begins before it ends, and ends at the place of its own request.
 use Rattle.std.proofs.Common.{◌≡◌, ℕ, zero, suc, ◌+◌, ◌<◌, ◌≤◌, Bool, true, false, ◌&&◌, cond, eqb, ltb, List, [], ◌∷◌, ◌++◌, length, get_or, Option, Some, None, refl, sym, ap, ◌∙◌, subst, arith, append_assoc}
 use Rattle.std.specs.List.{AllByRecursion, list_any}
 use Rattle.std.proofs.lemmas.Bool.Decides.{nat_tests}
@@ -44,11 +44,11 @@ links_more held rs r keep kept same =
 
 -- ---- links go forward
 
--- a link comes from a place before that to which it goes, which is one of the first n
+-- a link begins at a place before the one where it ends, which is one of the first n
 abbrev pub IsForward : ℕ → Link → Type 0
 IsForward n l = (l.from < l.to) × (l.to ≤ n)
 
--- no name was requested last at a place to come
+-- no name was last requested at a place to come
 abbrev pub AreBefore : Asking → Type 0
 AreBefore asking = (name : List ℕ) (from : ℕ) → asking.last name ≡ Some from → from ≤ asking.place
 
@@ -82,7 +82,7 @@ forward_all n asking (r ∷ rs) (k ∷ keep) before le = by (asking.last r.name)
 pub links_forward : (held : List (List ℕ)) (rs : List Asked) (keep : List Bool) → AllByRecursion (λ l. (l.from < l.to) × (l.to ≤ length rs)) (links held rs keep)
 links_forward held rs keep = forward_all (length rs) (at_start held) rs keep (before-start held) (omega arith)
 
--- so no link is over the start, and none over the place of the last request or one past it
+-- so no link passes over the start, the place of the last request, or a place after it
 pub over_start : (ls : List Link) → kept_over ls 0 ≡ 0
 over_start [] = refl
 over_start (l ∷ ls) = let later = over_start ls in let here = by l.kept l.from (ltb 0 l.to) in omega arith
@@ -102,7 +102,8 @@ over_none n place (l ∷ ls) forward le = let later = over_none n place ls forwa
 
 -- ---- from place to place
 
--- from a place to the next, the kept links go that end at the next, and those come that begin at the place
+-- from a place to the next, the kept links that end at the next are dropped, and those that begin at the place are
+-- added
 pub over_next : (n place : ℕ) (ls : List Link) → AllByRecursion (λ l. (l.from < l.to) × (l.to ≤ n)) ls → kept_over ls (place + 1) + kept_to ls (place + 1) ≡ kept_over ls place + kept_from ls place
 over_next n place [] forward = refl
 over_next n place (l ∷ ls) forward =
@@ -114,7 +115,7 @@ over_next n place (l ∷ ls) forward =
     by true from to lt = grind (arith, nat_tests)
     by false from to lt = refl
 
--- no link of requests to come goes to a place before them
+-- no link of later requests ends before them
 none_to : (place : ℕ) (asking : Asking) (rs : List Asked) (keep : List Bool) → place ≤ asking.place → kept_to (links_from asking rs keep) place ≡ 0
 none_to place asking [] keep le = refl
 none_to place asking (r ∷ rs) [] le = refl
@@ -129,7 +130,7 @@ unkept : (o : Option ℕ) (place : ℕ) (asking : Asking) (r : Asked) (rest : Li
 unkept None place asking r rest = refl
 unkept (Some from) place asking r rest = omega arith
 
--- to the place of a request goes its own link, where it is kept
+-- a request's own link ends at its place, if the request is kept
 to_place : (i : ℕ) (asking : Asking) (rs : List Asked) (keep : List Bool) → length keep ≡ length rs → AreLinked asking rs keep → kept_to (links_from asking rs keep) (asking.place + 1 + i) ≡ cond (get_or keep i false) 1 0
 to_place i asking [] [] same linked = refl
 to_place i asking [] (k ∷ keep) same linked = absurd (omega arith)

@@ -1,4 +1,4 @@
--- The names that have to stay in slots at a request that is written are no more than the kept links over its place.
+-- At a request that is written, the names that must stay in slots are no more than the kept links over its place.
 use Rattle.std.proofs.Common.{◌≡◌, ℕ, ◌+◌, ◌≤◌, Bool, true, false, ◌||◌, cond, List, [], ◌∷◌, ◌++◌, length, Option, Some, None, refl, sym, ap, ◌∙◌, subst, arith}
 use Rattle.std.specs.Prelude.{is_some}
 use Rattle.std.specs.List.{AllByRecursion, IsDistinct}
@@ -13,7 +13,7 @@ use Rattle.known_state.proofs.SavingsAreBounded.{kept_over-append}
 use Rattle.known_state.proofs.LinkPlaces.{AreBefore, before-start, before-after, place-after, links-append, links_forward, over_none}
 use Rattle.known_state.proofs.SlotsNeeded.{is_among, is_before, names_over, as_many, or_first, or_second, turned, ends_here}
 
--- a name whose next request is kept, and which was requested last before a place, is one of those over it
+-- a name that was last requested before a place, and whose next request is kept, is one of those over the place
 among_over : (place : ℕ) (asking : Asking) (rs : List Asked) (keep : List Bool) (name : List ℕ) → place ≤ asking.place → keeps_next name rs keep ≡ true → is_before place (asking.last name) ≡ true → is_among name (names_over place asking rs keep) ≡ true
 among_over place asking [] keep name le next before = cc
 among_over place asking (r ∷ rs) [] name le next before = cc
@@ -32,7 +32,7 @@ among_over place asking (r ∷ rs) (k ∷ keep) name le next before = by (is_sam
     by false apart true next later = added (is_before place (asking.last r.name)) (later apart next)
     by false apart false next later = later apart next
 
--- what holds of all names holds of one among them
+-- what holds of all names holds of each of them
 of_among : (p : List ℕ → Type 0) (names : List (List ℕ)) (name : List ℕ) → AllByRecursion p names → is_among name names ≡ true → p name
 of_among p [] name all h = cc
 of_among p (x ∷ xs) name all h = by (is_same_name name x) refl h (of_among p xs name all.1)
@@ -41,7 +41,7 @@ of_among p (x ∷ xs) name all h = by (is_same_name name x) refl h (of_among p x
     by true same h later = subst p (sym (same_text name x (sym same))) all.0
     by false apart h later = later h
 
--- a name that stays: it was requested, or stands in a slot since the start, and its next request is kept
+-- a name that stays: it was requested or has been in a slot since the start, and its next request is kept
 abbrev Stays : Asking → List Asked → List Bool → List ℕ → Type 0
 Stays asking rs keep name = (is_some (asking.last name) ≡ true) × (keeps_next name rs keep ≡ true)
 
@@ -63,7 +63,7 @@ names_stay asking r rs keep names before apart stay =
         let later = by name (is_same_name r.name name) refl next in
         among_over (asking.place + 1) (after_request asking r) rs keep name (omega arith) later.1 (rw later.0 (requested name (asking.last name) refl some))
 
--- so, in all the links, over the place of that request
+-- so it is one of those over the place of that request, in all the links
 pub names_to_keep : (held : List (List ℕ)) (done rest : List Asked) (r : Asked) (kept keep : List Bool) (names : List (List ℕ)) → length kept ≡ length done → IsDistinct is_same_name names
     → AllByRecursion (λ name. (is_some ((after_requests (at_start held) done).last name) ≡ true) × (keeps_next name (r ∷ rest) (false ∷ keep) ≡ true)) names
     → length names ≤ kept_over (links held (done ++ (r ∷ rest)) (kept ++ (false ∷ keep))) (length done + 1)

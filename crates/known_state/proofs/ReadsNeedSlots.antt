@@ -1,4 +1,4 @@
--- Messages that make their steps meet their requests one after another, so their reads need slots.
+-- Messages that make their steps serve their requests one after another, so their reads need slots.
 use Rattle.std.proofs.Common.{◌≡◌, ℕ, zero, suc, ◌-◌, ◌<◌, ◌≤◌, Bool, true, false, ◌&&◌, List, [], ◌∷◌, ◌++◌, length, Option, Some, None, refl, sym, ap, ◌∙◌, subst, arith}
 use Rattle.std.specs.Prelude.{slice_index_or}
 use Rattle.std.proofs.lemmas.Bool.Decides.{nat_tests}
@@ -32,14 +32,14 @@ and-right : (a b : Bool) → (a && b) ≡ true → b ≡ true
 and-right true b h = h
 and-right false b h = cc
 
--- a name that is written fits a slot
+-- a written name fits a slot
 pub slot_written : (d : Definition) (slot : ℕ) (name : List ℕ) → name_fits d (names.Written slot name) ≡ true → is_slot slot ≡ true
 slot_written d slot name fit = and-right (stores_name d) (is_slot slot) (and-left (stores_name d && is_slot slot) (is_name name) fit)
 
 below : (slot n : ℕ) → is_slot slot ≡ true → n ≡ 128 → slot - 1 < n
 below slot n is many = grind (arith, nat_tests)
 
--- what is found at a place stands in the slots
+-- a name found at a place is in the slots
 pub found_among : (slots : List (Option (List ℕ))) (place : ℕ) (name : List ℕ) → slice_index_or slots place None ≡ Some name → is_among name (names_in slots) ≡ true
 found_among [] place name at = cc
 found_among (s ∷ slots) zero name at = rw at (or_first (is_same_name name name) (is_among name (names_in slots)) (name_itself name))
@@ -51,7 +51,7 @@ found_among (s ∷ slots) (suc place) name at = by s (found_among slots place na
 
 -- ---- steps
 
--- slots keep their number
+-- the number of slots doesn't change
 pub slots_stay : (s mid : State) (m : Message) (one : List Update) → Step s m one mid → length mid.slots ≡ length s.slots
 slots_stay s mid (messages.Update m) one (fit, table, on, number, numbered, name, named, carried, received, last_numbers) = by m.name named
   where
@@ -71,13 +71,13 @@ pub slots_stay_all : (s e : State) (ms : List Message) (us : List Update) → Te
 slots_stay_all s e [] us (none, same) = ap (λ (x : State). length x.slots) same
 slots_stay_all s e (m ∷ ms) us (one, rest, mid, is, step, later) = slots_stay_all mid e ms rest later ∙ slots_stay s mid m one step
 
--- a message that carries nothing requests nothing, and leaves the slots
+-- a message that carries nothing requests nothing, and leaves the slots unchanged
 nothing_met : (roster : List Definition) (k : Knowledge) (slots after : List (Option (List ℕ))) (one : List Update) (rs : List Asked) (marks : List Bool) → one ≡ [] → after ≡ slots → AreMet after rs marks → AreMet slots (requests_of roster k one ++ rs) marks
 nothing_met roster k slots after one rs marks none same met =
     subst (λ (l : List Update). AreMet slots (requests_of roster k l ++ rs) marks) (sym none)
     (subst (λ (x : List (Option (List ℕ))). AreMet x rs marks) same met)
 
--- the request of a name field is met
+-- the request of a name field is served
 field_met : (roster : List Definition) (k : Knowledge) (u : Update) (d : Definition) (slots after : List (Option (List ℕ))) (field : NameField) (name : Option (List ℕ)) (rs : List Asked) (marks : List Bool) → length slots ≡ 128 → name_fits d field ≡ true → Named slots field name after → AreMet after rs marks → AreMet slots ((asked roster k u name ++ []) ++ rs) (mark_of field ++ marks)
 field_met roster k u d slots after names.NotStored name rs marks many fit (none, stay) met = rw (none, ← stay) met
 field_met roster k u d slots after names.NoName name rs marks many fit (none, stay) met = rw (none, ← stay) met
@@ -99,7 +99,7 @@ message_met roster k s mid (messages.Error e) one rs ms many (fit, none, is) met
 message_met roster k s mid (messages.Ack table number) one rs ms many (fit, none, is) met = nothing_met roster k s.slots mid.slots one rs (reads_of ms) none (ap (λ (x : State). x.slots) is) met
 message_met roster k s mid (messages.Other o) one rs ms many (fit, none, is) met = nothing_met roster k s.slots mid.slots one rs (reads_of ms) none (ap (λ (x : State). x.slots) is) met
 
--- and so are those of messages one after another
+-- and so are those of a list of messages
 pub messages_met : (roster : List Definition) (k : Knowledge) (s e : State) (ms : List Message) (us : List Update) → length s.slots ≡ 128 → Teaches s ms us e → AreMet s.slots (requests_of roster k us) (reads_of ms)
 messages_met roster k s e [] us many (none, same) = subst (λ (l : List Update). AreMet s.slots (requests_of roster k l) []) (sym none) tt
 messages_met roster k s e (m ∷ ms) us many (one, rest, mid, is, step, later) =
@@ -112,6 +112,6 @@ messages_met roster k s e (m ∷ ms) us many (one, rest, mid, is, step, later) =
 pub reads_linked : (roster : List Definition) (k : Knowledge) (s e : State) (ms : List Message) (us : List Update) → length s.slots ≡ 128 → Teaches s ms us e → AreLinked (at_start (names_in s.slots)) (requests_of roster k us) (reads_of ms)
 reads_linked roster k s e ms us many taught = linked_from_start s.slots (requests_of roster k us) (reads_of ms) (messages_met roster k s e ms us many taught)
 
--- and no place is inside of more than 127 of the links that are read
+-- and no place is inside more than 127 of the links that are read
 pub reads_room : (roster : List Definition) (k : Knowledge) (s e : State) (ms : List Message) (us : List Update) (place : ℕ) → length s.slots ≡ 128 → Teaches s ms us e → kept_over (links (names_in s.slots) (requests_of roster k us) (reads_of ms)) place ≤ 127
 reads_room roster k s e ms us place many taught = room_from_start 127 place s.slots (requests_of roster k us) (reads_of ms) (omega arith) (messages_met roster k s e ms us many taught)

@@ -1,4 +1,4 @@
--- Which requests a legal list reads, and what that saves.
+-- Which requests a legal list reads, and what the reads save.
 use Rattle.std.proofs.Common.{◌≡◌, ℕ, ◌+◌, ◌-◌, ◌≤◌, Bool, true, false, cond, eqb, List, [], ◌∷◌, ◌++◌, length, Option, Some, None, refl, sym, ap, ◌∙◌, subst, inl, inr, arith, length-append, append_assoc}
 use Rattle.std.specs.Prelude.{is_some, filter, flat_map}
 use Rattle.std.specs.List.{AllByRecursion}
@@ -31,19 +31,19 @@ use Rattle.known_state.proofs.KnowingMoreCostsLess.{framed_longer, found_before,
 use Rattle.known_state.proofs.StepPays.{is_there, moved_last, own_stays}
 use Rattle.known_state.proofs.FullIsCost.{list_pays_full}
 
--- ---- last numbers, by the state there and by the updates so far
+-- ---- last numbers, as the state has them and as the updates so far leave them
 
 -- the last number of each id is the same
 abbrev HaveSameLastNumbers : Knowledge → Knowledge → Type 0
 HaveSameLastNumbers one other = (id : ℕ) → one.last id ≡ other.last id
 
--- a table that is received is the roster's of its id
+-- a received table is the roster's table of its id
 pub received_is_own : (roster ds : List Definition) (id : ℕ) (t : Definition) → AreOwn roster ds → table_at ds id ≡ Some t → table_at roster id ≡ Some t
 received_is_own roster ds id t own found =
     let own_t : table_at roster t.id ≡ Some t = table_at-passes (λ (x : Definition). table_at roster x.id ≡ Some x) ds id t own found in
     subst (λ (n : ℕ). table_at roster n ≡ Some t) (table_at-id ds id t found) own_t
 
--- the roster's own definition changes no last number
+-- defining the roster's own table changes no last number
 own_keeps_last_numbers : (roster : List Definition) (s : State) (d : Definition) → repeats_name roster ≡ false → table_at roster d.id ≡ Some d → AreOwn roster s.received.tables
     → HaveSameLastNumbers (knowledge_of (record { received = received_after s.received (messages.Define d); last_numbers = filter (λ l. keeps_last d (table_at s.received.tables l.0) l.0) s.last_numbers; slots = s.slots })) (knowledge_of s)
 own_keeps_last_numbers roster s d distinct listed own = λ id. by id (table_at s.received.tables id) refl
@@ -85,7 +85,7 @@ own_keeps_last_numbers roster s d distinct listed own = λ id. by id (table_at s
               rw (still, received) (last-kept keeps s.last_numbers id keep)
         ]
 
--- an update puts its number, and leaves the last numbers of the other tables
+-- an update sets its number, and leaves the last numbers of the other tables unchanged
 update_puts_last : (s mid : State) (d : Definition) (u : Update) (table number : ℕ) → selected_table s.received ≡ Some d → s.received.selected ≡ Some table → u.table ≡ table → u.number ≡ number → mid.received ≡ s.received → mid.last_numbers ≡ set_last table number s.last_numbers → HaveSameLastNumbers (knowledge_of mid) (knowledge_after (knowledge_of s) u)
 update_puts_last s mid d u table number sel on table_is number_is received last_numbers = λ id.
     let found = selected-found s.received d sel in
@@ -104,7 +104,7 @@ unmoved mid after one k none is same =
     subst (λ (l : List Update). HaveSameLastNumbers (knowledge_of mid) (knowledge_after_all k l)) (sym none)
     (subst (λ (x : State). HaveSameLastNumbers (knowledge_of x) k) (sym is) same)
 
--- so after a legal step the last numbers are those of the updates that it carries, put in their places
+-- so after a legal step, the last numbers are the old ones with those of the carried updates put in
 last_numbers_step : (roster : List Definition) (s mid : State) (m : Message) (one : List Update) (k : Knowledge) → repeats_name roster ≡ false → AreOwn roster s.received.tables → IsOwn roster m → Step s m one mid → HaveSameLastNumbers (knowledge_of s) k → HaveSameLastNumbers (knowledge_of mid) (knowledge_after_all k one)
 last_numbers_step roster s mid (messages.Define d) one k distinct own is_own (fit, none, is) same =
     subst (λ (l : List Update). HaveSameLastNumbers (knowledge_of mid) (knowledge_after_all k l)) (sym none)
@@ -154,7 +154,7 @@ held_least number life key values slot =
 abbrev saved_by_field : List Definition → Knowledge → NameField → Update → ℕ
 saved_by_field roster k field u = cond (is_held field) (written_cost roster k u - size_of (messages.Update (sent_as (k.last u.table) field u))) 0
 
--- a name field saves no more than the request that it answers, by the same last numbers
+-- a name field saves no more than its request, with the same last numbers
 field_saves : (roster : List Definition) (here k : Knowledge) (u : Update) (slots after : List (Option (List ℕ))) (field : NameField) (name : Option (List ℕ)) (rs : List Asked) (marks : List Bool) → HaveSameLastNumbers here k → Named slots field name after
     → saved_by_field roster here field u + read_savings rs marks ≤ read_savings ((asked roster k u name ++ []) ++ rs) (mark_of field ++ marks)
 field_saves roster here k u slots after names.NotStored name rs marks same (none, stay) = rw none (omega arith)
@@ -166,7 +166,7 @@ field_saves roster here k u slots after (names.Held slot) name rs marks same (by
     let read : held_cost k u ≤ size_of (messages.Update (sent_as (here.last u.table) (names.Held slot) u)) = subst (λ (l : Option ℕ). size_of (messages.Update (sent_as l (names.Held 1) u)) ≤ size_of (messages.Update (sent_as (here.last u.table) (names.Held slot) u))) (same u.table) least in
     rw is (omega arith)
 
--- and so does a message
+-- nor does a message
 message_saves : (roster : List Definition) (s mid : State) (m : Message) (one : List Update) (k : Knowledge) (rs : List Asked) (ms : List Message) → HaveSameLastNumbers (knowledge_of s) k → Step s m one mid
     → saving roster (knowledge_of s) m one + read_savings rs (reads_of ms) ≤ read_savings (requests_of roster k one ++ rs) (reads_of (m ∷ ms))
 message_saves roster s mid (messages.Update m) one k rs ms same (fit, table, on, number, numbered, name, named, carried, received, last_numbers) =
@@ -180,7 +180,7 @@ message_saves roster s mid (messages.Error e) one k rs ms same (fit, none, is) =
 message_saves roster s mid (messages.Ack table number) one k rs ms same (fit, none, is) = rw none (omega arith)
 message_saves roster s mid (messages.Other o) one k rs ms same (fit, none, is) = rw none (omega arith)
 
--- and so do messages one after another
+-- nor do messages one after another
 saves_reads : (roster : List Definition) (s : State) (ms : List Message) (us : List Update) (k : Knowledge) (saved : ℕ) → repeats_name roster ≡ false → AreOwn roster s.received.tables → AllByRecursion (IsOwn roster) ms → HaveSameLastNumbers (knowledge_of s) k → Saves roster s ms us saved
     → saved ≤ read_savings (requests_of roster k us) (reads_of ms)
 saves_reads roster s [] us k saved distinct own owns same none = rw none (omega arith)
@@ -191,7 +191,8 @@ saves_reads roster s (m ∷ ms) us k saved distinct own owns same (one, rest, mi
     let whole : saving roster (knowledge_of s) m one + read_savings (requests_of roster (knowledge_after_all k one) rest) (reads_of ms) ≤ read_savings (requests_of roster k us) (reads_of (m ∷ ms)) = subst (λ (l : List Asked). saving roster (knowledge_of s) m one + read_savings (requests_of roster (knowledge_after_all k one) rest) (reads_of ms) ≤ read_savings l (reads_of (m ∷ ms))) joined here in
     omega arith
 
--- a legal list has at least the size of the lesson with every name written, less the savings of the requests that it reads
+-- a legal list is at least as long as the lesson with every name written, less the savings of the requests that it
+-- reads
 pub reads_pay : (roster : List Definition) (s e : State) (ms : List Message) (us : List Update) → roster_fault roster ≡ None → AreOwn roster s.received.tables → AllByRecursion (IsOfRoster roster) us → Legal roster s ms us e → full roster s us ≤ size_of_all ms + read_savings (requests_of roster (knowledge_of s) us) (reads_of ms)
 reads_pay roster s e ms us sound own all legal =
     let paid = list_pays_full roster s e ms us own all legal in

@@ -1,4 +1,4 @@
--- What is received in a known state is the roster's own, and stays so.
+-- All that a known state has received is the roster's own, and stays so.
 use Rattle.std.proofs.Common.{◌≡◌, ℕ, Bool, true, false, not, ◌&&◌, ◌||◌, cond, eqb, List, [], ◌∷◌, Option, Some, None, refl, sym, arith, subst, ◌∙◌, inl, inr}
 use Rattle.std.specs.Prelude.{filter, fold, nat_lt}
 use Rattle.std.specs.List.{AllByRecursion}
@@ -67,7 +67,7 @@ AreOwn-fold roster (id ∷ ids) ds own = AreOwn-fold roster ids (with_own roster
 pub AreOwn-resumed : (roster : List Definition) (ids : List ℕ) (selected : Option ℕ) → AreOwn roster (resumed roster ids selected).tables
 AreOwn-resumed roster ids selected = AreOwn-fold roster ids [] tt
 
--- a table put among tables that lack its id is found there
+-- a table inserted among tables that lack its id is found there
 put_found : (d : Definition) (ds : List Definition) → has_id d.id ds ≡ false → table_at (insert_table d ds) d.id ≡ Some d
 put_found d [] none = rw (eq-eqb d.id d.id refl) refl
 put_found d (x ∷ xs) none =
@@ -101,6 +101,6 @@ outliving_lacks d (x ∷ xs) = at (outlives d x) refl (outliving_lacks d xs)
         let other : eqb x.id d.id ≡ false = not-first (eqb x.id d.id) (not (is_same_name x.name d.name)) e in
         rw other rest
 
--- after a definition its table is selected
+-- after a definition, its table is selected
 pub define_selects : (h : Received) (d : Definition) → selected_table (received_after h (messages.Define d)) ≡ Some d
 define_selects h d = put_found d (filter (outlives d) h.tables) (outliving_lacks d h.tables)

@@ -1,4 +1,4 @@
--- What a known state refuses is no step.
+-- A message that a known state refuses makes no step.
 use Rattle.std.proofs.Common.{◌≡◌, ℕ, Bool, true, false, ◌&&◌, List, Option, Some, None, refl, sym, ap, ◌∙◌, subst}
 use Rattle.std.specs.Prelude.{is_some, nat_lt, nat_le, ◌^◌, length}
 use Rattle.peers_msg.specs.Spelling.{data_of}

@@ -1,4 +1,4 @@
--- What is resumed from the ids that a known state has received is what it has received.
+-- Resuming from the ids that a known state has received gives what it has received.
 use Rattle.std.proofs.Common.{◌≡◌, ◌≢◌, ℕ, ◌<◌, ◌≤◌, Bool, true, false, List, [], ◌∷◌, ◌++◌, refl, sym, ap, subst, ◌∙◌, append_assoc, arith}
 use Rattle.std.specs.Prelude.{filter, fold, map}
 use Rattle.std.specs.List.{AllByRecursion}
@@ -10,7 +10,7 @@ use Rattle.table_types.specs.Rosters.{is_same_name}
 use Rattle.peers_msg.specs.Received.{IsBelow, AreDistinct, insert_table, outlives, with_own, resumed}
 use Rattle.known_state.specs.Known.{KnownState, AreOwn}
 
--- tables that are all below that one
+-- tables that are all below the given one
 abbrev AreBelow : Definition → List Definition → Type 0
 AreBelow d ds = AllByRecursion (λ x. IsBelow x d) ds
 
@@ -30,7 +30,7 @@ all_live d (x ∷ xs) below =
     let lives : outlives d x ≡ true = rw (ne_eqb x.id d.id apart, unlike x.name d.name below.0.1) refl in
     rw lives (ap (λ (ts : List Definition). x ∷ ts) (all_live d xs below.1))
 
--- and it goes after them
+-- and it comes after them
 goes_last : (d : Definition) (ds : List Definition) → AreBelow d ds → insert_table d ds ≡ ds ++ (d ∷ [])
 goes_last d [] below = refl
 goes_last d (x ∷ xs) below =

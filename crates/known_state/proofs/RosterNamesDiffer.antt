@@ -1,4 +1,4 @@
--- The tables of a roster have distinct names, so a definition of one takes nothing from another.
+-- The tables of a roster have distinct names, so defining one drops no other.
 use Rattle.std.proofs.Common.{◌≡◌, ℕ, Bool, true, false, not, ◌&&◌, ◌||◌, cond, eqb, List, [], ◌∷◌, Some, None, refl, sym, ◌∙◌, subst, inl, inr}
 use Rattle.std.specs.Prelude.{is_some, filter, nat_lt, nat_le, length}
 use Rattle.std.specs.Cmp.Lexicographic.{same_text}
@@ -11,12 +11,12 @@ use Rattle.known_state.specs.Known.{AreOwn}
 use Rattle.known_state.proofs.ReceivedIsOwn.{or-false-left, or-false-right}
 use Rattle.known_state.proofs.FitsOrIsRefused.{has_id-table_at}
 
--- a name is the same as itself
+-- a name equals itself
 pub name_itself : (a : List ℕ) → is_same_name a a ≡ true
 name_itself [] = refl
 name_itself (x ∷ xs) = rw (eq-eqb x x refl) (name_itself xs)
 
--- a table among tables of which none has a name has another one
+-- if none of the tables has the name, each of them has another
 listed_other_name : (name : List ℕ) (ds : List Definition) (id : ℕ) (b : Definition) → has_name name ds ≡ false → table_at ds id ≡ Some b → is_same_name b.name name ≡ false
 listed_other_name name [] id b none listed = cc
 listed_other_name name (x ∷ xs) id b none listed = elim (cases_eq x.id id) [
@@ -24,7 +24,7 @@ listed_other_name name (x ∷ xs) id b none listed = elim (cases_eq x.id id) [
   | inr other ↦ listed_other_name name xs id b (or-false-right (is_same_name x.name name) (has_name name xs) none) (sym (rw (ne_eqb x.id id other) refl) ∙ listed)
 ]
 
--- two tables of a roster have two names
+-- two tables of a roster have different names
 pub two_names : (roster : List Definition) (a b : Definition) → repeats_name roster ≡ false → table_at roster a.id ≡ Some a → table_at roster b.id ≡ Some b → (a.id ≡ b.id → ⊥) → is_same_name a.name b.name ≡ false
 two_names [] a b distinct la lb apart = cc
 two_names (x ∷ xs) a b distinct la lb apart =
@@ -65,7 +65,7 @@ roster_names roster sound = third (nat_le 1 (length roster) && nat_le (length ro
     third true true c h = cc
     third false b c h = cc
 
--- a table of the roster other than the one defined outlives its definition
+-- a table of the roster other than the one defined outlives the definition
 outlives_own : (roster : List Definition) (d x : Definition) → repeats_name roster ≡ false → table_at roster d.id ≡ Some d → table_at roster x.id ≡ Some x → (x.id ≡ d.id → ⊥) → outlives d x ≡ true
 outlives_own roster d x distinct listed own apart = rw (ne_eqb x.id d.id apart, two_names roster x d distinct own listed apart) refl
 
@@ -101,7 +101,7 @@ has_put d (x ∷ xs) id h = at (nat_lt d.id x.id) refl (has_put d xs id)
     at true e later = rw e (or-right (eqb d.id id) (has_id id (x ∷ xs)) h)
     at false e later = rw e (or-mono (eqb x.id id) (has_id id xs) (has_id id (insert_table d xs)) later h)
 
--- so it is received after it
+-- so it is still received afterwards
 pub still_received : (roster : List Definition) (d : Definition) (ts : List Definition) (id : ℕ) → repeats_name roster ≡ false → table_at roster d.id ≡ Some d → AreOwn roster ts → (id ≡ d.id → ⊥) → is_some (table_at ts id) ≡ true → is_some (table_at (defined d ts) id) ≡ true
 still_received roster d ts id distinct listed own apart h =
     let before : has_id id ts ≡ true = has_id-table_at ts id ∙ h in

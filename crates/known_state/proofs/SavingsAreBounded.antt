@@ -1,4 +1,4 @@
--- What links save, and the bound that prices show.
+-- What links save, and the bound that prices prove.
 use Rattle.std.proofs.Common.{◌≡◌, ℕ, zero, suc, ◌+◌, ◌-◌, ◌*◌, ◌<◌, ◌≤◌, Bool, true, false, ◌&&◌, cond, List, [], ◌∷◌, ◌++◌, length, get_or, take, drop, map, Option, Some, None, ◌⊎◌, inl, inr, refl, subst, ap, ◌∙◌, arith}
 use Rattle.std.specs.List.{AllByRecursion}
 use Rattle.std.proofs.lemmas.Bool.Decides.{nat_tests}
@@ -13,18 +13,18 @@ pub total-append : {A : Type 0} (f : A → ℕ) (xs ys : List A) → total f (xs
 total-append f [] ys = omega arith
 total-append f (x ∷ xs) ys = let later = total-append f xs ys in omega arith
 
--- what is kept over a place in two lists of links
+-- what is kept over a place, for two lists of links
 pub kept_over-append : (ls more : List Link) (place : ℕ) → kept_over (ls ++ more) place ≡ kept_over ls place + kept_over more place
 kept_over-append ls more place = total-append (λ l. cond (l.kept && is_inside place l) 1 0) ls more
 
--- ---- the prices inside of a link, place by place
+-- ---- the prices inside a link, place by place
 
--- the prices inside of a link, from a place on
+-- the prices inside a link, from a place on
 abbrev inside_from : ℕ → List ℕ → Link → ℕ
 inside_from place [] l = 0
 inside_from place (p ∷ ps) l = cond (is_inside place l) p 0 + inside_from (place + 1) ps l
 
--- those from a place on after which the link comes
+-- the same, from a place at or after the link's start
 begun : (ps : List ℕ) (k n : ℕ) (l : Link) → l.from ≤ k → l.to - 1 - k ≡ n → sum_of (take n ps) ≡ inside_from (k + 1) ps l
 begun [] k zero l le is = refl
 begun [] k (suc n) l le is = refl
@@ -35,7 +35,7 @@ begun (p ∷ ps) k (suc n) l le is =
     let later = begun ps (k + 1) n l (omega arith) (omega arith) in
     grind (arith, nat_tests)
 
--- those from a place on that is not after the link's first
+-- the same, from a place at or before the link's start
 ahead : (ps : List ℕ) (k n : ℕ) (l : Link) → l.from ≡ k + n → sum_of (take (l.to - 1 - l.from) (drop n ps)) ≡ inside_from (k + 1) ps l
 ahead ps k zero l is = begun ps k (l.to - 1 - l.from) l (omega arith) (omega arith)
 ahead [] k (suc n) l is = begun [] l.from (l.to - 1 - l.from) l (omega arith) refl
@@ -48,12 +48,12 @@ price_by_place prices l = ahead prices 0 l.from l (omega arith)
 
 -- ---- no choice of links saves more than the bound
 
--- the prices inside of kept links, from a place on, place by place
+-- the prices inside the kept links, from a place on, place by place
 abbrev kept_prices : ℕ → List ℕ → List Link → ℕ
 kept_prices place [] ls = 0
 kept_prices place (p ∷ ps) ls = p * kept_over ls place + kept_prices (place + 1) ps ls
 
--- one place more adds its price for each kept link that it is inside of
+-- one more place adds its price once for each kept link that it is inside
 one_place : (place p : ℕ) (f : Link → ℕ) (ls : List Link) → total (λ l. cond l.kept (cond (is_inside place l) p 0 + f l) 0) ls ≡ p * kept_over ls place + total (λ l. cond l.kept (f l) 0) ls
 one_place place p f [] = omega arith
 one_place place p f (l ∷ ls) =
@@ -79,7 +79,7 @@ by_places : (place : ℕ) (ps : List ℕ) (ls : List Link) → total (λ l. cond
 by_places place [] ls = none_inside ls
 by_places place (p ∷ ps) ls = one_place place p (λ l. inside_from (place + 1) ps l) ls ∙ ap (λ (n : ℕ). p * kept_over ls place + n) (by_places (place + 1) ps ls)
 
--- no more than so often each price, where no place is inside of more kept links
+-- at most `n` times each price, if no place is inside more than `n` kept links
 at_most : (n place : ℕ) (ps : List ℕ) (ls : List Link) → ((q : ℕ) → kept_over ls q ≤ n) → kept_prices place ps ls ≤ n * sum_of ps
 at_most n place [] ls room = omega arith
 at_most n place (p ∷ ps) ls room =
@@ -88,7 +88,7 @@ at_most n place (p ∷ ps) ls room =
     let parts = mul-add n p (sum_of ps) in
     omega arith
 
--- a kept link saves no more than the prices inside of it and what it saves above them
+-- a kept link saves at most the prices inside it plus what it saves above them
 kept_or_above : (prices : List ℕ) (ls : List Link) → kept_savings ls ≤ total (λ l. cond l.kept (inside_from 1 prices l) 0) ls + total (λ l. l.saving - price_inside prices l) ls
 kept_or_above prices [] = omega arith
 kept_or_above prices (l ∷ ls) =
@@ -109,7 +109,7 @@ links_bounded n prices ls room =
 
 -- ---- prices that fit are tight
 
--- where each place with a price is inside of n kept links
+-- if each place with a price is inside `n` kept links
 each_full : (n place : ℕ) (ps : List ℕ) (ls : List Link) → ((i : ℕ) → (get_or ps i 0 ≡ 0) ⊎ (kept_over ls (place + i) ≡ n)) → kept_prices place ps ls ≡ n * sum_of ps
 each_full n place [] ls are = omega arith
 each_full n place (p ∷ ps) ls are =
@@ -127,7 +127,7 @@ each_full n place (p ∷ ps) ls are =
         let same : kept_over ls place ≡ n = subst (λ (q : ℕ). kept_over ls q ≡ n) (omega arith) over in
         rw same (mul_comm p n)
 
--- where a kept link saves no less than the prices inside of it, and any other no more
+-- if a kept link saves no less than the prices inside it, and any other link no more
 well_priced : (prices : List ℕ) (ls : List Link) → AllByRecursion (λ l. (l.kept ≡ true → price_inside prices l ≤ l.saving) × (l.kept ≡ false → l.saving ≤ price_inside prices l)) ls → kept_savings ls ≡ total (λ l. cond l.kept (inside_from 1 prices l) 0) ls + total (λ l. l.saving - price_inside prices l) ls
 well_priced prices [] well = omega arith
 well_priced prices (l ∷ ls) well =
@@ -139,9 +139,9 @@ well_priced prices (l ∷ ls) well =
     by true saving a b same fit = let le = fit.0 refl in omega arith
     by false saving a b same fit = let le = fit.1 refl in omega arith
 
--- ---- the bound goes by the requests alone
+-- ---- the bound depends on the requests alone
 
--- what links save above prices, whatever is kept
+-- what links save above prices, whichever are kept
 pub above_alike : (prices : List ℕ) (asking : Asking) (rs : List Asked) (keep marks : List Bool) → length keep ≡ length rs → length marks ≡ length rs → total (λ l. l.saving - price_inside prices l) (links_from asking rs keep) ≡ total (λ l. l.saving - price_inside prices l) (links_from asking rs marks)
 above_alike prices asking [] keep marks as_many so_many = refl
 above_alike prices asking (r ∷ rs) [] marks as_many so_many = absurd (omega arith)
@@ -179,7 +179,7 @@ tight slots held rs keep prices as_many are well =
     turned : (i : ℕ) → i + 1 ≡ 1 + i
     turned i = omega arith
 
--- ---- what reads save is what kept links save
+-- ---- reads save what kept links save
 
 linked_savings : (asking : Asking) (rs : List Asked) (keep : List Bool) → AreLinked asking rs keep → read_savings rs keep ≡ kept_savings (links_from asking rs keep)
 linked_savings asking [] keep linked = refl
@@ -196,9 +196,9 @@ linked_savings asking (r ∷ rs) (false ∷ keep) linked = linked_savings (after
 pub reads_save : (held : List (List ℕ)) (rs : List Asked) (keep : List Bool) → AreLinked (at_start held) rs keep → read_savings rs keep ≡ kept_savings (links held rs keep)
 reads_save held rs keep linked = linked_savings (at_start held) rs keep linked
 
--- ---- prices as rises from place to place
+-- ---- prices as differences of height
 
--- each place's price is the rise from the height of the place before to its own
+-- each place's price is its height less the height of the place before
 abbrev AreRises : List ℕ → (ℕ → ℕ) → Type 0
 AreRises prices height = (i : ℕ) → i < length prices → height i + get_or prices i 0 ≡ height (suc i)
 

@@ -1,4 +1,4 @@
--- Each name that is read stands in a slot from the request before it on, and so does the name of each request between.
+-- A name that is read is in a slot from its previous request on, and so is the name of each request in between.
 use Rattle.std.proofs.Common.{◌≡◌, ℕ, zero, suc, ◌+◌, ◌<◌, ◌≤◌, Bool, true, false, ◌||◌, cond, ltb, List, [], ◌∷◌, ◌++◌, length, Option, Some, None, ◌⊎◌, refl, sym, ap, ◌∙◌, subst, inl, inr, arith}
 use Rattle.std.specs.Prelude.{slice_set}
 use Rattle.std.specs.List.{AllByRecursion, IsDistinct, list_any}
@@ -17,8 +17,8 @@ use Rattle.known_state.proofs.RosterNamesDiffer.{name_itself}
 abbrev pub is_among : List ℕ → List (List ℕ) → Bool
 is_among name names = list_any (is_same_name name) names
 
--- Requests are met one after another from these slots: one that is read finds its name in a slot, and the name of any
--- other is written to some slot.
+-- Requests are served one after another from these slots: a request that is read finds its name in a slot, and the name
+-- of any other is written to some slot.
 abbrev pub AreMet : List (Option (List ℕ)) → List Asked → List Bool → Type 0
 AreMet slots [] marks = Unit {0}
 AreMet slots (r ∷ rs) [] = ⊥
@@ -42,7 +42,7 @@ or_not_first false b h no_a = h
 pub turned : (a b : List ℕ) → is_same_name a b ≡ is_same_name b a
 turned a b = nat_list_eq_equiv.symm a b
 
--- what a slot holds is in the slots
+-- the name that a slot holds is among the slots' names
 pub held_among : (slots : List (Option (List ℕ))) (place : ℕ) (name : List ℕ) → place < length slots → is_among name (names_in (slice_set slots place (Some name))) ≡ true
 held_among [] place name lt = absurd (omega arith)
 held_among (s ∷ slots) zero name lt = rw (name_itself name) refl
@@ -52,7 +52,7 @@ held_among (s ∷ slots) (suc place) name lt = by s (held_among slots place name
     by None later = later
     by (Some other) later = or_second (is_same_name name other) _ later
 
--- a name in the slots after one was written is that one, or was in them before
+-- a name in the slots after a write is the one written, or was in them before
 pub among_before : (slots : List (Option (List ℕ))) (place : ℕ) (name other : List ℕ) → is_same_name name other ≡ false → is_among name (names_in (slice_set slots place (Some other))) ≡ true → is_among name (names_in slots) ≡ true
 among_before [] place name other apart h = h
 among_before (s ∷ slots) zero name other apart h = by s (or_not_first (is_same_name name other) (is_among name (names_in slots)) h apart)
@@ -70,7 +70,7 @@ among_before (s ∷ slots) (suc place) name other apart h = by s h (among_before
         first true h = refl
         first false h = later h
 
--- no more names than slots
+-- there are no more names than slots
 names_fit : (slots : List (Option (List ℕ))) → length (names_in slots) ≤ length slots
 names_fit [] = omega arith
 names_fit (None ∷ slots) = let later = names_fit slots in omega arith
@@ -78,14 +78,14 @@ names_fit (Some name ∷ slots) = let later = names_fit slots in omega arith
 
 -- ---- each request that is read has a link
 
--- each name in the slots was requested, or stood in them at the start
+-- each name in the slots was requested, or was in them at the start
 abbrev HaveBeenRequested : Asking → List (Option (List ℕ)) → Type 0
 HaveBeenRequested asking slots = (name : List ℕ) → is_among name (names_in slots) ≡ true → (from : ℕ) × (asking.last name ≡ Some from)
 
 at_first : (slots : List (Option (List ℕ))) → HaveBeenRequested (at_start (names_in slots)) slots
 at_first slots = λ name h. (0, rw h refl)
 
--- the place of a name's last request after one more
+-- the place of a name's last request, after one more request
 after_more : (asking : Asking) (r : Asked) (name : List ℕ) (b : Bool) → is_same_name r.name name ≡ b → (b ≡ false → (from : ℕ) × (asking.last name ≡ Some from)) → (from : ℕ) × ((after_request asking r).last name ≡ Some from)
 after_more asking r name true is before = (asking.place + 1, rw is refl)
 after_more asking r name false is before = let earlier = before refl in (earlier.0, rw is earlier.1)
@@ -105,14 +105,14 @@ abbrev pub is_before : ℕ → Option ℕ → Bool
 is_before place None = false
 is_before place (Some from) = ltb from place
 
--- the names of kept requests to come that were requested last before a place
+-- the names of kept requests to come that were last requested before a place
 abbrev pub names_over : ℕ → Asking → List Asked → List Bool → List (List ℕ)
 names_over place asking [] keep = []
 names_over place asking (r ∷ rs) [] = []
 names_over place asking (r ∷ rs) (true ∷ keep) = cond (is_before place (asking.last r.name)) (r.name ∷ names_over place (after_request asking r) rs keep) (names_over place (after_request asking r) rs keep)
 names_over place asking (r ∷ rs) (false ∷ keep) = names_over place (after_request asking r) rs keep
 
--- they are as many as the kept links that the place is inside of
+-- there are as many of them as there are kept links with the place inside
 pub as_many : (place : ℕ) (asking : Asking) (rs : List Asked) (keep : List Bool) → place ≤ asking.place → kept_over (links_from asking rs keep) place ≡ length (names_over place asking rs keep)
 as_many place asking [] keep le = refl
 as_many place asking (r ∷ rs) [] le = refl
@@ -127,7 +127,7 @@ as_many place asking (r ∷ rs) (false ∷ keep) le = by (asking.last r.name) (l
     by None rest later = later
     by (Some from) rest later = omega arith
 
--- a name that was requested last before a place is not that of a request after it
+-- a name that was last requested before a place isn't the name of a request after that place
 before_it : (place : ℕ) (asking : Asking) (r : Asked) (name : List ℕ) → place ≤ asking.place → is_before place ((after_request asking r).last name) ≡ true → (is_same_name r.name name ≡ false) × (is_before place (asking.last name) ≡ true)
 before_it place asking r name le h = by (is_same_name r.name name) refl h
   where
@@ -135,7 +135,7 @@ before_it place asking r name le h = by (is_same_name r.name name) refl h
     by true is h = absurd (grind (arith, nat_tests))
     by false is h = (is, h)
 
--- a name among those kept over a place is that of the first request, or is among those of the rest
+-- a name among those kept over a place is the name of the first request, or is among those of the rest
 first_or_rest : (b : Bool) (name other : List ℕ) (names : List (List ℕ)) → is_among name (cond b (other ∷ names) names) ≡ true → ((b ≡ true) × (name ≡ other)) ⊎ (is_among name names ≡ true)
 first_or_rest false name other names h = inr h
 first_or_rest true name other names h = at (is_same_name name other) refl h
@@ -144,7 +144,7 @@ first_or_rest true name other names h = at (is_same_name name other) refl h
     at true same h = inl (refl, same_text name other (sym same))
     at false apart h = inr h
 
--- each of them was requested last before the place
+-- each of them was last requested before the place
 requested_before : (place : ℕ) (asking : Asking) (rs : List Asked) (keep : List Bool) (name : List ℕ) → place ≤ asking.place → is_among name (names_over place asking rs keep) ≡ true → is_before place (asking.last name) ≡ true
 requested_before place asking [] keep name le h = cc
 requested_before place asking (r ∷ rs) [] name le h = cc
@@ -154,7 +154,7 @@ requested_before place asking (r ∷ rs) (true ∷ keep) name le h = elim (first
 ]
 requested_before place asking (r ∷ rs) (false ∷ keep) name le h = (before_it place asking r name le (requested_before place (after_request asking r) rs keep name (omega arith) h)).1
 
--- and stands in a slot
+-- and is in a slot
 stand_in_slots : (place : ℕ) (asking : Asking) (slots : List (Option (List ℕ))) (rs : List Asked) (keep : List Bool) (name : List ℕ) → place ≤ asking.place → AreMet slots rs keep → is_among name (names_over place asking rs keep) ≡ true → is_among name (names_in slots) ≡ true
 stand_in_slots place asking slots [] keep name le met h = cc
 stand_in_slots place asking slots (r ∷ rs) [] name le met h = cc
@@ -167,12 +167,12 @@ stand_in_slots place asking slots (r ∷ rs) (false ∷ keep) name le met h =
     let apart = (before_it place asking r name le (requested_before place (after_request asking r) rs keep name (omega arith) h)).0 in
     among_before slots met.0 name r.name (turned name r.name ∙ apart) there
 
--- what holds of each name that is among names holds of all of them
+-- what holds of each name among names holds of all of them
 each_among : (p : List ℕ → Type 0) (names : List (List ℕ)) → ((name : List ℕ) → is_among name names ≡ true → p name) → AllByRecursion p names
 each_among p [] each = tt
 each_among p (x ∷ xs) each = (each x (or_first (is_same_name x x) (is_among x xs) (name_itself x)), each_among p xs (λ name h. each name (or_second (is_same_name name x) (is_among name xs) h)))
 
--- the name of a request is none of those kept over its place or over one before
+-- the name of a request is none of those kept over its place or over an earlier one
 unlike_request : (place : ℕ) (asking : Asking) (r : Asked) (rs : List Asked) (keep : List Bool) → place ≤ asking.place + 1 → AllByRecursion (λ name. is_same_name r.name name ≡ false) (names_over place (after_request asking r) rs keep)
 unlike_request place asking r rs keep le = each_among (λ name. is_same_name r.name name ≡ false) (names_over place (after_request asking r) rs keep) (λ name h. by name (is_same_name r.name name) refl (requested_before place (after_request asking r) rs keep name le h))
   where
@@ -194,9 +194,9 @@ are_distinct place asking (r ∷ rs) (true ∷ keep) le = by (is_before place (a
     by true later = IsDistinct-cons is_same_name r.name (names_over place (after_request asking r) rs keep) (unlike_request place asking r rs keep (omega arith)) later
 are_distinct place asking (r ∷ rs) (false ∷ keep) le = are_distinct place (after_request asking r) rs keep (omega arith)
 
--- ---- no place is inside of more kept links than there are slots but one
+-- ---- no place is inside more kept links than there are slots less one
 
--- at the place of a request its own name stands in a slot, and each kept link that the place is inside of has another
+-- at the place of a request, its own name is in a slot, and each kept link with the place inside needs another slot
 at_its_place : (n : ℕ) (asking : Asking) (slots : List (Option (List ℕ))) (r : Asked) (rs : List Asked) (keep : List Bool) → length slots ≤ suc n → is_among r.name (names_in slots) ≡ true → AreMet slots rs keep → kept_over (links_from (after_request asking r) rs keep) (asking.place + 1) ≤ n
 at_its_place n asking slots r rs keep few here met =
     let over : List (List ℕ) = names_over (asking.place + 1) (after_request asking r) rs keep in
@@ -248,7 +248,7 @@ none_over_start asking (r ∷ rs) (k ∷ keep) = by (asking.last r.name) k (none
     by (Some from) true later = grind (arith, nat_tests)
     by (Some from) false later = omega arith
 
--- so from the start on no place is inside of more kept links than there are slots but one
+-- so from the start on, no place is inside more kept links than there are slots less one
 pub room_from_start : (n place : ℕ) (slots : List (Option (List ℕ))) (rs : List Asked) (keep : List Bool) → length slots ≤ suc n → AreMet slots rs keep → kept_over (links (names_in slots) rs keep) place ≤ n
 room_from_start n zero slots rs keep few met = let none = none_over_start (at_start (names_in slots)) rs keep in omega arith
 room_from_start n (suc place) slots rs keep few met = met_room n (suc place) (at_start (names_in slots)) slots rs keep (omega arith) few met

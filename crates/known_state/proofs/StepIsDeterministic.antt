@@ -1,4 +1,4 @@
--- From one state a message, and messages, lead to one state.
+-- From one state, a message or a list of messages leads to only one state.
 use Rattle.std.proofs.Common.{◌≡◌, ℕ, List, [], ◌∷◌, ◌++◌, Option, sym, ap, subst, ◌∙◌}
 use Rattle.table_types.specs.declared.update.Update.{Update}
 use Rattle.peers_msg.specs.declared.name_field.NameField.{NameField}

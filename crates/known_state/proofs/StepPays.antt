@@ -23,7 +23,7 @@ use Rattle.known_state.proofs.FitsOrIsRefused.{selected-id, selected-found}
 use Rattle.known_state.proofs.RefusedIsNoStep.{switch_found, selection}
 use Rattle.known_state.proofs.KnowingMoreCostsLess.{falls, defining_pays, switched_pays, update_pays, found_before, last-dropped, last-filter, last-put}
 
--- what moves nothing pays
+-- a message that changes nothing pays
 stays_pays : (roster : List Definition) (s mid : State) (m : Message) (one rest : List Update) → one ≡ [] → mid ≡ s → cost roster s (one ++ rest) ≤ size_of m + saving roster (knowledge_of s) m one + cost roster mid rest
 stays_pays roster s mid m one rest none same = rw (none, same) (omega arith)
 
@@ -31,7 +31,7 @@ or_true : (a b : Bool) → b ≡ true → (a || b) ≡ true
 or_true true b h = refl
 or_true false b h = h
 
--- a definition of the roster's own pays
+-- a definition of a roster's own table pays
 define_pays : (roster : List Definition) (s : State) (d : Definition) (rest : List Update) → table_at roster d.id ≡ Some d → AllByRecursion (IsOfRoster roster) rest
     → cost roster s rest ≤ size_of (messages.Define d) + cost roster (record { received = received_after s.received (messages.Define d); last_numbers = filter (λ l. keeps_last d (table_at s.received.tables l.0) l.0) s.last_numbers; slots = s.slots }) rest
 define_pays roster s d rest own all =
@@ -66,7 +66,7 @@ define_pays roster s d rest own all =
         let dropped : keeps id ≡ false = rw (nothing (table_at s.received.tables id) f, here) refl in
         inr (last-dropped keeps s.last_numbers id dropped)
 
--- a switch to a table that is received pays
+-- a switch to a received table pays
 switch_pays : (roster : List Definition) (s : State) (id : ℕ) (d : Definition) (rest : List Update) → table_at s.received.tables id ≡ Some d → AllByRecursion (IsOfRoster roster) rest
     → cost roster s rest ≤ size_of (messages.Switch id) + cost roster (record { received = received_after s.received (messages.Switch id); last_numbers = s.last_numbers; slots = s.slots }) rest
 switch_pays roster s id d rest found all =
@@ -82,7 +82,7 @@ switch_pays roster s id d rest found all =
     let less = falls roster (knowledge_of after) (with_selected k id) rest knows all in
     omega arith
 
--- the table's part of a fitting update
+-- the name field of a fitting update fits the selected table
 pub name_fitting : (h : Received) (m : UpdateFields) (d : Definition) → fits h (messages.Update m) ≡ true → selected_table h ≡ Some d → name_fits d m.name ≡ true
 unfolding fits
 name_fitting h m d fit sel = last-part (sym (rw sel refl) ∙ fit)
@@ -110,7 +110,7 @@ is_there ds table id d here same = elim (cases_eq id table) [
   | inr other ↦ let bad : false ≡ true = sym (ne_eqb id table other) ∙ same in cc
 ]
 
--- an update pays, and what it saves by reading a name
+-- an update pays, including for what it saves by reading a name
 take_pays : (roster : List Definition) (s mid : State) (m : UpdateFields) (d : Definition) (table number : ℕ) (name : Option (List ℕ)) (rest : List Update) → AreOwn roster s.received.tables → AllByRecursion (IsOfRoster roster) rest
     → selected_table s.received ≡ Some d → d.id ≡ table → name_fits d m.name ≡ true → Named s.slots m.name name mid.slots → resolved_number m.number (last_of s.last_numbers table) ≡ Some number → mid.received ≡ s.received → mid.last_numbers ≡ set_last table number s.last_numbers
     → cost roster s (resolved m table number name ∷ rest) ≤ size_of (messages.Update m) + saving roster (knowledge_of s) (messages.Update m) (resolved m table number name ∷ []) + cost roster mid rest
@@ -167,7 +167,7 @@ own_stays roster s mid (messages.Error e) one own is_own (fit, none, is) = subst
 own_stays roster s mid (messages.Ack table number) one own is_own (fit, none, is) = subst (λ (x : State). AreOwn roster x.received.tables) (sym is) own
 own_stays roster s mid (messages.Other o) one own is_own (fit, none, is) = subst (λ (x : State). AreOwn roster x.received.tables) (sym is) own
 
--- what holds of each of the updates holds of each of the rest
+-- what holds of each of some updates holds of each of the rest
 pub all_rest : (p : Update → Type 0) (one rest us : List Update) → us ≡ one ++ rest → AllByRecursion p us → AllByRecursion p rest
 all_rest p one rest us is all = in_rest one (subst (λ (l : List Update). AllByRecursion p l) is all)
   where

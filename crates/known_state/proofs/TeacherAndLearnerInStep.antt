@@ -1,5 +1,5 @@
--- What is legal from what a teacher knows of a learner is legal from the learner's own state, and what the teacher then
--- knows is what is known of the learner.
+-- A list that is legal from what a teacher knows of a learner is legal from the learner's own state, and what the
+-- teacher knows afterwards is what is then known of the learner.
 use Rattle.std.proofs.Common.{◌≡◌, ℕ, Bool, true, false, not, ◌&&◌, ◌||◌, cond, eqb, List, [], ◌∷◌, Option, Some, None, refl, sym, ap, ◌∙◌, subst, inl, inr}
 use Rattle.std.specs.Prelude.{is_some, filter}
 use Rattle.std.specs.List.{AllByRecursion}
@@ -25,9 +25,9 @@ use Rattle.known_state.proofs.RefusedIsNoStep.{switch_found, selection}
 use Rattle.known_state.proofs.KnowingMoreCostsLess.{found_before, last-kept}
 use Rattle.known_state.proofs.LastNumbersRise.{put-filter, rising-step}
 
--- ---- what is known of a learner that received the roster's own tables alone
+-- ---- what is known of a learner that received only the roster's own tables
 
--- all that was received, but for last numbers of ids that aren't received, and a selected id that isn't
+-- all that was received, except last numbers of ids that aren't received, and a selected id that isn't received
 abbrev trimmed : State → State
 trimmed s = record {
   received = record { tables = s.received.tables; selected = cond (is_some (selected_table s.received)) s.received.selected None };
@@ -70,7 +70,7 @@ known_trimmed roster s own =
 
 -- ---- definitions
 
--- a table that passes is still found among those that do
+-- a table that passes is still found among those that pass
 has_passed : (p : Definition → Bool) (ds : List Definition) (id : ℕ) (d : Definition) → table_at ds id ≡ Some d → p d ≡ true → has_id id (filter p ds) ≡ true
 has_passed p [] id d h passes = cc
 has_passed p (x ∷ xs) id d h passes = elim (cases_eq x.id id) [
@@ -109,7 +109,7 @@ received_still d ds id x found kept = elim (cases_eq id d.id) [
       sym (has_id-table_at (defined d ds) id) ∙ has_put d (filter (outlives d) ds) id (has_passed (outlives d) ds id x found lives)
 ]
 
--- an id that wasn't received and keeps its last number isn't received after it either
+-- an id that wasn't received and keeps its last number isn't received afterwards either
 unreceived_still : (d : Definition) (ds : List Definition) (id : ℕ) → table_at ds id ≡ None → (keeps d ds id && is_some (table_at (defined d ds) id)) ≡ false
 unreceived_still d ds id none = elim (cases_eq id d.id) [
   | inl same ↦ rw (none, eq-eqb id d.id same) refl
@@ -124,7 +124,7 @@ unreceived_still d ds id none = elim (cases_eq id d.id) [
         let bad : false ≡ true = sym (rw (ne_eqb id d.id other, none) refl) ∙ before in
         absurd cc
 
--- of what keeps its last number the ids received after a definition are those received before
+-- among the ids that keep their last numbers, those received after a definition are those received before
 received_alike : (d : Definition) (ds : List Definition) (id : ℕ) → (keeps d ds id && is_some (table_at (defined d ds) id)) ≡ (is_some (table_at ds id) && keeps d ds id)
 received_alike d ds id = at (table_at ds id) refl
   where
@@ -154,7 +154,7 @@ last_numbers_alike d ds ls =
 
 -- ---- one step
 
--- a message that goes by no table fits wherever it stands
+-- a message that depends on no table fits in every state
 fits_anywhere : (h k : Received) (m : Message) → h.tables ≡ k.tables → selected_table h ≡ selected_table k → fits h m ≡ true → fits k m ≡ true
 unfolding fits
 fits_anywhere h k (messages.Control c) tables selected fit = fit
@@ -180,7 +180,8 @@ trimmed_selected s = at s.received.selected
 fits_too : (s : State) (m : Message) → fits (trimmed s).received m ≡ true → fits s.received m ≡ true
 fits_too s m fit = fits_anywhere (trimmed s).received s.received m refl (trimmed_selected s) fit
 
--- the learner's own state makes the step too, and what is known of it after it is that
+-- the learner's own state makes the step too, and what is known of it afterwards is where the step from what is known
+-- leads
 abbrev KeepsStep : State → Message → List Update → State → Type 0
 KeepsStep s m us after = (e : State) × Step s m us e × (trimmed e ≡ after)
 
@@ -227,7 +228,8 @@ update_keeps s after u us rise (fit, table, is_table, number, is_number, name, n
     ∙ ap (λ (h : Received). record { received = h; last_numbers = after.last_numbers; slots = after.slots }) tables in
     (record { received = s.received; last_numbers = set_last table number s.last_numbers; slots = after.slots }, (fits_here, table, selected, number, numbered, name, named, carried, refl, refl), known)
 
--- a step from what is known is one from the learner's own state, and what is known of that is where it leads
+-- a step from what is known is a step from the learner's own state, and what is known of the new state is where the
+-- step leads
 keeps_step : (s after : State) (m : Message) (us : List Update) → AreRising s.last_numbers → Step (trimmed s) m us after → KeepsStep s m us after
 keeps_step s after (messages.Update u) us rise step = update_keeps s after u us rise step
 keeps_step s after (messages.Define d) us rise step = define_keeps s after d us step
@@ -239,7 +241,7 @@ keeps_step s after (messages.Other o) us rise (fit, none, is) = (s, (fits_too s 
 
 -- ---- whole lists
 
--- what was received stays the roster's own
+-- what is received stays the roster's own
 pub own_stays : (roster : List Definition) (s e : State) (m : Message) (us : List Update) → AreOwn roster s.received.tables → IsOwn roster m → Step s m us e → AreOwn roster e.received.tables
 own_stays roster s e (messages.Update u) us own is step = subst (λ (h : Received). AreOwn roster h.tables) (sym step.8) own
 own_stays roster s e (messages.Define d) us own is step = subst (λ (x : State). AreOwn roster x.received.tables) (sym step.2) (AreOwn-defined roster d s.received.tables is own)

@@ -1,4 +1,4 @@
--- The lesson in which every name is written, and what it costs in bytes (profile).
+-- The lesson in which every name is written, and its cost in bytes (profile).
 use Rattle.std.specs.Prelude.{ℕ, ◌+◌, ◌-◌, ◌%◌, ◌^◌, ◌≤◌, Bool, true, false, ◌||◌, ◌==◌, List, [], ◌∷◌, ◌++◌, ◌≡◌, is_some, Option, Some, None, option_map, if◌then◌else◌}
 use Rattle.table_types.specs.declared.update.Update.{Update}
 use Rattle.table_types.specs.Tables.{Definition}
@@ -14,7 +14,8 @@ use Rattle.peers_msg.specs.Spelling.{size_of, size_of_all}
 use Rattle.known_state.specs.State.{State, Step}
 use Rattle.known_state.specs.LastNumbers.{last_of}
 
--- what bears on the cost of a lesson: which ids are defined, the one selected, and the last number of each id defined
+-- what determines the cost of a lesson: which ids are defined, which one is selected, and the last number of each
+-- defined id
 pub record Knowledge : Type 0 where
   pub is_defined : ℕ → Bool
   pub selected : Option ℕ
@@ -27,7 +28,7 @@ knowledge_of s = record {
   last = λ id. if is_some (table_at s.received.tables id) then last_of s.last_numbers id else None;
 }
 
--- and after an update: its table is defined and selected, and its number is the table's last
+-- the same after an update: its table is defined and selected, and its number is the table's last
 abbrev pub knowledge_after : Knowledge → Update → Knowledge
 knowledge_after k u = record { is_defined = λ id. id == u.table || k.is_defined id; selected = Some u.table; last = λ id. if id == u.table then Some u.number else k.last id }
 
@@ -36,7 +37,7 @@ abbrev pub follows : Option ℕ → ℕ → Bool
 follows None number = false
 follows (Some last) number = (last + 1) % 2 ^ 32 == number
 
--- the number that is sent: none where the learner finds it by itself
+-- the number that is sent: none if the learner derives it by itself
 abbrev pub number_sent : Option ℕ → ℕ → Option ℕ
 number_sent last number = if follows last number then None else Some number
 
@@ -44,7 +45,7 @@ number_sent last number = if follows last number then None else Some number
 abbrev pub sent_as : Option ℕ → NameField → Update → UpdateFields
 sent_as last field u = record { number = number_sent last u.number; life = u.life; key = u.key; values = u.values; name = field }
 
--- the name field with the name written; each slot is as long as the first
+-- the name field with the name written; every slot takes as many bytes as the first
 abbrev pub written_field : Bool → Option (List ℕ) → NameField
 written_field false name = names.NotStored
 written_field true None = names.NoName
@@ -76,8 +77,8 @@ selecting roster k id =
     if is_selected k.selected id then []
     else (if k.is_defined id then messages.Switch id ∷ [] else defining (table_at roster id))
 
--- The lesson with every name written: the updates one after another, each after what selects its table, in its shortest
--- number form. No slot is retained, so each name is written to the first.
+-- The lesson with every name written: the updates one after another, each in its shortest number form and after what
+-- selects its table. No slot is retained, so each name is written to the first slot.
 abbrev pub written_lesson : List Definition → Knowledge → List Update → List Message
 written_lesson roster k [] = []
 written_lesson roster k (u ∷ us) = selecting roster k u.table ++ (written roster k u ∷ written_lesson roster (knowledge_after k u) us)
@@ -86,24 +87,24 @@ written_lesson roster k (u ∷ us) = selecting roster k u.table ++ (written rost
 abbrev pub full : List Definition → State → List Update → ℕ
 full roster s us = size_of_all (written_lesson roster (knowledge_of s) us)
 
--- ---- the same number, update by update
+-- ---- the same size, update by update
 
 abbrev pub definition_cost : Option Definition → ℕ
 definition_cost None = 0
 definition_cost (Some d) = size_of (messages.Define d)
 
--- what it costs to select a table: nothing, a switch, or its definition
+-- the cost of selecting a table: nothing, a switch, or its definition
 abbrev pub selection_cost : List Definition → Knowledge → ℕ → ℕ
 selection_cost roster k id =
     if is_selected k.selected id then 0
     else (if k.is_defined id then size_of (messages.Switch id) else definition_cost (table_at roster id))
 
--- what the updates cost, one after another
+-- the cost of the updates, one after another
 abbrev pub cost_from : List Definition → Knowledge → List Update → ℕ
 cost_from roster k [] = 0
 cost_from roster k (u ∷ us) = selection_cost roster k u.table + written_cost roster k u + cost_from roster (knowledge_after k u) us
 
--- and what they cost from a state on
+-- and their cost from a state on
 abbrev pub cost : List Definition → State → List Update → ℕ
 cost roster s us = cost_from roster (knowledge_of s) us
 
@@ -113,21 +114,22 @@ abbrev pub is_held : NameField → Bool
 is_held (names.Held slot) = true
 is_held field = false
 
--- what a message saves that reads a name: the cost of its update with the name written, less that with the name read
+-- what a message saves by reading a name: the cost of its update with the name written, less the cost with the name
+-- read
 abbrev pub saving : List Definition → Knowledge → Message → List Update → ℕ
 saving roster k (messages.Update m) (u ∷ []) = if is_held m.name then written_cost roster k u - size_of (messages.Update (sent_as (k.last u.table) m.name u)) else 0
 saving roster k m us = 0
 
--- the update is of a table of the roster
+-- the update belongs to a table of the roster
 abbrev pub IsOfRoster : List Definition → Update → Type 0
 IsOfRoster roster u = (d : Definition) × (table_at roster u.table ≡ Some d)
 
--- A step pays for what it saves: what is to be sent costs no more before the message than its size, the saving of
--- its read, and what is left to send after it.
+-- A step pays for what it saves: what is left to send before the message costs at most the message's size, plus the
+-- saving of its read, plus what is left to send after it.
 abbrev pub Pays : List Definition → State → Message → List Update → List Update → State → Type 0
 Pays roster s m one rest mid = full roster s (one ++ rest) ≤ size_of m + saving roster (knowledge_of s) m one + full roster mid rest
 
--- what messages save that carry these updates from s on
+-- what messages that carry these updates save, from s on
 abbrev pub Saves : List Definition → State → List Message → List Update → ℕ → Type 0
 Saves roster s [] us saved = saved ≡ 0
 Saves roster s (m ∷ ms) us saved =

@@ -26,11 +26,11 @@ pub record KnownState : Type 0 where
   pub roster : List Definition
   pub state : State
 
--- each id received stands for a definition of the roster
+-- each received id stands for a definition of the roster
 abbrev pub AreOwn : List Definition → List Definition → Type 0
 AreOwn roster ds = AllByRecursion (λ d. table_at roster d.id ≡ Some d) ds
 
--- a learner of the roster that received nothing
+-- a learner of the roster that has received nothing
 abbrev pub fresh_of : List Definition → KnownState
 fresh_of roster = record { roster = roster; state = record { received = nothing_received; last_numbers = []; slots = no_names } }
 
@@ -52,17 +52,17 @@ abbrev pub or_none : (ℕ → Bool) → Option ℕ → Bool
 or_none test None = true
 or_none test (Some id) = test id
 
--- each id is the roster's
+-- each id is in the roster
 abbrev pub are_known : List Definition → Option ℕ → List ℕ → List (ℕ × ℕ) → Bool
 are_known roster selected defined last_numbers =
     or_none (λ id. has_id id roster) selected && list_all (λ id. has_id id roster) defined && list_all (λ l. has_id l.0 roster) last_numbers
 
--- what is selected and what has a last number is defined
+-- every id that is selected or has a last number is defined
 abbrev pub are_defined : Option ℕ → List ℕ → List (ℕ × ℕ) → Bool
 are_defined selected defined last_numbers = or_none (λ id. is_in id defined) selected && list_all (λ l. is_in l.0 defined) last_numbers
 
--- what is first wrong with the parts of a known state: an id that the roster lacks, one that is selected or has a
--- last number and isn't defined, or one that is defined twice or has two last numbers
+-- the first fault in the parts of a known state: an id that the roster lacks, an id that is selected or has a last
+-- number but isn't defined, or an id that is defined twice or has two last numbers
 abbrev pub build_fault : List Definition → Option ℕ → List ℕ → List (ℕ × ℕ) → Option KnownError
 build_fault roster selected defined last_numbers =
     if not (are_known roster selected defined last_numbers) then Some build_errors.NoTable
@@ -70,11 +70,11 @@ build_fault roster selected defined last_numbers =
     else (if repeats defined || repeats_last last_numbers then Some build_errors.Repeated
     else None))
 
--- last numbers put in their places one after another
+-- last numbers put one after another
 abbrev pub last_numbers_put : List (ℕ × ℕ) → List (ℕ × ℕ)
 last_numbers_put last_numbers = fold (λ placed l. set_last l.0 l.1 placed) [] last_numbers
 
--- the known state of those parts
+-- the known state with these parts
 abbrev pub built : List Definition → Option ℕ → List ℕ → List (ℕ × ℕ) → List (Option (List ℕ)) → KnownState
 built roster selected defined last_numbers slots = record { roster = roster; state = record { received = resumed roster defined selected; last_numbers = last_numbers_put last_numbers; slots = slots } }
 
@@ -84,29 +84,28 @@ switch_refusal k id =
     if not (has_id id k.roster) then Some step_errors.Foreign
     else (if is_none (table_at k.state.received.tables id) then Some step_errors.NotDefined else None)
 
--- a state's refusal, as a known state's
+-- a state's refusal as a refusal of the known state
 abbrev pub as_step_error : Refusal → StepError
 as_step_error refusals.NoNumber = step_errors.NoNumber
 as_step_error refusals.EmptySlot = step_errors.EmptySlot
 as_step_error refusals.Memory = step_errors.Memory
 
--- why an update is refused, by the table that is selected
+-- why an update is refused, given the selected table
 abbrev pub update_refusal : KnownState → UpdateFields → Option Definition → Option StepError
 update_refusal k u None = Some step_errors.NoTable
 update_refusal k u (Some d) =
     if not (fits k.state.received (messages.Update u)) then Some step_errors.Foreign
     else option_map as_step_error (refusal_of k.state u.number u.name)
 
--- Why a message is refused in a known state. An update: with no table selected, where it doesn't fit, or where the state
--- refuses it. A definition that isn't the roster's own. A switch to an id that isn't the roster's, or to a table that
--- isn't defined yet.
+-- Why a known state refuses a message. An update: no table is selected, or the update doesn't fit, or the state refuses
+-- it. A definition: it isn't the roster's own. A switch: its id isn't in the roster, or its table isn't defined yet.
 abbrev pub Refuses : KnownState → Message → StepError → Type 0
 Refuses k (messages.Update u) e = update_refusal k u (selected_table k.state.received) ≡ Some e
 Refuses k (messages.Define d) e = (table_at k.roster d.id ≢ Some d) × (e ≡ step_errors.Foreign)
 Refuses k (messages.Switch id) e = switch_refusal k id ≡ Some e
 Refuses k m e = ⊥
 
--- the word for the cause
+-- the name of the cause
 abbrev pub step_error_name : StepError → List ℕ
 step_error_name step_errors.NotDefined = codes "NotDefined"
 step_error_name step_errors.NoTable = codes "NoTable"
@@ -115,15 +114,15 @@ step_error_name step_errors.EmptySlot = codes "EmptySlot"
 step_error_name step_errors.Foreign = codes "Foreign"
 step_error_name step_errors.Memory = codes "Memory"
 
--- no cause but want of memory refuses the message
+-- the message is refused for no cause, unless memory runs out
 abbrev pub IsTakenBy : KnownState → Message → Type 0
 IsTakenBy k m = (e : StepError) → Refuses k m e → ⊥
 
--- the message is legal in the known state, and this is what it does
+-- the message is legal in the known state, and this is its effect
 abbrev pub IsLegalEffect : KnownState → Message → Effect → Type 0
 IsLegalEffect k m effect = (fits k.state.received m ≡ true) × IsOwn k.roster m × IsEffect k.state m effect
 
--- of the roster's tables those are defined whose id stands for that very definition, with the last numbers that the
--- learner has of them; the slots are the learner's, and the table selected is named where it is one of them
+-- the tables of the roster whose id stands for that very definition are defined, with the learner's last numbers of
+-- them; the slots are the learner's, and the selected table stays selected if it is one of them
 abbrev pub known_of : List Definition → State → KnownState
 known_of roster s = record { roster = roster; state = record { received = own_part roster s.received; last_numbers = own_last_numbers roster s.received s.last_numbers; slots = s.slots } }

@@ -1,4 +1,4 @@
--- Lessons for a learner of which a known state is known (profile).
+-- Lessons for a learner whose known state is given (profile).
 use Rattle.std.specs.Prelude.{◌≡◌, ℕ, List}
 use Rattle.table_types.specs.declared.update.Update.{Update}
 use Rattle.peers_msg.specs.declared.message.Message.{Message}

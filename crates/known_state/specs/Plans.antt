@@ -5,7 +5,7 @@ use Rattle.std.specs.List.{AllByRecursion, list_any}
 use Rattle.table_types.specs.Rosters.{is_same_name}
 use Rattle.known_state.specs.Requests.{Asked}
 
--- for each request whether it is kept, and the price of its place
+-- for each request, whether it is kept and the price of its place
 pub record Plan : Type 0 where
   pub keep : List Bool
   pub prices : List ℕ
@@ -20,8 +20,8 @@ sum_of ns = total (λ n. n) ns
 
 -- ---- links
 
--- The requests stand at the places 1, 2 and so on, and place 0 is the start. How many requests there were, and the place
--- at which each name was requested last: 0 where it wasn't and stands in a slot at the start.
+-- The requests are at the places 1, 2 and so on, and place 0 is the start. How many requests there were, and the place
+-- at which each name was last requested: 0 if it wasn't and is in a slot at the start.
 pub record Asking : Type 0 where
   pub place : ℕ
   pub last : List ℕ → Option ℕ
@@ -32,8 +32,8 @@ at_start held = record { place = 0; last = λ name. if list_any (is_same_name na
 abbrev pub after_request : Asking → Asked → Asking
 after_request asking r = record { place = asking.place + 1; last = λ name. if is_same_name r.name name then Some (asking.place + 1) else asking.last name }
 
--- A request has a link where its name was requested before, or stands in a slot at the start: from that place to its own.
--- What it saves is its cost written less its cost read.
+-- A request has a link if its name was requested before, or is in a slot at the start: from that place to its own. The
+-- link saves the request's write cost less its read cost.
 pub record Link : Type 0 where
   pub from : ℕ
   pub to : ℕ
@@ -50,11 +50,11 @@ links_from asking (r ∷ rs) [] = []
 links_from asking (r ∷ rs) (kept ∷ keep) =
     link_of (asking.last r.name) (asking.place + 1) r kept ++ links_from (after_request asking r) rs keep
 
--- the links of requests where these names are held at the start, each with the mark of its request
+-- the links of requests if these names are held at the start, each with the mark of its request
 abbrev pub links : List (List ℕ) → List Asked → List Bool → List Link
 links held rs keep = links_from (at_start held) rs keep
 
--- all links, whatever is kept
+-- all links, whichever are kept
 abbrev pub all_links : List (List ℕ) → List Asked → List Link
 all_links held rs = links held rs (map (λ r. true) rs)
 
@@ -64,33 +64,33 @@ AreLinked asking (r ∷ rs) (true ∷ keep) = ((from : ℕ) × (asking.last r.na
 AreLinked asking (r ∷ rs) (false ∷ keep) = AreLinked (after_request asking r) rs keep
 AreLinked asking rs keep = Unit {0}
 
--- what was requested after some requests
+-- what has been requested after some requests
 abbrev pub after_requests : Asking → List Asked → Asking
 after_requests asking rs = fold after_request asking rs
 
--- whether a name's next request is kept; where there is none, nothing is
+-- whether a name's next request is kept; false if there is none
 abbrev pub keeps_next : List ℕ → List Asked → List Bool → Bool
 keeps_next name (r ∷ rs) (kept ∷ keep) = if is_same_name r.name name then kept else keeps_next name rs keep
 keeps_next name rs keep = false
 
--- ---- what links take, save and cost
+-- ---- what links occupy, save and cost
 
--- the places inside of a link: those after the one from which it comes and before the one to which it goes
+-- the places inside a link: those after the place where it begins and before the place where it ends
 abbrev pub is_inside : ℕ → Link → Bool
 is_inside place l = nat_lt l.from place && nat_lt place l.to
 
--- inside of how many kept links a place is
+-- how many kept links a place is inside
 abbrev pub kept_over : List Link → ℕ → ℕ
 kept_over ls place = total (λ l. if l.kept && is_inside place l then 1 else 0) ls
 
--- how many kept links come from a place, and how many go to it
+-- how many kept links begin at a place, and how many end at it
 abbrev pub kept_from : List Link → ℕ → ℕ
 kept_from ls place = total (λ l. if l.kept && l.from == place then 1 else 0) ls
 
 abbrev pub kept_to : List Link → ℕ → ℕ
 kept_to ls place = total (λ l. if l.kept && l.to == place then 1 else 0) ls
 
--- the prices of the places inside of a link; the first price is that of place 1
+-- the prices of the places inside a link; the first price is that of place 1
 abbrev pub price_inside : List ℕ → Link → ℕ
 price_inside prices l = sum_of (take (l.to - 1 - l.from) (drop l.from prices))
 
@@ -98,14 +98,14 @@ price_inside prices l = sum_of (take (l.to - 1 - l.from) (drop l.from prices))
 abbrev pub kept_savings : List Link → ℕ
 kept_savings ls = total (λ l. if l.kept then l.saving else 0) ls
 
--- What the links can save at most with so many slots, as these prices show: a place is inside of no more kept links than
--- there are slots but one, and a link saves no more than the prices inside of it and what it saves above them, which is 0
--- where the prices are more.
+-- The most that links can save with this many slots, as these prices prove: a place is inside at most one kept link
+-- fewer than there are slots, and a link saves at most the prices inside it plus what it saves above them, which is 0
+-- if the prices are more.
 abbrev pub bound : ℕ → List Link → List ℕ → ℕ
 bound slots ls prices = (slots - 1) * sum_of prices + total (λ l. l.saving - price_inside prices l) ls
 
 -- The plan is accepted: it has one mark and one price for each request, no price is above 2^32, each kept request has a
--- link, no place is inside of more kept links than there are slots but one, and the kept links together save the bound.
+-- link, no place is inside more kept links than there are slots less one, and the kept links together save the bound.
 pub record Accepts (slots : ℕ) (held : List (List ℕ)) (rs : List Asked) (plan : Plan) : Type 0 where
   pub keep : length plan.keep ≡ length rs
   pub prices : length plan.prices ≡ length rs

@@ -1,4 +1,4 @@
--- What a batch requests of the dictionary of server names (profile).
+-- What a batch requests from the dictionary of server names (profile).
 use Rattle.std.specs.Prelude.{◌≡◌, ℕ, ◌+◌, ◌-◌, Bool, true, false, List, [], ◌∷◌, ◌++◌, Option, Some, None}
 use Rattle.table_types.specs.declared.update.Update.{Update}
 use Rattle.table_types.specs.Tables.{Definition}
@@ -11,17 +11,17 @@ use Rattle.peers_msg.specs.declared.message.Message.TheVariants as messages
 use Rattle.peers_msg.specs.Spelling.{size_of}
 use Rattle.known_state.specs.Cost.{Knowledge, knowledge_after, sent_as, written_cost}
 
--- a request for a name, and the sizes of the message that makes it with the name read and with it written
+-- a request for a name, and the sizes of its message with the name read and with the name written
 pub record Asked : Type 0 where
   pub name : List ℕ
   pub read_cost : ℕ
   pub write_cost : ℕ
 
--- what an update costs with its name read; each slot is as long as the first
+-- what an update costs with its name read; every slot takes as many bytes as the first
 abbrev pub held_cost : Knowledge → Update → ℕ
 held_cost k u = size_of (messages.Update (sent_as (k.last u.table) (names.Held 1) u))
 
--- the request of an update, where it has a name
+-- the request of an update, if it has a name
 abbrev pub asked : List Definition → Knowledge → Update → Option (List ℕ) → List Asked
 asked roster k u None = []
 asked roster k u (Some name) = record { name = name; read_cost = held_cost k u; write_cost = written_cost roster k u } ∷ []
@@ -31,13 +31,13 @@ abbrev pub requests_of : List Definition → Knowledge → List Update → List 
 requests_of roster k [] = []
 requests_of roster k (u ∷ us) = asked roster k u u.name ++ requests_of roster (knowledge_after k u) us
 
--- the update is one of a table of the roster
+-- the update belongs to a table of the roster
 abbrev pub IsUpdateOf : List Definition → Update → Type 0
 IsUpdateOf roster u = (d : Definition) × (table_at roster u.table ≡ Some d) × (fits d u ≡ true)
 
 -- ---- what a list of messages reads
 
--- the mark of a name field: true where the name is read, false where it is written; a field without a name has none
+-- the mark of a name field: true if the name is read, false if it is written; a field without a name has none
 abbrev pub mark_of : NameField → List Bool
 mark_of (names.Held slot) = true ∷ []
 mark_of (names.Written slot name) = false ∷ []
@@ -49,7 +49,7 @@ reads_of [] = []
 reads_of (messages.Update u ∷ ms) = mark_of u.name ++ reads_of ms
 reads_of (m ∷ ms) = reads_of ms
 
--- what the requests save that are read, by the mark of each: its cost written, less its cost read
+-- what the requests that are read save, given a mark for each request: its write cost less its read cost
 abbrev pub read_savings : List Asked → List Bool → ℕ
 read_savings [] marks = 0
 read_savings (r ∷ rs) [] = 0

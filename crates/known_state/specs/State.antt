@@ -1,6 +1,6 @@
--- The state of one direction of a session, and the step that each message makes (HAProxy, doc/peers-v2.0.txt,
--- "Stick Table Messages"; an incremental update only after a numbered one, what becomes of last numbers at
--- definitions, and reading a slot only where a name was written, are the profile's choices).
+-- The state of one direction of a session, and the step that each message makes (HAProxy, doc/peers-v2.0.txt, "Stick
+-- Table Messages"; the profile chooses that an incremental update needs a numbered one before it, what definitions do
+-- to last numbers, and that only a slot with a name can be read).
 use Rattle.std.specs.Prelude.{◌≡◌, ℕ, ◌+◌, ◌-◌, ◌%◌, ◌^◌, Bool, true, false, is_none, List, [], ◌∷◌, ◌++◌, filter, slice_set, Option, Some, None}
 use Rattle.std.specs.List.{AllByRecursion}
 use Rattle.table_types.specs.declared.update.Update.{Update}
@@ -16,17 +16,17 @@ use Rattle.peers_msg.specs.Received.{Received, nothing_received, received_after}
 use Rattle.peers_msg.specs.Fitting.{fits}
 use Rattle.known_state.specs.LastNumbers.{last_of, set_last, keeps_last}
 
--- what was received of the tables, the last number of each id that has one, in rising id, and the 128 slots
+-- the tables received, the last number of each id that has one, in ascending order of id, and the 128 slots
 pub record State : Type 0 where
   pub received : Received
   pub last_numbers : List (ℕ × ℕ)
   pub slots : List (Option (List ℕ))
 
--- nothing was received
+-- nothing has been received
 abbrev pub fresh : State
 fresh = record { received = nothing_received; last_numbers = []; slots = no_names }
 
--- only a definition takes last numbers away
+-- only a definition drops last numbers
 abbrev pub last_numbers_after : State → Message → List (ℕ × ℕ)
 last_numbers_after s (messages.Define d) = filter (λ l. keeps_last d (table_at s.received.tables l.0) l.0) s.last_numbers
 last_numbers_after s m = s.last_numbers
@@ -37,15 +37,15 @@ resolved_number (Some n) last = Some n
 resolved_number None (Some last) = Some ((last + 1) % 2 ^ 32)
 resolved_number None None = None
 
--- the name of an update, and the slots afterwards: none; written, and the slot then holds it; or held, and it is
--- what a slot that isn't empty holds
+-- the name of an update, and the slots afterwards: no name; a name that is written, which the slot then holds; or a
+-- name that is read, which a slot that isn't empty holds
 abbrev pub Named : List (Option (List ℕ)) → NameField → Option (List ℕ) → List (Option (List ℕ)) → Type 0
 Named slots names.NotStored name after = (name ≡ None) × (after ≡ slots)
 Named slots names.NoName name after = (name ≡ None) × (after ≡ slots)
 Named slots (names.Written slot bytes) name after = (name ≡ Some bytes) × (after ≡ slice_set slots (slot - 1) (Some bytes))
 Named slots (names.Held slot) name after = (bytes : List ℕ) × (slot_at slots slot ≡ Some bytes) × (name ≡ Some bytes) × (after ≡ slots)
 
--- a field that reads a slot which holds no name
+-- a field that reads a slot that holds no name
 abbrev pub reads_empty : List (Option (List ℕ)) → NameField → Bool
 reads_empty slots (names.Held slot) = is_none (slot_at slots slot)
 reads_empty slots field = false
@@ -56,7 +56,7 @@ name_of slots (names.Held slot) = slot_at slots slot
 name_of slots (names.Written slot name) = Some name
 name_of slots field = None
 
--- the slots after a field: a name that is written stands in its slot
+-- the slots after a field: a name that is written is in its slot
 abbrev pub slots_after : List (Option (List ℕ)) → NameField → List (Option (List ℕ))
 slots_after slots (names.Written slot name) = slice_set slots (slot - 1) (Some name)
 slots_after slots field = slots
@@ -65,10 +65,10 @@ slots_after slots field = slots
 abbrev pub resolved : UpdateFields → ℕ → ℕ → Option (List ℕ) → Update
 resolved u table number name = record { table = table; number = number; life = u.life; key = u.key; values = u.values; name = name }
 
--- The message fits the state s, carries these updates, one or none, and leads to the state s'. An update carries
--- itself with table, number and name resolved, its number becomes the table's last, and its name field moves the
--- slots. Any other message carries nothing and leaves the slots; a definition or a switch moves what is received, and a
--- definition may take last numbers away.
+-- The message fits the state s, carries these updates, at most one, and leads to the state s'. An update carries itself
+-- with its table, number and name resolved, its number becomes the table's last, and its name field changes the slots.
+-- Any other message carries nothing and leaves the slots unchanged; a definition or a switch changes what is received,
+-- and a definition may drop last numbers.
 abbrev pub Step : State → Message → List Update → State → Type 0
 Step s (messages.Update u) us s' =
     (fits s.received (messages.Update u) ≡ true)
@@ -83,7 +83,7 @@ Step s m us s' =
     × (us ≡ [])
     × (s' ≡ record { received = received_after s.received m; last_numbers = last_numbers_after s m; slots = s.slots })
 
--- the messages, each from the state that those before it leave, carry these updates in order, and lead from s to e
+-- the messages, each from the state that the earlier ones leave, carry these updates in order, and lead from s to e
 abbrev pub Teaches : State → List Message → List Update → State → Type 0
 Teaches s [] us e = (us ≡ []) × (e ≡ s)
 Teaches s (m ∷ ms) us e =

@@ -10,7 +10,7 @@ use crate::state::State;
 use peers_msg::UpdateMsg;
 use table_types::{Name, Update, are_same_values};
 
-/// Whether the name of these bytes, or none, is that name, or none.
+/// Returns whether `name` and `other` are the same name, or both absent.
 fn is_called(name: Option<&[u8]>, other: &Option<Name>) -> bool
     ensures { IsTrue result ↔ (option_map (λ name. name.now) name.entry ≡ other.now) }
 {
@@ -21,7 +21,7 @@ fn is_called(name: Option<&[u8]>, other: &Option<Name>) -> bool
     }
 }
 
-/// Whether that is the id, and the number.
+/// Returns whether `found` is this id and number.
 fn is_numbered(found: Option<(u64, u32)>, table: u64, number: u32) -> bool
     ensures { IsTrue result ↔ (found ≡ Some (table, number)) }
 {
@@ -29,8 +29,8 @@ fn is_numbered(found: Option<(u64, u32)>, table: u64, number: u32) -> bool
 }
 
 impl State {
-    /// Whether an update message that is legal in this state carries that update: so it does where its life, key and values are
-    /// the update's own, and table, number and name are what they are resolved to here.
+    /// Returns whether an update message that is legal in this state carries `update`: whether its life, key and values
+    /// are the update's own, and its table, number and name resolve here to the update's.
     pub fn carries(&self, sent: &UpdateMsg, update: &Update) -> bool
         ensures { (us : List Update) (after : State) → Step self.now (messages.Update sent.now) us after →
             IsTrue result ↔ (us ≡ update.now ∷ []) }

@@ -1,4 +1,4 @@
-//! What a batch asks of the dictionary, and at which costs.
+//! What a batch requests from the dictionary, and at which costs.
 
 ghost use Rattle.std.specs.Prelude.{◌≡◌, ◌≤◌, ◌+◌, ◌*◌, ◌++◌, true, length, IfOk, OnOk};
 ghost use Rattle.table_types.specs.Updates.{is_optional_word};
@@ -14,8 +14,8 @@ use peers_msg::{define_size, named_sizes, nameless_size, switch_size};
 use std::alloc::Global;
 use table_types::{Batch, Memory, Roster, Update};
 
-/// The number that is sent with an update after that last number of its table: none where it is one more, modulo 2^32,
-/// which the learner finds by itself.
+/// Returns the number that is sent with an update if its table's last number is `last`: `None` if it is one more,
+/// modulo 2^32, which the learner derives by itself.
 pub fn number_sent(last: Option<u32>, number: u32) -> Option<u32>
     ensures sent { result ≡ number_sent last number }
     ensures word { is_optional_word result ≡ true }
@@ -26,7 +26,7 @@ pub fn number_sent(last: Option<u32>, number: u32) -> Option<u32>
     }
 }
 
-/// What a batch asks of the dictionary, and the size of its lesson with every name written.
+/// What a batch requests from the dictionary, and the size of its lesson with every name written.
 #[derive(Debug, Drop)]
 pub struct Costing {
     /// One request for each update that has a name, in order.
@@ -35,7 +35,8 @@ pub struct Costing {
     pub full: usize,
 }
 
-/// How many bytes select a table of the roster: none, a switch, or its definition.
+/// Returns how many bytes it takes to select a table of the roster: none, those of a switch, or those of its
+/// definition.
 fn selection_cost(knowledge: &KnowledgeSoFar<'_>, roster: &Roster, id: u64) -> usize
     ensures exact { result ≡ selection_cost roster.now (known_so_far knowledge.now) id }
     ensures within { result ≤ 16396 }
@@ -52,7 +53,7 @@ fn selection_cost(knowledge: &KnowledgeSoFar<'_>, roster: &Roster, id: u64) -> u
     }
 }
 
-/// Adds the request of an update, if it has a name, and answers the size of its message with the name written.
+/// Adds the request of an update, if it has a name, and returns the size of its message with the name written.
 fn add_update(
     alloc: Global,
     knowledge: &KnowledgeSoFar<'_>,
@@ -82,7 +83,7 @@ fn add_update(
     Ok(written)
 }
 
-/// Adds the request of one more update, if it has a name, and answers what it costs with its name written.
+/// Adds the request of one more update, if it has a name, and returns what the update costs with its name written.
 fn add(
     alloc: Global,
     knowledge: &mut KnowledgeSoFar<'_>,
@@ -103,8 +104,9 @@ fn add(
 }
 
 impl Known {
-    /// What the batch asks of the dictionary: one request for each named update, in order. The number form of each
-    /// message is the lesson's: without a number exactly where that is one more than its table's last, modulo 2^32.
+    /// Returns what the batch requests from the dictionary: one request for each update with a name, in order. Each
+    /// message has the lesson's number form: no number if it is one more than its table's last, modulo 2^32, and its
+    /// number otherwise.
     ///
     /// The batch was made for the roster of the known state.
     pub fn costs(&self, alloc: Global, batch: &Batch) -> Result<Vec<Request>, Memory>
@@ -115,8 +117,8 @@ impl Known {
         Ok(costing.requests)
     }
 
-    /// What the batch asks of the dictionary, as `costs` answers it, and the size of its lesson with every name written.
-    /// It goes through the batch once.
+    /// Returns what the batch requests from the dictionary, as `costs` does, and the size of its lesson with every name
+    /// written. Goes through the batch once.
     ///
     /// The batch was made for the roster of the known state.
     pub fn costing(&self, alloc: Global, batch: &Batch) -> Result<Costing, Memory>
@@ -131,7 +133,7 @@ impl Known {
         let mut requests = Vec::new(alloc);
         let mut full = 0;
         for update in updates {
-            // Of at most 512 updates, each costs fewer than 2^16 bytes.
+            // There are at most 512 updates, and each costs fewer than 2^16 bytes.
             full += add(alloc, &mut knowledge, self.roster(), update, &mut requests)?;
         }
         Ok(Costing { requests, full })

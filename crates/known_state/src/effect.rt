@@ -14,16 +14,16 @@ use peers_msg::NameField;
 use table_types::{Memory, Name, TableDef};
 use thiserror::Error;
 
-/// Why an update makes no step: the first that applies, in this order.
+/// Why an update makes no step: the first cause that applies, in this order.
 #[derive(Clone, Copy, Debug, PartialEq, Eq, Error)]
 pub enum Refusal {
-    /// No table is selected, or it is incremental, and the selected table has no last number.
+    /// No table is selected, or the update is incremental and the selected table has no last number.
     #[error("an incremental update of a table without a number")]
     NoNumber,
-    /// It reads its name from a slot that holds none.
+    /// The update reads its name from a slot that holds none.
     #[error("a name read from an empty slot")]
     EmptySlot,
-    /// Memory was wanted, and the growth was refused.
+    /// Out of memory.
     #[error("memory")]
     Memory,
 }
@@ -36,10 +36,10 @@ impl From<Memory> for Refusal {
     }
 }
 
-/// What a state takes of an update: its number, and the name that it writes.
+/// What an update changes in a state: the number it sets, and the name it writes.
 #[derive(Debug, Drop)]
 pub struct ResolvedUpdate {
-    /// The id that is selected.
+    /// The selected id.
     pub table: u64,
     /// The update's own number, or one more than the table's last, modulo 2^32.
     pub number: u32,
@@ -48,7 +48,7 @@ pub struct ResolvedUpdate {
 }
 
 impl ResolvedUpdate {
-    /// What an update does that has this number, of the table that is selected, and this name field, which it gives up.
+    /// Returns what an update of the selected table with this number and name field changes. Consumes the field.
     pub(crate) fn of(table: u64, number: u32, field: NameField) -> ResolvedUpdate
         ensures table { result.table ≡ table }
         ensures number { result.number ≡ number }
@@ -66,22 +66,23 @@ impl ResolvedUpdate {
     }
 }
 
-/// What a message does to a state, with all that it owns (HAProxy, doc/peers-v2.0.txt, "Stick Table Messages").
+/// What a message does to a state, with all that the message owns (HAProxy, doc/peers-v2.0.txt, "Stick Table
+/// Messages").
 #[derive(Debug, Drop)]
 pub enum Effect {
-    /// Nothing: a control message, an error, an acknowledgement, or a message of another class or type.
+    /// No change: a control message, an error, an acknowledgement, or a message of another class or type.
     Nothing,
-    /// The table is defined and selected.
+    /// Defines and selects the table.
     Define(TableDef),
-    /// The id is selected.
+    /// Selects the id.
     Select(u64),
-    /// The number becomes the table's last, and a name that is written stands in its slot.
+    /// Makes the number the table's last, and writes the name, if there is one, to its slot.
     Update(ResolvedUpdate),
 }
 
-/// Effects are the steps that the definition says. A message that fits makes by its effect a step, which carries the
-/// update with its table, number and name resolved, and leads to the state that the effect makes; it makes no other.
-/// A message that is refused makes none.
+/// Effects agree with the definition of `Step`. The effect of a message that fits is its only step: the step carries
+/// the update with its table, number and name resolved, and leads to the state that the effect makes. A message that is
+/// refused makes no step.
 pub fn effects_are_steps()
     ensures step { (s : State) (m : Message) (effect : Effect) → fits s.received m ≡ true → IsEffect s m effect →
         Step s m (carried_by s m effect) (made s effect) }

@@ -1,4 +1,4 @@
-//! What bears on the cost of a lesson.
+//! What determines the cost of a lesson.
 
 ghost use Rattle.std.specs.Prelude.{◌≡◌, OnOk, OnErr, option_map};
 ghost use Rattle.peers_msg.specs.Received.{selected_table};
@@ -11,11 +11,11 @@ use peers_msg::Received;
 use std::alloc::Global;
 use table_types::{Memory, Update};
 
-/// What bears on the cost of a lesson, after some of its updates: which ids are defined, the one selected, and the last
-/// number of each id that is defined.
+/// What determines the cost of a lesson after some of its updates: which ids are defined, which one is selected, and
+/// the last number of each defined id.
 #[derive(Drop)]
 pub struct KnowledgeSoFar<'a> {
-    /// The known state from which the lesson is.
+    /// The known state at the start of the lesson.
     known: &'a Known,
     selected: Option<u64>,
     /// The last number of each table that had an update in the lesson.
@@ -31,7 +31,7 @@ fn selected_id(received: &Received) -> Option<u64>
     }
 }
 
-/// The last number of a table that is defined.
+/// Returns the last number of `table`, if it is defined and has one.
 fn last_known(known: &Known, table: u64) -> Option<u32>
     ensures { result ≡ (knowledge_of known.now.state).last table }
 {
@@ -42,7 +42,7 @@ fn last_known(known: &Known, table: u64) -> Option<u32>
 }
 
 impl<'a> KnowledgeSoFar<'a> {
-    /// What bears on the cost of a lesson from the known state on. Doesn't allocate.
+    /// Returns what determines the cost of a lesson that starts from `known`. Doesn't allocate.
     pub fn of(alloc: Global, known: &'a Known) -> KnowledgeSoFar<'a>
         ensures { known_so_far result ≡ knowledge_of known.now.state }
     {
@@ -53,21 +53,21 @@ impl<'a> KnowledgeSoFar<'a> {
         }
     }
 
-    /// Whether a table is defined.
+    /// Returns whether the table `id` is defined.
     pub fn is_defined(&self, id: u64) -> bool
         ensures { result ≡ (known_so_far self.now).is_defined id }
     {
         self.sent.last(id).is_some() || self.known.received().table(id).is_some()
     }
 
-    /// Whether a table is selected.
+    /// Returns whether the table `id` is selected.
     pub fn is_selected(&self, id: u64) -> bool
         ensures { result ≡ is_selected (known_so_far self.now).selected id }
     {
         self.selected == Some(id)
     }
 
-    /// The last number of a table that is defined.
+    /// Returns the last number of the table `id`, if it is defined and has one.
     pub fn last(&self, id: u64) -> Option<u32>
         ensures { result ≡ (known_so_far self.now).last id }
     {
@@ -77,8 +77,8 @@ impl<'a> KnowledgeSoFar<'a> {
         }
     }
 
-    /// Takes in an update: its table is defined and selected, and its number is the table's last. After `Memory` nothing
-    /// has changed.
+    /// Records an update: its table is then defined and selected, and its number is the table's last. After `Memory`
+    /// nothing has changed.
     pub fn follow(&mut self, update: &Update) -> Result<(), Memory>
         ensures followed { OnOk result (known_so_far self.new ≡ knowledge_after (known_so_far self.old) update.now) }
         ensures stays { OnErr result (self.new ≡ self.old) }

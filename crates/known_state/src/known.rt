@@ -25,19 +25,19 @@ use std::marker::Model;
 use table_types::{Memory, Roster, TableDef};
 use thiserror::Error;
 
-/// Why a known state can't be built: the first that applies, in this order.
+/// Why a known state can't be built: the first cause that applies, in this order.
 #[derive(Clone, Copy, Debug, PartialEq, Eq, Error)]
 pub enum KnownError {
     /// An id isn't in the roster.
     #[error("a table that the roster lacks")]
     NoTable,
-    /// A table is selected or has a last number, and isn't defined.
+    /// A table that is selected or has a last number isn't defined.
     #[error("a table that isn't defined")]
     NotDefined,
     /// An id is defined twice, or has two last numbers.
     #[error("a table is defined twice, or has two last numbers")]
     Repeated,
-    /// Memory was wanted, and the growth was refused.
+    /// Out of memory.
     #[error("memory")]
     Memory,
 }
@@ -50,7 +50,7 @@ impl From<Memory> for KnownError {
     }
 }
 
-/// Why a message isn't legal in a known state. The state is then as before.
+/// Why a message isn't legal in a known state, which it leaves unchanged.
 #[derive(Clone, Copy, Debug, PartialEq, Eq, Error)]
 pub enum StepError {
     /// A switch to a table of the roster that isn't defined yet.
@@ -65,16 +65,17 @@ pub enum StepError {
     /// A name read from a slot that holds none.
     #[error("a name read from an empty slot")]
     EmptySlot,
-    /// A definition or a switch's id that isn't the roster's, or an update that doesn't fit its table.
+    /// A definition that isn't the roster's, a switch to an id that isn't in the roster, or an update that doesn't fit
+    /// its table.
     #[error("a table that isn't the roster's, or an update that doesn't fit")]
     Foreign,
-    /// Memory was wanted, and the growth was refused.
+    /// Out of memory.
     #[error("memory")]
     Memory,
 }
 
 impl StepError {
-    /// The error's name, as the source writes it: `NotDefined`, `NoTable` and so on.
+    /// Returns the error's name, as the source writes it: `NotDefined`, `NoTable` and so on.
     pub fn name(self) -> &'static str
         ensures { result.now ≡ step_error_name self }
     {
@@ -109,7 +110,7 @@ impl From<Refusal> for StepError {
     }
 }
 
-/// What a teacher knows of its learner (profile): the roster of the tables that are shared, those that were defined to it
+/// What a teacher knows of its learner (profile): the roster of the shared tables, the tables defined to the learner
 /// and the one selected, the last number of each, and the slots of the dictionary of server names.
 #[derive(Debug, Drop)]
 pub struct Known {
@@ -129,7 +130,7 @@ impl Model for Known {
 }
 
 impl Known {
-    /// The state of a learner that received nothing. Doesn't allocate.
+    /// Returns the state of a learner that has received nothing. Doesn't allocate.
     pub fn fresh(alloc: Global, roster: Roster) -> Known
         ensures { result ≡ fresh_of roster }
     {
@@ -140,11 +141,11 @@ impl Known {
         }
     }
 
-    /// The state of a learner to which these tables were defined, one of them selected, with these last numbers and
-    /// slots.
+    /// Returns the state of a learner to which the tables `defined` were defined, with `selected` selected, and with
+    /// these last numbers and slots.
     ///
-    /// Refuses in this order: `NoTable` where an id isn't in the roster, `NotDefined` where a table that isn't defined
-    /// is selected or has a last number, `Repeated` where an id is defined twice or has two last numbers, `Memory`.
+    /// Errors, in this order: `NoTable` if an id isn't in the roster, `NotDefined` if a table that isn't defined is
+    /// selected or has a last number, `Repeated` if an id is defined twice or has two last numbers, `Memory`.
     pub fn build(
         alloc: Global,
         roster: Roster,
@@ -179,9 +180,9 @@ impl Known {
         })
     }
 
-    /// What a teacher of that roster knows of a learner in that state: of the roster's tables those are defined whose id
-    /// stands for that very definition, with their last numbers; the slots are the learner's, and the table selected is
-    /// named where it is one of them.
+    /// Returns what a teacher of `roster` knows of a learner in `state`: the tables of the roster whose id stands for
+    /// that very definition are defined, with their last numbers; the slots are the learner's, and the selected table
+    /// stays selected if it is one of them.
     pub fn of_learner(alloc: Global, roster: Roster, state: &State) -> Result<Known, Memory>
         ensures known { IfOk result (λ known. known ≡ known_of roster state.now) }
         ensures rising { AreRising state.now.last_numbers }
@@ -198,7 +199,7 @@ impl Known {
         })
     }
 
-    /// The roster of the state.
+    /// Returns the roster.
     pub fn roster(&self) -> &Roster
         ensures roster { result.now ≡ self.now.roster }
         ensures own { AreOwn self.now.roster self.now.state.received.tables }
@@ -206,38 +207,38 @@ impl Known {
         &self.roster
     }
 
-    /// The learner's state.
+    /// Returns the learner's state.
     pub fn state(&self) -> &State
         ensures { result.now ≡ self.now.state }
     {
         &self.state
     }
 
-    /// What the learner received: the tables defined, and the one selected.
+    /// Returns what the learner received: the tables defined, and the one selected.
     pub fn received(&self) -> &Received
         ensures { result.now ≡ self.now.state.received }
     {
         self.state.received()
     }
 
-    /// The last number of each table.
+    /// Returns the last number of each table.
     pub fn last_numbers(&self) -> &LastNumbers
         ensures { result.now ≡ self.now.state.last_numbers }
     {
         self.state.last_numbers()
     }
 
-    /// The slots of the dictionary of server names.
+    /// Returns the slots of the dictionary of server names.
     pub fn slots(&self) -> &Slots
         ensures { result.now ≡ self.now.state.slots }
     {
         self.state.slots()
     }
 
-    /// Moves the state by one message that is legal from it: the message makes the step that the definition
-    /// of `Step` says, and a definition is the roster's own. A refused message changes nothing.
+    /// Applies one message if it is legal in this state: it makes the step that the definition of `Step` says, and a
+    /// definition is the roster's own. A refused message changes nothing.
     ///
-    /// Refuses in this order: `NoTable`, `Foreign`, `NotDefined`, `NoNumber`, `EmptySlot`, `Memory`.
+    /// Errors, in this order: `NoTable`, `Foreign`, `NotDefined`, `NoNumber`, `EmptySlot`, `Memory`.
     pub fn after(&mut self, message: &Message) -> Result<(), StepError>
         ensures step { OnOk result ((us : List Update)
             × Step self.old.state message.now us self.new.state × IsOwn self.old.roster message.now) }
@@ -252,8 +253,8 @@ impl Known {
         }
     }
 
-    /// Why a message is refused, if it is: `NoTable`, `Foreign`, `NotDefined`, `NoNumber` or `EmptySlot`, as `after` refuses
-    /// it. Doesn't allocate.
+    /// Returns why `after` refuses a message, if it does: `NoTable`, `Foreign`, `NotDefined`, `NoNumber` or
+    /// `EmptySlot`. Doesn't allocate.
     pub fn refusal(&self, message: &Message) -> Option<StepError>
         ensures refused { IfSome result (λ e. Refuses self.now message.now e) }
         ensures taken { result ≡ None → IsTakenBy self.now message.now }
@@ -306,9 +307,8 @@ impl Known {
         }
     }
 
-    /// Moves the state by one message of which it is known that it is legal. The message is given up: what it owns moves into
-    /// the state, without a copy. Memory is wanted at a definition, and for the first number of a table. After `Memory` nothing
-    /// has changed.
+    /// Applies one message that is known to be legal. Consumes the message: what it owns moves into the state without a
+    /// copy. Allocates only for a definition and for the first number of a table. After `Memory` nothing has changed.
     pub fn follow(&mut self, message: Message) -> Result<(), Memory>
         requires { IsTakenBy self.old message }
         ensures step { OnOk result ((us : List Update)
@@ -321,7 +321,7 @@ impl Known {
         Ok(())
     }
 
-    /// What a message does that fits wherever it stands.
+    /// Returns the effect of a message that fits in every state.
     fn nothing(&self, message: &Message) -> Effect
         requires { IsPlain message.now }
         ensures nothing { result ≡ effects.Nothing }
@@ -332,7 +332,7 @@ impl Known {
         Effect::Nothing
     }
 
-    /// What a message does of which it is known that it is legal.
+    /// Returns the effect of a message that is known to be legal.
     fn effect(&self, message: Message) -> Effect
         requires { IsTakenBy self.now message }
         ensures { IsLegalEffect self.now message result }
@@ -376,7 +376,7 @@ impl Known {
         }
     }
 
-    /// An equal state.
+    /// Returns an equal state.
     pub fn copy(&self, alloc: Global) -> Result<Known, Memory>
         ensures copy { IfOk result (λ copy. copy ≡ self.now) }
         ensures own { AreOwn self.now.roster self.now.state.received.tables }

@@ -11,7 +11,7 @@ use std::alloc::Global;
 use std::marker::Model;
 use table_types::{Memory, Roster, TableDef};
 
-/// The number of the last update of each table id that had one, in rising id.
+/// The number of the last update of each table id that had one, in ascending order of id.
 #[derive(Debug, Drop)]
 pub struct LastNumbers {
     numbers: Vec<(u64, u32)>,
@@ -39,7 +39,7 @@ fn last_of(numbers: &[(u64, u32)], id: u64) -> Option<u32>
     None
 }
 
-/// Puts a last number in its place, in place of the one that the id had.
+/// Puts a last number in its place, instead of the one that the id had.
 fn set_last(numbers: &mut Vec<(u64, u32)>, id: u64, number: u32) -> Result<(), Memory>
     ensures set { OnOk result (numbers.new.items ≡ set_last id number numbers.old.items) }
     ensures stays { OnErr result (numbers.new.items ≡ numbers.old.items) }
@@ -59,8 +59,8 @@ fn set_last(numbers: &mut Vec<(u64, u32)>, id: u64, number: u32) -> Result<(), M
     Ok(())
 }
 
-/// Whether an id keeps its last number at a definition: the id defined only where the name is as before, and
-/// another id unless it stood for a table of that name.
+/// Returns whether an id keeps its last number at a definition: the defined id does only if the name is unchanged, and
+/// another id does unless it stood for a table of that name.
 fn keeps_last(new: &TableDef, stood_for: Option<&TableDef>, id: u64) -> bool
     ensures { result ≡ keeps_last new.now (option_copied stood_for.entry) id }
 {
@@ -86,7 +86,7 @@ fn keep_last_numbers(numbers: &mut Vec<(u64, u32)>, new: &TableDef, received: &R
     }
 }
 
-/// Whether an id stands for a definition that is the roster's own.
+/// Returns whether an id stands for a definition that is the roster's own.
 fn is_own_id(received: &Received, roster: &Roster, id: u64) -> bool
     ensures { result ≡ is_own_one roster.now (table_at received.now.tables id) }
 {
@@ -97,7 +97,7 @@ fn is_own_id(received: &Received, roster: &Roster, id: u64) -> bool
 }
 
 impl LastNumbers {
-    /// No table has a last number. Doesn't allocate.
+    /// Returns last numbers of no table. Doesn't allocate.
     pub fn new(alloc: Global) -> LastNumbers
         ensures { result ≡ [] }
     {
@@ -106,7 +106,7 @@ impl LastNumbers {
         }
     }
 
-    /// These last numbers, put one after another.
+    /// Returns these last numbers, put one after another.
     pub fn of(alloc: Global, last_numbers: &[(u64, u32)]) -> Result<LastNumbers, Memory>
         ensures { IfOk result (λ made. made ≡ last_numbers_put last_numbers.now) }
     {
@@ -117,14 +117,14 @@ impl LastNumbers {
         Ok(made)
     }
 
-    /// The last number of a table.
+    /// Returns the last number of a table, if it has one.
     pub fn last(&self, id: u64) -> Option<u32>
         ensures { result ≡ last_of self.now id }
     {
         last_of(self.numbers.as_slice(), id)
     }
 
-    /// Makes a number the last one of a table. After `Memory` nothing has changed.
+    /// Makes `number` the last one of the table `id`. After `Memory` nothing has changed.
     pub fn set(&mut self, id: u64, number: u32) -> Result<(), Memory>
         ensures set { OnOk result (self.new ≡ set_last id number self.old) }
         ensures stays { OnErr result (self.new ≡ self.old) }
@@ -132,7 +132,7 @@ impl LastNumbers {
         set_last(&mut self.numbers, id, number)
     }
 
-    /// Receives a definition: drops the last numbers that it takes away, by what was received of the tables before it.
+    /// Drops the last numbers that the definition `new` takes away, given what was received of the tables before it.
     pub fn define(&mut self, new: &TableDef, received: &Received)
         ensures { self.new
             ≡ filter (λ last. keeps_last new.now (table_at received.now.tables last.0) last.0) self.old }
@@ -140,7 +140,7 @@ impl LastNumbers {
         keep_last_numbers(&mut self.numbers, new, received);
     }
 
-    /// The last numbers of a roster's own tables, by what was received of them: of the ids that stand for that very
+    /// Returns the last numbers of the roster's own tables: of the ids that stand in `received` for that very
     /// definition.
     pub fn own_part(
         &self,
@@ -160,7 +160,7 @@ impl LastNumbers {
         Ok(LastNumbers { numbers })
     }
 
-    /// Equal last numbers.
+    /// Returns equal last numbers.
     pub fn copy(&self, alloc: Global) -> Result<LastNumbers, Memory>
         ensures { IfOk result (λ copy. copy ≡ self.now) }
     {

@@ -1,5 +1,6 @@
 //! The state of one direction of a session, and the step that each message makes; what a teacher knows of its learner:
-//! the roster, the tables defined, the one selected, the last numbers and the slots; and what a batch costs from there.
+//! the roster, the tables defined, the one selected, the last numbers and the slots; and what a batch costs from such a
+//! state.
 #![tactic(auto)]
 
 mod carried;

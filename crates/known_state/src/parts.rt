@@ -1,4 +1,4 @@
-//! What the parts of a known state have to be.
+//! What the parts of a known state must satisfy.
 
 ghost use Rattle.std.specs.Prelude.{◌≡◌};
 ghost use Rattle.std.specs.List.{list_all};
@@ -46,7 +46,7 @@ fn all_last_numbers_held(defined: &[u64], last_numbers: &[(u64, u32)]) -> bool
     true
 }
 
-/// Whether each id is the roster's.
+/// Returns whether each id is in the roster.
 pub fn are_known(
     roster: &Roster,
     selected: Option<u64>,
@@ -62,7 +62,7 @@ pub fn are_known(
     selects_own && all_own(roster, defined) && all_last_numbers_own(roster, last_numbers)
 }
 
-/// Whether what is selected and what has a last number is defined.
+/// Returns whether every id that is selected or has a last number is defined.
 pub fn are_defined(selected: Option<u64>, defined: &[u64], last_numbers: &[(u64, u32)]) -> bool
     ensures { result ≡ are_defined selected defined.now last_numbers.now }
 {
@@ -73,7 +73,8 @@ pub fn are_defined(selected: Option<u64>, defined: &[u64], last_numbers: &[(u64,
     selects_defined && all_last_numbers_held(defined, last_numbers)
 }
 
-/// Whether an id stands twice. Of 65 ids of a roster one does, so this compares at most 64 of them with the rest.
+/// Returns whether an id occurs twice. Among 65 ids of a roster one does, so this compares at most 64 of them with the
+/// rest.
 pub fn repeats(ids: &[u64]) -> bool
     ensures { result ≡ repeats ids.now }
 {
@@ -96,7 +97,7 @@ fn has_last(last_numbers: &[(u64, u32)], id: u64) -> bool
     false
 }
 
-/// Whether an id has two last numbers.
+/// Returns whether an id has two last numbers.
 pub fn repeats_last(last_numbers: &[(u64, u32)]) -> bool
     ensures { result ≡ repeats_last last_numbers.now }
 {

@@ -1,4 +1,4 @@
-//! What holds of plans: how much reads can save, and what shows that no legal list is shorter.
+//! What holds of plans: how much reads can save, and what proves that no legal list is shorter.
 
 ghost use Rattle.std.specs.Prelude.{◌≡◌, ◌<◌, ◌≤◌, ◌⊎◌, ◌+◌, ◌-◌, ℕ, Bool, false, true, List, [], ◌∷◌, ◌++◌, length, slice_index_or, None, Some, is_some, if◌then◌else◌};
 ghost use Rattle.std.specs.List.{AllByRecursion, IsDistinct};
@@ -15,14 +15,14 @@ ghost use Rattle.known_state.specs.Cost.{IsOfRoster, Knowledge, full, knowledge_
 ghost use Rattle.known_state.specs.Plans.{Accepts, AreLinked, Link, Plan, after_requests, all_links, at_start, bound, keeps_next, kept_from, kept_over, kept_savings, kept_to, link_of, links, names_in, price_inside};
 ghost use Rattle.known_state.specs.Shortest.{Shortest};
 
-/// Messages take no slot away and add none.
+/// Messages don't change the number of slots.
 pub fn slots_stay()
     ensures { (s e : State) (ms : List Message) (us : List Update) → Teaches s ms us e → length e.slots ≡ length s.slots }
 {}
 
-/// What messages read takes room in the 128 slots, from the request for a name, or from the start where a slot holds it
-/// there, to the request that reads it. So each request that is read has a link; and at each place the name of its own
-/// request stands in a slot, read or written, which leaves room for 127 of the links that are read.
+/// A name that messages read occupies one of the 128 slots from the previous request for it, or from the start if a
+/// slot holds it there, to the request that reads it. So each request that is read has a link; and at each place the
+/// name of its own request is in a slot, read or written, which leaves room for 127 of the links that are read.
 pub fn reads_need_slots()
     ensures linked { (roster : List Definition) (k : Knowledge) (s e : State) (ms : List Message) (us : List Update) →
         length s.slots ≡ slot_count → Teaches s ms us e →
@@ -32,8 +32,8 @@ pub fn reads_need_slots()
         kept_over (links (names_in s.slots) (requests_of roster k us) (reads_of ms)) place ≤ slot_count - 1 }
 {}
 
-/// The links of requests go forward: each comes from an earlier place than that to which it goes, which is the place of
-/// one of the requests. So no place but those after the start and before the last request is inside of one.
+/// The links of requests go forward: each begins at an earlier place than the one where it ends, which is the place of
+/// one of the requests. So only places after the start and before the last request are inside a link.
 pub fn links_go_forward()
     ensures forward { (held : List (List ℕ)) (rs : List Asked) (keep : List Bool) →
         AllByRecursion (λ l. (l.from < l.to) × (l.to ≤ length rs)) (links held rs keep) }
@@ -42,8 +42,8 @@ pub fn links_go_forward()
         kept_over (links held rs keep) place ≡ 0 }
 {}
 
-/// One more request stands at the next place. It has a link where its name was requested, or is held at the start, from
-/// the place of the last such request; and it is then itself the last request for its name.
+/// One more request is at the next place. It has a link if its name was requested or is held at the start: from the
+/// place of the last such request. It is then itself the last request for its name.
 pub fn one_more_request()
     ensures links { (held : List (List ℕ)) (rs : List Asked) (r : Asked) (keep : List Bool) (kept : Bool) →
         length keep ≡ length rs →
@@ -55,7 +55,7 @@ pub fn one_more_request()
 {}
 
 /// From one place to the next, the kept links over it lose those that end at the next and gain those that begin at the
-/// first. One ends at the place of each request that is kept, and none at another.
+/// first. One ends at the place of each request that is kept, and none at another place.
 pub fn over_the_next_place()
     ensures next { (held : List (List ℕ)) (rs : List Asked) (keep : List Bool) (place : ℕ) →
         kept_over (links held rs keep) (place + 1) + kept_to (links held rs keep) (place + 1)
@@ -65,9 +65,9 @@ pub fn over_the_next_place()
         kept_to (links held rs keep) (place + 1) ≡ (if slice_index_or keep place false then 1 else 0) }
 {}
 
-/// At a request that is not kept, names that differ, each held at the start or requested since, and each with its next
-/// request kept, are no more than the kept links that the request's place is inside of. So where these are fewer than
-/// the slots, there is a slot to write its name to.
+/// At a request that isn't kept, distinct names that were each held at the start or requested since, and whose next
+/// requests are kept, are no more than the kept links with the request's place inside. So if these are fewer than the
+/// slots, there is a slot to write the request's name to.
 pub fn names_to_keep()
     ensures { (held : List (List ℕ)) (done rest : List Asked) (r : Asked) (kept keep : List Bool) (names : List (List ℕ)) →
         length kept ≡ length done → IsDistinct is_same_name names →
@@ -76,16 +76,16 @@ pub fn names_to_keep()
         length names ≤ kept_over (links held (done ++ (r ∷ rest)) (kept ++ (false ∷ keep))) (length done + 1) }
 {}
 
-/// However requests are kept, their links save no more than the bound of any prices, where no place is inside of more
-/// kept links than there are slots but one.
+/// Whichever requests are kept, their links save at most the bound of any prices, if no place is inside more kept links
+/// than there are slots less one.
 pub fn savings_are_bounded()
     ensures { (slots : ℕ) (held : List (List ℕ)) (rs : List Asked) (keep : List Bool) (prices : List ℕ) →
         length keep ≡ length rs → ((place : ℕ) → kept_over (links held rs keep) place ≤ slots - 1) →
         kept_savings (links held rs keep) ≤ bound slots (all_links held rs) prices }
 {}
 
-/// Prices show that kept links save the bound where they fit them: each place with a price is inside of as many kept
-/// links as there are slots but one, a kept link saves no less than the prices inside of it, and any other no more.
+/// Prices prove that kept links save the bound if they fit: each place with a price is inside as many kept links as
+/// there are slots less one, a kept link saves no less than the prices inside it, and any other link no more.
 pub fn fitting_prices_are_tight()
     ensures { (slots : ℕ) (held : List (List ℕ)) (rs : List Asked) (keep : List Bool) (prices : List ℕ) →
         length keep ≡ length rs →
@@ -95,28 +95,29 @@ pub fn fitting_prices_are_tight()
         kept_savings (links held rs keep) ≡ bound slots (all_links held rs) prices }
 {}
 
-/// Where the price of each place is the rise from the height of the place before to its own, the prices inside of a link
-/// are the rise from the place that it comes from to the last inside of it.
+/// If the price of each place is its height less the height of the place before, the prices inside a link are the rise
+/// from the place where it begins to the last place inside it.
 pub fn prices_add_up()
     ensures { (prices : List ℕ) (height : ℕ → ℕ) (l : Link) →
         ((i : ℕ) → i < length prices → height i + slice_index_or prices i 0 ≡ height (i + 1)) →
         l.from < l.to → l.to ≤ length prices + 1 → height l.from + price_inside prices l ≡ height (l.to - 1) }
 {}
 
-/// Where each request that is read has a link, what the reads save is what the links save that are kept so.
+/// If each request that is read has a link, the reads save what the links kept in the same way save.
 pub fn reads_save_by_links()
     ensures { (held : List (List ℕ)) (rs : List Asked) (reads : List Bool) → AreLinked (at_start held) rs reads →
         read_savings rs reads ≡ kept_savings (links held rs reads) }
 {}
 
-/// What a legal list carries is of tables of the roster.
+/// The updates that a legal list carries belong to tables of the roster.
 pub fn carried_is_of_the_roster()
     ensures { (roster : List Definition) (s e : State) (ms : List Message) (us : List Update) →
         AreOwn roster s.received.tables → Legal roster s ms us e → AllByRecursion (IsOfRoster roster) us }
 {}
 
-/// From a state with 128 slots no legal list is shorter than the lesson with every name written, less what the links save
-/// of the names that it reads; and so none is shorter than that lesson less the bound of any prices.
+/// From a state with 128 slots, every legal list is at least as long as the lesson with every name written, less what
+/// the links of the names that it reads save; so every legal list is at least as long as that lesson less the bound of
+/// any prices.
 pub fn no_list_is_shorter()
     ensures reads { (roster : List Definition) (s e : State) (ms : List Message) (us : List Update) →
         roster_fault roster ≡ None → AreOwn roster s.received.tables → length s.slots ≡ slot_count → Legal roster s ms us e →
@@ -128,8 +129,8 @@ pub fn no_list_is_shorter()
         + bound slot_count (all_links (names_in s.slots) (requests_of roster (knowledge_of s) us)) prices }
 {}
 
-/// A legal list is a shortest one where some prices show that no more can be saved than it saves: its size and their
-/// bound are together the size of the lesson with every name written.
+/// A legal list is a shortest one if some prices prove that no list saves more: its size plus their bound is the size
+/// of the lesson with every name written.
 pub fn tight_is_shortest()
     ensures { (k : KnownState) (e : State) (ms : List Message) (us : List Update) (prices : List ℕ) →
         roster_fault k.roster ≡ None → AreOwn k.roster k.state.received.tables → length k.state.slots ≡ slot_count →
@@ -139,8 +140,8 @@ pub fn tight_is_shortest()
         Shortest k us ms }
 {}
 
-/// A legal list that saves at least what the links save that an accepted plan keeps is a shortest one, and it saves
-/// the bound of the plan's prices, no more and no less.
+/// A legal list that saves at least what the links that an accepted plan keeps save is a shortest one, and it saves
+/// exactly the bound of the plan's prices.
 pub fn accepted_is_shortest()
     ensures { (k : KnownState) (e : State) (ms : List Message) (us : List Update) (plan : Plan) →
         roster_fault k.roster ≡ None → AreOwn k.roster k.state.received.tables → length k.state.slots ≡ slot_count →

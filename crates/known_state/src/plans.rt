@@ -4,8 +4,8 @@ ghost use Rattle.std.specs.Prelude.{◌≡◌};
 
 use std::marker::Model;
 
-/// Which requests of a batch are kept, so that their names are read and not written, and a price for the place of each,
-/// which shows that no choice of requests saves more bytes (profile).
+/// A choice of the requests of a batch to keep, so that their names are read and not written, and a price for the place
+/// of each request, which proves that no choice saves more bytes (profile).
 #[derive(Debug, Drop)]
 pub struct Plan {
     keep: Vec<bool>,
@@ -21,28 +21,29 @@ impl Model for Plan {
 }
 
 impl Plan {
-    /// The plan that keeps the requests marked so, at these prices: one mark and one price for each request, in order.
+    /// Returns the plan that keeps the requests marked in `keep`, at `prices`: one mark and one price for each request,
+    /// in order.
     pub fn new(keep: Vec<bool>, prices: Vec<u64>) -> Plan
         ensures { result ≡ record { keep = keep.items; prices = prices.items } }
     {
         Plan { keep, prices }
     }
 
-    /// For each request, in order, whether it is kept.
+    /// Returns for each request, in order, whether it is kept.
     pub fn keep(&self) -> &[bool]
         ensures { result.now ≡ self.now.keep }
     {
         self.keep.as_slice()
     }
 
-    /// The price of each request's place, in order.
+    /// Returns the price of each request's place, in order.
     pub fn prices(&self) -> &[u64]
         ensures { result.now ≡ self.now.prices }
     {
         self.prices.as_slice()
     }
 
-    /// The marks and the prices.
+    /// Returns the marks and the prices.
     pub fn into_parts(self) -> (Vec<bool>, Vec<u64>)
         ensures { (result.0.items ≡ self.keep) × (result.1.items ≡ self.prices) }
     {

@@ -1,4 +1,4 @@
-//! Requests of names.
+//! Requests for names.
 
 ghost use Rattle.std.specs.Prelude.{◌≡◌, ◌<◌, ◌≤◌, ◌↔◌, IfSome, IsSome, IfOk};
 ghost use Rattle.known_state.specs.Requests.{Asked};
@@ -7,8 +7,9 @@ use std::alloc::Global;
 use std::marker::Model;
 use table_types::{Memory, Name};
 
-/// What a named update asks of the dictionary of server names (profile): its name, and the whole size of its message with
-/// the name read and with it written. The first is below the second, and that is at most 32,768.
+/// What an update with a name requests from the dictionary of server names (profile): its name, and the whole size of
+/// its message with the name read and with the name written. The first size is less than the second, which is at most
+/// 32,768.
 #[derive(Debug, Drop)]
 pub struct Request {
     name: Name,
@@ -28,11 +29,11 @@ impl Model for Request {
 }
 
 impl Request {
-    /// The greatest cost of a write.
+    /// The greatest write cost.
     pub const MOST: u32 = 32_768;
 
-    /// The request of that name at these costs, and `None` where reading costs no less than writing, or writing more
-    /// than 32,768.
+    /// Returns the request for `name` at these costs, or `None` if reading costs no less than writing or writing costs
+    /// more than 32,768.
     pub fn new(name: Name, read_cost: u32, write_cost: u32) -> Option<Request>
         ensures made { IfSome result (λ request. request ≡ record { name = name; read_cost = read_cost; write_cost = write_cost }) }
         ensures exactly { IsSome result ↔ ((read_cost < write_cost) × (write_cost ≤ 32768)) }
@@ -47,14 +48,14 @@ impl Request {
         })
     }
 
-    /// The name that is requested.
+    /// Returns the requested name.
     pub fn name(&self) -> &Name
         ensures { result.now ≡ self.now.name }
     {
         &self.name
     }
 
-    /// The size of the message with the name read, in bytes.
+    /// Returns the size of the message with the name read, in bytes.
     pub fn read_cost(&self) -> u32
         ensures cost { result ≡ self.now.read_cost }
         ensures less { self.now.read_cost < self.now.write_cost }
@@ -62,7 +63,7 @@ impl Request {
         self.read_cost
     }
 
-    /// The size of the message with the name written, in bytes: at most 32,768.
+    /// Returns the size of the message with the name written, in bytes: at most 32,768.
     pub fn write_cost(&self) -> u32
         ensures cost { result ≡ self.now.write_cost }
         ensures most { self.now.write_cost ≤ 32768 }
@@ -70,7 +71,7 @@ impl Request {
         self.write_cost
     }
 
-    /// An equal request.
+    /// Returns an equal request.
     pub fn copy(&self, alloc: Global) -> Result<Request, Memory>
         ensures { IfOk result (λ copy. copy ≡ self.now) }
     {

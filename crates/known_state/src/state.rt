@@ -19,9 +19,9 @@ use std::alloc::Global;
 use std::marker::Model;
 use table_types::{Memory, Name, TableDef};
 
-/// The state of one direction of a session: what was received of the tables, the last number of each, and the slots of
-/// the dictionary of server names. Each message moves it by a step (HAProxy, doc/peers-v2.0.txt, "Stick Table
-/// Messages"): an `Effect` is found first, with all that may refuse it, and then made.
+/// The state of one direction of a session: the tables received, the last number of each, and the slots of the
+/// dictionary of server names. Each message makes a step (HAProxy, doc/peers-v2.0.txt, "Stick Table Messages"): its
+/// `Effect`, or the reason to refuse it, is found first, and then the effect is made.
 #[derive(Debug, Drop)]
 pub struct State {
     alloc: Global,
@@ -38,7 +38,7 @@ impl Model for State {
     ghost view = { λ s. record { received = s.received; last_numbers = s.last_numbers; slots = s.slots } };
 }
 
-/// The number of an update: its own, or one more than the last, modulo 2^32.
+/// Returns the number of an update: its own, or one more than `last`, modulo 2^32.
 fn resolved_number(number: Option<u32>, last: Option<u32>) -> Option<u32>
     ensures { result ≡ resolved_number number last }
 {
@@ -49,7 +49,7 @@ fn resolved_number(number: Option<u32>, last: Option<u32>) -> Option<u32>
     }
 }
 
-/// The name that a slot holds. Slot 0, which no message has, is taken as slot 1; slots above 128 hold none.
+/// Returns the name that a slot holds. Slot 0, which no message has, counts as slot 1; slots above 128 hold no name.
 fn held(slots: &Slots, slot: u8) -> Option<&Name>
     ensures { option_copied result ≡ slot_at slots.now slot }
 {
@@ -59,7 +59,7 @@ fn held(slots: &Slots, slot: u8) -> Option<&Name>
     slots.name(slot.max(1))
 }
 
-/// Writes a name into its slot. Slot 0, which no message has, is taken as slot 1; slots above 128 take none.
+/// Writes a name into its slot. Slot 0, which no message has, counts as slot 1; nothing is written to slots above 128.
 fn write(slots: &mut Slots, written: Option<(u8, Name)>)
     ensures { slots.new ≡ slots_with slots.old written }
 {
@@ -73,7 +73,7 @@ fn write(slots: &mut Slots, written: Option<(u8, Name)>)
 }
 
 impl State {
-    /// Nothing was received. Doesn't allocate.
+    /// Returns the state in which nothing was received. Doesn't allocate.
     pub fn new(alloc: Global) -> State
         ensures { result ≡ fresh }
     {
@@ -85,7 +85,7 @@ impl State {
         )
     }
 
-    /// The state of these parts.
+    /// Returns the state with these parts.
     pub fn of(alloc: Global, received: Received, last_numbers: LastNumbers, slots: Slots) -> State
         ensures { result ≡ record { received = received; last_numbers = last_numbers; slots = slots } }
     {
@@ -97,29 +97,29 @@ impl State {
         }
     }
 
-    /// What was received: the tables defined, and the one selected.
+    /// Returns what was received: the tables defined, and the one selected.
     pub fn received(&self) -> &Received
         ensures { result.now ≡ self.now.received }
     {
         &self.received
     }
 
-    /// The last number of each table.
+    /// Returns the last number of each table.
     pub fn last_numbers(&self) -> &LastNumbers
         ensures { result.now ≡ self.now.last_numbers }
     {
         &self.last_numbers
     }
 
-    /// The slots of the dictionary of server names.
+    /// Returns the slots of the dictionary of server names.
     pub fn slots(&self) -> &Slots
         ensures { result.now ≡ self.now.slots }
     {
         &self.slots
     }
 
-    /// The id that is selected, and the number of an update of its table: its own, or one more than the table's last,
-    /// modulo 2^32. `None` where none is selected, and for an incremental update of a table that has no last number.
+    /// Returns the selected id, and the number of an update of its table: its own, or one more than the table's last,
+    /// modulo 2^32. `None` if no table is selected, or for an incremental update of a table that has no last number.
     pub fn number(&self, number: Option<u32>) -> Option<(u64, u32)>
         ensures table { IfSome result (λ found. self.now.received.selected ≡ Some found.0) }
         ensures number { option_map (λ found. found.1) result ≡ selected_number self.now number }
@@ -142,8 +142,8 @@ impl State {
         }
     }
 
-    /// The name that a field gives: the one written, or what its slot holds, which is `None` where the field reads an
-    /// empty slot.
+    /// Returns the name that a field gives: the one written, or the one its slot holds; `None` if the field has no name
+    /// or reads an empty slot.
     pub fn name<'a>(&'a self, field: NameFieldRef<'a>) -> Option<&'a [u8]>
         requires { is_named (owned_name field) ≡ true }
         ensures name { option_map (λ name. name.now) result ≡ name_of self.now.slots (owned_name field.entry) }
@@ -159,8 +159,8 @@ impl State {
         }
     }
 
-    /// The id that is selected, and the number of an update of this number and name field; or why it is refused, in the
-    /// order `NoNumber`, `EmptySlot`.
+    /// Returns the selected id, and the number of an update with this number and name field; or why it is refused:
+    /// `NoNumber` before `EmptySlot`.
     fn numbered(&self, number: Option<u32>, field: NameFieldRef<'_>) -> Result<(u64, u32), Refusal>
         ensures table { IfOk result (λ found. self.now.received.selected ≡ Some found.0) }
         ensures number { IfOk result (λ found. resolved_number number (last_of self.now.last_numbers found.0) ≡ Some found.1) }
@@ -174,7 +174,7 @@ impl State {
         }
     }
 
-    /// Why an update of this number and name field is refused, if it is. Doesn't allocate.
+    /// Returns why an update with this number and name field is refused, if it is. Doesn't allocate.
     pub fn refusal(&self, number: Option<u32>, field: NameFieldRef<'_>) -> Option<Refusal>
         ensures { result ≡ refusal_of self.now number (owned_name field.entry) }
     {
@@ -184,10 +184,10 @@ impl State {
         }
     }
 
-    /// What an update of this number and name field does to the state. Nothing changes yet. A name that the update
-    /// writes is copied.
+    /// Returns what an update with this number and name field does to the state, which doesn't change yet. Copies the
+    /// name if the update writes one.
     ///
-    /// Refuses in this order: `NoNumber`, `EmptySlot`, `Memory`.
+    /// Errors, in this order: `NoNumber`, `EmptySlot`, `Memory`.
     pub fn resolve(
         &self,
         number: Option<u32>,
@@ -207,7 +207,7 @@ impl State {
         }
     }
 
-    /// Makes an effect. After `Memory` nothing has changed.
+    /// Applies an effect. After `Memory` nothing has changed.
     pub fn make(&mut self, effect: Effect) -> Result<(), Memory>
         ensures made { OnOk result (self.new ≡ made self.old effect) }
         ensures stays { OnErr result (self.new ≡ self.old) }
@@ -243,7 +243,7 @@ impl State {
         Ok(())
     }
 
-    /// An equal state.
+    /// Returns an equal state.
     pub fn copy(&self, alloc: Global) -> Result<State, Memory>
         ensures { IfOk result (λ copy. copy ≡ self.now) }
     {

@@ -1,4 +1,4 @@
--- A legal stream that comes in pieces at several moments: each piece gives what the messages carry that end in it.
+-- A legal stream that arrives in pieces at several moments: each piece gives what the messages that end in it carry.
 use Rattle.std.proofs.Common.{◌≡◌, ◌≢◌, ℕ, ◌+◌, ◌<◌, ◌≤◌, true, false, List, [], ◌∷◌, ◌++◌, length, take, drop, Option, Some, None, Result, Ok, Err, refl, sym, ap, subst, ◌∙◌, inl, inr, ◌⊎◌, append_assoc, length-append, arith}
 use Rattle.std.specs.Prelude.{map, flat_map}
 use Rattle.std.specs.List.{AllByRecursion}
@@ -35,7 +35,7 @@ use Rattle.learner.proofs.LegalStreamIsTaught.{step_fits, kept_own, takes_legal,
 
 -- ---- streams that are cut
 
--- what is unread of a legal stream shows its next message, whole, or none
+-- the unread bytes of a legal stream begin with its next message, whole, or with no whole message
 next_shown : (h : Received) (m : Message) (unread more tail : List ℕ) → IsBytes unread → fits h m ≡ true → unread ++ more ≡ spelled m ++ tail
     → (message_at h unread ≡ Ok None) ⊎ ((rest : List ℕ) × (message_at h unread ≡ found m rest) × (unread ≡ spelled m ++ rest) × (rest ++ more ≡ tail))
 next_shown h m unread more tail good fit cut = at (message_at h unread) refl
@@ -57,7 +57,7 @@ next_shown h m unread more tail good fit cut = at (message_at h unread) refl
         let is : Err breach ≡ found m tail = sym (ap (with_more more) e) ∙ shown (λ none. let bad : ◌≡◌ {A = Result (Option (Message × List ℕ)) Breach} (Err breach) (Ok None) = sym e ∙ none in cc) in
         absurd cc
 
--- where the front has all the bytes of the first part, it begins with it
+-- if the front has all the bytes of the first part, it begins with that part
 front_is : (unread more a b : List ℕ) → unread ++ more ≡ a ++ b → length a ≤ length unread → unread ≡ a ++ drop (length a) unread
 front_is unread more a b same le =
     let first : take (length a) unread ≡ a = sym (take-append-le (length a) unread more le) ∙ ap (take (length a)) same ∙ take_at a b (length a) refl in
@@ -69,7 +69,7 @@ nothing_first (x ∷ a) b e = absurd cc
 
 -- ---- a learner on its way through a legal stream
 
--- what is unread and more to come are the stream of these messages, which are legal for the learner, carry these
+-- the unread bytes and those to come are the stream of these messages, which are legal for the learner, carry these
 -- updates, and lead it to that state
 abbrev pub IsOnItsWay : Learning → List ℕ → List Message → List Update → State → Type 0
 IsOnItsWay l more ms us after =
@@ -181,7 +181,7 @@ on_way now l mid more ms (n ∷ ns) us vs after way (first, rest, next, all, beg
 
 -- ---- bytes that wait
 
--- while no message is whole, fewer bytes are left than the next one has
+-- while no message is whole, fewer bytes are left than the next message has
 too_few : (l : Learning) (more : List ℕ) (ms : List Message) (us : List Update) (after : State) → IsOnItsWay l more ms us after → IsWaiting l.intake → AreTooFew (length l.intake.unread) ms
 too_few l more [] us after way waits = ap (λ (x : List ℕ). length x) (nothing_first l.intake.unread more way.5)
 too_few l more (m ∷ ms) us after (once, owns, all, (one, others, mid, joined, legal, later), going, cut, good) waits =
@@ -195,7 +195,7 @@ too_few l more (m ∷ ms) us after (once, owns, all, (one, others, mid, joined, 
           absurd cc
     ]
 
--- no message is spelled by no bytes
+-- no message has no bytes
 pub some_bytes : (s e : State) (ms : List Message) (us : List Update) → Teaches s ms us e → AreTooFew 0 ms
 some_bytes s e [] us teaches = refl
 some_bytes s e (m ∷ ms) us (one, others, mid, joined, legal, later) =
@@ -215,7 +215,7 @@ some_bytes s e (m ∷ ms) us (one, others, mid, joined, legal, later) =
 
 -- ---- pieces at their moments
 
--- what pieces that are fed on the way come to
+-- what feeding pieces on the way results in
 abbrev pub AreTaughtInTime : Learning → List Message → List Piece → List Update → List ℕ → State → Learning → Type 0
 AreTaughtInTime l ms pieces us counts after e =
     (parts : List (List Update))
@@ -228,7 +228,7 @@ AreTaughtInTime l ms pieces us counts after e =
     × (e.intake.unread ≡ [])
     × (e.intake.closed ≡ false)
 
--- feeding a piece goes on with what comes after it
+-- feeding a piece continues with what comes after it
 fed_on_way : (l : Learning) (piece more : List ℕ) (ms : List Message) (us : List Update) (after : State) → IsOnItsWay l (piece ++ more) ms us after → IsOnItsWay (with_piece l piece) more ms us after
 fed_on_way l piece more ms us after (once, owns, all, teaches, going, cut, good) =
     let grouped : (l.intake.unread ++ piece) ++ more ≡ l.intake.unread ++ (piece ++ more) = simp append_assoc in
@@ -273,7 +273,7 @@ taught_in_time (p ∷ ps) l e ms us counts after way few (one, rest, mid, counte
 
 -- ---- no fault
 
--- pieces of the way, with more to come
+-- pieces on the way, with more to come
 pub fed_along : (pieces : List Piece) (more : List ℕ) (l e : Learning) (ms : List Message) (us : List Update) (counts : List ℕ) (after : State) → IsOnItsWay l (stream_in pieces ++ more) ms us after → AreFedInTime l pieces counts e
     → (later : List Message) × (rest : List Update) × IsOnItsWay e more later rest after
 fed_along [] more l e ms us counts after way (nothing, same) = (ms, us, subst (λ (x : Learning). IsOnItsWay x more ms us after) (sym same) way)
@@ -283,7 +283,7 @@ fed_along (p ∷ ps) more l e ms us counts after way (one, rest, mid, counted, (
     let begins = on_way p.moment (with_piece l p.bytes) mid (stream_in ps ++ more) ms ns us vs after (fed_on_way l p.bytes (stream_in ps ++ more) ms us after along) learned in
     fed_along ps more mid e begins.0 begins.1 rest after begins.8 later
 
--- nothing on the way stops it
+-- nothing on the way stops the learner
 never_stops : (l : Learning) (x : Taking) (more : List ℕ) (ms : List Message) (us : List Update) (after : State) (fault : Fault) → IsOnItsWay l more ms us after → Stops l.intake fault x → fault ≢ faults.Memory → ⊥
 never_stops l x more [] us after fault (once, owns, all, teaches, going, cut, good) stops wanted =
     let none : message_at l.intake.state.received l.intake.unread ≡ Ok None =
@@ -302,7 +302,7 @@ memory_is faults.NoNumber h = absurd (apart (sym h))
 memory_is faults.EmptySlot h = absurd (apart (sym h))
 memory_is (faults.Breach breach) h = absurd (apart (sym h))
 
--- a fault of a piece on the way is want of memory
+-- a fault of a piece on the way means that memory ran out
 pub only_memory : (now : ℕ) (l e : Learning) (piece more : List ℕ) (ms : List Message) (us : List Update) (after : State) (fault : Fault) → IsOnItsWay l (piece ++ more) ms us after → LearnerFeeds now l piece (Err fault) e → fault ≡ faults.Memory
 only_memory now l e piece more ms us after fault way fed = elim (cases_Bool (is_memory fault)) [
   | inl is ↦ memory_is fault is

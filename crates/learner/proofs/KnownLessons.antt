@@ -1,4 +1,4 @@
--- A learner that is fed a lesson from what a teacher knows of it.
+-- A learner that is fed a lesson made from what a teacher knows of it.
 use Rattle.std.proofs.Common.{◌≡◌, ◌≢◌, ℕ, false, List, [], ◌∷◌, ◌++◌, length, None, Result, Ok, Err, refl, sym, ap, subst, ◌∙◌, inl, inr, append_assoc}
 use Rattle.std.specs.List.{AllByRecursion}
 use Rattle.peers_msg.specs.Integers.{IsBytes}
@@ -23,14 +23,14 @@ use Rattle.learner.specs.Moments.{Piece, stream_in, AreFedInTime, AreTooFew, Fal
 use Rattle.learner.proofs.LegalStreamIsTaught.{once_named, taught, taught_in_pieces}
 use Rattle.learner.proofs.EachPieceGivesItsOwn.{IsOnItsWay, some_bytes, taught_in_time, fed_along, only_memory}
 
--- ---- last numbers stay in rising id
+-- ---- last numbers stay in ascending order of id
 
 learned_rise : (now : ℕ) (l e : Learning) (ms : List Message) (us : List Update) → AreRising l.intake.state.last_numbers → AreLearned now l ms us e → AreRising e.intake.state.last_numbers
 learned_rise now l e [] us rise (none, here) = subst (λ (x : Learning). AreRising x.intake.state.last_numbers) (sym here) rise
 learned_rise now l e (m ∷ ms) us rise (one, rest, next, all, begins, later) =
     learned_rise now next e ms rest (rising-step l.intake.state next.intake.state m begins.0.3 rise begins.0.4) later
 
--- a fault leaves the state
+-- a fault leaves the state unchanged
 stopped_state : (t e : Taking) (fault : Fault) → Stops t fault e → e.state ≡ t.state
 stopped_state t e faults.NoNumber (is_open, m, rest, at, refused, is) = ap (λ (x : Taking). x.state) is
 stopped_state t e faults.EmptySlot (is_open, m, rest, at, refused, is) = ap (λ (x : Taking). x.state) is
@@ -44,7 +44,7 @@ cut_rise l e rise (takable, rows, left) = elim left [
   | inr one ↦ rising-step l.intake.state e.intake.state one.0 one.2.3 rise one.2.4
 ]
 
--- whatever a learner is fed, they do
+-- whatever a learner is fed, they stay in order
 pub fed_rise : (now : ℕ) (l e : Learning) (piece : List ℕ) (result : Result ℕ Fault) → AreRising l.intake.state.last_numbers → LearnerFeeds now l piece result e → AreRising e.intake.state.last_numbers
 fed_rise now l e piece result rise = by result
   where
@@ -67,7 +67,8 @@ fed_rise now l e piece result rise = by result
 
 -- ---- lessons
 
--- A lesson from what is known of a learner is legal from its own state, and leads to one of which the end is known.
+-- A lesson made from what is known of a learner is legal from the learner's own state, and what is then known of that
+-- state is the lesson's end.
 abbrev EndsKnown : Learning → List Message → List Update → KnownState → Type 0
 EndsKnown l ms us after =
     (s : State)
@@ -95,12 +96,12 @@ ready_then after us ms l e sound own roster state unread is_open =
     let rises : AreRising e.intake.state.last_numbers = subst (λ (s : State). AreRising s.last_numbers) (sym state) own.3 in
     ((sound_still, owns, is_open, unread), rises, known)
 
--- what is taught so has learned it
+-- a learner that is taught this way has learned the lesson
 learned_it : (now : ℕ) (after : KnownState) (us : List Update) (ms : List Message) (l e : Learning) → roster_fault l.intake.roster ≡ None → (own : EndsKnown l ms us after) → IsTaught now l us own.0 e → HasLearned now l us after e
 learned_it now after us ms l e sound own (roster, state, unread, is_open, rows) =
     (rows, ready_then after us ms l e sound own roster state unread is_open)
 
--- a lesson that is fed whole is learned, or memory was wanted
+-- a lesson that is fed whole is learned, unless memory runs out
 pub lesson_learned : (now : ℕ) (k after : KnownState) (us : List Update) (bytes : List ℕ) (l e : Learning) (result : Result ℕ Fault) → IsLessonFor k us bytes after → IsReadyIn k l → LearnerFeeds now l bytes result e → result ≢ Err faults.Memory → (result ≡ Ok (length us)) × HasLearned now l us after e
 lesson_learned now k after us bytes l e result (ms, spelt, legal, rosters) ready fed wanted =
     let own = ends_known k after l ms us legal rosters ready in
@@ -128,7 +129,7 @@ all_split : (p : Message → Type 0) (ms ns : List Message) → AllByRecursion p
 all_split p [] ns all = (tt, all)
 all_split p (m ∷ ms) ns (is, all) = let rest = all_split p ms ns all in ((is, rest.0), rest.1)
 
--- the parts of a lesson are what its messages carry from what is known of the learner
+-- the parts of a lesson are what its messages carry, starting from what is known of the learner
 fall_known : (pieces : List Piece) (roster : List Definition) (before : ℕ) (s t end last : State) (ms : List Message) (us : List Update) (parts : List (List Update)) → AreOwn roster s.received.tables → AreRising s.last_numbers → AllByRecursion (IsOwn roster) ms → known_of roster s ≡ record { roster = roster; state = t } → Teaches t ms us last → FallInto before s ms pieces parts end → FallInto before t ms pieces parts last
 fall_known [] roster before s t end last ms us parts owns rise all is teaches (none, no_parts, here) =
     (none, no_parts, (subst (λ (xs : List Message). Teaches t xs us last) none teaches).1)
@@ -144,7 +145,7 @@ fall_known (p ∷ ps) roster before s t end last ms us parts owns rise all is te
     let carried_known : Teaches t ended part cut.2 = subst (λ (xs : List Update). Teaches t ended xs cut.2) (sym same.0) cut.4 in
     (ended, later, part, others, cut.2, left, split, sum, few, carried_known, counted, fall_known ps roster left mid cut.2 end last later cut.1 others owns_then rises_then alls.1 is_then cut.5 rest)
 
--- a learner that is ready for a lesson stands at its start
+-- a learner that is ready for a lesson is at its start
 starts : (k after : KnownState) (us : List Update) (bytes : List ℕ) (ms : List Message) (l : Learning) → bytes ≡ stream_of ms → IsBytes bytes → IsReadyIn k l → (own : EndsKnown l ms us after) → IsOnItsWay l bytes ms us own.0
 starts k after us bytes ms l spelt good ((sound, owns, is_open, unread), rise, is) own = (
   once_named l.intake.roster sound,
@@ -156,7 +157,7 @@ starts k after us bytes ms l spelt good ((sound, owns, is_open, unread), rise, i
   subst (λ (x : List ℕ). IsBytes (x ++ bytes)) (sym unread) good,
 )
 
--- a lesson that is fed in pieces at their moments is learned in time
+-- a lesson that is fed in pieces at several moments is learned, each piece at its moment
 pub lesson_in_time : (k after : KnownState) (us : List Update) (pieces : List Piece) (counts : List ℕ) (l e : Learning) → IsLessonFor k us (stream_in pieces) after → IsBytes (stream_in pieces) → IsReadyIn k l → AreFedInTime l pieces counts e → HasLearnedInTime k l pieces us counts after e
 lesson_in_time k after us pieces counts l e (ms, spelt, legal, rosters) good ready fed =
     let own = ends_known k after l ms us legal rosters ready in
@@ -169,7 +170,7 @@ lesson_in_time k after us pieces counts l e (ms, spelt, legal, rosters) good rea
     let falls_known : FallInto 0 k.state ms pieces done.0 after.state = subst (λ (x : KnownState). FallInto 0 x.state ms pieces done.0 after.state) ready.2 known in
     (ms, done.0, spelt, falls_known, done.2, done.3, done.4, ready_then after us ms l e ready.0.0 own done.5 done.6 done.7 done.8)
 
--- and no fault comes on the way but want of memory
+-- and no fault occurs on the way, unless memory runs out
 pub lesson_faultless : (now : ℕ) (k after : KnownState) (us : List Update) (before : List Piece) (piece more : List ℕ) (counts : List ℕ) (l mid e : Learning) (fault : Fault) → IsLessonFor k us (stream_in before ++ (piece ++ more)) after → IsBytes (stream_in before ++ (piece ++ more)) → IsReadyIn k l → AreFedInTime l before counts mid → LearnerFeeds now mid piece (Err fault) e → fault ≡ faults.Memory
 lesson_faultless now k after us before piece more counts l mid e fault (ms, spelt, legal, rosters) good ready fed faulty =
     let own = ends_known k after l ms us legal rosters ready in

@@ -1,4 +1,4 @@
--- Messages learned one after another.
+-- Messages that are learned one after another.
 use Rattle.std.proofs.Common.{◌≡◌, ℕ, false, List, [], ◌∷◌, ◌++◌, Some, Ok, Err, refl, sym, ap, ◌∙◌, subst, append_assoc, inl, inr, length}
 use Rattle.std.proofs.lemmas.List.{append-nil}
 use Rattle.std.specs.Prelude.{map}
@@ -14,7 +14,7 @@ use Rattle.learner.specs.declared.taken.Taken.{Taken}
 use Rattle.learner.specs.Rows.{put_all}
 use Rattle.learner.specs.Learning.{Learning, unlearned, Learns, AreLearned, LearnsOne, LearnsAll}
 
--- one message more
+-- one more message
 pub learned_more : (now : ℕ) (l mid e : Learning) (ms : List Message) (us one : List Update) (m : Message) → AreLearned now l ms us mid → Learns now mid m one e → AreLearned now l (ms ++ (m ∷ [])) (us ++ one) e
 learned_more now l mid e [] us one m (none, here) learns =
     let begins : Learns now l m one e = subst (λ (x : Learning). Learns now x m one e) here learns in
@@ -23,19 +23,19 @@ learned_more now l mid e (k ∷ ms) us one m (first, rest, next, all, begins, la
     let grouped : us ++ one ≡ first ++ (rest ++ one) = rw all (simp append_assoc) in
     (first, rest ++ one, next, grouped, begins, learned_more now next mid e ms rest one m later learns)
 
--- what is open stays so while messages are learned
+-- an open learner stays open while messages are learned
 pub stays_open : (now : ℕ) (l e : Learning) (ms : List Message) (us : List Update) → l.intake.closed ≡ false → AreLearned now l ms us e → e.intake.closed ≡ false
 stays_open now l e [] us is_open (none, here) = ap (λ (x : Learning). x.intake.closed) here ∙ is_open
 stays_open now l e (m ∷ ms) us is_open (first, rest, next, all, begins, later) =
     stays_open now next e ms rest (ap (λ (x : Taking). x.closed) begins.0.6) later
 
--- the roster stays
+-- the roster doesn't change
 pub roster_stays : (now : ℕ) (l e : Learning) (ms : List Message) (us : List Update) → AreLearned now l ms us e → e.intake.roster ≡ l.intake.roster
 roster_stays now l e [] us (none, here) = ap (λ (x : Learning). x.intake.roster) here
 roster_stays now l e (m ∷ ms) us (first, rest, next, all, begins, later) =
     roster_stays now next e ms rest later ∙ ap (λ (x : Taking). x.roster) begins.0.6
 
--- a fault at the front, as learning one message answers it
+-- a fault at the front, as learning one message reports it
 pub stops_one : (now : ℕ) (l e : Learning) (fault : Fault) → Stops l.intake fault e.intake → e.rows ≡ l.rows → LearnsOne now l (Err fault) e
 stops_one now l e faults.Memory stops rows = (stops.1, rows, inl stops.2)
 stops_one now l e faults.Closed stops rows = (stops, rows)
@@ -51,22 +51,22 @@ stops_all now l mid e ms us faults.NoNumber learned stops = (ms, us, mid, learne
 stops_all now l mid e ms us faults.EmptySlot learned stops = (ms, us, mid, learned, stops.0, stops.1)
 stops_all now l mid e ms us (faults.Breach breach) learned stops = (ms, us, mid, learned, stops.0, stops.1)
 
--- a learner that was fed nothing
+-- a learner that has been fed nothing
 pub begins_so : (roster : List Definition) (t : Taking) (rows : List (List (Key × StoredRow))) → t ≡ begun roster → rows ≡ map (λ _. []) roster → record { intake = t; rows = rows } ≡ unlearned roster
 begins_so roster t rows is held =
     ap (λ (x : Taking). record { intake = x; rows = rows }) is ∙ ap (λ (r : List (List (Key × StoredRow))). record { intake = begun roster; rows = r }) held
 
 -- ---- one message
 
--- the rows that it gives are put
+-- the rows that the message gives are put
 pub gives_rows : (now : ℕ) (l : Learning) (e : Taking) (answer : Taken) (rows : List (List (Key × StoredRow))) (count : ℕ) → Gives l.intake (Ok answer) e → rows ≡ put_all now e.roster (rows_of answer) l.rows → count ≡ length (rows_of answer) → LearnsOne now l (Ok (Some count)) (record { intake = e; rows = rows })
 gives_rows now l e answer rows count (m, takes, says) is counted =
     (m, rows_of answer, (takes, is ∙ ap (λ (ds : List Definition). put_all now ds (rows_of answer) l.rows) (ap (λ (t : Taking). t.roster) takes.6)), counted)
 
--- memory is wanted before anything changes
+-- memory runs out before anything changes
 pub cut_here : (now : ℕ) (l : Learning) → IsTakable l.intake → LearnsOne now l (Err faults.Memory) l
 cut_here now l takable = (takable, refl, inl refl)
 
--- memory is wanted for a row
+-- memory runs out for a row
 pub gives_cut : (now : ℕ) (l : Learning) (e : Taking) (answer : Taken) → IsTakable l.intake → Gives l.intake (Ok answer) e → LearnsOne now l (Err faults.Memory) (record { intake = e; rows = l.rows })
 gives_cut now l e answer takable (m, takes, says) = (takable, refl, inr (m, rows_of answer, takes))

@@ -55,7 +55,7 @@ same_name : (a : List ℕ) → is_same_name a a ≡ true
 same_name [] = refl
 same_name (x ∷ xs) = rw (eq-eqb x x refl) (same_name xs)
 
--- a table that is found among tables has one of their names
+-- a table that is found among tables has the name of one of them
 found_name : (ds : List Definition) (id : ℕ) (d : Definition) → table_at ds id ≡ Some d → has_name d.name ds ≡ true
 found_name [] id d h = cc
 found_name (x ∷ xs) id d h = elim (cases_eq x.id id) [
@@ -115,7 +115,7 @@ fits_found h u fit = at (selected_table h) refl
     at None e = let bad : false ≡ true = sym (rw e refl) ∙ fit in absurd cc
     at (Some d) e = (d, e)
 
--- what a legal message carries is all of local tables, and stays as it is
+-- what a legal message carries belongs to local tables, and doesn't change
 pub kept_own : (roster : List Definition) (s e : State) (m : Message) (us : List Update) → repeats_name roster ≡ false → AreOwn roster s.received.tables → Step s m us e → local_updates roster s.received us ≡ us
 kept_own roster s e (messages.Update u) us once own step =
     let selected = fits_found s.received u step.0 in
@@ -134,7 +134,7 @@ kept_own roster s e (messages.Switch id) us once own step = rw step.1 refl
 kept_own roster s e (messages.Ack table number) us once own step = rw step.1 refl
 kept_own roster s e (messages.Other o) us once own step = rw step.1 refl
 
--- a legal message that stands at the front is taken, and all that it carries is of local tables
+-- a legal message at the front is taken, and all that it carries belongs to local tables
 pub takes_legal : (t : Taking) (m : Message) (us : List Update) (s : State) (rest : List ℕ) → repeats_name t.roster ≡ false → AreOwn t.roster t.state.received.tables → t.closed ≡ false → t.unread ≡ spelled m ++ rest → Step t.state m us s
     → Takes t m us (record { roster = t.roster; state = s; due = due_after t.state m t.due; unread = rest; closed = false })
 takes_legal t m us s rest once own going unread step =
@@ -142,12 +142,12 @@ takes_legal t m us s rest once own going unread step =
 
 -- ---- whole streams
 
--- updates put after others are all put
+-- putting some updates and then others puts them all
 pub put_all-append : (now : ℕ) (roster : List Definition) (us vs : List Update) (rows : List (List (Key × StoredRow))) → put_all now roster (us ++ vs) rows ≡ put_all now roster vs (put_all now roster us rows)
 put_all-append now roster [] vs rows = refl
 put_all-append now roster (u ∷ us) vs rows = put_all-append now roster us vs (put now roster rows u)
 
--- a legal stream is learned message by message, and then it waits with nothing unread
+-- a legal stream is learned message by message, and then the learner waits with nothing unread
 pub learned : (now : ℕ) (l : Learning) (ms : List Message) (us : List Update) (after : State) → repeats_name l.intake.roster ≡ false → AreOwn l.intake.roster l.intake.state.received.tables → AllByRecursion (IsOwn l.intake.roster) ms → Teaches l.intake.state ms us after → l.intake.closed ≡ false → l.intake.unread ≡ stream_of ms
     → (e : Learning) × AreLearned now l ms us e × IsTaught now l us after e
 learned now l [] us after once own all (none, here) going unread =
@@ -200,7 +200,7 @@ goes_on t e x m own faults.EmptySlot (going, rest, at, us, step, keeps, is) (is_
     steps_unrefused t m n us e.state rest after faults.EmptySlot at next step refused
 goes_on t e x m own (faults.Breach breach) takes stops wanted = never_err m takes.1 breach (sym takes.2 ∙ stops.1)
 
--- nor does it stop while it waits
+-- nor does the intake stop while it waits
 pub waits_on : (t x : Taking) (fault : Fault) → IsWaiting t → Stops t fault x → fault ≢ faults.Memory → ⊥
 waits_on t x faults.Memory waits stops wanted = wanted refl
 waits_on t x faults.Closed waits stops wanted = apart (sym stops.0 ∙ waits.0)
@@ -208,7 +208,7 @@ waits_on t x faults.NoNumber waits stops wanted = never_none stops.1 stops.2 (sy
 waits_on t x faults.EmptySlot waits stops wanted = never_none stops.1 stops.2 (sym stops.3 ∙ waits.1)
 waits_on t x (faults.Breach breach) waits stops wanted = never_both breach (sym stops.1 ∙ waits.1)
 
--- where messages are learned to an end at which it waits, no fault comes on the way
+-- if messages are learned up to an end at which the learner waits, no fault occurs on the way
 pub no_fault : (now : ℕ) (l a mid : Learning) (x : Taking) (ms ns : List Message) (us vs : List Update) (fault : Fault) → AreLearned now l ms us a → IsWaiting a.intake → AreLearned now l ns vs mid → Stops mid.intake fault x → fault ≢ faults.Memory → ⊥
 no_fault now l a mid x [] [] us vs fault one waits other stops wanted =
     waits_on l.intake x fault (subst (λ (y : Learning). IsWaiting y.intake) one.1 waits) (subst (λ (y : Learning). Stops y.intake fault x) other.1 stops) wanted
@@ -221,7 +221,7 @@ no_fault now l a mid x (m ∷ ms) (n ∷ ns) us vs fault (first, rest, next, all
     let goes : AreLearned now next ns rest' mid = subst (λ (y : Learning). AreLearned now y ns rest' mid) (sym step.1) later' in
     no_fault now next a mid x ms ns rest rest' fault later waits goes stops wanted
 
--- ---- what it comes to
+-- ---- results
 
 abbrev pub is_memory : Fault → Bool
 is_memory faults.Memory = true
@@ -242,7 +242,7 @@ once_named roster sound = at (nat_le 1 (length roster) && nat_le (length roster)
     at true false true h = absurd (some_is_none errors.RepeatedName h)
     at true false false h = refl
 
--- a legal stream that is fed whole is taught, or memory was wanted
+-- a legal stream that is fed whole is learned, unless memory runs out
 pub taught : (now : ℕ) (l e : Learning) (ms : List Message) (us : List Update) (after : State) (result : Result ℕ Fault) → IsReady l → Legal l.intake.roster l.intake.state ms us after → LearnerFeeds now l (stream_of ms) result e → result ≢ Err faults.Memory → (result ≡ Ok (length us)) × IsTaught now l us after e
 taught now l e ms us after result (sound, own, going, none) (all, teaches) fed wanted =
     by result (learned now (with_piece l (stream_of ms)) ms us after (once_named l.intake.roster sound) own all teaches going (ap (λ (u : List ℕ). u ++ stream_of ms) none)) fed wanted

@@ -1,4 +1,4 @@
--- At whatever moments the pieces of a stream come, the same fault comes at the same place.
+-- At whatever moments the pieces of a stream arrive, the same fault occurs at the same place.
 use Rattle.std.proofs.Common.{◌≡◌, ◌≢◌, ℕ, false, List, [], ◌∷◌, ◌++◌, refl, sym, ap, subst, ◌∙◌, append_assoc}
 use Rattle.peers_msg.specs.Integers.{IsBytes}
 use Rattle.table_types.specs.declared.update.Update.{Update}
@@ -21,12 +21,12 @@ abbrev TakesAll : Taking → List Message → Taking → Type 0
 TakesAll t [] e = e ≡ t
 TakesAll t (m ∷ ms) e = (local : List Update) × (mid : Taking) × Takes t m local mid × TakesAll mid ms e
 
--- what is learned is taken
+-- messages that are learned are taken
 learned_takes : (now : ℕ) (l e : Learning) (ms : List Message) (us : List Update) → AreLearned now l ms us e → TakesAll l.intake ms e.intake
 learned_takes now l e [] us (none, here) = ap (λ (x : Learning). x.intake) here
 learned_takes now l e (m ∷ ms) us (first, rest, mid, all, learns, later) = (first, mid.intake, learns.0, learned_takes now mid e ms rest later)
 
--- and with more bytes after
+-- also with more bytes after them
 all_on : (t e : Taking) (ms : List Message) (more : List ℕ) → IsBytes t.unread → TakesAll t ms e → TakesAll (fed t more) ms (fed e more)
 all_on t e [] more good here = ap (λ (x : Taking). fed x more) here
 all_on t e (m ∷ ms) more good (local, mid, takes, later) =
@@ -40,7 +40,7 @@ all_good : (t e : Taking) (ms : List Message) → IsBytes t.unread → TakesAll 
 all_good t e [] good here = subst (λ (x : Taking). IsBytes x.unread) (sym here) good
 all_good t e (m ∷ ms) good (local, mid, takes, later) = all_good mid e ms (left_good t mid m local good takes) later
 
--- what is fed at some moments is taken of all the bytes
+-- what is fed at some moments is taken from all the bytes
 fed_takes : (pieces : List Piece) (l e : Learning) (counts more : List ℕ) → IsBytes (l.intake.unread ++ (stream_in pieces ++ more)) → AreFedInTime l pieces counts e
     → (ms : List Message) × TakesAll (fed l.intake (stream_in pieces ++ more)) ms (fed e.intake more) × IsBytes (e.intake.unread ++ more)
 fed_takes [] l e counts more good (none, here) =
@@ -60,13 +60,14 @@ fed_open : (pieces : List Piece) (l e : Learning) (counts : List ℕ) → l.inta
 fed_open [] l e counts is_open (none, here) = ap (λ (x : Learning). x.intake.closed) here ∙ is_open
 fed_open (p ∷ ps) l e counts is_open (one, rest, mid, all, (going, (ms, us, learned, waits, count)), later) = fed_open ps mid e rest waits.0 later
 
--- a fault that stops pieces stands at some place
+-- a fault that stops pieces is at some place
 stands_somewhere : (l e : Learning) (before : List Piece) (last : Piece) (fault : Fault) → l.intake.closed ≡ false → IsStoppedInTime l before last fault e → fault ≢ faults.Memory → (left : List ℕ) × IsStoppedAtInTime l before last fault left e
 stands_somewhere l e before last fault is_open (counts, mid, goes, stops) wanted =
     let run = is_run last.moment mid e last.bytes fault (fed_open before l mid counts is_open goes) stops wanted in
     (run.2.intake.unread, (counts, mid, goes, stops, (run.0, run.1, run.2, run.3, run.4, refl)))
 
--- what a fault stops at last is taken of all the bytes too: what is left there, and then what is still to come, is unread
+-- what a fault finally stops is taken from all the bytes too: what is left there, and then what is still to come, is
+-- unread
 stopped_takes : (l e : Learning) (before : List Piece) (last : Piece) (fault : Fault) (more left : List ℕ) → l.intake.closed ≡ false → IsBytes (l.intake.unread ++ (stream_in before ++ (last.bytes ++ more))) → IsStoppedAtInTime l before last fault left e → fault ≢ faults.Memory
     → (ms : List Message) × (x : Taking) × TakesAll (fed l.intake (stream_in before ++ (last.bytes ++ more))) ms x × Stops x fault e.intake × (left ++ more ≡ x.unread)
 stopped_takes l e before last fault more left is_open good (counts, mid, goes, feeds, (ns, us, end, learned, stops, is)) wanted =
@@ -84,7 +85,7 @@ stopped_takes l e before last fault more left is_open good (counts, mid, goes, f
       ap (λ (bytes : List ℕ). bytes ++ more) is,
     )
 
--- from one state, what is taken up to a fault is one thing
+-- from one state, only one list of messages is taken up to a fault
 same_end : (t x y a b : Taking) (ms ns : List Message) (fault other : Fault) → TakesAll t ms x → TakesAll t ns y → Stops x fault a → Stops y other b → fault ≢ faults.Memory → other ≢ faults.Memory → (fault ≡ other) × (a ≡ b) × (x ≡ y)
 same_end t x y a b [] [] fault other one two stops again p q =
     let both = stops_once t a b fault other (subst (λ (z : Taking). Stops z fault a) one stops) (subst (λ (z : Taking). Stops z other b) two again) p q in
@@ -99,7 +100,7 @@ same_end t x y a b (m ∷ ms) (n ∷ ns) fault other (local, mid, takes, later) 
     let step : mid ≡ next = (one_taking t mid next m local kin takes too).1 in
     same_end mid x y a b ms ns fault other later (subst (λ (z : Taking). TakesAll z ns y) (sym step) later') stops again p q
 
--- where one stream comes in two ways and each ends at a fault, one thing was taken up to it
+-- if one stream arrives in two ways and each ends at a fault, the same messages were taken up to it
 same_stop : (l a b : Learning) (before others : List Piece) (last end : Piece) (more rest left behind : List ℕ) (fault other : Fault) → l.intake.closed ≡ false → IsBytes (l.intake.unread ++ (stream_in before ++ (last.bytes ++ more))) → stream_in before ++ (last.bytes ++ more) ≡ stream_in others ++ (end.bytes ++ rest)
     → IsStoppedAtInTime l before last fault left a → IsStoppedAtInTime l others end other behind b → fault ≢ faults.Memory → other ≢ faults.Memory → (fault ≡ other) × (a.intake ≡ b.intake) × (left ++ more ≡ behind ++ rest)
 same_stop l a b before others last end more rest left behind fault other is_open good cut stops again p q =
@@ -119,7 +120,7 @@ same_fault_in_time l a b before others last end more rest fault other is_open go
     let all = same_stop l a b before others last end more rest one.0 two.0 fault other is_open good cut one.1 two.1 p q in
     (all.0, all.1)
 
--- and the message with it stands at the same place
+-- and the faulty message is at the same place
 pub same_place_in_time : (l a b : Learning) (before others : List Piece) (last end : Piece) (more rest left behind : List ℕ) (fault other : Fault) → l.intake.closed ≡ false → IsBytes (l.intake.unread ++ (stream_in before ++ (last.bytes ++ more))) → stream_in before ++ (last.bytes ++ more) ≡ stream_in others ++ (end.bytes ++ rest)
     → IsStoppedAtInTime l before last fault left a → IsStoppedAtInTime l others end other behind b → fault ≢ faults.Memory → other ≢ faults.Memory → left ++ more ≡ behind ++ rest
 same_place_in_time l a b before others last end more rest left behind fault other is_open good cut stops again p q =

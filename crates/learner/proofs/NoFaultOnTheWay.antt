@@ -1,4 +1,4 @@
--- On the way through a legal stream no fault comes but want of memory.
+-- On the way through a legal stream no fault occurs, unless memory runs out.
 use Rattle.std.proofs.Common.{◌≡◌, ℕ, List, ◌++◌, Err, sym, ap, subst, ◌∙◌}
 use Rattle.peers_msg.specs.Integers.{IsBytes}
 use Rattle.table_types.specs.declared.update.Update.{Update}

@@ -1,4 +1,4 @@
--- A learner does one thing, but where memory is wanted.
+-- A learner has only one outcome, unless memory runs out.
 use Rattle.std.proofs.Common.{◌≡◌, ◌≢◌, ℕ, Bool, true, false, List, [], ◌∷◌, Option, Some, None, Result, Ok, Err, refl, sym, ap, subst, ◌∙◌, inl, inr, ◌⊎◌}
 use Rattle.std.specs.Prelude.{option_map}
 use Rattle.table_types.specs.declared.key.Key.{Key}
@@ -26,7 +26,7 @@ parts {X} {Y} p q e = (ap (λ (r : X × Y). r.0) e, ap (λ (r : X × Y). r.1) e)
 
 -- ---- faults
 
--- what stops an intake, but want of memory, and what it is then
+-- a fault that stops an intake, other than out of memory, and what the intake is then
 abbrev refusing : Taking → Option Fault → Fault × Taking
 refusing t (Some fault) = (fault, shut t)
 refusing t None = (faults.Memory, t)
@@ -57,13 +57,13 @@ stops_so t e faults.Closed (shut, is) wanted =
 stops_so t e (faults.Breach breach) (is_open, at, is) wanted =
     both_are (faults.Breach breach) (faults.Breach breach) e (shut t) refl is ∙ sym (stopping_with t false (Err breach) is_open at)
 
--- from one state one fault stops an intake
+-- from one state, only one fault stops an intake
 pub stops_once : (t a b : Taking) (fault other : Fault) → Stops t fault a → Stops t other b → fault ≢ faults.Memory → other ≢ faults.Memory → (fault ≡ other) × (a ≡ b)
 stops_once t a b fault other stops again p q = parts (fault, a) (other, b) (stops_so t a fault stops p ∙ sym (stops_so t b other again q))
 
 -- ---- an intake
 
--- what feeding an intake comes to, but want of memory
+-- the result of feeding an intake, unless memory runs out
 abbrev feeding : Taking → List ℕ → Bool → Result (Unit {0}) Fault × Taking
 feeding t piece true = (Err faults.Closed, t)
 feeding t piece false = (Ok tt, fed t piece)
@@ -96,7 +96,7 @@ gives_row (taken.Said c) own is = absurd (no_row own [] (sym is))
 gives_row (taken.Failed e) own is = absurd (no_row own [] (sym is))
 gives_row (taken.Acked table number) own is = absurd (no_row own [] (sym is))
 
--- a message gives one answer
+-- a message has only one answer
 one_answer : (m : Message) (a b : Taken) → rows_of a ≡ rows_of b → Answers m a → Answers m b → a ≡ b
 one_answer (messages.Update u) (taken.Row own) b rows p q = sym (gives_row b own (sym rows))
 one_answer (messages.Update u) taken.Passed b rows p q = p ∙ sym (passed u b (sym rows) q)
@@ -137,12 +137,12 @@ intake_next_once t a b (Err fault) (Err other) next again p q =
 
 -- ---- a learner
 
--- messages are learned, and then that fault stops
+-- messages are learned, and then this fault stops the learner
 abbrev pub Runs : ℕ → Learning → Fault → Learning → Type 0
 Runs now l fault e =
     (ms : List Message) × (us : List Update) × (mid : Learning) × AreLearned now l ms us mid × Stops mid.intake fault e.intake × (e.rows ≡ mid.rows)
 
--- from one state, what is learned up to a fault is one thing
+-- from one state, only one list of messages is learned up to a fault
 pub runs_once : (now : ℕ) (l m n : Learning) (x y : Taking) (ms ns : List Message) (us vs : List Update) (fault other : Fault) → AreLearned now l ms us m → AreLearned now l ns vs n → Stops m.intake fault x → Stops n.intake other y → fault ≢ faults.Memory → other ≢ faults.Memory → (fault ≡ other) × (x ≡ y) × (m ≡ n)
 runs_once now l m n x y [] [] us vs fault other one again stops stops' p q =
     let both = stops_once l.intake x y fault other (subst (λ (k : Learning). Stops k.intake fault x) one.1 stops) (subst (λ (k : Learning). Stops k.intake other y) again.1 stops') p q in
@@ -165,7 +165,7 @@ same_run now l a b fault other (ms, us, m, learned, stops, rows) (ns, vs, n, lea
     let all = runs_once now l m n a.intake b.intake ms ns us vs fault other learned learned' stops stops' p q in
     (all.0, one_learning a b all.1 (rows ∙ ap (λ (z : Learning). z.rows) all.2 ∙ sym rows'))
 
--- a fault of what was fed, but want of memory: it was closed before, or messages were learned up to it
+-- a fault of feeding other than out of memory: the learner was closed before, or messages were learned up to the fault
 abbrev pub IsFaulty : ℕ → Learning → List ℕ → Fault → Learning → Type 0
 IsFaulty now l piece fault e = ((l.intake.closed ≡ true) × (fault ≡ faults.Closed) × (e ≡ l)) ⊎ ((l.intake.closed ≡ false) × Runs now (with_piece l piece) fault e)
 

@@ -1,4 +1,4 @@
--- An update that is put changes one row.
+-- Putting an update changes one row.
 use Rattle.std.proofs.Common.{◌≡◌, ◌≢◌, ◌⊎◌, ◌++◌, ℕ, suc, false, cond, List, [], ◌∷◌, length, Option, Some, refl, sym, ap, ◌∙◌, arith, inl, inr}
 use Rattle.std.specs.declared.cmp.Ordering.{Ordering}
 use Rattle.std.specs.declared.cmp.Ordering.TheVariants.{Less, Equal, Greater}
@@ -17,7 +17,7 @@ use Rattle.table_types.specs.Rows.{StoredRow, row_of}
 use Rattle.table_types.specs.Keys.{key_cmp}
 use Rattle.learner.specs.Rows.{row_at, rows_at, put, put_all, AreOfOthers}
 
--- keys that compare alike are one
+-- keys that compare as equal are equal
 exact_keys : (a b : Key) → key_cmp a b ≡ Equal → a ≡ b
 exact_keys (keys.Int a) (keys.Int b) h = ap (λ (n : ℕ). keys.Int n) (exact_unsigned a b h)
 exact_keys (keys.Ip4 a) (keys.Ip4 b) h = ap (λ (n : List ℕ). keys.Ip4 n) (exact_bytes a b h)
@@ -67,7 +67,7 @@ other_key a b other = at (key_cmp a b) refl
     at Greater e = rw e refl
     at Equal e = absurd (other (exact_keys a b e))
 
--- what is put at a key stands there
+-- what is put at a key is found there
 put_here : (es : List (Key × StoredRow)) (key : Key) (row : StoredRow) → row_at key (insert_entry key_cmp es key row) ≡ Some row
 put_here [] key row = rw (key_cmp-same key) refl
 put_here (e ∷ es) key row = at (key_cmp key e.0) refl (put_here es key row)
@@ -77,7 +77,7 @@ put_here (e ∷ es) key row = at (key_cmp key e.0) refl (put_here es key row)
     at Equal is later = rw (is, is) refl
     at Greater is later = rw (is, is) later
 
--- and what stands at another key stays
+-- and what is at another key stays
 put_there : (es : List (Key × StoredRow)) (key other : Key) (row : StoredRow) → other ≢ key → row_at other (insert_entry key_cmp es key row) ≡ row_at other es
 put_there [] key other row differs = rw (other_key other key differs) refl
 put_there (e ∷ es) key other row differs = at (key_cmp key e.0) refl (put_there es key other row differs)
@@ -143,7 +143,7 @@ put_size now (x ∷ xs) (first ∷ others) u = elim (cases_eq x.id u.table) [
   | inr other ↦ rw (ne_eqb x.id u.table other) (ap (λ (n : ℕ). suc n) (put_size now xs others u))
 ]
 
--- the row that none of the updates is of is what it was
+-- a row of which no update is put is unchanged
 pub others_stay_all : (now : ℕ) (roster : List Definition) (us : List Update) (id : ℕ) (key : Key) (tables : List (List (Key × StoredRow))) → AreOfOthers id key us → row_at key (rows_at roster id (put_all now roster us tables)) ≡ row_at key (rows_at roster id tables)
 others_stay_all now roster [] id key tables others = refl
 others_stay_all now roster (u ∷ us) id key tables others = others_stay_all now roster us id key (put now roster tables u) others.1 ∙ one others.0
@@ -152,7 +152,7 @@ others_stay_all now roster (u ∷ us) id key tables others = others_stay_all now
     one (inl apart) = ap (row_at key) (other_tables now roster tables u id (λ e. apart (sym e)))
     one (inr apart) = other_keys now roster tables u id key (λ e. apart (sym e))
 
--- the row of an update after which none is of its table and key is what it teaches
+-- a row is what the last update of its table and key teaches
 pub last_stands : (now : ℕ) (roster : List Definition) (before after : List Update) (u : Update) (d : Definition) (tables : List (List (Key × StoredRow))) → length tables ≡ length roster → table_at roster u.table ≡ Some d → AreOfOthers u.table u.key after
     → row_at u.key (rows_at roster u.table (put_all now roster (before ++ (u ∷ after)) tables)) ≡ Some (row_of now d.expire u)
 last_stands now roster [] after u d tables size at others = others_stay_all now roster after u.table u.key (put now roster tables u) others ∙ here now roster tables u d size at

@@ -1,11 +1,11 @@
--- What is learned of bytes where they stand is what is learned of them where they are held.
+-- Learning bytes in place gives the same as learning them from the unread bytes.
 use Rattle.std.proofs.Common.{◌≡◌, ◌≢◌, ◌⊎◌, ℕ, ◌+◌, false, List, [], ◌∷◌, ◌++◌, length, length-append, drop, Some, Ok, Err, refl, sym, ap, subst, ◌∙◌, inl, inr, arith}
 use Rattle.std.proofs.lemmas.List.{drop-drop}
 use Rattle.table_types.specs.declared.update.Update.{Update}
 use Rattle.peers_msg.specs.declared.message.Message.{Message}
 use Rattle.learner.specs.declared.fault.Fault.{Fault}
 use Rattle.learner.specs.declared.fault.Fault.TheVariants as faults
-use Rattle.learner.specs.declared.progress.Progress.{Progress}
+use Rattle.learner.specs.declared.learned.Learned.{Learned}
 use Rattle.learner.specs.declared.taken.Taken.{Taken}
 use Rattle.learner.specs.Front.{stopped}
 use Rattle.learner.specs.Intake.{Taking, IsTakable, Stops, Gives, fed, shut, with_unread}
@@ -29,19 +29,19 @@ front_stops now l bytes fault stops =
     ends faults.EmptySlot = refl
     ends (faults.Breach breach) = refl
 
--- memory is wanted before anything changes
+-- memory runs out before anything changes
 pub front_cut_here : (now : ℕ) (l : Learning) (bytes : List ℕ) → IsTakable (with_unread l.intake bytes) → LearnsFront now l bytes (Err faults.Memory) l
 front_cut_here now l bytes takable = (over l bytes, cut_here now (over l bytes) takable, refl)
 
--- memory is wanted for a row
+-- memory runs out for a row
 pub front_cut : (now : ℕ) (l : Learning) (bytes rest : List ℕ) (e : Taking) (answer : Taken) → IsTakable (with_unread l.intake bytes) → Gives (with_unread l.intake bytes) (Ok answer) (with_unread e rest) → LearnsFront now l bytes (Err faults.Memory) (record { intake = e; rows = l.rows })
 front_cut now l bytes rest e answer takable gives =
     (record { intake = with_unread e rest; rows = l.rows }, gives_cut now (over l bytes) (with_unread e rest) answer takable gives, refl)
 
--- ---- all messages that are whole
+-- ---- all whole messages
 
--- one message more
-pub whole_more : (now : ℕ) (l mid e : Learning) (bytes rest : List ℕ) (used : ℕ) (progress : Progress) (ms : List Message) (us : List Update) → AreLearned now (over l bytes) ms us (over mid (drop used bytes)) → rest ≡ drop used bytes → LearnsFront now mid rest (Ok (Some progress)) e
+-- one more message
+pub whole_more : (now : ℕ) (l mid e : Learning) (bytes rest : List ℕ) (used : ℕ) (progress : Learned) (ms : List Message) (us : List Update) → AreLearned now (over l bytes) ms us (over mid (drop used bytes)) → rest ≡ drop used bytes → LearnsFront now mid rest (Ok (Some progress)) e
     → (ns : List Message) × (vs : List Update) × AreLearned now (over l bytes) ns vs (over e (drop (used + progress.used) bytes)) × (length us + progress.rows ≡ length vs)
 whole_more now l mid e bytes rest used progress ms us learned is front = by (subst (λ (x : List ℕ). LearnsFront now mid x (Ok (Some progress)) e) is front)
   where
@@ -58,7 +58,7 @@ whole_stops now l mid e bytes rest used ms us fault learned is (left, stops, end
 
 -- ---- a piece
 
--- where nothing is unread
+-- if nothing is unread
 at_once : (l : Learning) (piece : List ℕ) → l.intake.unread ≡ [] → over l piece ≡ with_piece l piece
 at_once l piece none = ap (λ (bytes : List ℕ). over l (bytes ++ piece)) (sym none)
 
@@ -69,16 +69,16 @@ pub piece_stops : (now : ℕ) (l e : Learning) (piece : List ℕ) (fault : Fault
 piece_stops now l e piece fault none (left, all, ends) =
     (left, inl (subst (λ (x : Learning). LearnsAll now x (Err fault) left) (at_once l piece none) all), ends)
 
--- what is left can't be held
+-- if the rest can't be held
 pub rest_unheld : (now : ℕ) (l e : Learning) (piece rest : List ℕ) (used count : ℕ) → l.intake.unread ≡ [] → LearnsAll now (over l piece) (Ok count) (over e (drop used piece)) → rest ≡ drop used piece → rest ≢ [] → LearnsPiece now l piece (Err faults.Memory) e
 rest_unheld now l e piece rest used count none all is some =
     (over e (drop used piece), inr (refl, inl (none, count, piece_learned now l e piece (drop used piece) count none all, λ nothing. some (is ∙ nothing))), refl)
 
--- a piece can't be held
+-- if a piece can't be held
 pub piece_unheld : (now : ℕ) (l : Learning) (piece : List ℕ) → l.intake.unread ≢ [] → piece ≢ [] → LearnsPiece now l piece (Err faults.Memory) l
 piece_unheld now l piece some more = (l, inr (refl, inr (some, more, refl)), refl)
 
--- a fault of what is read where an unfinished message is held
+-- a fault of what is read if an unfinished message is held
 pub held_stops : (now : ℕ) (l e : Learning) (held taken : Taking) (piece bytes : List ℕ) (fault : Fault) → held ≡ fed l.intake piece → taken ≡ with_unread held [] → bytes ≡ held.unread → LearnsWhole now (record { intake = taken; rows = l.rows }) bytes (Err fault) e → LearnsPiece now l piece (Err fault) e
 held_stops now l e held taken piece bytes fault is out unread (left, all, ends) =
     let intake : taken ≡ with_unread l.intake [] = out ∙ ap (λ (t : Taking). with_unread t []) is in
@@ -89,7 +89,7 @@ held_stops now l e held taken piece bytes fault is out unread (left, all, ends) 
 
 -- ---- closing
 
--- a fault that closes what stopped so
+-- a fault closes the learner it stopped
 pub feeds_fault : (now : ℕ) (l x e : Learning) (piece : List ℕ) (fault : Fault) → l.intake.closed ≡ false → LearnsPiece now l piece (Err fault) x → e ≡ shut_off x → LearnerFeeds now l piece (Err fault) e
 feeds_fault now l x e piece fault is_open (left, how, ends) is = by fault how
   where

@@ -1,4 +1,4 @@
--- Rows by the place of their table.
+-- Rows by the index of their table.
 use Rattle.std.proofs.Common.{◌≡◌, ℕ, suc, ◌+◌, ◌<◌, ◌≤◌, List, [], ◌∷◌, ◌++◌, length, get_or, set, drop, Option, Some, None, refl, sym, ap, ◌∙◌, arith, inl, inr}
 use Rattle.std.specs.Prelude.{map}
 use Rattle.std.proofs.lemmas.List.{append-nil}
@@ -16,7 +16,7 @@ use Rattle.learner.specs.declared.learner.NewRow.{NewRow}
 use Rattle.learner.specs.NewRows.{AreRowsOf}
 use Rattle.learner.specs.Rows.{put_row, put, put_all, rows_at, index_of}
 
--- ---- the place of a table
+-- ---- the index of a table
 
 place_first : (d : Definition) (ds : List Definition) (id p : ℕ) → d.id ≡ id → index_of (d ∷ ds) id ≡ Some p → p ≡ 0
 place_first d ds id p same at =
@@ -46,7 +46,7 @@ place_none d ds id none = elim (cases_eq d.id id) [
     rest other None e = e
     rest other (Some q) e = absurd (never (q + 1) (sym (rw (ne_eqb d.id id other, e) refl) ∙ none))
 
--- a table that is found has a place among the tables
+-- a table that is found has an index among the tables
 pub place_within : (ds : List Definition) (id p : ℕ) → index_of ds id ≡ Some p → p < length ds
 place_within [] id p at = absurd cc
 place_within (d ∷ ds) id p at = elim (cases_eq d.id id) [
@@ -57,7 +57,7 @@ place_within (d ∷ ds) id p at = elim (cases_eq d.id id) [
       omega arith
 ]
 
--- the rows of a table are those at its place
+-- the rows of a table are those at its index
 pub rows_placed : (ds : List Definition) (id p : ℕ) (tables : List (List (Key × StoredRow))) (rows : List (Key × StoredRow)) → length tables ≡ length ds → index_of ds id ≡ Some p → rows ≡ get_or tables p rows → rows_at ds id tables ≡ rows
 rows_placed [] id p tables rows size at is = absurd cc
 rows_placed (d ∷ ds) id p [] rows size at is = absurd cc
@@ -72,7 +72,7 @@ rows_placed (d ∷ ds) id p (first ∷ others) rows size at is = elim (cases_eq 
       rw (ne_eqb d.id id other) (rows_placed ds id later.0 others rows rest later.2 there)
 ]
 
--- and a table that isn't found has none
+-- and a table that isn't found has no index
 pub rows_unplaced : (ds : List Definition) (id : ℕ) (tables : List (List (Key × StoredRow))) → index_of ds id ≡ None → rows_at ds id tables ≡ []
 rows_unplaced [] id tables none = refl
 rows_unplaced (d ∷ ds) id [] none = refl
@@ -80,7 +80,7 @@ rows_unplaced (d ∷ ds) id (first ∷ others) none =
     let rest = place_none d ds id none in
     rw (ne_eqb d.id id rest.0) (rows_unplaced ds id others rest.1)
 
--- an update is put at the place of its table
+-- an update is put at the index of its table
 pub put_placed : (now : ℕ) (ds : List Definition) (p : ℕ) (tables : List (List (Key × StoredRow))) (u : Update) (d : Definition) (rows : List (Key × StoredRow)) → length tables ≡ length ds → index_of ds u.table ≡ Some p → table_at ds u.table ≡ Some d → rows ≡ get_or tables p rows → set tables p (put_row now d u rows) ≡ put now ds tables u
 put_placed now [] p tables u d rows size at is_table is_rows = absurd cc
 put_placed now (x ∷ xs) p [] u d rows size at is_table is_rows = absurd cc
@@ -99,7 +99,7 @@ put_placed now (x ∷ xs) p (first ∷ others) u d rows size at is_table is_rows
       rw (ne_eqb x.id u.table other, later.1) (ap (λ (tail : List (List (Key × StoredRow))). first ∷ tail) (put_placed now xs later.0 others u d rows rest later.2 table there))
 ]
 
--- and nowhere without one
+-- and nowhere if its table has no index
 pub put_unplaced : (now : ℕ) (ds : List Definition) (tables : List (List (Key × StoredRow))) (u : Update) → index_of ds u.table ≡ None → put now ds tables u ≡ tables
 put_unplaced now [] tables u none = refl
 put_unplaced now (d ∷ ds) [] u none = refl
@@ -107,7 +107,7 @@ put_unplaced now (d ∷ ds) (first ∷ others) u none =
     let rest = place_none d ds u.table none in
     rw (ne_eqb d.id u.table rest.0) (ap (λ (tail : List (List (Key × StoredRow))). first ∷ tail) (put_unplaced now ds others u rest.1))
 
--- nor where its table isn't found
+-- nor if its table isn't found
 pub put_unfound : (now : ℕ) (ds : List Definition) (tables : List (List (Key × StoredRow))) (u : Update) → table_at ds u.table ≡ None → put now ds tables u ≡ tables
 put_unfound now [] tables u none = refl
 put_unfound now (d ∷ ds) [] u none = refl
@@ -121,7 +121,7 @@ put_unfound now (d ∷ ds) (first ∷ others) u none = elim (cases_eq d.id u.tab
     not_none : (t : Definition) → ◌≡◌ {A = Option Definition} (Some t) None → ⊥
     not_none t e = cc
 
--- as many tables have rows after an update as before it
+-- the number of tables with rows doesn't change with an update
 pub length-put : (now : ℕ) (ds : List Definition) (tables : List (List (Key × StoredRow))) (u : Update) → length (put now ds tables u) ≡ length tables
 length-put now [] tables u = refl
 length-put now (d ∷ ds) [] u = refl
@@ -150,7 +150,7 @@ table_rows_within roster inside id p tables at same size =
     let sizes : length inside ≡ length roster = ap (λ (ds : List Definition). length ds) same in
     omega arith
 
--- an update is put at its table's place
+-- an update is put at its table's index
 pub put_in_table : (now : ℕ) (ds : List Definition) (p expire : ℕ) (tables : List (List (Key × StoredRow))) (u : Update) (d : Definition) (held after : List (Key × StoredRow)) (key : Key) (row : StoredRow)
     → length tables ≡ length ds → index_of ds u.table ≡ Some p → table_at ds u.table ≡ Some d → held ≡ get_or tables p held
     → expire ≡ d.expire → key ≡ u.key → row ≡ row_of now expire u → after ≡ insert_entry key_cmp held key row
@@ -162,7 +162,7 @@ put_in_table now ds p expire tables u d held after key row size at is_table is_s
     ∙ ap (λ (r : StoredRow). insert_entry key_cmp held u.key r) (is_row ∙ ap (λ (n : ℕ). row_of now n u) is_expire) in
     ap (λ (rows : List (Key × StoredRow)). set tables p rows) stored ∙ put_placed now ds p tables u d held size at is_table is_shelf
 
--- a row that is taught is put in its table, and where none is taught nothing changes
+-- a row that is taught is put in its table, and if none is taught, nothing changes
 pub put_new : (now : ℕ) (ds : List Definition) (p : ℕ) (tables : List (List (Key × StoredRow))) (us : List Update) (held after : List (Key × StoredRow)) (key : Key) (row : StoredRow)
     → length tables ≡ length ds → held ≡ get_or tables p held → AreRowsOf now ds us (Some (record { index = p; key = key; row = row })) → after ≡ insert_entry key_cmp held key row
     → set tables p after ≡ put_all now ds us tables

@@ -1,4 +1,4 @@
--- However a stream is cut into pieces, the same fault comes.
+-- The same fault occurs however a stream is cut into pieces.
 use Rattle.std.proofs.Common.{◌≡◌, ◌≢◌, ℕ, ◌+◌, ◌⊎◌, true, false, List, [], ◌∷◌, ◌++◌, Result, Ok, Err, refl, sym, ap, subst, ◌∙◌, inl, inr, append_assoc}
 use Rattle.std.specs.List.{AllByRecursion}
 use Rattle.peers_msg.specs.Integers.{IsBytes}
@@ -19,7 +19,7 @@ use Rattle.learner.proofs.OneOutcome.{Runs, faulty, learner_fed_once}
 
 -- ---- more bytes after a fault
 
--- what stops an open intake stops it with more bytes after, and leaves the same
+-- a fault that stops an open intake stops it with more bytes after, and leaves it the same
 pub stops_on : (t e : Taking) (more : List ℕ) (fault : Fault) → IsBytes t.unread → t.closed ≡ false → Stops t fault e → fault ≢ faults.Memory → Stops (fed t more) fault e
 stops_on t e more faults.NoNumber good going (is_open, m, rest, at, refused, is) wanted =
     (is_open, m, rest ++ more, read_on t.state.received m t.unread rest more good at, refused, is)
@@ -29,7 +29,7 @@ stops_on t e more faults.Memory good going stops wanted = absurd (wanted refl)
 stops_on t e more faults.Closed good going (shut, is) wanted = absurd (apart (sym shut ∙ going))
 stops_on t e more (faults.Breach breach) good going (is_open, at, is) wanted = (is_open, breach_on t.state.received t.unread more breach good at, is)
 
--- what is learned is learned with more bytes after
+-- what is learned is learned with more bytes after it
 pub learned_on : (now : ℕ) (l e : Learning) (more : List ℕ) (ms : List Message) (us : List Update) → IsBytes l.intake.unread → AreLearned now l ms us e → AreLearned now (with_piece l more) ms us (with_piece e more)
 learned_on now l e more [] us good (none, here) = (none, ap (λ (x : Learning). with_piece x more) here)
 learned_on now l e more (m ∷ ms) us good (first, rest, next, all, begins, later) =
@@ -44,13 +44,13 @@ runs_on : (now : ℕ) (l e : Learning) (more : List ℕ) (fault : Fault) → IsB
 runs_on now l e more fault good is_open (ms, us, mid, learned, stops, rows) wanted =
     (ms, us, with_piece mid more, learned_on now l mid more ms us good learned, stops_on mid.intake e.intake more fault (learned_left now l mid ms us good learned) (stays_open now l mid ms us is_open learned) stops wanted, rows)
 
--- one piece after another is both together
+-- one piece after another is the same as both together
 regrouped : (now : ℕ) (l e : Learning) (a b : List ℕ) (fault : Fault) → Runs now (with_piece (with_piece l a) b) fault e → Runs now (with_piece l (a ++ b)) fault e
 regrouped now l e a b fault runs =
     let grouped : (l.intake.unread ++ a) ++ b ≡ l.intake.unread ++ (a ++ b) = simp append_assoc in
     subst (λ (bytes : List ℕ). Runs now (record { intake = record l.intake { unread = bytes }; rows = l.rows }) fault e) grouped runs
 
--- ---- from feeding to running, and back
+-- ---- from feeding to taking, and back
 
 pub is_run : (now : ℕ) (l e : Learning) (piece : List ℕ) (fault : Fault) → l.intake.closed ≡ false → LearnerFeeds now l piece (Err fault) e → fault ≢ faults.Memory → Runs now (with_piece l piece) fault e
 is_run now l e piece fault is_open fed wanted = elim (faulty now l e piece fault fed wanted) [
@@ -68,7 +68,7 @@ is_fed now l e piece (faults.Breach breach) is_open runs wanted = (is_open, runs
 
 -- ---- pieces
 
--- a fault stays with more bytes after
+-- a fault stays with more bytes after it
 fault_on : (now : ℕ) (l e : Learning) (piece more : List ℕ) (fault : Fault) → l.intake.closed ≡ false → IsBytes (l.intake.unread ++ (piece ++ more)) → LearnerFeeds now l piece (Err fault) e → fault ≢ faults.Memory → LearnerFeeds now l (piece ++ more) (Err fault) e
 fault_on now l e piece more fault is_open good fed wanted =
     let grouped : (l.intake.unread ++ piece) ++ more ≡ l.intake.unread ++ (piece ++ more) = simp append_assoc in
@@ -76,7 +76,7 @@ fault_on now l e piece more fault is_open good fed wanted =
     let runs = runs_on now (with_piece l piece) e more fault front is_open (is_run now l e piece fault is_open fed wanted) wanted in
     is_fed now l e (piece ++ more) fault is_open (regrouped now l e piece more fault runs) wanted
 
--- a fault that comes after a piece comes of both together
+-- a fault that occurs after a piece occurs for both together
 fault_then : (now : ℕ) (l mid e : Learning) (a b : List ℕ) (count : ℕ) (fault : Fault) → IsBytes (l.intake.unread ++ (a ++ b)) → LearnerFeeds now l a (Ok count) mid → LearnerFeeds now mid b (Err fault) e → fault ≢ faults.Memory → LearnerFeeds now l (a ++ b) (Err fault) e
 fault_then now l mid e a b count fault good (is_open, (ms, us, learned, waits, is)) later wanted =
     let grouped : (l.intake.unread ++ a) ++ b ≡ l.intake.unread ++ (a ++ b) = simp append_assoc in
@@ -116,7 +116,7 @@ not_memory fault wanted same = let is : fault ≡ faults.Memory = cc in wanted i
 one_fault : (fault other : Fault) → ◌≡◌ {A = Result ℕ Fault} (Err fault) (Err other) → fault ≡ other
 one_fault fault other e = cc
 
--- the same fault comes of every cutting
+-- the same fault occurs for every way of cutting
 pub same_stop : (now : ℕ) (l a b : Learning) (before others : List (List ℕ)) (last end more rest : List ℕ) (fault other : Fault) → l.intake.closed ≡ false → IsBytes (l.intake.unread ++ (together before ++ (last ++ more))) → together before ++ (last ++ more) ≡ together others ++ (end ++ rest) → IsStopped now l before last fault a → IsStopped now l others end other b → fault ≢ faults.Memory → other ≢ faults.Memory → (fault ≡ other) × (a ≡ b)
 same_stop now l a b before others last end more rest fault other is_open good cut one again p q =
     let first = stopped_whole now before l a last more fault is_open good one p in
@@ -125,7 +125,7 @@ same_stop now l a b before others last end more rest fault other is_open good cu
     let both = learner_fed_once now l a b (together before ++ (last ++ more)) (Err fault) (Err other) first second (not_memory fault p) (not_memory other q) in
     (one_fault fault other both.0, both.1)
 
--- no cutting goes through where a fault comes in another
+-- if a fault occurs for one way of cutting, no other goes through
 pub never_through : (now : ℕ) (l a b : Learning) (before others : List (List ℕ)) (last first more : List ℕ) (count : ℕ) (fault : Fault) → IsBytes (l.intake.unread ++ (together before ++ (last ++ more))) → together before ++ (last ++ more) ≡ together (first ∷ others) → IsStopped now l before last fault a → fault ≢ faults.Memory → AreFed now l (first ∷ others) count b → ⊥
 never_through now l a b before others last first more count fault good cut stopped wanted fed =
     let bytes : IsBytes (l.intake.unread ++ together (first ∷ others)) = subst (λ (x : List ℕ). IsBytes (l.intake.unread ++ x)) cut good in
@@ -149,7 +149,7 @@ shut_by now l e piece faults.NoNumber (is_open, (ms, us, mid, learned, (going, m
 shut_by now l e piece faults.EmptySlot (is_open, (ms, us, mid, learned, (going, m, rest, at, refused, is), rows)) = ap (λ (x : Taking). x.closed) is
 shut_by now l e piece (faults.Breach breach) (is_open, (ms, us, mid, learned, (going, at, is), rows)) = ap (λ (x : Taking). x.closed) is
 
--- what is closed takes nothing
+-- a closed learner takes nothing
 stays_shut : (now : ℕ) (l e : Learning) (bytes : List ℕ) (answer : Result ℕ Fault) → l.intake.closed ≡ true → LearnerFeeds now l bytes answer e → (answer ≡ Err faults.Closed) × (e ≡ l)
 stays_shut now l e bytes (Ok count) shut (is_open, all) = absurd (apart (sym shut ∙ is_open))
 stays_shut now l e bytes (Err faults.Closed) shut (is, same) = (refl, same)
@@ -161,7 +161,7 @@ stays_shut now l e bytes (Err (faults.Breach breach)) shut (is_open, all) = absu
 pub closed_then : (now after : ℕ) (l e x : Learning) (piece bytes : List ℕ) (fault : Fault) (answer : Result ℕ Fault) → LearnerFeeds now l piece (Err fault) e → LearnerFeeds after e bytes answer x → (answer ≡ Err faults.Closed) × (x ≡ e)
 closed_then now after l e x piece bytes fault answer fed later = stays_shut after e x bytes answer (shut_by now l e piece fault fed) later
 
--- ---- all the pieces of a cutting
+-- ---- all the pieces of a stream
 
 all_shut : (now : ℕ) (pieces : List (List ℕ)) (l e : Learning) (answers : List (Result ℕ Fault)) → l.intake.closed ≡ true → AreAnswered now l pieces answers e → e ≡ l
 all_shut now [] l e answers shut (none, here) = here
@@ -207,7 +207,7 @@ together-append (x ∷ xs) ys =
     let grouped : x ++ (together xs ++ together ys) ≡ (x ++ together xs) ++ together ys = simp append_assoc in
     ap (λ (bytes : List ℕ). x ++ bytes) (together-append xs ys) ∙ grouped
 
--- a fault that comes in one cutting comes in every other
+-- a fault that occurs for one way of cutting occurs for every other
 pub it_comes : (now : ℕ) (l a b : Learning) (before others : List (List ℕ)) (last first more : List ℕ) (fault : Fault) (answers : List (Result ℕ Fault)) → l.intake.closed ≡ false → IsBytes (l.intake.unread ++ (together before ++ (last ++ more))) → together before ++ (last ++ more) ≡ together (first ∷ others) → IsStopped now l before last fault a → fault ≢ faults.Memory → AreAnswered now l (first ∷ others) answers b → AllByRecursion (λ answer. answer ≢ Err faults.Memory) answers
     → (begins : List (List ℕ)) × (end : List ℕ) × (rest : List (List ℕ)) × (first ∷ others ≡ begins ++ (end ∷ rest)) × IsStopped now l begins end fault b × (a ≡ b)
 it_comes now l a b before others last first more fault answers is_open good cut stopped wanted fed fine =

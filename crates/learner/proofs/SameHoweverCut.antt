@@ -1,4 +1,4 @@
--- However a stream is cut into pieces, the same is learned.
+-- The same is learned however a stream is cut into pieces.
 use Rattle.std.proofs.Common.{◌≡◌, ℕ, ◌+◌, false, List, [], ◌∷◌, ◌++◌, length, length-append, None, Ok, sym, ap, subst, ◌∙◌, append_assoc, arith}
 use Rattle.std.proofs.lemmas.List.{append-nil}
 use Rattle.peers_msg.specs.Integers.{IsBytes}
@@ -13,7 +13,7 @@ use Rattle.learner.specs.Intake.{Taking, Takes, due_after, fed}
 use Rattle.learner.specs.Rows.{put_all}
 use Rattle.learner.specs.Learning.{Learning, Learns, AreLearned, IsWaiting, LearnerFeeds, AreFed, with_piece}
 
--- a message that is taken is taken with more bytes after
+-- a message that is taken is taken with more bytes after it
 pub takes_on : (t e : Taking) (m : Message) (own : List Update) (more : List ℕ) → IsBytes t.unread → Takes t m own e → Takes (fed t more) m own (fed e more)
 takes_on t e m own more good (is_open, rest, at, us, step, keeps, is) =
     (is_open, rest ++ more, read_on t.state.received m t.unread rest more good at, us, step, keeps, ap (λ (x : Taking). fed x more) is)
@@ -21,12 +21,12 @@ takes_on t e m own more good (is_open, rest, at, us, step, keeps, is) =
 pub learns_on : (now : ℕ) (l e : Learning) (m : Message) (us : List Update) (more : List ℕ) → IsBytes l.intake.unread → Learns now l m us e → Learns now (with_piece l more) m us (with_piece e more)
 learns_on now l e m us more good (takes, rows) = (takes_on l.intake e.intake m us more good takes, rows)
 
--- what is left after a message are bytes
+-- what is left after a message is bytes
 pub left_good : (t e : Taking) (m : Message) (own : List Update) → IsBytes t.unread → Takes t m own e → IsBytes e.unread
 left_good t e m own good (is_open, rest, at, us, step, keeps, is) =
     subst IsBytes (sym (ap (λ (x : Taking). x.unread) is)) (rest_good t.state.received m t.unread rest good at)
 
--- messages that are learned, and messages learned of what they leave with more bytes after
+-- messages that are learned, and messages that are learned from what those leave with more bytes after it
 pub joined : (now : ℕ) (l mid e : Learning) (more : List ℕ) (ms ns : List Message) (us vs : List Update) → IsBytes l.intake.unread → AreLearned now l ms us mid → AreLearned now (with_piece mid more) ns vs e → AreLearned now (with_piece l more) (ms ++ ns) (us ++ vs) e
 joined now l mid e more [] ns us vs good (none, here) later =
     rw none (subst (λ (x : Learning). AreLearned now (with_piece x more) ns vs e) here later)
@@ -34,7 +34,7 @@ joined now l mid e more (m ∷ ms) ns us vs good (first, rest, next, all, begins
     let grouped : us ++ vs ≡ first ++ (rest ++ vs) = rw all (simp append_assoc) in
     (first, rest ++ vs, with_piece next more, grouped, learns_on now l next m first more good begins, joined now next mid e more ms ns rest vs (left_good l.intake next.intake m first good begins.0) goes later)
 
--- one piece and then another are both together
+-- one piece and then another is the same as both together
 pub two : (now : ℕ) (l mid e : Learning) (a b : List ℕ) (one other : ℕ) → IsBytes (l.intake.unread ++ (a ++ b)) → LearnerFeeds now l a (Ok one) mid → LearnerFeeds now mid b (Ok other) e → LearnerFeeds now l (a ++ b) (Ok (one + other)) e
 two now l mid e a b one other good (is_open, (ms, us, learned, waits, count)) (later_is, (ns, vs, later, later_waits, later_count)) =
     let grouped : (l.intake.unread ++ a) ++ b ≡ l.intake.unread ++ (a ++ b) = simp append_assoc in
@@ -44,7 +44,7 @@ two now l mid e a b one other good (is_open, (ms, us, learned, waits, count)) (l
     let sum : one + other ≡ length (us ++ vs) = omega (arith, length-append us vs) in
     (is_open, (ms ++ ns, us ++ vs, whole, later_waits, sum))
 
--- ---- one thing is learned
+-- ---- only one outcome
 
 pub one_taking : (t a b : Taking) (m : Message) (own kin : List Update) → Takes t m own a → Takes t m kin b → (own ≡ kin) × (a ≡ b)
 one_taking t a b m own kin (is_open, rest, at, us, step, keeps, is) (is_open', rest', at', us', step', keeps', is') =
@@ -74,7 +74,7 @@ waits_for_more now l e m us waits learns =
     let none : Ok None ≡ found m learns.0.1 = sym waits.1 ∙ learns.0.2 in
     absurd cc
 
--- from one state, what is learned until no message is whole is one thing
+-- from one state, learning until no message is whole has only one outcome
 pub same : (now : ℕ) (l a b : Learning) (ms ns : List Message) (us vs : List Update) → AreLearned now l ms us a → AreLearned now l ns vs b → IsWaiting a.intake → IsWaiting b.intake → (us ≡ vs) × (a ≡ b)
 same now l a b [] [] us vs one other p q = (one.0 ∙ sym other.0, one.1 ∙ sym other.1)
 same now l a b [] (n ∷ ns) us vs one (first, rest, next, all, begins, later) p q =
@@ -94,7 +94,7 @@ same_fed now l a b piece one other (is_open, (ms, us, learned, waits, count)) (i
 
 -- ---- many pieces
 
--- pieces fed one after another are all together
+-- pieces fed one after another are the same as all together
 pub whole : (now : ℕ) (pieces : List (List ℕ)) (l e : Learning) (a : List ℕ) (count : ℕ) → IsBytes (l.intake.unread ++ together (a ∷ pieces)) → AreFed now l (a ∷ pieces) count e → LearnerFeeds now l (together (a ∷ pieces)) (Ok count) e
 whole now [] l e a count good (one, rest, mid, sum, first, (none, here)) =
     let nothing : count ≡ one = omega arith in

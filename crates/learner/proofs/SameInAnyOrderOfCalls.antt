@@ -1,4 +1,4 @@
--- In whatever order an intake is fed and asked, it answers the same.
+-- In whatever order an intake is fed and asked for messages, it gives the same.
 use Rattle.std.proofs.Common.{◌≡◌, ◌≢◌, ℕ, true, false, List, [], ◌∷◌, ◌++◌, Option, Some, None, Result, Ok, Err, refl, sym, ap, subst, ◌∙◌, inl, inr, append_assoc}
 use Rattle.std.proofs.lemmas.Bool.{cases_Bool}
 use Rattle.std.proofs.lemmas.List.{append-nil}
@@ -14,7 +14,7 @@ use Rattle.learner.proofs.SameFaultHoweverCut.{stops_on}
 use Rattle.learner.proofs.LegalStreamIsTaught.{apart}
 use Rattle.learner.proofs.OneOutcome.{intake_next_once}
 
--- messages are taken one after another, and these are the answers
+-- messages are taken one after another, with these answers
 abbrev AreTaken : Taking → List Taken → Taking → Type 0
 AreTaken t [] e = e ≡ t
 AreTaken t (answer ∷ others) e = (mid : Taking) × Gives t (Ok answer) mid × AreTaken mid others e
@@ -27,7 +27,7 @@ regrouped t piece others more =
     let grouped : (t.unread ++ piece) ++ (others ++ more) ≡ t.unread ++ ((piece ++ others) ++ more) = simp append_assoc in
     ap (λ (bytes : List ℕ). record t { unread = bytes }) grouped
 
--- taking goes on after a call that fed so much
+-- taking continues after a call that fed some bytes
 after_feeding : (t mid e : Taking) (piece others more : List ℕ) (answers : List Taken) (answer : Result (Unit {0}) Fault) → IsFaultless answer → IntakeFeeds t piece answer mid → AreTaken (fed mid (others ++ more)) answers (fed e more) → AreTaken (fed t ((bytes_of piece answer ++ others) ++ more)) answers (fed e more)
 after_feeding t mid e piece others more answers (Ok done) fine (is_open, is) taken =
     subst (λ (x : Taking). AreTaken x answers (fed e more)) (ap (λ (x : Taking). fed x (others ++ more)) is ∙ regrouped t piece others more) taken
@@ -37,7 +37,7 @@ after_feeding t mid e piece others more answers (Err fault) fine feeds taken =
     unfed : (f : Fault) → f ≡ faults.Memory → IntakeFeeds t piece (Err f) mid → mid ≡ t
     unfed f memory feeds = (subst (λ (g : Fault). IntakeFeeds t piece (Err g) mid) memory feeds).1
 
--- and after one that asked
+-- and after one that asked for a message
 asked : (t mid e : Taking) (bytes : List ℕ) (others : List Taken) (answer : Result (Option Taken) Fault) → IsBytes t.unread → IsFaultless answer → IntakeNext t answer mid → AreTaken (fed mid bytes) others e → AreTaken (fed t bytes) (answers_given answer ++ others) e
 asked t mid e bytes others (Ok None) good fine (is_open, none, is) taken = subst (λ (x : Taking). AreTaken (fed x bytes) others e) is taken
 asked t mid e bytes others (Ok (Some answer)) good fine (m, takes, says) taken =
@@ -48,7 +48,7 @@ asked t mid e bytes others (Err fault) good fine next taken =
     untaken : (f : Fault) → f ≡ faults.Memory → IntakeNext t (Err f) mid → mid ≡ t
     untaken f memory next = (subst (λ (g : Fault). IntakeNext t (Err g) mid) memory next).2
 
--- what is left after a call are bytes
+-- what is left after a call is bytes
 fed_good : (t mid : Taking) (piece others more : List ℕ) (answer : Result (Unit {0}) Fault) → IsBytes (t.unread ++ ((bytes_of piece answer ++ others) ++ more)) → IsFaultless answer → IntakeFeeds t piece answer mid → IsBytes (mid.unread ++ (others ++ more))
 fed_good t mid piece others more (Ok done) good fine (is_open, is) =
     let grouped : t.unread ++ ((piece ++ others) ++ more) ≡ (t.unread ++ piece) ++ (others ++ more) = simp append_assoc in
@@ -69,7 +69,7 @@ asked_good t mid bytes (Err fault) good fine next =
     untaken : (f : Fault) → f ≡ faults.Memory → IntakeNext t (Err f) mid → mid ≡ t
     untaken f memory next = (subst (λ (g : Fault). IntakeNext t (Err g) mid) memory next).2
 
--- what calls give is taken of all that they feed
+-- what calls give is taken from all that they feed
 called_taken : (calls : List (Option (List ℕ))) (t e : Taking) (bytes more : List ℕ) (answers : List Taken) → IsBytes (t.unread ++ (bytes ++ more)) → AreIntakeCalls t calls bytes answers e → AreTaken (fed t (bytes ++ more)) answers (fed e more) × IsBytes (e.unread ++ more)
 called_taken [] t e bytes more answers good (nothing, none, here) =
     let end : AreTaken (fed t more) [] (fed e more) = ap (λ (x : Taking). fed x more) here in
@@ -85,9 +85,9 @@ called_taken (None ∷ calls) t e bytes more answers good (answer, others, mid, 
     let rest = called_taken calls mid e bytes more others (asked_good t mid (bytes ++ more) answer good fine next) later in
     (subst (λ (xs : List Taken). AreTaken (fed t (bytes ++ more)) xs (fed e more)) (sym all) (asked t mid (fed e more) (bytes ++ more) others answer (front_good t.unread (bytes ++ more) good) fine next rest.0), rest.1)
 
--- ---- what is closed
+-- ---- a closed intake
 
--- a call that is answered without a fault, but want of memory, comes to an open intake and leaves it so
+-- a call without a fault other than out of memory is made to an open intake, and leaves it open
 fed_open : (t mid : Taking) (piece : List ℕ) (answer : Result (Unit {0}) Fault) → IsFaultless answer → IntakeFeeds t piece answer mid → (t.closed ≡ false) × (mid.closed ≡ false)
 fed_open t mid piece (Ok done) fine (is_open, is) = (is_open, ap (λ (x : Taking). x.closed) is ∙ is_open)
 fed_open t mid piece (Err fault) fine feeds = unfed fault (fine fault refl) feeds
@@ -114,7 +114,7 @@ called_open (Some piece ∷ calls) t e bytes answers is_open (answer, others, mi
 called_open (None ∷ calls) t e bytes answers is_open (answer, others, mid, all, fine, next, later) =
     called_open calls mid e bytes others (asked_open t mid answer fine next).1 later
 
--- a closed one takes and gives nothing, and stays as it is
+-- a closed intake takes and gives nothing, and doesn't change
 called_shut : (calls : List (Option (List ℕ))) (t e : Taking) (bytes : List ℕ) (answers : List Taken) → t.closed ≡ true → AreIntakeCalls t calls bytes answers e → (answers ≡ []) × (e ≡ t) × (bytes ≡ [])
 called_shut [] t e bytes answers shut (nothing, none, here) = (none, here, nothing)
 called_shut (Some piece ∷ calls) t e bytes answers shut (answer, others, mid, all, fine, feeds, later) =
@@ -127,7 +127,7 @@ called_shut (None ∷ calls) t e bytes answers shut (answer, others, mid, all, f
 not_memory : (end : Result (Option Taken) Fault) (more : List ℕ) → IsEndOf end more → end ≢ Err faults.Memory
 not_memory end more ends same = subst (λ (x : Result (Option Taken) Fault). IsEndOf x more) same ends
 
--- the end of an open intake stays with the bytes that are still to come
+-- the end of an open intake's stream stays with the bytes that are still to come
 end_on : (t e : Taking) (end : Result (Option Taken) Fault) (more : List ℕ) → IsBytes t.unread → t.closed ≡ false → IntakeNext t end e → IsEndOf end more → IntakeNext (fed t more) end e
 end_on t e (Ok None) more good going next ends =
     subst (λ (xs : List ℕ). IntakeNext (fed t xs) (Ok None) e) (sym ends) (subst (λ (x : Taking). IntakeNext x (Ok None) e) (sym (as_was t)) next)
@@ -144,7 +144,7 @@ goes_past end more answer ends same = subst (λ (x : Result (Option Taken) Fault
 given_not_memory : (answer : Taken) → ◌≢◌ {A = Result (Option Taken) Fault} (Ok (Some answer)) (Err faults.Memory)
 given_not_memory answer same = cc
 
--- from one state, what is taken to an end is one thing
+-- from one state, taking up to an end has only one outcome
 same_taken : (t a b x y : Taking) (answers others : List Taken) (end last : Result (Option Taken) Fault) (more rest : List ℕ) → AreTaken t answers a → AreTaken t others b → IntakeNext a end x → IntakeNext b last y → IsEndOf end more → IsEndOf last rest → (answers ≡ others) × (end ≡ last) × (x ≡ y) × (a ≡ b)
 same_taken t a b x y [] [] end last more rest one other next again ends stops =
     let both = intake_next_once t x y end last (subst (λ (q : Taking). IntakeNext q end x) one next) (subst (λ (q : Taking). IntakeNext q last y) other again) (not_memory end more ends) (not_memory last rest stops) in
@@ -164,7 +164,7 @@ same_taken t a b x y (answer ∷ answers) (other ∷ others) end last more rest 
     one_given : (p q : Taken) → ◌≡◌ {A = Result (Option Taken) Fault} (Ok (Some p)) (Ok (Some q)) → p ≡ q
     one_given p q same = cc
 
--- however one stream is fed and asked for, it comes to one thing
+-- in whatever order one stream is fed and messages are asked for, the outcome is the same
 pub same_called : (t a b x y : Taking) (one other : List (Option (List ℕ))) (bytes others more rest : List ℕ) (answers given : List Taken) (end last : Result (Option Taken) Fault) → IsBytes (t.unread ++ (bytes ++ more)) → bytes ++ more ≡ others ++ rest → AreIntakeCalls t one bytes answers a → AreIntakeCalls t other others given b → IntakeNext a end x → IntakeNext b last y → IsEndOf end more → IsEndOf last rest
     → (answers ≡ given) × (end ≡ last) × (x ≡ y) × (a.unread ++ more ≡ b.unread ++ rest)
 same_called t a b x y one other bytes others more rest answers given end last good cut called again next then ends stops = elim (cases_Bool t.closed) [

@@ -1,4 +1,4 @@
--- What taking one message comes to.
+-- The results of taking one message.
 use Rattle.std.proofs.Common.{◌≡◌, ℕ, Bool, false, List, drop, Option, Some, None, Ok, refl, sym, ap, subst, ◌∙◌}
 use Rattle.std.specs.Prelude.{option_map}
 use Rattle.peers_msg.specs.declared.fault.Breach.{Breach}
@@ -20,11 +20,11 @@ use Rattle.learner.specs.declared.taken.TakenRef.{TakenRef}
 use Rattle.learner.specs.Intake.{Taking, IsTakable, IsRefused, Takes, Stops, Gives, due_after}
 use Rattle.learner.specs.Front.{IsFront, Shows, due_made, owned, passed, stopped}
 
--- what is left of t after a message of so many bytes, with that state and these ids due
+-- what is left of t after a message of this many bytes, with this state and these ids due
 abbrev pub after_message : Taking → ℕ → State → List ℕ → Taking
 after_message t used s due = record { roster = t.roster; state = s; due = due; unread = drop used t.unread; closed = false }
 
--- a message at the front makes its step by its effect
+-- a message at the front makes its step through its effect
 pub effect_taken : (t e : Taking) (m : Message) (used : ℕ) (effect : Effect) → IsFront t m used → IsEffect t.state m effect → e ≡ after_message t used (made t.state effect) (due_after t.state m t.due) → Takes t m (local_updates t.roster t.state.received (carried_by t.state m effect)) e
 effect_taken t e m used effect front effect_is is =
     let state : e.state ≡ made t.state effect = ap (λ (x : Taking). x.state) is in
@@ -69,7 +69,7 @@ never_closed (Some refusals.NoNumber) e = cc
 never_closed (Some refusals.EmptySlot) e = cc
 never_closed (Some refusals.Memory) e = cc
 
--- a message at the front that is refused stops the intake, or memory is wanted for it
+-- a message at the front that is refused stops the intake, unless memory runs out for it
 pub refused_stops : (t : Taking) (m : Message) (used : ℕ) (fault : Fault) → IsFront t m used → IsRefused t.state m fault → Stops t fault (stopped t fault)
 refused_stops t m used faults.NoNumber front refused = (front.0, m, drop used t.unread, front.1, refused, refl)
 refused_stops t m used faults.EmptySlot front refused = (front.0, m, drop used t.unread, front.1, refused, refl)

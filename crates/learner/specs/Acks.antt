@@ -4,12 +4,12 @@ use Rattle.std.specs.List.{AllByRecursion}
 use Rattle.peers_msg.specs.declared.message.Message.{Message}
 use Rattle.peers_msg.specs.declared.message.Message.TheVariants as messages
 
--- an acknowledgement of a higher id
+-- an acknowledgement of a greater id
 abbrev pub IsAckAbove : ℕ → Message → Type 0
 IsAckAbove id (messages.Ack table number) = id < table
 IsAckAbove id m = ⊥
 
--- acknowledgements in ascending order of id, one for an id, and nothing else
+-- acknowledgements in ascending order of id, at most one for each id, and nothing else
 abbrev pub AreRisingAcks : List Message → Type 0
 AreRisingAcks [] = Unit {0}
 AreRisingAcks (messages.Ack table number ∷ ms) = AllByRecursion (IsAckAbove table) ms × AreRisingAcks ms

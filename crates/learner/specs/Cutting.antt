@@ -6,11 +6,12 @@ use Rattle.learner.specs.declared.fault.Fault.{Fault}
 use Rattle.learner.specs.Intake.{Stops}
 use Rattle.learner.specs.Learning.{Learning, LearnerFeeds, AreFed, AreLearned, with_piece}
 
--- the pieces are fed one after another, all at one moment and without a fault, and then one more, which ends in that fault
+-- the pieces are fed one after another, all at one moment and without a fault, and then one more, which ends in this
+-- fault
 abbrev pub IsStopped : ℕ → Learning → List (List ℕ) → List ℕ → Fault → Learning → Type 0
 IsStopped now l pieces last fault e = (count : ℕ) × (mid : Learning) × AreFed now l pieces count mid × LearnerFeeds now mid last (Err fault) e
 
--- messages at the front of what is unread are learned, up to the one with that fault, which stands at the front of these
+-- messages at the front of the unread bytes are learned, up to the one with this fault, which is at the front of these
 -- bytes
 abbrev pub StandsAt : ℕ → Learning → Fault → List ℕ → Learning → Type 0
 StandsAt now l fault left e =
@@ -21,7 +22,7 @@ StandsAt now l fault left e =
     × Stops mid.intake fault e.intake
     × (left ≡ mid.intake.unread)
 
--- the pieces end so, and of what was fed these bytes are left from the message with the fault on
+-- the pieces end this way, and of what was fed, these bytes are left from the faulty message on
 abbrev pub IsStoppedAt : ℕ → Learning → List (List ℕ) → List ℕ → Fault → List ℕ → Learning → Type 0
 IsStoppedAt now l pieces last fault left e =
     (count : ℕ)

@@ -6,13 +6,13 @@ use Rattle.known_state.specs.declared.effect.Refusal.TheVariants as refusals
 use Rattle.learner.specs.declared.fault.Fault.{Fault}
 use Rattle.learner.specs.declared.fault.Fault.TheVariants as faults
 
--- why an update makes no step, as a learner calls it
+-- why an update makes no step, as a learner's fault
 abbrev pub as_fault : Refusal → Fault
 as_fault refusals.NoNumber = faults.NoNumber
 as_fault refusals.EmptySlot = faults.EmptySlot
 as_fault refusals.Memory = faults.Memory
 
--- the word for a fault
+-- the name of a fault
 abbrev pub fault_name : Fault → List ℕ
 fault_name (faults.Breach breach) = breach_name breach
 fault_name faults.Memory = codes "Memory"

@@ -18,7 +18,7 @@ use Rattle.learner.specs.declared.taken.TakenRef.TheVariants as borrowed
 use Rattle.learner.specs.LocalTables.{local_updates}
 use Rattle.learner.specs.Intake.{Taking, Stops, Answers, rows_of, shut, with_due}
 
--- what is borrowed, as its own
+-- a borrowed message as an owned one
 abbrev pub owned : TakenRef → Taken
 owned (borrowed.Row u) = taken.Row u
 owned borrowed.Passed = taken.Passed
@@ -26,7 +26,7 @@ owned (borrowed.Said c) = taken.Said c
 owned (borrowed.Failed e) = taken.Failed e
 owned (borrowed.Acked table number) = taken.Acked table number
 
--- what a message gives that has that effect: of what it carries the updates of local tables, or what it says
+-- what a message with this effect gives: the updates of local tables among those it carries, or its meaning
 abbrev pub Shows : Taking → Message → Effect → TakenRef → Type 0
 Shows t m effect shown = (rows_of (owned shown) ≡ local_updates t.roster t.state.received (carried_by t.state m effect)) × Answers m (owned shown)
 
@@ -36,7 +36,7 @@ stopped t faults.Memory = t
 stopped t faults.Closed = t
 stopped t fault = shut t
 
--- a message of so many bytes stands at the front
+-- a message of this many bytes is at the front
 abbrev pub IsFront : Taking → Message → ℕ → Type 0
 IsFront t m used =
     (t.closed ≡ false)
@@ -45,7 +45,7 @@ IsFront t m used =
     × (1 ≤ used)
     × (used ≤ length t.unread)
 
--- what stands at the front
+-- what is at the front
 abbrev pub Looks : Taking → Result (Option (TakenRef × Advance)) Fault → Type 0
 Looks t (Ok None) = (t.closed ≡ false) × (message_at t.state.received t.unread ≡ Ok None)
 Looks t (Ok (Some found)) = (m : Message) × IsFront t m found.1.used × IsEffect t.state m found.1.effect × Shows t m found.1.effect found.0

@@ -1,4 +1,4 @@
--- What an intake holds, and what it makes of the bytes that it is fed (profile).
+-- What an intake holds, and what it does with the bytes that it is fed (profile).
 use Rattle.std.specs.Prelude.{◌≡◌, ℕ, Bool, true, false, ◌&&◌, is_some, List, [], ◌∷◌, ◌++◌, filter, filter_map, Option, Some, None, option_map, Result, Ok, Err, if◌then◌else◌}
 use Rattle.table_types.specs.declared.update.Update.{Update}
 use Rattle.table_types.specs.Tables.{Definition}
@@ -16,8 +16,8 @@ use Rattle.learner.specs.declared.taken.Taken.TheVariants as taken
 use Rattle.learner.specs.Faults.{as_fault}
 use Rattle.learner.specs.LocalTables.{local_table, local_updates}
 
--- the local tables; the state in which the messages read leave it; the ids of which an update came since the last
--- acknowledgements; the bytes that weren't read yet; and whether there was a fault
+-- the local tables; the state after the messages read; the ids that had an update since the last acknowledgements; the
+-- bytes that haven't been read yet; and whether there was a fault
 pub record Taking : Type 0 where
   pub roster : List Definition
   pub state : State
@@ -25,7 +25,7 @@ pub record Taking : Type 0 where
   pub unread : List ℕ
   pub closed : Bool
 
--- nothing was fed yet
+-- nothing has been fed yet
 abbrev pub begun : List Definition → Taking
 begun roster = record { roster = roster; state = fresh; due = []; unread = []; closed = false }
 
@@ -37,7 +37,7 @@ with_unread t bytes = record t { unread = bytes }
 abbrev pub fed : Taking → List ℕ → Taking
 fed t piece = with_unread t (t.unread ++ piece)
 
--- there is a fault: no bytes are held
+-- after a fault: no bytes are held
 abbrev pub shut : Taking → Taking
 shut t = record t { unread = []; closed = true }
 
@@ -47,14 +47,14 @@ abbrev pub with_due : Option ℕ → List ℕ → List ℕ
 with_due None due = due
 with_due (Some id) due = if is_in id due then due else due ++ (id ∷ [])
 
--- an update makes its table due, and an id that loses its last number at a definition is due no more
+-- an update makes its table due, and an id that loses its last number at a definition is no longer due
 abbrev pub due_after : State → Message → List ℕ → List ℕ
 due_after s (messages.Update u) due = with_due s.received.selected due
 due_after s (messages.Define d) due = filter (λ id. is_some (last_of (last_numbers_after s (messages.Define d)) id)) due
 due_after s m due = due
 
--- The message m stands at the front and makes its step, which leads to e; local are those of the updates that it carries
--- which are of local tables.
+-- The message m is at the front and makes its step, which leads to e; local are the updates of local tables among those
+-- that it carries.
 abbrev pub Takes : Taking → Message → List Update → Taking → Type 0
 Takes t m local e =
     (t.closed ≡ false)
@@ -65,17 +65,18 @@ Takes t m local e =
     × (local ≡ local_updates t.roster t.state.received us)
     × (e ≡ record { roster = t.roster; state = e.state; due = due_after t.state m t.due; unread = rest; closed = false })
 
--- a message that is whole and isn't refused stands at the front
+-- a whole message that isn't refused is at the front
 abbrev pub IsTakable : Taking → Type 0
 IsTakable t = (m : Message) × (rest : List ℕ) × (message_at t.state.received t.unread ≡ Ok (Some (m, rest))) × (message_refusal t.state m ≡ None)
 
--- why a message that is whole isn't taken: the state refuses it, or memory is wanted for one that it doesn't refuse
+-- why a whole message isn't taken: the state refuses it, or the state doesn't refuse it and memory runs out
 abbrev pub IsRefused : State → Message → Fault → Type 0
 IsRefused s m faults.Memory = message_refusal s m ≡ None
 IsRefused s m fault = option_map as_fault (message_refusal s m) ≡ Some fault
 
--- Why no message is taken. What stands at the front is a message that the state refuses, or no message: it closes. Memory
--- is wanted only for a whole message that isn't refused, and changes nothing; what is closed stays so.
+-- Why no message is taken. If a message that the state refuses, or no message, is at the front, the intake closes.
+-- Memory can run out only for a whole message that isn't refused, and then nothing changes. A closed intake stays
+-- closed.
 abbrev pub Stops : Taking → Fault → Taking → Type 0
 Stops t faults.Memory e = (t.closed ≡ false) × IsTakable t × (e ≡ t)
 Stops t faults.Closed e = (t.closed ≡ true) × (e ≡ t)
@@ -91,14 +92,14 @@ Stops t fault e =
     × IsRefused t.state m fault
     × (e ≡ shut t)
 
--- ---- what is answered
+-- ---- answers
 
 -- the updates of local tables that an answer gives
 abbrev pub rows_of : Taken → List Update
 rows_of (taken.Row u) = u ∷ []
 rows_of t = []
 
--- what an answer says of a message that gives no row
+-- what an answer tells of a message that gives no row
 abbrev pub answer_of : Message → Taken
 answer_of (messages.Control c) = taken.Said c
 answer_of (messages.Error e) = taken.Failed e
@@ -129,12 +130,12 @@ IntakeFeeds t piece (Err fault) e = ⊥
 
 -- ---- acknowledgements
 
--- the acknowledgement of a table received: of its last number, where it is a local table and is due
+-- the acknowledgement of a received table: of its last number, if the table is local and due
 abbrev pub ack_of : Taking → Definition → Option Message
 ack_of t d =
     if is_some (local_table t.roster d) && is_in d.id t.due then option_map (λ n. messages.Ack d.id n) (last_of t.state.last_numbers d.id)
     else None
 
--- one for each table that it is of, in rising id
+-- one for each received table that has one, in ascending order of id
 abbrev pub acks_of : Taking → List Message
 acks_of t = filter_map (ack_of t) t.state.received.tables

@@ -1,4 +1,4 @@
--- What a learner holds, and what it learns of the bytes that it is fed (profile).
+-- What a learner holds, and what it learns from the bytes that it is fed (profile).
 use Rattle.std.specs.Prelude.{◌≡◌, ◌≢◌, ◌⊎◌, ℕ, ◌+◌, true, false, List, [], ◌∷◌, ◌++◌, length, map, Option, Some, None, Result, Ok, Err}
 use Rattle.table_types.specs.declared.key.Key.{Key}
 use Rattle.table_types.specs.declared.update.Update.{Update}
@@ -20,7 +20,7 @@ pub record Learning : Type 0 where
   pub intake : Taking
   pub rows : List (List (Key × StoredRow))
 
--- nothing was fed yet
+-- nothing has been fed yet
 abbrev pub unlearned : List Definition → Learning
 unlearned roster = record { intake = begun roster; rows = map (λ _. []) roster }
 
@@ -28,8 +28,8 @@ unlearned roster = record { intake = begun roster; rows = map (λ _. []) roster 
 abbrev pub with_piece : Learning → List ℕ → Learning
 with_piece l piece = record { intake = fed l.intake piece; rows = l.rows }
 
--- The message m is taken at the moment now, and the updates us, those of local tables that it carries, are put among the
--- rows.
+-- The message m is taken at the moment now, and the updates us, those of local tables that it carries, are put among
+-- the rows.
 abbrev pub Learns : ℕ → Learning → Message → List Update → Learning → Type 0
 Learns now l m us e = Takes l.intake m us e.intake × (e.rows ≡ put_all now l.intake.roster us l.rows)
 
@@ -48,24 +48,23 @@ AreLearned now l (m ∷ ms) us e =
 abbrev pub IsWaiting : Taking → Type 0
 IsWaiting t = (t.closed ≡ false) × (message_at t.state.received t.unread ≡ Ok None)
 
--- all is as it was, or the message at the front is taken
+-- nothing has changed, or the message at the front is taken
 abbrev pub IsAtMostOneOn : Taking → Taking → Type 0
 IsAtMostOneOn t e = (e ≡ t) ⊎ ((m : Message) × (local : List Update) × Takes t m local e)
 
--- What is left where memory is wanted for the message at the front, which is whole and has no fault: the rows are as they
--- were, whether that message was taken or not, so that they are those of whole messages, none in part.
+-- What is left if memory runs out for the message at the front, which is whole and has no fault: the rows are
+-- unchanged, whether or not that message was taken, so the rows are those of whole messages.
 abbrev pub IsCutShort : Learning → Learning → Type 0
 IsCutShort l e = IsTakable l.intake × (e.rows ≡ l.rows) × IsAtMostOneOn l.intake e.intake
 
--- what learning one message does, where the answer is how many rows were put
+-- what learning one message does; the answer is how many rows were put
 abbrev pub LearnsOne : ℕ → Learning → Result (Option ℕ) Fault → Learning → Type 0
 LearnsOne now l (Ok None) e = IsWaiting l.intake × (e ≡ l)
 LearnsOne now l (Ok (Some count)) e = (m : Message) × (us : List Update) × Learns now l m us e × (count ≡ length us)
 LearnsOne now l (Err faults.Memory) e = IsCutShort l e
 LearnsOne now l (Err fault) e = Stops l.intake fault e.intake × (e.rows ≡ l.rows)
 
--- The messages that are whole are learned one after another, up to the first fault. The answer is how many rows were
--- put.
+-- The whole messages are learned one after another, up to the first fault. The answer is how many rows were put.
 abbrev pub LearnsAll : ℕ → Learning → Result ℕ Fault → Learning → Type 0
 LearnsAll now l (Ok count) e =
     (ms : List Message)
@@ -91,19 +90,19 @@ LearnsAll now l (Err fault) e =
 abbrev pub shut_off : Learning → Learning
 shut_off l = record { intake = shut l.intake; rows = l.rows }
 
--- Bytes can't be held: where nothing was unread, those of the unfinished message that is left when all that is whole was
--- learned; where something was, those of the piece, of which then nothing is learned.
+-- Bytes can't be held: if nothing was unread, those of the unfinished message that is left after all whole messages
+-- were learned; otherwise those of the piece, from which nothing is then learned.
 abbrev pub IsUnheld : ℕ → Learning → List ℕ → Learning → Type 0
 IsUnheld now l piece left =
     ((l.intake.unread ≡ []) × (count : ℕ) × LearnsAll now (with_piece l piece) (Ok count) left × (left.intake.unread ≢ []))
     ⊎ ((l.intake.unread ≢ []) × (piece ≢ []) × (left ≡ l))
 
--- what is left where memory is wanted, for a whole message without a fault or for bytes to be held
+-- what is left if memory runs out, for a whole message without a fault or for bytes to be held
 abbrev pub IsLeft : ℕ → Learning → List ℕ → Learning → Type 0
 IsLeft now l piece left = LearnsAll now (with_piece l piece) (Err faults.Memory) left ⊎ IsUnheld now l piece left
 
--- What feeding bytes at the moment now does: what is whole then is learned. After a fault it is closed, and so it is
--- where memory was wanted; what is closed takes no bytes.
+-- What feeding bytes at the moment now does: the messages that are then whole are learned. After a fault the learner is
+-- closed, and so it is if memory runs out; a closed learner takes no bytes.
 abbrev pub LearnerFeeds : ℕ → Learning → List ℕ → Result ℕ Fault → Learning → Type 0
 LearnerFeeds now l piece (Err faults.Closed) e = (l.intake.closed ≡ true) × (e ≡ l)
 LearnerFeeds now l piece (Err faults.Memory) e =
@@ -115,7 +114,7 @@ LearnerFeeds now l piece result e = (l.intake.closed ≡ false) × LearnsAll now
 
 -- ---- streams in pieces
 
--- the pieces are fed one after another, all at one moment and without a fault, and so many rows are put
+-- the pieces are fed one after another, all at one moment and without a fault, and this many rows are put
 abbrev pub AreFed : ℕ → Learning → List (List ℕ) → ℕ → Learning → Type 0
 AreFed now l [] count e = (count ≡ 0) × (e ≡ l)
 AreFed now l (piece ∷ pieces) count e =
@@ -126,9 +125,9 @@ AreFed now l (piece ∷ pieces) count e =
     × LearnerFeeds now l piece (Ok one) mid
     × AreFed now mid pieces rest e
 
--- ---- what it comes to
+-- ---- results
 
--- each id received stands for the definition that a local table of that id has, there was no fault, and nothing is unread
+-- each received id stands for the definition of the local table with that id, there was no fault, and nothing is unread
 abbrev pub IsReady : Learning → Type 0
 IsReady l =
     (roster_fault l.intake.roster ≡ None)
@@ -145,7 +144,8 @@ IsTaught now l us after e =
     × (e.intake.closed ≡ false)
     × (e.rows ≡ put_all now l.intake.roster us l.rows)
 
--- the learner is ready, its last numbers stand in rising id, and what a teacher of its roster knows of it is k
+-- the learner is ready, its last numbers are in ascending order of id, and what a teacher of its roster knows of it is
+-- k
 abbrev pub IsReadyIn : KnownState → Learning → Type 0
 IsReadyIn k l = IsReady l × AreRising l.intake.state.last_numbers × (known_of l.intake.roster l.intake.state ≡ k)
 

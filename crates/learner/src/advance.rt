@@ -7,6 +7,6 @@ use known_state::Effect;
 pub struct Advance {
     /// What the message does to the state.
     pub effect: Effect,
-    /// How many bytes it has.
+    /// The message's length in bytes.
     pub used: usize,
 }

@@ -7,14 +7,14 @@ ghost use Rattle.learner.specs.Intake.{with_due};
 
 use known_state::LastNumbers;
 
-/// Whether an acknowledgement of this id is due.
+/// Returns whether an acknowledgement of `id` is due.
 pub fn is_ack_due(due: &[u64], id: u64) -> bool
     ensures { result ≡ is_in id due.now }
 {
     due.contains(&id)
 }
 
-/// Makes an id due, once.
+/// Makes `id` due, at most once.
 pub fn add_due(due: &mut Vec<u64>, id: u64)
     requires { vec_len due.old < vec_capacity due.old }
     ensures { due.new.items ≡ with_due (Some id) due.old.items }
@@ -24,7 +24,7 @@ pub fn add_due(due: &mut Vec<u64>, id: u64)
     }
 }
 
-/// Leaves those ids due that have a last number.
+/// Drops the due ids that have no last number.
 pub fn still_due(due: &mut Vec<u64>, last_numbers: &LastNumbers)
     ensures { due.new.items ≡ filter (λ id. is_some (last_of last_numbers.now id)) due.old.items }
 {

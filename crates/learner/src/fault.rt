@@ -9,17 +9,17 @@ use peers_msg::Breach;
 use table_types::Memory;
 use thiserror::Error;
 
-/// Why a learner stops. What is wrong with the bytes is the first breach from left to right; where a name field reads
-/// an empty slot and there is no number either, it is `NoNumber` (profile).
+/// Why a learner stops. What is wrong with the bytes is the first breach from left to right; if a name field reads an
+/// empty slot and there is no number either, it is `NoNumber` (profile).
 ///
-/// After each of them but `Memory`, and after that too where a learner's `feed` answers it, every later call that
-/// takes bytes answers `Closed`.
+/// After any fault but `Memory`, every later call that takes bytes returns `Closed`. After `Memory` too, if a learner's
+/// `feed` returned it.
 #[derive(Clone, Copy, Debug, PartialEq, Eq, Error)]
 pub enum Fault {
     /// The bytes at the front are no message.
     #[error("{0}")]
     Breach(Breach),
-    /// Memory was wanted, and the growth was refused.
+    /// Out of memory.
     #[error("memory")]
     Memory,
     /// There was a fault before: nothing more is read.
@@ -54,7 +54,7 @@ impl From<Memory> for Fault {
 }
 
 impl Fault {
-    /// The fault's name, as the source writes it: `BadInteger`, `SizeLimit` and so on.
+    /// Returns the fault's name, as the source writes it: `BadInteger`, `SizeLimit` and so on.
     pub fn name(self) -> &'static str
         ensures { result.now ≡ fault_name self }
     {

@@ -1,4 +1,4 @@
-//! What is taken of a stream, message by message.
+//! Taking a stream message by message.
 
 ghost use Rattle.std.specs.Prelude.{◌≡◌, ◌≢◌, ◌<◌, ◌≤◌, [], true, IfOk, IfErr, OnOk, OnErr, IsSome, length};
 ghost use Rattle.peers_msg.specs.declared.message.Message.TheVariants as messages;
@@ -23,17 +23,17 @@ use std::marker::Model;
 use std::mem;
 use table_types::{Memory, Roster, TableDef};
 
-/// Takes the messages of a stream that comes in pieces, cut anywhere, and resolves what they say of the local tables
-/// (HAProxy, doc/peers-v2.0.txt, "Stick Table Messages").
+/// An intake takes the messages of a stream that arrives in pieces, cut anywhere, and resolves what they say of the
+/// local tables (HAProxy, doc/peers-v2.0.txt, "Stick Table Messages").
 #[derive(Drop)]
 pub struct Intake {
     alloc: Global,
     roster: Roster,
     state: State,
     due: Vec<u64>,
-    /// The id of the local table that the selected table is.
+    /// The id of the local table that the selected table stands for.
     local: Option<u64>,
-    /// The bytes that were fed and not read; none once it is closed.
+    /// The bytes that were fed and not read; none once the intake is closed.
     unread: Unread,
     closed: bool,
 }
@@ -50,7 +50,7 @@ impl Model for Intake {
     ghost invariant = { λ i. i.local ≡ selected_local i.roster i.state.received };
 }
 
-/// The id of the local table that the selected table is.
+/// Returns the id of the local table that the selected table stands for.
 fn selected_local(roster: &Roster, received: &Received) -> Option<u64>
     ensures { result ≡ selected_local roster.now received.now }
 {
@@ -64,7 +64,7 @@ fn selected_local(roster: &Roster, received: &Received) -> Option<u64>
 }
 
 impl Intake {
-    /// An intake that keeps the rows of the roster's tables, and was fed nothing. Doesn't allocate.
+    /// Returns an intake for the roster's tables that has been fed nothing. Doesn't allocate.
     pub fn new(alloc: Global, roster: Roster) -> Intake
         ensures { result ≡ begun roster }
     {
@@ -79,36 +79,36 @@ impl Intake {
         }
     }
 
-    /// The local tables.
+    /// Returns the local tables.
     pub fn roster(&self) -> &Roster
         ensures { result.now ≡ self.now.roster }
     {
         &self.roster
     }
 
-    /// The state in which the messages read leave it.
+    /// Returns the state after the messages read.
     pub fn state(&self) -> &State
         ensures { result.now ≡ self.now.state }
     {
         &self.state
     }
 
-    /// How many bytes were fed and not taken. Where `next` answers `None` they are those of an unfinished message; after a
-    /// fault, but `Memory`, there are none.
+    /// Returns how many bytes were fed and not taken. If `next` returns `None`, they are those of an unfinished
+    /// message; after a fault other than `Memory` there are none.
     pub fn waiting(&self) -> usize
         ensures { result ≡ length self.now.unread }
     {
         self.unread.len()
     }
 
-    /// Whether there was a fault.
+    /// Returns whether there was a fault.
     pub(crate) fn is_closed(&self) -> bool
         ensures { result ≡ self.now.closed }
     {
         self.closed
     }
 
-    /// Takes no more: every later call that takes bytes answers `Closed`. The unread bytes are dropped.
+    /// Closes the intake: every later call that takes bytes returns `Closed`. Drops the unread bytes.
     pub(crate) fn close(&mut self)
         ensures { self.new ≡ shut self.old }
     {
@@ -116,7 +116,7 @@ impl Intake {
         self.closed = true;
     }
 
-    /// Takes the next piece of the stream, and holds all of it. After a fault it answers `Closed`; after `Memory` nothing
+    /// Takes the next piece of the stream, and holds all of it. Returns `Closed` after a fault; after `Memory` nothing
     /// has changed.
     pub fn feed(&mut self, piece: &[u8]) -> Result<(), Fault>
         ensures { IntakeFeeds self.old piece.now result self.new }
@@ -128,7 +128,7 @@ impl Intake {
         Ok(())
     }
 
-    /// Holds these bytes after the unread ones. Memory is wanted only where there are bytes to hold. After `Memory` nothing has
+    /// Appends these bytes to the unread ones. Allocates only if there are bytes to hold. After `Memory` nothing has
     /// changed.
     pub(crate) fn hold(&mut self, bytes: &[u8]) -> Result<(), Memory>
         ensures held { OnOk result (self.new ≡ fed self.old bytes.now) }
@@ -149,24 +149,24 @@ impl Intake {
         mem::replace(&mut self.unread, Unread::new(self.alloc))
     }
 
-    /// Puts unread bytes in place of those that there are.
+    /// Replaces the unread bytes.
     pub(crate) fn put_unread(&mut self, unread: Unread)
         ensures { self.new ≡ with_unread self.old unread }
     {
         self.unread = unread;
     }
 
-    /// The same as `look_at`, at the unread bytes.
+    /// Does the same as `look_at`, with the unread bytes.
     fn look(&self) -> Result<Option<(TakenRef<'_>, Advance)>, Fault>
         ensures looks { Looks self.now result }
     {
         self.look_at(self.unread.as_slice())
     }
 
-    /// What the message at the front of these bytes gives, and what moves past it; `None` while it isn't whole. Nothing
-    /// changes yet.
+    /// Returns what the message at the front of `bytes` gives, and what moves the intake past it; `None` if the message
+    /// isn't whole yet. Nothing changes yet.
     ///
-    /// Memory is wanted only for a definition and for a name that an update writes.
+    /// Allocates only for a definition and for a name that an update writes.
     pub(crate) fn look_at<'a>(
         &'a self,
         bytes: &'a [u8],
@@ -186,7 +186,7 @@ impl Intake {
         }
     }
 
-    /// What a message gives, and what it does to the state.
+    /// Returns what a message gives, and what it does to the state.
     fn shown<'a>(&'a self, message: MessageRef<'a>) -> Result<(TakenRef<'a>, Effect), Fault>
         requires { fits self.now.state.received (owned_message message) ≡ true }
         ensures effect { IfOk result (λ shown. IsEffect self.now.state (owned_message message.entry) shown.1) }
@@ -241,7 +241,7 @@ impl Intake {
         Ok(())
     }
 
-    /// Makes an effect on the state and on what is due. After `Memory` nothing has changed.
+    /// Applies an effect to the state and to what is due. After `Memory` nothing has changed.
     pub(crate) fn make(&mut self, effect: Effect) -> Result<(), Memory>
         ensures made { OnOk result (self.new ≡ record self.old { state = made self.old.state effect; due = due_made self.old.state effect self.old.due }) }
         ensures stays { OnErr result (self.new ≡ self.old) }
@@ -273,7 +273,7 @@ impl Intake {
         Ok(())
     }
 
-    /// Remembers the number of an update and the name that it writes, and makes its table due. After `Memory` nothing has
+    /// Records the number of an update and the name that it writes, and makes its table due. After `Memory` nothing has
     /// changed.
     fn remember(&mut self, update: ResolvedUpdate) -> Result<(), Memory>
         ensures made { OnOk result (self.new ≡ record self.old { state = made self.old.state (effects.Update update); due = due_made self.old.state (effects.Update update) self.old.due }) }
@@ -286,7 +286,7 @@ impl Intake {
         Ok(())
     }
 
-    /// Closes at a fault, but not for want of memory.
+    /// Closes at a fault, unless it is out of memory.
     fn stop(&mut self, fault: Fault)
         ensures { self.new ≡ stopped self.old fault }
     {
@@ -296,8 +296,8 @@ impl Intake {
         }
     }
 
-    /// What the next message gives, and `None` while it isn't whole. After a fault it answers `Closed`. It answers `Memory`
-    /// only where a whole message without a fault stands at the front, and then nothing has changed.
+    /// Returns what the next message gives, or `None` if it isn't whole yet. Returns `Closed` after a fault. Returns
+    /// `Memory` only if a whole message without a fault is at the front, and then nothing has changed.
     pub fn next(&mut self) -> Result<Option<Taken>, Fault>
         ensures next { IntakeNext self.old result self.new }
         ensures fewer { IfOk result (λ found. IsSome found → length self.new.unread < length self.old.unread) }
@@ -333,8 +333,8 @@ impl Intake {
         }
     }
 
-    /// The acknowledgements that are due: one for each local table with a last number and an update since the last call,
-    /// in ascending order of the sender's id. Then none is due. After `Memory` nothing has changed.
+    /// Returns the acknowledgements that are due: one for each local table with a last number and an update since the
+    /// last call, in ascending order of the sender's id. Afterwards none is due. After `Memory` nothing has changed.
     pub fn acks(&mut self) -> Result<Vec<Message>, Memory>
         ensures due { IfOk result (λ acks. acks.items ≡ acks_of self.old) }
         ensures rising { IfOk result (λ acks. AreRisingAcks acks.items) }

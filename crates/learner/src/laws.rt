@@ -25,8 +25,8 @@ ghost use Rattle.learner.specs.Rows.{put, put_all, row_at, rows_at, AreOfOthers}
 ghost use Rattle.learner.specs.Moments.{Piece, stream_in, AreFedInTime, IsStoppedInTime, IsStoppedAtInTime, HasLearnedInTime};
 ghost use Rattle.learner.specs.Learning.{Learning, unlearned, LearnerFeeds, AreFed, IsReady, IsReadyIn, IsTaught, HasLearned};
 
-/// However a stream is cut into pieces, what is learned of them at one moment is what is learned of the whole: the
-/// same rows, the same state, and the same bytes left.
+/// However a stream is cut into pieces, what is learned from the pieces at one moment is what is learned from the
+/// whole: the same rows, the same state, and the same bytes left.
 pub fn any_pieces()
     ensures two { (now : ℕ) (l mid e : Learning) (a b : List ℕ) (one other : ℕ) →
         IsBytes (l.intake.unread ++ (a ++ b)) → LearnerFeeds now l a (Ok one) mid → LearnerFeeds now mid b (Ok other) e →
@@ -38,9 +38,9 @@ pub fn any_pieces()
         LearnerFeeds now l piece (Ok one) a → LearnerFeeds now l piece (Ok other) b → (one ≡ other) × (a ≡ b) }
 {}
 
-/// A learner does one thing: where two outcomes of feeding it a piece are both allowed, and neither is want of
-/// memory, the answer is the same and so is what it holds then. The same of what takes its messages: of feeding it, and
-/// of asking it for one.
+/// A learner has only one outcome: if two outcomes of feeding it a piece are both allowed, and memory runs out in
+/// neither, then the answer is the same, and so is what the learner holds afterwards. The same holds of an intake: of
+/// feeding it, and of asking it for a message.
 pub fn one_outcome()
     ensures learner { (now : ℕ) (l a b : Learning) (piece : List ℕ) (one other : Result ℕ Fault) → LearnerFeeds now l piece one a → LearnerFeeds now l piece other b →
         one ≢ Err faults.Memory → other ≢ Err faults.Memory → (one ≡ other) × (a ≡ b) }
@@ -50,12 +50,12 @@ pub fn one_outcome()
         one ≢ Err faults.Memory → other ≢ Err faults.Memory → (one ≡ other) × (a ≡ b) }
 {}
 
-/// However a stream is cut into pieces that are fed at one moment, the same fault comes, but want of memory.
-/// Where two ways to cut it each stop at a fault, it is the same fault, and the learner is the same then: the same rows and
-/// the same state, with nothing unread. The message with the fault stands at the same place of the stream. Where a fault
-/// stops one way, it stops every other way too at one of its pieces, where all of them are fed. After a fault every piece is
-/// answered `Closed`, and changes nothing. With pieces at whatever moments it is the same fault too, at the same place of the
-/// stream, with the same state, and nothing unread.
+/// However a stream is cut into pieces that are fed at one moment, the same fault occurs, unless memory runs out. If
+/// two ways to cut it each stop at a fault, it is the same fault, and the learner is then the same: the same rows and
+/// the same state, with nothing unread. The faulty message is at the same place of the stream. If a fault stops one
+/// way, it stops every other way too, at one of its pieces, if all of them are fed. After a fault, feeding any piece
+/// returns `Closed` and changes nothing. With pieces at whatever moments, it is still the same fault, at the same place
+/// of the stream, with the same state and nothing unread.
 pub fn one_fault()
     ensures same { (now : ℕ) (l a b : Learning) (before others : List (List ℕ)) (last end more rest : List ℕ) (fault other : Fault) →
         l.intake.closed ≡ false → IsBytes (l.intake.unread ++ (together before ++ (last ++ more))) →
@@ -89,10 +89,10 @@ pub fn one_fault()
         LearnerFeeds now l piece (Err fault) e → LearnerFeeds after e bytes answer x → (answer ≡ Err faults.Closed) × (x ≡ e) }
 {}
 
-/// However a stream is cut, and in whatever order an intake is fed its pieces and asked for its messages, it gives the same
-/// rows and the same of other messages, in the same order, up to the same end: a fault, or that no message is whole once all
-/// is fed. The end comes at the same place of the stream, and the intake is the same then. Calls that wanted memory may stand
-/// between, and change nothing.
+/// However a stream is cut, and in whatever order an intake is fed its pieces and asked for its messages, it gives the
+/// same rows and the same other messages, in the same order, up to the same end: a fault, or no whole message once all
+/// pieces are fed. The end is at the same place of the stream, and the intake is then the same. Calls that run out of
+/// memory may come in between, and change nothing.
 pub fn any_calls()
     ensures { (t a b x y : Taking) (one other : List (Option (List ℕ))) (bytes others more rest : List ℕ) (answers given : List Taken) (end last : Result (Option Taken) Fault) →
         IsBytes (t.unread ++ (bytes ++ more)) → bytes ++ more ≡ others ++ rest →
@@ -101,8 +101,8 @@ pub fn any_calls()
         (answers ≡ given) × (end ≡ last) × (x ≡ y) × (a.unread ++ more ≡ b.unread ++ rest) }
 {}
 
-/// An update that is put changes the row of its table and key alone: that row becomes what the update teaches at that
-/// moment, and any other row is what it was.
+/// Putting an update changes only the row of its table and key: that row becomes what the update teaches at that
+/// moment, and any other row is unchanged.
 pub fn others_stay()
     ensures here { (now : ℕ) (roster : List Definition) (tables : List (List (Key × StoredRow))) (u : Update) (d : Definition) →
         length tables ≡ length roster → table_at roster u.table ≡ Some d →
@@ -113,8 +113,8 @@ pub fn others_stay()
         id ≢ u.table → rows_at roster id (put now roster tables u) ≡ rows_at roster id tables }
 {}
 
-/// What putting updates one after another leaves: the row of a table and key is what the last update of that table and
-/// key teaches, where there is one, and else what it was.
+/// Putting updates one after another leaves as the row of a table and key what the last update of that table and key
+/// teaches, or the row as it was if there is none.
 pub fn the_last_stands()
     ensures last { (now : ℕ) (roster : List Definition) (before after : List Update) (u : Update) (d : Definition) (tables : List (List (Key × StoredRow))) →
         length tables ≡ length roster → table_at roster u.table ≡ Some d → AreOfOthers u.table u.key after →
@@ -124,11 +124,11 @@ pub fn the_last_stands()
         row_at key (rows_at roster id (put_all now roster us tables)) ≡ row_at key (rows_at roster id tables) }
 {}
 
-/// What a legal stream teaches. Where each id that a learner received stands for its own definition, and nothing is
-/// unread, it is fed a stream that is legal from its state: then every update that the stream carries is put among its
-/// rows, and nothing else; it reaches the state in which the stream ends; nothing is left unread; and no fault comes,
-/// but want of memory. So it is however the stream is cut, all at one moment; and on the way, with pieces at whatever
-/// moments, no fault comes but want of memory.
+/// What a legal stream teaches. Suppose that each id a learner received stands for its own definition, that nothing is
+/// unread, and that the learner is fed a stream that is legal from its state. Then every update that the stream carries
+/// is put among the learner's rows, and nothing else; the learner reaches the state in which the stream ends; nothing
+/// is left unread; and no fault occurs, unless memory runs out. This holds however the stream is cut, if all of it is
+/// fed at one moment. No fault occurs on the way either, with pieces at whatever moments, unless memory runs out.
 pub fn a_legal_stream()
     ensures whole { (now : ℕ) (l e : Learning) (ms : List Message) (us : List Update) (after : State) (result : Result ℕ Fault) →
         IsReady l → Legal l.intake.roster l.intake.state ms us after →
@@ -144,12 +144,12 @@ pub fn a_legal_stream()
         AreFedInTime l before counts mid → LearnerFeeds now mid piece (Err fault) e → fault ≡ faults.Memory }
 {}
 
-/// A lesson teaches what it says. A teacher knows of a learner that it is in the known state k, and not what else it
-/// holds. Fed a lesson from k, every such learner puts all the updates that the lesson carries and nothing else; it is
-/// then in the known state in which the lesson ends, and ready for the next one from there; nothing is left unread; and
-/// no fault comes, but want of memory. So it is however the lesson is cut. With pieces at several moments a row takes
-/// the moment of the piece that ended its message: the updates fall into parts, one for each piece. A learner that was
-/// fed nothing is ready for a lesson to a learner that received nothing.
+/// A lesson teaches what it says. A teacher knows that a learner is in the known state k, but not what else it holds.
+/// Every such learner that is fed a lesson from k puts all the updates that the lesson carries and nothing else; it is
+/// then in the known state in which the lesson ends, and ready for the next lesson from there; nothing is left unread;
+/// and no fault occurs, unless memory runs out. This holds however the lesson is cut. With pieces at several moments, a
+/// row gets the moment of the piece in which its message ends: the updates are divided into parts, one for each piece.
+/// A learner that was fed nothing is ready for a lesson to a learner that received nothing.
 pub fn a_lesson()
     ensures fresh { (roster : List Definition) → roster_fault roster ≡ None → IsReadyIn (fresh_of roster) (unlearned roster) }
     ensures whole { (now : ℕ) (k after : KnownState) (us : List Update) (bytes : List ℕ) (l e : Learning) (result : Result ℕ Fault) →
@@ -166,7 +166,7 @@ pub fn a_lesson()
         AreFedInTime l before counts mid → LearnerFeeds now mid piece (Err fault) e → fault ≡ faults.Memory }
 {}
 
-/// The last numbers of a learner that was fed nothing stand in rising id, and whatever it is fed they stay so.
+/// The last numbers of a learner that was fed nothing are in ascending order of id, and stay so whatever it is fed.
 pub fn numbers_stay_rising()
     ensures begun { (roster : List Definition) → AreRising (unlearned roster).intake.state.last_numbers }
     ensures fed { (now : ℕ) (l e : Learning) (piece : List ℕ) (result : Result ℕ Fault) →

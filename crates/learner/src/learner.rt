@@ -20,7 +20,7 @@ ghost use Rattle.learner.specs.InPlace.{LearnsFront, LearnsWhole, LearnsPiece};
 use crate::advance::Advance;
 use crate::fault::Fault;
 use crate::intake::Intake;
-use crate::progress::Progress;
+use crate::learned::Learned;
 use crate::table_rows::TableRows;
 use crate::taken::{LocalUpdateRef, TakenRef};
 use known_state::Known;
@@ -30,11 +30,11 @@ use std::collections::BTreeMap;
 use std::marker::Model;
 use table_types::{Cell, Key, Memory, Moment, Roster, Row, ShortList, TableDef};
 
-/// A learner: takes the bytes of a stream in any pieces, and keeps the rows of its local tables (HAProxy,
+/// A learner takes the bytes of a stream in any pieces, and keeps the rows of its local tables (HAProxy,
 /// doc/peers-v2.0.txt, "Update Messages").
 ///
-/// A table that the sender defines is a local one where a table of the roster has its name, kind of keys, key length,
-/// data types and periods; the updates of any other are read and passed over (profile).
+/// A table that the sender defines is local if a table of the roster has the same name, kind of keys, key length, data
+/// types and periods; the updates of any other table are read and skipped (profile).
 #[derive(Drop)]
 pub struct Learner {
     alloc: Global,
@@ -54,7 +54,7 @@ impl Model for Learner {
     ghost invariant = { λ l. length l.rows_of_tables.items ≡ length l.intake.roster };
 }
 
-/// The table of that id, with its index.
+/// Returns the table of `id`, with its index.
 fn find(tables: &[TableDef], id: u64) -> Option<(usize, &TableDef)>
     ensures index { option_map (λ found. found.0) result ≡ index_of tables.now id }
     ensures table { option_map (λ found. found.1.now) result ≡ table_at tables.now id }
@@ -67,7 +67,7 @@ fn find(tables: &[TableDef], id: u64) -> Option<(usize, &TableDef)>
     None
 }
 
-/// The index of the table of that id.
+/// Returns the index of the table of `id`.
 fn index_of(tables: &[TableDef], id: u64) -> Option<usize>
     ensures { result ≡ index_of tables.now id }
 {
@@ -77,7 +77,7 @@ fn index_of(tables: &[TableDef], id: u64) -> Option<usize>
     }
 }
 
-/// The cells of a row that an update of these values teaches at that moment.
+/// Returns the cells of a row that an update with `values` teaches at `now`.
 fn cells_of(
     alloc: Global,
     mut values: ValuesRef<'_>,
@@ -92,7 +92,7 @@ fn cells_of(
     Ok(cells)
 }
 
-/// The row that an update teaches at that moment, with its key, in a table whose rows expire so.
+/// Returns the row that an update teaches at `now`, with its key, in a table whose rows expire after `expire`.
 fn learned(
     alloc: Global,
     update: &LocalUpdateRef<'_>,
@@ -108,7 +108,7 @@ fn learned(
     Ok((key, Row::learned_with(update.number(), ends, cells, name)))
 }
 
-/// A row to be put in the table of an index.
+/// A row to be put in the table at `index`.
 #[derive(Debug, Drop)]
 struct NewRow {
     index: usize,
@@ -116,7 +116,7 @@ struct NewRow {
     row: Row,
 }
 
-/// The row that an update teaches at that moment; `None` where there is no table of its id.
+/// Returns the row that an update teaches at `now`; `None` if no table has its id.
 fn new_row(
     alloc: Global,
     tables: &[TableDef],
@@ -132,7 +132,7 @@ fn new_row(
     Ok(Some(NewRow { index, key, row }))
 }
 
-/// The row that what a message gives teaches at that moment, if it is one.
+/// Returns the row that `taken` teaches at `now`, if it is an update of a local table.
 fn taught(
     alloc: Global,
     tables: &[TableDef],
@@ -153,7 +153,7 @@ fn taught(
     }
 }
 
-/// Copies of rows with their keys, in rising key.
+/// Returns copies of `rows` with their keys, in ascending order of key.
 fn copies(alloc: Global, rows: &BTreeMap<Key, Row>) -> Result<Vec<(Key, Row)>, Memory>
     ensures rows { IfOk result (λ copies. copies.items ≡ rows.now.entries) }
     ensures rising { IfOk result (λ copies. IsStrictlySortedBy key_cmp (keys_of copies.items)) }
@@ -166,7 +166,7 @@ fn copies(alloc: Global, rows: &BTreeMap<Key, Row>) -> Result<Vec<(Key, Row)>, M
 }
 
 impl Learner {
-    /// A learner of the roster's tables, which was fed nothing and has no rows.
+    /// Returns a learner for the roster's tables that has been fed nothing and has no rows.
     pub fn new(alloc: Global, roster: Roster) -> Result<Learner, Memory>
         ensures { IfOk result (λ learner. learner ≡ unlearned roster) }
     {
@@ -181,28 +181,28 @@ impl Learner {
         })
     }
 
-    /// The learner's local tables.
+    /// Returns the learner's local tables.
     pub fn roster(&self) -> &Roster
         ensures { result.now ≡ self.now.intake.roster }
     {
         self.intake.roster()
     }
 
-    /// How many bytes were fed and not read: those of an unfinished message, and none after a fault.
+    /// Returns how many bytes were fed and not read: those of an unfinished message, and none after a fault.
     pub fn waiting(&self) -> usize
         ensures { result ≡ length self.now.intake.unread }
     {
         self.intake.waiting()
     }
 
-    /// Takes the next piece of the stream at that moment, and answers how many rows were put.
+    /// Takes the next piece of the stream at the moment `now`, and returns how many rows were put.
     ///
-    /// * Where no message is unfinished, the piece is read where it stands, and the bytes of the message that it leaves
-    ///   unfinished are held. Where one is, the piece is held after it first.
-    /// * `Memory` comes only where these bytes can't be held, or for a whole message without a fault. The rows are then
-    ///   those of whole messages.
-    /// * Rows keep what was put before a fault. After any fault, `Memory` too, every later call answers `Closed`, and no
-    ///   bytes are held.
+    /// * If no message is unfinished, the piece is read in place, and the bytes of the message that it leaves
+    ///   unfinished are held. If one is, the piece is held after it first.
+    /// * `Memory` is returned only if these bytes can't be held, or for a whole message without a fault. The rows are
+    ///   then those of whole messages.
+    /// * Rows that were put before a fault stay. After any fault, including `Memory`, every later call returns
+    ///   `Closed`, and no bytes are held.
     pub fn feed(&mut self, piece: &[u8], now: Moment) -> Result<usize, Fault>
         ensures { LearnerFeeds now self.old piece.now result self.new }
     {
@@ -229,7 +229,7 @@ impl Learner {
         }
     }
 
-    /// Takes the messages that are whole in the piece, and holds the bytes of the one after them.
+    /// Takes the whole messages in the piece, and holds the bytes of the unfinished one after them.
     fn learn_in_place(&mut self, piece: &[u8], now: Moment) -> Result<usize, Fault>
         requires { (self.old.intake.closed ≡ false) × (self.old.intake.unread ≡ []) }
         ensures { LearnsPiece now self.old piece.now result self.new }
@@ -252,8 +252,8 @@ impl Learner {
         Ok(progress.rows)
     }
 
-    /// Takes the messages that are whole in these bytes.
-    fn learn_all(&mut self, bytes: &[u8], now: Moment) -> Result<Progress, Fault>
+    /// Takes the whole messages in `bytes`.
+    fn learn_all(&mut self, bytes: &[u8], now: Moment) -> Result<Learned, Fault>
         ensures learns { LearnsWhole now self.old bytes.now result self.new }
         ensures within { IfOk result (λ progress. progress.used ≤ length bytes.now) }
         ensures unread { OnOk result (self.new.intake.unread ≡ self.old.intake.unread) }
@@ -264,11 +264,11 @@ impl Learner {
             count += progress.rows;
             used += progress.used;
         }
-        Ok(Progress { rows: count, used })
+        Ok(Learned { rows: count, used })
     }
 
-    /// Takes the message at the front of these bytes; `None` while it isn't whole.
-    fn learn_message(&mut self, bytes: &[u8], now: Moment) -> Result<Option<Progress>, Fault>
+    /// Takes the message at the front of `bytes`; `None` if it isn't whole yet.
+    fn learn_message(&mut self, bytes: &[u8], now: Moment) -> Result<Option<Learned>, Fault>
         ensures learns { LearnsFront now self.old bytes.now result self.new }
         ensures within { IfOk result (λ found. IfSome found (λ progress. (progress.rows ≤ 1) × (1 ≤ progress.used) × (progress.used ≤ length bytes.now))) }
         ensures unread { OnOk result (self.new.intake.unread ≡ self.old.intake.unread) }
@@ -280,14 +280,14 @@ impl Learner {
                 let Advance { effect, used } = advance;
                 self.intake.make(effect)?;
                 self.put(row)?;
-                Ok(Some(Progress { rows, used }))
+                Ok(Some(Learned { rows, used }))
             }
             Ok(None) => Ok(None),
             Err(fault) => Err(fault),
         }
     }
 
-    /// Puts the row that is taught, if one is. After `Memory` nothing has changed.
+    /// Puts `row` in its table, if there is one. After `Memory` nothing has changed.
     fn put(&mut self, row: Option<NewRow>) -> Result<(), Memory>
         requires { IfSome row (λ row. row.index < length self.old.intake.roster) }
         ensures put { OnOk result ((us : List Update) (now : ℕ) → AreRowsOf now self.old.intake.roster us row →
@@ -309,8 +309,8 @@ impl Learner {
         self.rows_of_tables[index].put(key, row)
     }
 
-    /// The acknowledgements that are due: one for each local table with a last number and an update since the last call,
-    /// in ascending order of the sender's id. Then none is due. After `Memory` nothing has changed.
+    /// Returns the acknowledgements that are due: one for each local table with a last number and an update since the
+    /// last call, in ascending order of the sender's id. Afterwards none is due. After `Memory` nothing has changed.
     pub fn acks(&mut self) -> Result<Vec<Message>, Memory>
         ensures due { IfOk result (λ acks. acks.items ≡ acks_of self.old.intake) }
         ensures rising { IfOk result (λ acks. AreRisingAcks acks.items) }
@@ -320,7 +320,7 @@ impl Learner {
         self.intake.acks()
     }
 
-    /// The row of a key in the local table of that id.
+    /// Returns the row of `key` in the local table with the id `table`.
     pub fn row(&self, table: u64, key: &Key) -> Option<&Row>
         ensures { option_copied result ≡ row_at key.now (rows_at self.now.intake.roster table self.now.rows) }
     {
@@ -330,7 +330,7 @@ impl Learner {
         }
     }
 
-    /// The rows of the local table of that id by their keys; `None` where the roster lacks it.
+    /// Returns the rows of the local table with the id `table` by their keys; `None` if the roster lacks it.
     pub fn table(&self, table: u64) -> Option<&BTreeMap<Key, Row>>
         ensures rows { IfSome result (λ rows. rows.now.entries ≡ rows_at self.now.intake.roster table self.now.rows) }
         ensures exactly { IsNone result ↔ (index_of self.now.intake.roster table ≡ None) }
@@ -342,7 +342,8 @@ impl Learner {
         }
     }
 
-    /// Copies of the rows of the local table of that id with their keys, in rising key; none where the roster lacks it.
+    /// Returns copies of the rows of the local table with the id `table`, with their keys, in ascending order of key;
+    /// none if the roster lacks it.
     pub fn rows(&self, table: u64) -> Result<Vec<(Key, Row)>, Memory>
         ensures rows { IfOk result (λ rows. rows.items ≡ rows_at self.now.intake.roster table self.now.rows) }
         ensures rising { IfOk result (λ rows. IsStrictlySortedBy key_cmp (keys_of rows.items)) }
@@ -353,9 +354,9 @@ impl Learner {
         }
     }
 
-    /// What a teacher of that roster knows of this learner: of the roster's tables those are defined whose id stands
-    /// for that very definition, with their last numbers as held, the slots as held, and the selected table where it
-    /// is one of them. All last numbers that are held stand in rising id.
+    /// Returns what a teacher of `roster` knows of this learner: the tables of the roster whose id stands for that very
+    /// definition are defined, with the learner's last numbers of them; the slots are the learner's, and the selected
+    /// table stays selected if it is one of them. All last numbers that the learner holds are in ascending order of id.
     pub fn known(&self, roster: &Roster) -> Result<Known, Memory>
         ensures known { IfOk result (λ known. known ≡ known_of roster.now self.now.intake.state) }
         ensures rising { IfOk result (λ _. AreRising self.now.intake.state.last_numbers) }

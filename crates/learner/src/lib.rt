@@ -6,9 +6,9 @@ mod due;
 mod fault;
 mod intake;
 mod laws;
+mod learned;
 mod learner;
 mod local_tables;
-mod progress;
 mod table_rows;
 mod taken;
 

@@ -1,12 +1,12 @@
-//! Which tables that are received a learner keeps.
+//! Which of the received tables a learner keeps.
 
 ghost use Rattle.std.specs.Prelude.{◌≡◌, option_copied};
 ghost use Rattle.learner.specs.LocalTables.{local_table};
 
 use table_types::TableDef;
 
-/// The local table that a table received is: the one of its name, where kind of keys, key length, data types and
-/// periods are the same.
+/// Returns the local table for a received table: the one with the same name, kind of keys, key length, data types and
+/// periods.
 pub fn local_table<'a>(roster: &'a [TableDef], received: &TableDef) -> Option<&'a TableDef>
     ensures { option_copied result ≡ local_table roster.now received.now }
 {

@@ -27,7 +27,7 @@ impl Model for TableRows {
 }
 
 impl TableRows {
-    /// No rows. Doesn't allocate.
+    /// Returns no rows. Doesn't allocate.
     pub fn new(alloc: Global) -> TableRows
         ensures { result ≡ [] }
     {
@@ -36,14 +36,14 @@ impl TableRows {
         }
     }
 
-    /// The row of a key.
+    /// Returns the row of `key`, if there is one.
     pub fn row(&self, key: &Key) -> Option<&Row>
         ensures { option_copied result ≡ row_at key.now self.now }
     {
         self.rows.get(key)
     }
 
-    /// Puts a row in place of the key's. After `Memory` nothing has changed.
+    /// Puts `row` in place of the key's old row, if there is one. After `Memory` nothing has changed.
     pub fn put(&mut self, key: Key, row: Row) -> Result<(), Memory>
         ensures put { OnOk result (self.new ≡ insert_entry key_cmp self.old key row) }
         ensures stays { OnErr result (self.new ≡ self.old) }
@@ -52,7 +52,7 @@ impl TableRows {
         Ok(())
     }
 
-    /// The rows by their keys.
+    /// Returns the rows by their keys.
     pub fn rows(&self) -> &BTreeMap<Key, Row>
         ensures rows { result.now.entries ≡ self.now }
     {

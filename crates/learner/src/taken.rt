@@ -1,4 +1,4 @@
-//! What a message gives to whoever keeps the rows of local tables.
+//! What a message gives to the keeper of the rows of local tables.
 
 ghost use Rattle.std.specs.Prelude.{◌≡◌, true, IfOk, IfSome, length, option_map};
 ghost use Rattle.std.specs.Option.{option_to_list};
@@ -14,12 +14,12 @@ use std::alloc::Global;
 use std::marker::Model;
 use table_types::{Memory, Name, Update};
 
-/// What a message gives to whoever keeps the rows of a roster's tables.
+/// What a message gives to the keeper of the rows of a roster's tables.
 #[derive(Debug, Drop)]
 pub enum Taken {
     /// An update of a local table, under the local table's id, with its number and its name resolved.
     Row(Update),
-    /// A definition, a switch, an update of another table, or a message without meaning here.
+    /// A definition, a switch, an update of another table, or a message that means nothing here.
     Passed,
     /// A control message.
     Said(Control),
@@ -29,13 +29,13 @@ pub enum Taken {
     Acked {
         /// The id that the sender of the updates gave the table.
         table: u64,
-        /// The number of the last update taken.
+        /// The number of the last update that the acknowledgement's sender took.
         number: u32,
     },
 }
 
 impl Taken {
-    /// The update of a local table that it gives, if any.
+    /// Returns the update of a local table, if the message gave one.
     pub fn row(self) -> Option<Update>
         ensures { option_to_list result ≡ rows_of self }
     {
@@ -74,7 +74,7 @@ impl<'a> Model for LocalUpdateRef<'a> {
     ghost invariant = { λ u. IfSome u.name (λ name. is_name name.now ≡ true) };
 }
 
-/// A name of these bytes, where there are some.
+/// Returns a copy of the name, if there is one.
 fn named(alloc: Global, name: Option<&[u8]>) -> Result<Option<Name>, Memory>
     requires { IfSome name (λ name. is_name name.now ≡ true) }
     ensures { IfOk result (λ copy. copy ≡ option_map (λ name. name.now) name.entry) }
@@ -86,7 +86,7 @@ fn named(alloc: Global, name: Option<&[u8]>) -> Result<Option<Name>, Memory>
 }
 
 impl<'a> LocalUpdateRef<'a> {
-    /// The update of that local table with that number and that name.
+    /// Returns the update of the local table with the id `table`, with this number and name.
     pub(crate) fn new(
         table: u64,
         number: u32,
@@ -104,49 +104,49 @@ impl<'a> LocalUpdateRef<'a> {
         }
     }
 
-    /// The local table's id.
+    /// Returns the local table's id.
     pub fn table(&self) -> u64
         ensures { result ≡ self.now.table }
     {
         self.table
     }
 
-    /// The update's number.
+    /// Returns the update's number.
     pub fn number(&self) -> u32
         ensures { result ≡ self.now.number }
     {
         self.number
     }
 
-    /// The remaining life of the row in milliseconds; `None` where it is not given.
+    /// Returns the remaining life of the row in milliseconds; `None` if the update has none.
     pub fn life(&self) -> Option<u32>
         ensures { result ≡ self.now.life }
     {
         self.update.life()
     }
 
-    /// The row's key.
+    /// Returns the row's key.
     pub fn key(&self) -> KeyRef<'a>
         ensures { owned_key result ≡ self.now.key }
     {
         self.update.key()
     }
 
-    /// The values in rising id, without the server's name.
+    /// Returns the values in ascending order of id, without the server's name.
     pub fn values(&self) -> ValuesRef<'a>
         ensures { result ≡ self.now.values }
     {
         self.update.values()
     }
 
-    /// A copy of the server's name, where the row has one.
+    /// Returns a copy of the server's name, if the row has one.
     pub fn name(&self, alloc: Global) -> Result<Option<Name>, Memory>
         ensures { IfOk result (λ name. name ≡ self.now.name) }
     {
         named(alloc, self.name)
     }
 
-    /// An equal update of its own.
+    /// Returns an equal update that owns its data.
     pub fn to_owned(&self, alloc: Global) -> Result<Update, Memory>
         ensures { IfOk result (λ update. update ≡ self.now) }
     {
@@ -166,7 +166,7 @@ impl<'a> LocalUpdateRef<'a> {
 pub enum TakenRef<'a> {
     /// An update of a local table.
     Row(LocalUpdateRef<'a>),
-    /// A definition, a switch, an update of another table, or a message without meaning here.
+    /// A definition, a switch, an update of another table, or a message that means nothing here.
     Passed,
     /// A control message.
     Said(Control),
@@ -176,13 +176,13 @@ pub enum TakenRef<'a> {
     Acked {
         /// The id that the sender of the updates gave the table.
         table: u64,
-        /// The number of the last update taken.
+        /// The number of the last update that the acknowledgement's sender took.
         number: u32,
     },
 }
 
 impl<'a> TakenRef<'a> {
-    /// How many rows it gives: one or none.
+    /// Returns how many rows the message gives: one or none.
     pub fn rows(&self) -> usize
         ensures { result ≡ length (rows_of (owned self.now)) }
     {
@@ -198,7 +198,7 @@ impl<'a> TakenRef<'a> {
         }
     }
 
-    /// The same with an update of its own.
+    /// Returns the same with an owned update.
     pub fn to_owned(&self, alloc: Global) -> Result<Taken, Memory>
         ensures { IfOk result (λ taken. taken ≡ owned self.now) }
     {

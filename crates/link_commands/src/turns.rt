@@ -6,7 +6,7 @@ ghost use Rattle.link_commands.specs.Turning.{Plays, Takes, broken_by, closed_by
 
 use crate::loading::SESSION;
 use peers_devices::Faults;
-use peers_engine::{EngineError, Open, Turned, turn};
+use peers_engine::{AlwaysOpen, EngineError, Turned, turn};
 use scene_commands::Ending;
 use session_core::{Session, SessionError};
 use std::alloc::Global;
@@ -84,7 +84,16 @@ fn take_turn<H: Wait, R: Read + Faults, W: Write + Faults>(
 {
     let now = Moment::least().later_by(before + 1);
     turn(
-        rt, alloc, session, from, to, &Open, shards, seat, SESSION, now,
+        rt,
+        alloc,
+        session,
+        from,
+        to,
+        &AlwaysOpen,
+        shards,
+        seat,
+        SESSION,
+        now,
     )
 }
 

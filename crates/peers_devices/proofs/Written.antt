@@ -1,4 +1,4 @@
--- What several writes have written.
+-- What several writes wrote.
 use Rattle.std.proofs.Common.{◌+◌, ◌-◌, ◌≤◌, ℕ, List, arith, length, length-drop, take, drop, subst, sym}
 use Rattle.std.specs.Prelude.{Option}
 use Rattle.std.specs.Io.KnownBytes.{Appends}

@@ -7,19 +7,19 @@ ghost use Rattle.peers_devices.specs.Failures.{IsCounted, Rose};
 use std::io;
 use std::io::{Read, Write};
 
-/// A device that counts its failed calls. A call is known to have failed where the count after it is above the one
-/// before it, or where it is 2^64 - 1, the greatest.
+/// A device that counts its failed calls. A call counts as failed if the count after it is above the one before it, or
+/// is 2^64 - 1, the greatest.
 pub trait Faults {
-    /// How many calls have failed.
+    /// The number of calls that have failed.
     ghost failed: { Self → ℕ };
 
-    /// How many calls have failed. At 2^64 - 1 it stays.
+    /// Returns the number of calls that have failed. It stays at 2^64 - 1 once it gets there.
     fn failures(&self) -> u64
         ensures { result ≡ failed self.now };
 }
 
-/// A reader or a writer with a count of its failed calls: those that gave an `Err`. It reads and writes as the device
-/// that it was made of.
+/// A reader or a writer with a count of its failed calls, which are those that returned an `Err`. It reads and writes
+/// as `inner` does.
 #[derive(Debug, Drop)]
 pub struct Counting<T> {
     inner: T,
@@ -27,7 +27,7 @@ pub struct Counting<T> {
 }
 
 impl<T> Counting<T> {
-    /// Begins to count the failed calls of a device, at 0.
+    /// Starts to count the failed calls of a device, at 0.
     pub fn new(inner: T) -> Self
         ensures inner { result.inner ≡ inner }
         ensures failures { result.failures ≡ 0 }
@@ -35,7 +35,7 @@ impl<T> Counting<T> {
         Counting { inner, failures: 0 }
     }
 
-    /// The device itself. The count is given up.
+    /// Returns the device itself and drops the count.
     pub fn into_inner(self) -> T
         ensures { result ≡ self.inner }
     {
@@ -92,7 +92,7 @@ impl<T: Write> Write for Counting<T> {
     }
 }
 
-/// The count after a call.
+/// Returns the count after a call.
 fn counted<A>(failures: u64, gave: &io::Result<A>) -> u64
     ensures counted { IsCounted gave.now failures result }
     ensures never_fewer { failures ≤ result }
@@ -104,8 +104,8 @@ fn counted<A>(failures: u64, gave: &io::Result<A>) -> u64
     }
 }
 
-/// Whether a call failed between these two counts of a device. The greatest count stays as it is, and so it counts as
-/// risen.
+/// Returns whether a device's count of failed calls rose from `before` to `after`. The greatest count can't rise, so it
+/// counts as risen.
 pub fn rose(before: u64, after: u64) -> bool
     ensures { IsTrue result ↔ Rose before after }
 {

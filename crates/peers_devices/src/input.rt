@@ -1,4 +1,4 @@
-//! Reading a device to its end.
+//! Reading from a device until its end.
 ghost use Rattle.std.specs.Prelude.{◌≡◌, ◌<◌, IfOk, OnOk, vec_len};
 ghost use Rattle.std.specs.Io.KnownBytes.{Consumes, IsAtEnd};
 ghost use Rattle.peers_devices.specs.Failures.{Rose};
@@ -11,16 +11,16 @@ use thiserror::Error;
 /// The most calls of `read` that one input may take.
 pub const MOST_READS: u32 = 1_000_000;
 
-/// How many bytes one call of `read` asks for.
+/// The number of bytes that one call of `read` asks for.
 const CHUNK: usize = 65_536;
 
-/// Why an input wasn't read to its end. The bytes read so far are dropped.
+/// Why an input wasn't read to its end. The bytes read before are dropped.
 #[derive(Clone, Copy, Debug, PartialEq, Eq, Error)]
 pub enum ReadError {
     /// A read failed, and the device counted it.
     #[error("a read failed")]
     Failed,
-    /// The input needs more than a million reads.
+    /// The input takes more than a million reads.
     #[error("the input takes more than a million reads")]
     Endless,
     /// Memory ran out.
@@ -28,9 +28,9 @@ pub enum ReadError {
     Memory,
 }
 
-/// Reads an input to its end, in at most a million calls of `read`.
+/// Reads an input to its end, with at most a million calls of `read`.
 ///
-/// A read that fails without being counted, as an interrupted one may, is made again.
+/// Retries a read that fails without being counted, as an interrupted one may.
 pub fn read_to_end<R: Read + Faults>(alloc: Global, input: &mut R) -> Result<Vec<u8>, ReadError>
     ensures ok { IfOk result (λ bytes. Consumes (R.remaining input.old) (R.remaining input.new) bytes.items) }
     ensures end { OnOk result (IsAtEnd (R.remaining input.new)) }
@@ -55,7 +55,7 @@ pub fn read_to_end<R: Read + Faults>(alloc: Global, input: &mut R) -> Result<Vec
     Err(ReadError::Endless)
 }
 
-/// Room for one read.
+/// Returns a buffer for one read.
 fn room(alloc: Global) -> Result<Vec<u8>, AllocError>
     ensures { IfOk result (λ chunk. 0 < vec_len chunk) }
 {

@@ -1,4 +1,5 @@
-//! Devices: readers and writers that count their failed calls, reading one to its end, and writing to one all that there is.
+//! Devices: readers and writers that count their failed calls, reading from one until its end, and writing all of some
+//! bytes to one.
 #![tactic(auto)]
 
 mod devices;

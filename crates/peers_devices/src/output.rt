@@ -1,4 +1,4 @@
-//! Writing bytes to a device, all of them.
+//! Writing all of some bytes to a device.
 ghost use Rattle.std.specs.Prelude.{◌≡◌, ℕ, ◌<◌, IfErr, OnOk, length, take};
 ghost use Rattle.std.specs.Io.KnownBytes.{Appends};
 ghost use Rattle.peers_devices.specs.Failures.{Rose, sent_of};
@@ -7,29 +7,29 @@ use crate::devices::{Faults, rose};
 use std::io::Write;
 use thiserror::Error;
 
-/// The most writes that may fail uncounted before an output is given up.
+/// The most writes that may fail without being counted before `write_all` gives up.
 const MOST_RETRIES: u32 = 1_000_000;
 
-/// Why not all bytes were written. Exactly the first `sent` of them went out, and at least one didn't.
+/// Why not all bytes were written. Exactly the first `sent` of them were, and at least one wasn't.
 #[derive(Clone, Copy, Debug, PartialEq, Eq, Error)]
 pub enum WriteError {
     /// A write failed, and the device counted it.
     #[error("a write failed after {sent} bytes")]
     Failed {
-        /// How many bytes went out before.
+        /// The number of bytes written before.
         sent: usize,
     },
     /// A write took no bytes, or more than a million writes failed without being counted.
     #[error("no more is taken after {sent} bytes")]
     Stuck {
-        /// How many bytes went out before.
+        /// The number of bytes written before.
         sent: usize,
     },
 }
 
 /// Writes all of the bytes.
 ///
-/// A write that fails without being counted, as an interrupted one may, is made again.
+/// Retries a write that fails without being counted, as an interrupted one may.
 pub fn write_all<W: Write + Faults>(output: &mut W, bytes: &[u8]) -> Result<(), WriteError>
     ensures ok { OnOk result (Appends (W.contents output.old) (W.contents output.new) bytes.now) }
     ensures failed { (sent : ℕ) → result ≡ Err (WriteError.Failed sent) → Rose (W.failed output.old) (W.failed output.new) }

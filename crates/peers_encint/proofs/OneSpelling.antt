@@ -1,4 +1,4 @@
--- Each number has one spelling, each spelling one number, and no spelling begins another.
+-- Each number has one spelling, each spelling means one number, and no spelling is a prefix of another.
 use Rattle.std.proofs.Common.{◌≡◌, ℕ, zero, suc, ◌+◌, ◌-◌, ◌*◌, ◌/◌, ◌%◌, ◌^◌, ◌<◌, ◌≤◌, List, [], ◌∷◌, ◌++◌, length, refl, sym, ap, subst, ◌∙◌, arith, inl, inr}
 use Rattle.std.proofs.lemmas.Bool.{cases_lt, lt-ltb, le-ltb}
 use Rattle.peers_encint.specs.Integers.{added_from, IsTail, SpellsInteger, tail_of, spelling, IsBytes}
@@ -60,7 +60,7 @@ same_front (f ∷ c ∷ a) (g ∷ d ∷ b) x y m n p q e =
     let tail : ◌≡◌ {A = List ℕ} (c ∷ a) (d ∷ b) = apart_tail (c ∷ a) (d ∷ b) x y p.2 q.2 rest in
     cc
 
--- what stands after the same front is the same
+-- bytes after the same front are the same
 same_rest : (a x y : List ℕ) → a ++ x ≡ a ++ y → x ≡ y
 same_rest [] x y e = e
 same_rest (c ∷ a) x y e = let rest : a ++ x ≡ a ++ y = cc in same_rest a x y rest
@@ -117,7 +117,7 @@ tail3 most i h = tail_within (suc most) 2 i 16512 (omega arith) (tail2 most) (om
 tail4 : (most i : ℕ) → i < 270549120 → length (tail_of (suc (suc (suc most))) i) ≤ 4
 tail4 most i h = tail_within (suc (suc most)) 3 i 2113664 (omega arith) (tail3 most) (omega arith)
 
--- k bytes more than the first are enough below the limit
+-- k bytes after the first are enough below the limit
 fits : (k limit n : ℕ) → 1 ≤ k → ((i : ℕ) → i < limit → length (tail_of 8 i) ≤ k) → n < 240 + 16 * limit → length (spelling n) ≤ suc k
 fits k limit n some short h =
     elim (cases_lt n 240) [

@@ -1,10 +1,10 @@
--- The later bytes of a number: what they stand for, that there is one list of them, and how long it is.
+-- The later bytes of a number: their value, that each number has one tail, and the tail's length.
 use Rattle.std.proofs.Common.{◌≡◌, ℕ, zero, suc, ◌+◌, ◌-◌, ◌*◌, ◌/◌, ◌%◌, ◌^◌, ◌<◌, ◌≤◌, List, [], ◌∷◌, ◌++◌, length, get_or, refl, ap, ◌∙◌, arith, inl, inr}
 use Rattle.std.proofs.lemmas.Bool.{cases_lt, lt-ltb, le-ltb}
 use Rattle.std.proofs.lemmas.Nat.{pow-add}
 use Rattle.peers_encint.specs.Integers.{added_from, IsTail, tail_of}
 
--- what later bytes stand for: seven bits more for each
+-- the value of later bytes: each holds seven more bits
 abbrev pub value_of : List ℕ → ℕ
 value_of [] = 0
 value_of (c ∷ cs) = c + 128 * value_of cs
@@ -18,7 +18,7 @@ added-value w (c ∷ cs) =
 pub added-first : (cs : List ℕ) → added_from 4 cs ≡ 16 * value_of cs
 added-first cs = added-value 4 cs
 
--- one more byte leaves seven bits more
+-- one more byte holds seven more bits
 pub room_for-suc : (most : ℕ) → 2 ^ (7 * suc most + 7) ≡ 2 ^ (7 * most + 7) * 128
 room_for-suc most =
     let e : 7 * suc most + 7 ≡ (7 * most + 7) + 7 = omega arith in
@@ -60,7 +60,7 @@ IsTail-tail_of (suc most) i h =
       | inr le ↦ rw (tail_of-more most i le) (IsTail-cons _ _ (omega arith) (omega arith) (IsTail-tail_of most ((i - 128) / 128) (omega arith)))
     ]
 
--- ---- one tail for a number, and none begins another
+-- ---- each number has one tail, and no tail is a prefix of another
 
 pub same_tail : (a b : List ℕ) → IsTail a → IsTail b → value_of a ≡ value_of b → a ≡ b
 same_tail [] b p q e = absurd p
@@ -121,7 +121,7 @@ longer_tail (suc most) i j h =
           omega (arith, length-tail_of-more most i le, length-tail_of-more most j le_j, longer_tail most ((i - 128) / 128) ((j - 128) / 128) less)
     ]
 
--- one byte more reaches 128 times as far, and as far again as the shorter ones
+-- one more byte reaches 128 times as far, plus the 128 numbers of a single byte
 pub tail_within : (most k i limit : ℕ) → 1 ≤ k → ((j : ℕ) → j < limit → length (tail_of most j) ≤ k) → i < 128 + 128 * limit → length (tail_of (suc most) i) ≤ suc k
 tail_within most k i limit some within h =
     elim (cases_lt i 128) [

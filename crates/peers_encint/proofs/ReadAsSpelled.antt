@@ -1,4 +1,5 @@
--- What is spelled is read, what is read is spelled so, and more bytes after it change nothing.
+-- Reading a spelling returns its number, the bytes of a number read are its spelling, and appending bytes changes
+-- nothing.
 use Rattle.std.proofs.Common.{◌≡◌, ◌≢◌, ℕ, zero, suc, ◌+◌, ◌*◌, ◌^◌, ◌<◌, ◌≤◌, List, [], ◌∷◌, ◌++◌, length, get_or, take, drop, Option, Some, None, refl, sym, ap, subst, ◌∙◌, arith, ◌⊎◌, inl, inr}
 use Rattle.std.specs.Prelude.{IfSome}
 use Rattle.std.specs.List.{AllByRecursion}
@@ -13,7 +14,7 @@ use Rattle.peers_encint.specs.IntegerLaws.{IsReadAgain, IsSpelledAsRead, StaysRe
 use Rattle.peers_encint.proofs.OneTail.{value_of, added-first, room_for-suc, IsTail-cons}
 use Rattle.peers_encint.proofs.OneSpelling.{SpellsInteger-long, spelled, one_spelling}
 
--- ---- how many bytes a tail takes
+-- ---- the length of a tail
 
 pub tail_length-last : (most c : ℕ) (cs : List ℕ) → c < 128 → tail_length most (c ∷ cs) ≡ Some 1
 tail_length-last zero c cs h = refl
@@ -41,7 +42,7 @@ all_stand most [] a h = absurd (omega arith)
 all_stand zero (c ∷ cs) a h = refl
 all_stand (suc most) (c ∷ cs) a h = tail_length-more most c cs a.0 ∙ ap (option_map suc) (all_stand most cs a.1 (omega arith))
 
--- ---- an answer with Reads is the one that is computed
+-- ---- a result that Reads allows is the one computed
 
 pub whole_of-within : (n used : ℕ) → n < 2 ^ 64 → whole_of n used ≡ Value n used
 whole_of-within n used h = rw (lt-ltb n (2 ^ 64) h) refl
@@ -66,7 +67,7 @@ long_whole f t cs k n front is h =
     let sum : f + added_from 4 (take k cs) ≡ n = ap (λ (s : List ℕ). f + added_from 4 s) front ∙ sym is in
     ap (λ (s : ℕ). whole_of s (suc k)) sum ∙ whole_of-within n (suc k) h
 
--- what stands at the front is read, whatever follows it
+-- a spelling at the front is read, whatever follows
 pub read_front : (a rest : List ℕ) (n : ℕ) → SpellsInteger a n → read_of (a ++ rest) ≡ Value n (length a)
 read_front [] rest n p = absurd p
 read_front (f ∷ []) rest n p = read_of-low f rest p.0 ∙ ap (λ (m : ℕ). Value m 1) (sym p.1)
@@ -88,9 +89,9 @@ right_answer [] Over p = absurd p
 right_answer (f ∷ cs) Over p =
     read_of-high f cs p.0 ∙ ap (long_of f cs) (all_stand 8 cs p.2 (omega (arith, p.1))) ∙ whole_of-over (f + added_from 4 (take 9 cs)) 10 p.3
 
--- ---- what is computed has Reads
+-- ---- Reads allows the result computed
 
--- what it means that a tail takes so many bytes
+-- what the length of a tail says about its bytes
 abbrev Ends : ℕ → List ℕ → Option ℕ → Type 0
 Ends most cs None = (length cs ≤ most) × AllByRecursion (λ c. 128 ≤ c) cs
 Ends most cs (Some k) =
@@ -111,7 +112,7 @@ ends (suc most) (c ∷ cs) b =
       | inr le ↦ rw (tail_length-more most c cs le) (ends_more most c cs (tail_length most cs) le (b 0) (ends most cs (λ i. b (suc i))))
     ]
 
--- a number that ends before its last place is small
+-- the value of a tail that ends before its last place is small
 tail_below : (most : ℕ) (t : List ℕ) → IsTail t → length t ≤ most → value_of t + 3 ≤ 2 ^ (7 * most + 1)
 tail_below most [] t h = absurd t
 tail_below zero (c ∷ cs) t h = absurd (omega arith)
@@ -125,7 +126,7 @@ tail_below (suc most) (c ∷ d ∷ cs) t h =
     let less : value_of (d ∷ cs) + 3 ≤ 2 ^ (7 * most + 1) = tail_below most (d ∷ cs) t.2 (omega arith) in
     omega (arith, t.1)
 
--- a last place of 128 or more is too much
+-- a last place of 128 or more is too great
 last_above : (most : ℕ) (cs : List ℕ) → most < length cs → 128 ≤ get_or cs most 0 → 2 ^ (7 * most + 7) ≤ value_of (take (suc most) cs)
 last_above most [] h le = absurd (omega arith)
 last_above zero (c ∷ cs) h le = omega arith

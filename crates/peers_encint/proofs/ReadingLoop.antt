@@ -1,11 +1,11 @@
--- What one turn of the loop does that reads a number.
+-- One turn of the loop that reads a number.
 use Rattle.std.proofs.Common.{◌≡◌, ℕ, suc, ◌+◌, ◌-◌, ◌*◌, ◌^◌, ◌<◌, ◌≤◌, List, [], ◌∷◌, ◌++◌, length, get_or, take, drop, Option, Some, None, refl, sym, ap, ◌∙◌, arith}
 use Rattle.std.specs.Option.{option_map}
 use Rattle.std.proofs.lemmas.List.{drop_more, drop_all, take_more, length-take-le}
 use Rattle.peers_encint.specs.Integers.{added_from, tail_length, whole_of, long_of}
 use Rattle.peers_encint.proofs.ReadAsSpelled.{tail_length-last, tail_length-more}
 
--- how many later bytes are the number's, where the first p of them don't end it
+-- how many later bytes belong to the number, if the first p of them don't end it
 abbrev pub counted : ℕ → List ℕ → Option ℕ
 counted p cs = option_map (λ k. p + k) (tail_length (8 - p) (drop p cs))
 
@@ -41,13 +41,13 @@ added-append w (b ∷ a) c =
     let ih : added_from (w + 7) (a ++ c ∷ []) ≡ added_from (w + 7) a + c * 2 ^ (w + 7 * suc (length a)) = rw (← e) (added-append (w + 7) a c) in
     rw ih (omega arith)
 
--- one byte more adds what it stands for
+-- one more byte adds its shifted value
 pub added-more : (p : ℕ) (cs : List ℕ) → p < length cs → added_from 4 (take (p + 1) cs) ≡ added_from 4 (take p cs) + get_or cs p 0 * 2 ^ (4 + 7 * p)
 added-more p cs fits =
     let len : length (take p cs) ≡ p = length-take-le p cs (omega arith) in
     ap (added_from 4) (take_more cs p 0 fits) ∙ added-append 4 (take p cs) (get_or cs p 0) ∙ ap (λ (k : ℕ). added_from 4 (take p cs) + get_or cs p 0 * 2 ^ (4 + 7 * k)) len
 
--- the number's last byte was added
+-- the result after the number's last byte is added
 pub whole_of-last : (f : ℕ) (cs : List ℕ) (p s : ℕ) → counted p cs ≡ tail_length 8 cs → counted p cs ≡ Some (p + 1) → s ≡ f + added_from 4 (take (p + 1) cs) → whole_of s (p + 2) ≡ long_of f cs (tail_length 8 cs)
 whole_of-last f cs p s all last sum =
     let used : p + 2 ≡ suc (p + 1) = omega arith in

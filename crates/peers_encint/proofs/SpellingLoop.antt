@@ -1,4 +1,4 @@
--- What one turn of the loop does that spells a number.
+-- One turn of the loop that spells a number.
 use Rattle.std.proofs.Common.{◌≡◌, ℕ, suc, ◌+◌, ◌-◌, ◌*◌, ◌/◌, ◌%◌, ◌^◌, ◌<◌, ◌≤◌, List, [], ◌∷◌, ◌++◌, length, take, sym, ap, ◌∙◌, append_assoc, arith, inl, inr}
 use Rattle.std.proofs.Math.ListN.{set}
 use Rattle.std.specs.Int.Bits.{bit_and, bit_or}
@@ -28,7 +28,7 @@ later_byte i =
     let e : (i % 256) % 128 ≡ i % 128 = omega arith in
     ap (λ (r : ℕ). bit_or r 128) (and_mask i 8) ∙ marked (i % 256) (omega arith) ∙ ap (λ (k : ℕ). 128 + k) e
 
--- ---- what is written
+-- ---- the bytes written
 
 pub written-low : (n : ℕ) (out : List ℕ) → n < 240 → 0 < length out → take 1 (set out 0 n) ≡ spelling n
 written-low n out lt some = take_more_set out 0 n some ∙ sym (spelling-low n lt)

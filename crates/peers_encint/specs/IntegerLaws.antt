@@ -13,7 +13,7 @@ HasOneSpelling = (a b : List ℕ) (n : ℕ) → SpellsInteger a n → SpellsInte
 abbrev pub MeansOneNumber : Type 0
 MeansOneNumber = (a : List ℕ) (m n : ℕ) → SpellsInteger a m → SpellsInteger a n → m ≡ n
 
--- no spelling begins another, so what comes after is the same too
+-- no spelling is a prefix of another, so the bytes that follow are the same too
 abbrev pub BeginsNoOther : Type 0
 BeginsNoOther = (a b x y : List ℕ) (m n : ℕ) → SpellsInteger a m → SpellsInteger b n → a ++ x ≡ b ++ y → (a ≡ b) × (m ≡ n) × (x ≡ y)
 
@@ -26,7 +26,7 @@ IsLongerForGreater = (m n : ℕ) → m ≤ n → length (spelling m) ≤ length 
 abbrev pub HasLengthWithin : Type 0
 HasLengthWithin = (n : ℕ) → (1 ≤ length (spelling n)) × (length (spelling n) ≤ 10)
 
--- below each of these limits a number has no more than so many bytes
+-- the greatest number of bytes below each limit
 abbrev pub FitsTheTable : Type 0
 FitsTheTable =
     (n : ℕ)
@@ -36,11 +36,11 @@ FitsTheTable =
     × (n < 33818864 → length (spelling n) ≤ 4)
     × (n < 4328786160 → length (spelling n) ≤ 5)
 
--- what is spelled is read, whatever follows it
+-- reading a spelling returns its number, whatever follows
 abbrev pub IsReadAgain : Type 0
 IsReadAgain = (n : ℕ) (rest : List ℕ) → n < 2 ^ 64 → read_of (spelling n ++ rest) ≡ Value n (length (spelling n))
 
--- what is read is spelled so
+-- the bytes of a number read are its spelling
 abbrev pub IsSpelledAsRead : Type 0
 IsSpelledAsRead =
     (bytes : List ℕ) (n used : ℕ)
@@ -48,6 +48,6 @@ IsSpelledAsRead =
     → read_of bytes ≡ Value n used
     → (bytes ≡ spelling n ++ drop used bytes) × (used ≤ length bytes) × (n < 2 ^ 64) × (used ≡ length (spelling n))
 
--- more bytes after change only the answer that there are too few
+-- appending bytes changes no result but `Short`
 abbrev pub StaysRead : Type 0
 StaysRead = (bytes more : List ℕ) → read_of bytes ≢ Short → read_of (bytes ++ more) ≡ read_of bytes

@@ -1,6 +1,6 @@
 ghost use Rattle.peers_encint.specs.IntegerLaws.{IsSpelled, HasOneSpelling, MeansOneNumber, BeginsNoOther, SpellsBytes, IsLongerForGreater, HasLengthWithin, FitsTheTable, IsReadAgain, IsSpelledAsRead, StaysRead};
 
-/// Each number has one spelling and each spelling means one number, and no spelling begins another.
+/// Each number has exactly one spelling, each spelling means one number, and no spelling is a prefix of another.
 pub fn one_spelling()
     ensures spelled { IsSpelled }
     ensures same { HasOneSpelling }
@@ -9,14 +9,16 @@ pub fn one_spelling()
     ensures bytes { SpellsBytes }
 {}
 
-/// How long spellings are: never longer for a lesser number, 1 to 10 bytes, and within the table of the protocol.
+/// Bounds the length of spellings: a greater number's is never shorter, each has 1 to 10 bytes, and the lengths are
+/// those of the protocol's table.
 pub fn lengths()
     ensures longer { IsLongerForGreater }
     ensures within { HasLengthWithin }
     ensures table { FitsTheTable }
 {}
 
-/// What is spelled is read, what is read is so spelled, and more bytes after it change no answer but `Short`.
+/// Reading a spelling returns its number, the bytes of a number read are its spelling, and appending bytes changes no
+/// result but `Short`.
 pub fn reading_of_spellings()
     ensures again { IsReadAgain }
     ensures takes { IsSpelledAsRead }

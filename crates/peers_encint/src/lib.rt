@@ -1,6 +1,6 @@
-//! The encoded integers of HAProxy's peers protocol (HAProxy, doc/peers-v2.0.txt): a number below 2^64 as one to ten
-//! bytes, a small one as one byte. A number below 240 is that byte. Otherwise the first byte has the number's low four
-//! bits above 240, and each later byte seven bits of the rest; the first later byte below 128 is the last.
+//! The encoded integers of HAProxy's peers protocol (HAProxy, doc/peers-v2.0.txt): a number below 2^64 in one to ten
+//! bytes, small numbers in one. A number below 240 is that byte. Otherwise the first byte is 240 plus the number's low
+//! four bits, and each later byte holds seven bits of the rest. The first later byte below 128 is the last.
 #![tactic(auto)]
 
 mod laws;

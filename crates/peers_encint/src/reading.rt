@@ -2,22 +2,22 @@ ghost use Rattle.std.specs.Prelude.{◌≡◌, ℕ, ◌+◌, ◌*◌, ◌^◌, �
 ghost use Rattle.peers_encint.specs.Integers.{Reads, read_of, long_of, whole_of, tail_length};
 ghost use Rattle.peers_encint.specs.declared.reading.Read.{Read};
 
-/// What the front of some bytes says of a number.
+/// The result of reading a number at the front of some bytes.
 #[derive(Debug, Clone, Copy, PartialEq, Eq)]
 pub enum Read {
-    /// The number, and how many bytes spell it, 1 to 10. Other bytes may follow them.
+    /// The number, and the length of its spelling, 1 to 10 bytes. Other bytes may follow.
     Value(u64, usize),
-    /// The bytes end before the number does, so the number isn't known yet.
+    /// The bytes end before the number does: more bytes are needed.
     Short,
-    /// Ten bytes stand, none of the first nine ends the number, and with the tenth it is 2^64 or more.
+    /// The number is 2^64 or more: none of its first nine bytes is the last, and the tenth brings it to 2^64 or above.
     Over,
 }
 
-/// Reads the number at the front of the bytes.
+/// Reads the number at the front of `b`.
 #[inline(always)]
 pub fn get(b: &[u8]) -> Read
     ensures read { Reads b.now result }
-    // No other answer is right.
+    // No other result is right.
     ensures only { (r : Read) → Reads b.now r → r ≡ result }
     ensures computes { result ≡ read_of b.now }
 {
@@ -36,7 +36,7 @@ fn answer(bytes: &[u8]) -> Read
     }
 }
 
-// What a first byte of 240 or more and the bytes after it say.
+// Reads a number whose first byte, 240 or more, is `first`, and whose later bytes are at the front of `later`.
 #[inline(never)]
 fn read_long(first: u8, later: &[u8]) -> Read
     ensures { result ≡ long_of first later.now (tail_length 8 later.now) }
@@ -51,7 +51,7 @@ fn read_long(first: u8, later: &[u8]) -> Read
     Read::Short
 }
 
-// The later byte of that index, from 0, by its weight.
+// Returns the later byte at `index`, counted from 0, shifted to its weight.
 fn shifted(byte: u8, index: usize) -> u128
     requires { index < 9 }
     ensures exact { result ≡ byte * 2 ^ (4 + 7 * index) }
@@ -60,7 +60,7 @@ fn shifted(byte: u8, index: usize) -> u128
     u128::from(byte) << (4 + 7 * index)
 }
 
-// The answer for all bytes of a number.
+// Returns the result for a number of which all bytes were added.
 fn whole(sum: u128, used: usize) -> Read
     ensures { result ≡ whole_of sum used }
 {

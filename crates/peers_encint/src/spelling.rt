@@ -1,7 +1,7 @@
 ghost use Rattle.std.specs.Prelude.{◌≡◌, ℕ, ◌≤◌, length, take, drop};
 ghost use Rattle.peers_encint.specs.Integers.{SpellsInteger, spelling};
 
-/// How many bytes spell a number, 1 to 10.
+/// Returns the length of the spelling of `n`: 1 to 10 bytes.
 pub fn len(n: u64) -> usize
     ensures exact { result ≡ length (spelling n) }
     ensures within { (1 ≤ result) × (result ≤ 10) }
@@ -19,8 +19,8 @@ pub fn len(n: u64) -> usize
     10
 }
 
-/// Writes the spelling of a number to the front of `out`, and answers how many bytes it has, 1 to 10. The bytes after
-/// it stay.
+/// Writes the spelling of `n` to the front of `out` and returns its length, 1 to 10 bytes. The other bytes of `out`
+/// stay as they are.
 pub fn put(n: u64, out: &mut [u8; 10]) -> usize
     ensures spelled { take result out.new ≡ spelling n }
     ensures means { SpellsInteger (take result out.new) n }

@@ -1,4 +1,4 @@
--- Actions done one after another.
+-- Actions performed one after another.
 use Rattle.std.proofs.Common.{◌≡◌, ℕ, Bool, true, false, List, [], ◌∷◌, ◌++◌, Option, Some, refl, sym, ap, ◌∙◌, subst, append_assoc}
 use Rattle.std.proofs.lemmas.List.{append-nil}
 use Rattle.session_core.specs.declared.action.Action.{Action}
@@ -32,13 +32,13 @@ acts_on s mid e (act ∷ acts) after answers more out rest (bytes, then, answer,
   rw written (append_assoc bytes then rest),
 )
 
--- one action, and the answer given
+-- one action, and its answer received
 pub one_act : (s : Worker) (e : SessionState) (seat : SeatState) (act : Action) (answer : Option Event) (steps : List (Event × List Action)) (bytes : List ℕ)
     → Done s.number s.now s.session.known s.seat act bytes answer seat → IsGiven s.session answer steps e → Acts s (act ∷ []) steps bytes (stands s e seat)
 one_act s e seat act answer steps bytes done answers =
     (bytes, [], answer, steps, [], seat, e, done, answers, (refl, refl, refl), sym (append-nil steps), sym (append-nil bytes))
 
--- ---- an answer given
+-- ---- an answer that is received
 
 given_open : (teaching : Bool) (s e : SessionState) (event : Event) (acts : List Action) → Goes s event acts e → IsGivenIn (state_of_course teaching) s event ((event, acts) ∷ []) e
 given_open true s e event acts goes = (acts, goes, refl)

@@ -1,4 +1,4 @@
--- What an answer asks for is answered once more at most, and what that asks for is nothing.
+-- What the answers of actions ask for is answered once more at most, and those answers ask for nothing.
 use Rattle.std.proofs.Common.{◌≡◌, ℕ, Bool, true, false, List, [], ◌∷◌, ◌++◌, Option, Some, None, refl, sym, ap, ◌∙◌, subst, inl, inr}
 use Rattle.std.specs.List.{list_all}
 use Rattle.std.proofs.lemmas.Bool.{false≢true, and_parts, and_from}
@@ -103,20 +103,20 @@ goes_calm (phases.Hello greeter bytes c) s events.ReadFault acts e is goes = abs
 goes_calm (phases.Hello greeter bytes c) s events.WriteFault acts e is goes = absurd (false≢true is)
 goes_calm (phases.Hello greeter bytes c) s events.Opened acts e is goes = absurd (false≢true is)
 
--- what a lesson's end asks for is nothing
+-- the end of a lesson asks for nothing
 written_in : (phase : Phase) (s : SessionState) (known : KnownState) (acts : List Action) (e : SessionState) → GoesIn phase s (events.Written known) acts e → acts ≡ []
 written_in (phases.New hello c) s known acts e goes = absurd goes
 written_in (phases.Hello greeter bytes c) s known acts e goes = absurd goes
 written_in (phases.Open c) s known acts e (mid, answered, none, then) = none
 written_in phases.Ended s known acts e goes = absurd goes
 
--- ---- what actions are answered with
+-- ---- the answers of actions
 
 abbrev is_answered : Option Event → Bool
 is_answered None = true
 is_answered (Some event) = is_answer event
 
--- nothing, or that a lesson is written
+-- no answer, or the end of a lesson
 abbrev is_last : Option Event → Bool
 is_last None = true
 is_last (Some (events.Written known)) = true
@@ -144,7 +144,7 @@ done_last n now k s t (actions.Teach batch) out answer calm (after, lesson, is, 
 done_last n now k s t (actions.Part kind) out answer calm (written, none, same) = ap is_last none
 done_last n now k s t actions.Close out answer calm (written, none, same) = ap is_last none
 
--- ---- what is asked for when they are given
+-- ---- what the session asks for when it receives them
 
 none_calm : (steps : List (Event × List Action)) → steps ≡ [] → are_calm (asked steps) ≡ true
 none_calm steps none = ap (λ (x : List (Event × List Action)). are_calm (asked x)) none
@@ -165,7 +165,7 @@ given_calm : (s e : SessionState) (answer : Option Event) (steps : List (Event �
 given_calm s e None steps is answers = none_calm steps answers.0
 given_calm s e (Some event) steps is answers = given_in_calm (state_of s.phase) s e event steps is answers
 
--- what the answers of actions ask for, no table answers
+-- no table answers what the answers of actions ask for
 pub acts_calm : (s e : Worker) (acts : List Action) (answers : List (Event × List Action)) (out : List ℕ) → Acts s acts answers out e → are_calm (asked answers) ≡ true
 acts_calm s e [] answers out (none, nothing, same) = none_calm answers none
 acts_calm s e (act ∷ acts) answers out (bytes, more, answer, first, rest, seat, mid, done, gives, after, is, written) =
@@ -199,7 +199,7 @@ given_last s e (Some events.ReadFault) steps is answers = absurd (false≢true i
 given_last s e (Some events.WriteFault) steps is answers = absurd (false≢true is)
 given_last s e (Some events.Opened) steps is answers = absurd (false≢true is)
 
--- and what their answers ask for is nothing
+-- and those answers ask for nothing
 pub acts_last : (s e : Worker) (acts : List Action) (answers : List (Event × List Action)) (out : List ℕ) → are_calm acts ≡ true → Acts s acts answers out e → asked answers ≡ []
 acts_last s e [] answers out calm (none, nothing, same) = ap asked none
 acts_last s e (act ∷ acts) answers out calm (bytes, more, answer, first, rest, seat, mid, done, gives, after, is, written) =

@@ -56,7 +56,7 @@ closed_in phases.Ended s event acts e is goes = absurd goes
 pub closed : (s : SessionState) (event : Event) (acts : List Action) (e : SessionState) → closes event ≡ true → Goes s event acts e → e ≡ ended s
 closed s event acts e is goes = closed_in s.phase s event acts e is goes
 
--- what keeps the known bytes consumes none
+-- a call that keeps the known bytes consumes none
 pub nothing_consumed : (old new : Option (List ℕ)) → Keeps old new → Consumes old new []
 nothing_consumed None new keeps = tt
 nothing_consumed (Some xs) None keeps = absurd keeps

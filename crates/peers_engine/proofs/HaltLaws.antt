@@ -1,4 +1,4 @@
--- Where an error ends what a session asked for.
+-- How far an error lets a session's actions go.
 use Rattle.std.proofs.Common.{◌≡◌, ◌⊎◌, ℕ, true, List, [], ◌∷◌, ◌++◌, Option, Some, None, refl, sym, ap, ◌∙◌, subst, inl, inr, append_assoc}
 use Rattle.std.proofs.lemmas.List.{append-nil}
 use Rattle.std.proofs.lemmas.List.Concat.{flat_map-append}
@@ -29,7 +29,7 @@ asked_on first rest = flat_map-append (λ (step : Event × List Action). step.1)
 
 -- ---- one action
 
--- one action more is done
+-- one more action is performed
 pub act_more : (s mid : Worker) (e : SessionState) (seat : SeatState) (acts : List Action) (act : Action) (answer : Option Event) (answers steps : List (Event × List Action)) (out bytes : List ℕ)
     → Acts s acts answers out mid → Done mid.number mid.now mid.session.known mid.seat act bytes answer seat → IsGiven mid.session answer steps e
     → Acts s (acts ++ (act ∷ [])) (answers ++ steps) (out ++ bytes) (stands mid e seat)
@@ -47,7 +47,7 @@ more_answers : (answers : List (Event × List Action)) (step : Event × List Act
 more_answers [] step is = cc is
 more_answers (one ∷ answers) step is = cc is
 
--- an action was done, and its answer was refused, or what it asks for couldn't be kept
+-- an action succeeded, and its answer was refused, or memory ran out for what it asks for
 pub give_stops : (s mid : Worker) (e : SessionState) (seat : SeatState) (all before rest : List Action) (act : Action) (answer : Option Event) (event : Event) (error : EngineError) (answers : List (Event × List Action)) (first bytes : List ℕ)
     → all ≡ before ++ (act ∷ rest) → Acts s before answers first mid → Done mid.number mid.now mid.session.known mid.seat act bytes answer seat → answer ≡ Some event
     → state_of mid.session.phase ≢ states.Ended → DoesNotGoOn mid.session event error e
@@ -62,7 +62,7 @@ give_stops s mid e seat all before rest act answer event error answers first byt
 
 -- ---- one event
 
--- what the answers asked for is done, and nothing more is asked for
+-- what the answers asked for is performed, and nothing more is asked for
 pub react_done : (s next e : Worker) (mid : SessionState) (event : Event) (acts : List Action) (answers more : List (Event × List Action)) (out rest : List ℕ)
     → Goes s.session event acts mid → Acts (stands s mid s.seat) acts answers out next → Acts next (asked answers) more rest e → Reacts s event (out ++ rest) e
 react_done s next e mid event acts answers more out rest goes first second =
@@ -172,7 +172,7 @@ stops_ended : {untouched : Type 0} (s : Worker) (e : SessionState) (received : O
 stops_ended s e received error out (inl (still, none, halts)) = inl (still, none, halt_ended s e (first_event (state_of s.session.phase)) error out halts)
 stops_ended s e received error out (inr (mid, idles, halts)) = inr (mid, idles, halts_ended mid e received error out halts)
 
--- what was written stays written when the session is ended
+-- what was written stays so when the session is ended
 pub halted : {untouched : Type 0} (s : Worker) (e new : SessionState) (received : Option Event) (error : EngineError) (out : List ℕ) → StopsTurn untouched s received error out e → new ≡ ended e → StopsTurn untouched s received error out new
 halted {untouched} s e new received error out halts is = subst (λ (x : SessionState). StopsTurn untouched s received error out x) (sym is) (stops_ended s e received error out halts)
 
@@ -203,7 +203,7 @@ none_done s e acts answers out none done =
     let nothing = subst (λ (x : List Action). Acts s x answers out e) none done in
     (nothing.1, nothing.2)
 
--- only pushes were asked for, and nothing came of them
+-- only pushes were asked for, and they led to nothing
 pub idle_done : (s next e : Worker) (mid : SessionState) (event : Event) (acts : List Action) (answers more : List (Event × List Action)) (out rest : List ℕ)
     → Goes s.session event acts mid → Acts (stands s mid s.seat) acts answers out next → Acts next (asked answers) more rest e → list_all is_push acts ≡ true → asked answers ≡ []
     → Idles s event e × (out ++ rest ≡ [])

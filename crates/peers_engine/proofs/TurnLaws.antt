@@ -18,7 +18,7 @@ use Rattle.session_actions.specs.Reading.{IsRead}
 use Rattle.peers_engine.specs.Turns.{Breaks, Halts, HaltsAt, Receives, Idles, Reacts, StopsTurn, TakesTurn, Turns, first_event, is_push}
 use Rattle.peers_engine.proofs.HaltLaws.{act_more, act_stops, breaks_of, halted, idle_done, react_done, react_stops, react_stops_later, give_stops, turns_of}
 
--- what is known of a result whose variant is known
+-- what is known of a result, given its variant
 pub of_ok : {X : Type 0} (P : X → Type 0) (result : Result X EngineError) (x : X) → IfOk result P → result ≡ Ok x → P x
 of_ok {X} P result x given is = subst (λ (r : Result X EngineError). IfOk r P) is given
 
@@ -27,25 +27,25 @@ of_err {X} P result error given is = subst (λ (r : Result X EngineError). IfErr
 
 -- ---- the actions so far, and one more
 
--- the actions so far are done, their answers given, what these ask for is kept, and so much is written
+-- the actions so far are performed, their answers are received, what those ask for is kept, and the bytes are written
 abbrev pub AreDone : Worker → List Action → List Action → Worker → Option (List ℕ) → Option (List ℕ) → Type 0
 AreDone s acts given e old new =
     (answers : List (Event × List Action)) × (out : List ℕ) × Acts s acts answers out e × (given ≡ asked answers) × Appends old new out
 
--- up to where an error ended it
+-- the same, up to an error
 abbrev pub AreStopped : Worker → List Action → EngineError → SessionState → Option (List ℕ) → Option (List ℕ) → Type 0
 AreStopped s acts error e old new =
     (answers : List (Event × List Action)) × (out : List ℕ) × Stops s acts error answers out e × Appends old new out
 
--- one action is done
+-- one action is performed
 abbrev pub OneDone : ℕ → ℕ → KnownState → SeatState → SeatState → Action → Option (List ℕ) → Option (List ℕ) → Option Event → Type 0
 OneDone n now k s t act old new answer = (out : List ℕ) × Done n now k s act out answer t × Appends old new out
 
--- one action isn't done whole
+-- one action fails
 abbrev pub OneFails : ℕ → ℕ → KnownState → SeatState → Action → Option (List ℕ) → Option (List ℕ) → EngineError → Type 0
 OneFails n now k s act old new error = (out : List ℕ) × Fails n now k s act error out × Appends old new out
 
--- an answer is not received by a session that isn't over
+-- a session that isn't over doesn't go on after an answer
 abbrev pub IsNotGiven : SessionState → Option Event → SessionState → EngineError → Type 0
 IsNotGiven s answer e error = (event : Event) × (answer ≡ Some event) × (state_of s.phase ≢ states.Ended) × DoesNotGoOn s event error e
 
@@ -73,7 +73,7 @@ give_known s mid e seat k all before rest given act answer error a b d is same (
     (subst (λ (x : KnownState). Done mid.number mid.now x mid.seat act bytes answer seat) same done) some going stuck in
     (stops.0, out ++ bytes, stops.1, Appends-trans a b d out bytes appended more)
 
--- the answer of the next action can't be given
+-- the session doesn't go on after the answer of the next action
 pub give_fails : (s mid : Worker) (e : SessionState) (seat : SeatState) (k : KnownState) (all before rest given : List Action) (act : Action) (answer : Option Event) (error : EngineError) (result : Result (Option Event) EngineError) (a b d : Option (List ℕ))
     → all ≡ before ++ (act ∷ rest) → k ≡ mid.session.known → AreDone s before given mid a b → IfOk result (OneDone mid.number mid.now k mid.seat seat act b d) → result ≡ Ok answer
     → IsNotGiven mid.session answer e error → AreStopped s all error e a d
@@ -92,7 +92,7 @@ more_known s mid e seat k before given more act answer a b d same (answers, out,
   Appends-trans a b d out bytes appended then,
 )
 
--- the next action is done, and its answer given
+-- the next action is performed, and its answer received
 pub one_more : (s mid : Worker) (e : SessionState) (seat : SeatState) (k : KnownState) (before given more : List Action) (act : Action) (answer : Option Event) (result : Result (Option Event) EngineError) (a b d : Option (List ℕ))
     → k ≡ mid.session.known → AreDone s before given mid a b → IfOk result (OneDone mid.number mid.now k mid.seat seat act b d) → result ≡ Ok answer
     → ((steps : List (Event × List Action)) × IsGiven mid.session answer steps e × (more ≡ given ++ asked steps))
@@ -132,7 +132,7 @@ pub second_fails : {Y : Type 0} (s next : Worker) (mid e : SessionState) (event 
 second_fails s next mid e event acts given error second a b d goes done fails err =
     second_known s next mid e event acts given error a b d goes done (of_err (λ (x : EngineError). AreStopped next given x e b d) second error fails err)
 
--- all is done, and nothing more is asked for
+-- everything is performed, and nothing more is asked for
 pub both_done : (s next e : Worker) (mid : SessionState) (event : Event) (acts given last : List Action) (a b d : Option (List ℕ))
     → Goes s.session event acts mid → AreDone (stands s mid s.seat) acts given next a b → AreDone next given last e b d → HasReacted s event e a d
 both_done s next e mid event acts given last a b d goes (answers, out, acted, kept, appended) (more, rest, then, is, also) = (
@@ -145,11 +145,11 @@ abbrev pub is_ok_true : Result Bool EngineError → Bool
 is_ok_true (Ok x) = x
 is_ok_true (Err error) = false
 
--- an answer that is that nothing was to be done
+-- a result that says that there was nothing to do
 pub idle_of : (result : Result Bool EngineError) → result ≡ Ok true → is_ok_true result ≡ true
 idle_of result is = ap is_ok_true is
 
--- nothing is done but pushes, of which nothing comes
+-- only pushes are performed, and they lead to nothing
 abbrev pub HasIdled : Worker → Event → Worker → Option (List ℕ) → Option (List ℕ) → Type 0
 HasIdled s event e old new = Idles s event e × Appends old new []
 
@@ -161,7 +161,7 @@ both_idle s next e mid event acts given last a b d goes (answers, out, acted, ke
 
 -- ---- a turn
 
--- what a turn did, and how far one came that an error ended
+-- what a turn did, and what a turn that failed did up to its error
 abbrev pub HasTurned : Type 0 → Type 0 → Worker → Worker → Option (List ℕ) → Option (List ℕ) → Option (List ℕ) → Option (List ℕ) → Type 0
 HasTurned at_end untouched s e from to a b =
     (received : Option Event) × (read out : List ℕ) × IsRead at_end received read × TakesTurn untouched s received out e × Consumes from to read × Appends a b out
@@ -170,14 +170,14 @@ abbrev pub HasStopped : Type 0 → Type 0 → Worker → SessionState → Option
 HasStopped at_end untouched s e from to a b error =
     (received : Option Event) × (read out : List ℕ) × IsRead at_end received read × StopsTurn untouched s received error out e × Consumes from to read × Appends a b out
 
--- what was read is received, up to an error
+-- the event that was read is received, up to an error
 pub read_fails : {at_end : Type 0} (s : Worker) (e : SessionState) (found : Option Event) (event : Event) (error : EngineError) (from to a b : Option (List ℕ))
     → found ≡ Some event → ((read : List ℕ) × IsRead at_end found read × Consumes from to read) → HasHalted s event e a b error
     → (received : Option Event) × (read out : List ℕ) × IsRead at_end received read × HaltsAt s received error out e × Consumes from to read × Appends a b out
 read_fails {at_end} s e found event error from to a b is (read, reads, consumed) (out, halts, appended) =
     (Some event, read, out, subst (λ (x : Option Event). IsRead at_end x read) is reads, halts, consumed, appended)
 
--- the first event leaves nothing to do, and then it reads
+-- the first event leaves nothing to do, and then the turn reads
 pub then_done : {at_end untouched : Type 0} (s mid e : Worker) (event : Event) (from to a b d : Option (List ℕ)) → event ≡ first_event (state_of s.session.phase) → HasIdled s event mid a b
     → ((received : Option Event) × (read out : List ℕ) × IsRead at_end received read × Receives mid received out e × Consumes from to read × Appends b d out)
     → HasTurned at_end untouched s e from to a d
@@ -190,7 +190,7 @@ pub then_fails : {at_end untouched : Type 0} (s mid : Worker) (e : SessionState)
 then_fails s mid e event error from to a b d is (idles, silent) (received, read, out, reads, halts, consumed, more) =
     (received, read, out, reads, inr (mid, subst (λ (x : Event). Idles s x mid) is idles, halts), consumed, Appends-trans a b d [] out silent more)
 
--- the first event alone, with the reader untouched
+-- the first event alone, without using the reader
 pub alone_done : {at_end untouched : Type 0} (s e : Worker) (event : Event) (known a b : Option (List ℕ)) → event ≡ first_event (state_of s.session.phase) → HasReacted s event e a b → untouched → HasTurned at_end untouched s e known known a b
 alone_done s e event known a b is (out, reacts, appended) still =
     (None, [], out, refl, inl (still, refl, subst (λ (x : Event). Reacts s x out e) is reacts), Consumes-nil known, appended)

@@ -1,4 +1,4 @@
--- A turn of a session (profile).
+-- A turn of a session.
 use Rattle.std.specs.Prelude.{◌≡◌, ◌⊎◌, ℕ, Bool, true, false, List, [], ◌∷◌, ◌++◌, Option, Some, None}
 use Rattle.std.specs.List.{list_all}
 use Rattle.table_types.specs.declared.copies.CopyKind.TheVariants as copies
@@ -14,24 +14,25 @@ use Rattle.session_actions.specs.declared.errors.EngineError.{EngineError}
 use Rattle.session_actions.specs.Reading.{IsUnread}
 use Rattle.peers_engine.specs.Acting.{Acts, IsRefused, Stops, Worker, asked, stands}
 
--- the event with which a turn begins: a new session is opened, and any other may teach
+-- the event with which a turn begins: it opens a new session, and lets any other teach
 abbrev pub first_event : State → Event
 first_event states.New = events.Opened
 first_event state = events.Turn
 
 -- ---- how the session moved
 
--- by a run that begins with the turn's first event
+-- it moved by a run that begins with the turn's first event
 abbrev pub Turns : SessionState → SessionState → Type 0
 Turns s e = (acts : List Action) × (steps : List (Event × List Action)) × Runs s ((first_event (state_of s.phase), acts) ∷ steps) e
 
--- by such a run or none, and then it was ended
+-- it moved by such a run or none, and was then ended
 abbrev pub Breaks : SessionState → SessionState → Type 0
 Breaks s e = (e ≡ ended s) ⊎ ((mid : SessionState) × Turns s mid × (e ≡ ended mid))
 
 -- ---- what was done
 
--- An event is received, and all that was asked for is done in order: what the event asked for, and then what the answers did.
+-- A session receives an event, and what it asks for is performed in order: what the event asked for, and then what the
+-- answers did.
 abbrev pub Reacts : Worker → Event → List ℕ → Worker → Type 0
 Reacts w event out e =
     (acts : List Action)
@@ -40,7 +41,7 @@ Reacts w event out e =
     × Goes w.session event acts mid
     × Acts (stands w mid w.seat) (acts ++ asked answers) answers out e
 
--- an event is refused; or it is received, and what was asked for is done up to where an error ended it
+-- the session refuses the event; or receives it, and what it asks for is performed up to an error
 abbrev pub Halts : Worker → Event → EngineError → List ℕ → SessionState → Type 0
 Halts w event error out e =
     (IsRefused w.session event error × (out ≡ []) × (ended e ≡ ended w.session))
@@ -57,7 +58,7 @@ abbrev pub is_push : Action → Bool
 is_push (actions.Copy table copies.Push) = true
 is_push act = false
 
--- an event leaves nothing to do: it asks for nothing, or for pushes alone, and nothing comes of them
+-- an event leaves nothing to do: the session asks for nothing, or only for pushes, and these lead to nothing
 abbrev pub Idles : Worker → Event → Worker → Type 0
 Idles w event e =
     (acts : List Action)
@@ -68,7 +69,7 @@ Idles w event e =
     × Acts (stands w mid w.seat) acts answers [] e
     × (asked answers ≡ [])
 
--- An event is received, if there is one; and up to an error, which may come before there is one.
+-- The session receives an event, if there is one; and the same up to an error, which may come before the event.
 abbrev pub Receives : Worker → Option Event → List ℕ → Worker → Type 0
 Receives w None out e = (out ≡ []) × (e ≡ w)
 Receives w (Some event) out e = Reacts w event out e
@@ -77,14 +78,14 @@ abbrev pub HaltsAt : Worker → Option Event → EngineError → List ℕ → Se
 HaltsAt w None error out e = IsUnread error × (out ≡ []) × (ended e ≡ ended w.session)
 HaltsAt w (Some event) error out e = Halts w event error out e
 
--- A turn receives its first event, with the reader untouched; or that event leaves nothing to do, and then the turn reads, and
--- receives the event that comes of it, if any.
+-- A turn gives the session its first event and leaves the reader alone; or that event leaves nothing to do, and the
+-- turn then reads and gives the session the event of that read, if any.
 abbrev pub TakesTurn : Type 0 → Worker → Option Event → List ℕ → Worker → Type 0
 TakesTurn untouched w received out e =
     (untouched × (received ≡ None) × Reacts w (first_event (state_of w.session.phase)) out e)
     ⊎ ((mid : Worker) × Idles w (first_event (state_of w.session.phase)) mid × Receives mid received out e)
 
--- the same up to an error
+-- the same, up to an error
 abbrev pub StopsTurn : Type 0 → Worker → Option Event → EngineError → List ℕ → SessionState → Type 0
 StopsTurn untouched w received error out e =
     (untouched × (received ≡ None) × Halts w (first_event (state_of w.session.phase)) error out e)

@@ -1,4 +1,4 @@
-//! Devices that fail after a while.
+//! Devices that fail after some calls.
 
 ghost use Rattle.std.specs.Prelude.{◌≡◌, ◌+◌, IfOk, OnErr, OnOk};
 ghost use Rattle.std.specs.Io.{ReadsAtMost, WritesAtMost};
@@ -7,7 +7,7 @@ ghost use Rattle.std.specs.Io.KnownBytes.{Keeps, ReadConsumes, WriteAppends};
 use std::io;
 use std::io::{Read, Write};
 
-/// A device that passes on so many reads, or so many written bytes, and then fails each call. It is for tests.
+/// A device, for tests, that passes on a number of reads, or of written bytes, and then fails each call.
 #[derive(Debug, Drop)]
 pub struct Fused<T> {
     inner: T,
@@ -15,7 +15,7 @@ pub struct Fused<T> {
 }
 
 impl<T> Fused<T> {
-    /// Passes on `left` reads, or `left` written bytes.
+    /// Returns a device that passes on `left` reads, or `left` written bytes.
     pub fn new(inner: T, left: usize) -> Fused<T>
         ensures inner { result.inner ≡ inner }
         ensures left { result.left ≡ left }
@@ -23,7 +23,7 @@ impl<T> Fused<T> {
         Fused { inner, left }
     }
 
-    /// The device itself.
+    /// Returns the device itself.
     pub fn into_inner(self) -> T
         ensures { result ≡ self.inner }
     {

@@ -1,4 +1,4 @@
-//! What moves a session's bytes: its turns, and devices that fail after a while.
+//! Driving a session: its turns, and devices that fail after some calls.
 #![tactic(auto)]
 
 mod fused;
@@ -7,6 +7,6 @@ mod turning;
 
 pub use fused::Fused;
 pub use peers_devices::{Counting, Faults};
-pub use session_actions::{EngineError, Gate, Open, Stage, WriteFault, write_lesson};
+pub use session_actions::{AlwaysOpen, EngineError, Gate, Stage, WriteFault, write_lesson};
 pub use turned::Turned;
 pub use turning::turn;

@@ -3,8 +3,8 @@
 /// Whether a session goes on after a turn.
 #[derive(Clone, Copy, Debug, PartialEq, Eq)]
 pub enum Turned {
-    /// It does.
+    /// The session goes on.
     Going,
-    /// The session closed the connection, after an error message or without one, and is over.
+    /// The session closed the connection, with or without an error message, and is over.
     Closed,
 }

@@ -1,4 +1,4 @@
-//! A turn of a session.
+//! Turns of a session.
 
 ghost use Rattle.std.specs.Prelude.{◌≡◌, ◌≢◌, ◌↔◌, ◌++◌, [], ℕ, true, List, Option, Some, Ok, Err, IfErr, IfOk, OnErr, OnOk};
 ghost use Rattle.std.specs.List.{list_all};
@@ -26,7 +26,7 @@ use std::sync::Wait;
 use table_shards::{Seat, Shards};
 use table_types::{CopyKind, Moment};
 
-/// The event with which a turn begins.
+/// Returns the event with which a turn begins.
 fn first_event(state: State) -> Event
     ensures { result ≡ first_event state }
 {
@@ -36,7 +36,7 @@ fn first_event(state: State) -> Event
     }
 }
 
-/// Gives a session an event, and adds what it asks for then.
+/// Gives a session an event, and appends what the session then asks for.
 fn give_event(
     session: &mut Session,
     now: Moment,
@@ -54,8 +54,8 @@ fn give_event(
     }
 }
 
-/// Gives the session the answer to an action, if it has one, and adds what it asks for then. A session that is over is given
-/// nothing.
+/// Gives the session the answer to an action, if there is one, and appends what the session then asks for. Gives
+/// nothing to a session that is over.
 fn give_answer(
     session: &mut Session,
     now: Moment,
@@ -73,7 +73,7 @@ fn give_answer(
     }
 }
 
-/// Does these actions in order, and gives what their answers ask for.
+/// Performs the actions in order, and returns what the session asks for when it receives their answers.
 fn do_all<H: Wait, G: Gate, W: Write + Faults>(
     context: &Context<H, G>,
     session: &mut Session,
@@ -106,7 +106,7 @@ fn do_all<H: Wait, G: Gate, W: Write + Faults>(
     (seat, Ok(given))
 }
 
-/// Whether nothing but rows of this node's own is asked for.
+/// Returns whether the actions only copy this node's own rows.
 fn are_pushes(actions: &[Action]) -> bool
     ensures { result ≡ list_all is_push actions.now }
 {
@@ -119,8 +119,9 @@ fn are_pushes(actions: &[Action]) -> bool
     ))
 }
 
-/// Gives the session an event, and does what it asks for, and what it asks for then. Answers whether nothing was to
-/// be done: no action, or a push of which the table had nothing.
+/// Gives the session an event, performs what it asks for, and then what it asks for when it receives the answers.
+/// Returns whether there was nothing to do: no action, or only copies of this node's own rows from tables that had
+/// nothing to teach.
 fn react<H: Wait, G: Gate, W: Write + Faults>(
     context: &Context<H, G>,
     session: &mut Session,
@@ -156,7 +157,7 @@ fn react<H: Wait, G: Gate, W: Write + Faults>(
     (seat, Ok(is_idle))
 }
 
-/// Reads once, and does what comes of it. Answers whether nothing was to be done.
+/// Reads once, and reacts to what was read. Returns whether there was nothing to do.
 fn receive<H: Wait, G: Gate, R: Read + Faults, W: Write + Faults>(
     context: &Context<H, G>,
     session: &mut Session,
@@ -182,7 +183,8 @@ fn receive<H: Wait, G: Gate, R: Read + Faults, W: Write + Faults>(
     }
 }
 
-/// A turn, except that an error doesn't end the session yet. Answers whether nothing was to be done.
+/// Takes a turn, but leaves it to the caller to end the session after an error. Returns whether there was nothing to
+/// do.
 fn take_turn<H: Wait, G: Gate, R: Read + Faults, W: Write + Faults>(
     context: &Context<H, G>,
     session: &mut Session,
@@ -226,7 +228,7 @@ fn end<H, G>(context: &Context<H, G>, session: &mut Session, seat: Seat, error: 
     seat
 }
 
-/// The answer of a turn that ended without an error.
+/// Returns the outcome of a turn without an error.
 fn outcome(session: &Session) -> Turned
     ensures { (result ≡ turns.Closed) ↔ (state_of session.now.phase ≡ states.Ended) }
 {
@@ -237,20 +239,21 @@ fn outcome(session: &Session) -> Turned
     }
 }
 
-/// One turn of a session, which has that number in the tables and works from that seat. The caller has opened it in each table
-/// of its roster; a turn that calls a table in which it isn't open ends with `Strange`.
+/// Takes one turn of a session, which has `number` in the tables and works from `seat`. The caller has opened it in
+/// each table of its roster; a turn that calls a table in which it isn't open fails with `Strange`.
 ///
-/// A new session is opened; any other may copy a batch, whose lesson is then written. Where there is none to copy, the turn
-/// reads once, at most 4,096 bytes. All that the session asks for is done in order, what an answer asks for after what was
-/// asked for already. A copy has at most 512 updates.
+/// The turn opens a new session. For any other it may copy a batch, of at most 512 updates, and write its lesson; if
+/// there is nothing to copy, it reads once, at most 4,096 bytes. It performs the session's actions in the order in
+/// which the session asks for them.
 ///
-/// A table's lock is held for one call at a time, and none while a lesson is planned or written, or at the gate, to which the
-/// turn comes after a copy, after the plan, and after the lesson is written. It waits where a lock, the gate, a read or a
-/// write does.
+/// The turn holds a table's lock for one call at a time. It holds none while it plans or writes a lesson, or at the
+/// gate, at which it stops after a copy, after the plan, and after the lesson is written. It waits as long as a lock,
+/// the gate, a read or a write does.
 ///
-/// `Read` comes only where the reader's count of failures rose. `Write` comes only where the writer's rose, where a write
-/// took no byte, and where more than a million writes failed without being counted; `sent` is below the length of what was
-/// being written. A read that fails without being counted is passed over.
+/// After an error the session is over; the seat is returned in any case. `Read` is returned only if the reader's count
+/// of failures rose. `Write` is returned only if the writer's count rose, a write took no byte, or more than a million
+/// writes failed without being counted; `sent` is below the length of what was being written. The turn skips a read
+/// that fails without being counted.
 pub fn turn<H: Wait, R: Read + Faults, W: Write + Faults, G: Gate>(
     rt: &H,
     alloc: Global,

@@ -1,4 +1,4 @@
--- What is written is accepted.
+-- A hello written for a peer is accepted.
 use Rattle.std.proofs.Common.{◌≡◌, ◌∙◌, ◌+◌, ◌-◌, ◌^◌, ◌<◌, ◌≤◌, ◌++◌, ◌&&◌, true, not, ℕ, List, [], ◌∷◌, ap, append_assoc, arith, length, refl, sym}
 use Rattle.std.specs.Prelude.{◌==◌, nat_le, codes}
 use Rattle.std.specs.Fmt.{decimal}
@@ -19,7 +19,7 @@ same_as_itself : (xs : List ℕ) → is_same xs xs ≡ true
 same_as_itself [] = refl
 same_as_itself (x ∷ xs) = grind (arith, nat_tests, same_as_itself xs)
 
--- ---- what texts lack
+-- ---- bytes that don't occur in a text
 
 digits_lack : (stop : ℕ) (xs : List ℕ) → stop < 48 → list_all (λ byte. nat_le 48 byte && nat_le byte 57) xs ≡ true → Lacks stop xs
 digits_lack stop [] below are = refl

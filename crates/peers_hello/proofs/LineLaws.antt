@@ -1,4 +1,4 @@
--- Lines and their parts, where the byte that ends them is known.
+-- Lines and their parts, if the byte that ends them is known.
 use Rattle.std.proofs.Common.{◌≡◌, ◌-◌, ◌<◌, ◌≤◌, ◌++◌, true, false, not, ℕ, zero, suc, List, [], ◌∷◌, arith, drop, length, refl}
 use Rattle.std.specs.Prelude.{◌==◌, None}
 use Rattle.std.specs.List.{list_all}

@@ -1,4 +1,4 @@
--- The hello: what is written, and what it is answered with (HAProxy, doc/peers-v2.0.txt).
+-- The hello: its bytes, and the answer to it (HAProxy, doc/peers-v2.0.txt).
 use Rattle.std.specs.Prelude.{ℕ, Bool, true, false, not, ◌-◌, ◌≡◌, ◌<◌, ◌^◌, ◌==◌, ◌&&◌, ◌||◌, nat_le, List, ◌++◌, length, take, drop, Option, Some, None, if◌then◌else◌, codes}
 use Rattle.std.specs.Fmt.{decimal}
 use Rattle.std.specs.List.{list_all, list_any}
@@ -14,18 +14,18 @@ use Rattle.peers_hello.specs.Lines.{is_same, until, past, line, after_lines, no_
 abbrev pub introduction_text : Hello → List ℕ
 introduction_text h = h.local ++ (codes " " ++ (decimal h.pid ++ (codes " " ++ (decimal h.relative ++ codes "\n"))))
 
--- the three lines: the protocol and its version, the remote name, and who speaks
+-- the three lines: the protocol and its version, the remote name, and the introduction of the sender
 abbrev pub hello_text : Hello → List ℕ
 hello_text h = codes "HAProxyS 2.1\n" ++ (h.remote ++ (codes "\n" ++ introduction_text h))
 
--- a first line, of whatever version
+-- a first line, of any version
 abbrev pub is_greeting : List ℕ → Bool
 is_greeting text = nat_le 9 (length text) && is_same (take 9 text) (codes "HAProxyS ")
 
 abbrev pub version_of : List ℕ → List ℕ
 version_of text = drop 9 text
 
--- digits, at least one
+-- one or more digits
 abbrev pub is_number : List ℕ → Bool
 is_number text = not (length text == 0) && list_all (λ byte. nat_le 48 byte && nat_le byte 57) text
 
@@ -33,15 +33,15 @@ is_number text = not (length text == 0) && list_all (λ byte. nat_le 48 byte && 
 abbrev pub local_of : List ℕ → List ℕ
 local_of text = until 32 text
 
--- a third line: a name without a space, and two numbers, with a space between each
+-- a third line: a name without a space, and two numbers, separated by single spaces
 abbrev pub is_introduction : List ℕ → Bool
 is_introduction text =
     is_name (local_of text)
     && (is_number (until 32 (past 32 text))
     && is_number (past 32 (past 32 text)))
 
--- what is wrong with the three lines, whoever the peers are: they are none of a hello (501), of another version (502), or
--- for another peer (503)
+-- what is wrong with the three lines, whichever peers are known: they are no hello (501), have another version (502),
+-- or are meant for another peer (503)
 abbrev pub fault_of : List ℕ → List ℕ → List ℕ → List ℕ → Option ℕ
 fault_of own first second third =
     if not (is_greeting first && is_introduction third) then Some 501
@@ -52,13 +52,13 @@ fault_of own first second third =
 abbrev pub is_among : List ℕ → List (List ℕ) → Bool
 is_among name peers = list_any (λ peer. is_same peer name) peers
 
--- what is wrong with them otherwise: the local name is no peer's (504)
+-- what is wrong with them otherwise: no known peer has the local name (504)
 abbrev pub refusal_of : Option ℕ → Bool → Option ℕ
 refusal_of (Some code) is_peer = Some code
 refusal_of None true = None
 refusal_of None false = Some 504
 
--- of three lines that are whole, and so many bytes
+-- the answer to three complete lines of `used` bytes
 abbrev pub decided : Option ℕ → List ℕ → ℕ → Answer
 decided (Some code) name used = answers.Refused code used
 decided None name used = answers.Accepted name used
@@ -67,13 +67,13 @@ abbrev pub answer_of_lines : List ℕ → List (List ℕ) → List ℕ → List 
 answer_of_lines own peers first second third used =
     decided (refusal_of (fault_of own first second third) (is_among (local_of third) peers)) (local_of third) used
 
--- where a line is too long, all the bytes are refused, and where one isn't whole, there is no answer yet
+-- if a line is too long, all the bytes are refused; while a line isn't complete, there is no answer yet
 abbrev pub answered : Option NoLine → Answer → ℕ → Answer
 answered None answer all = answer
 answered (Some lacks.TooLong) answer all = answers.Refused 501 all
 answered (Some lacks.More) answer all = answers.More
 
--- what the peer `own`, who knows these peers, answers to the bytes
+-- the answer of the peer `own`, which knows `peers`, to the bytes
 abbrev pub answer_of : List ℕ → List (List ℕ) → List ℕ → Answer
 answer_of own peers bytes =
     answered (no_lines 3 bytes)

@@ -26,6 +26,7 @@ status_at None status all = status
 status_at (Some lacks.TooLong) status all = Other all
 status_at (Some lacks.More) status all = More
 
--- what the bytes say: of one line, unless it is too long, where it is all the bytes, or isn't whole
+-- the status at the front of the bytes: a code, another line, all the bytes if the line is too long, or that the line
+-- isn't complete yet
 abbrev pub status_of : List ℕ → Status
 status_of bytes = status_at (no_line bytes) (status_of_code (code_of (line bytes)) (length bytes - length (past 10 bytes))) (length bytes)

@@ -1,4 +1,4 @@
-//! The hello: three lines.
+//! The hello: three lines that open a session.
 
 ghost use Rattle.std.specs.Prelude.{◌≡◌, ◌≤◌, ◌-◌, true, false, None, Some, IfOk, IfErr, IfSome, OnOk, OnErr, ◌++◌, IsNone, length, drop};
 ghost use Rattle.peers_hello.specs.Lines.{line, past, after_lines, no_lines};
@@ -16,7 +16,7 @@ const OTHER_NAME: u16 = 503;
 
 const UNKNOWN_PEER: u16 = 504;
 
-/// What a peer opens a session with: whom it means, and who it is.
+/// The hello with which a peer opens a session. It names the remote peer and the peer that sends it.
 ///
 /// ```text
 /// HAProxyS 2.1 LF
@@ -25,29 +25,29 @@ const UNKNOWN_PEER: u16 = 504;
 /// ```
 #[derive(Debug, Drop, PartialEq, Eq)]
 pub struct Hello {
-    /// The name of the peer that is spoken to.
+    /// The name of the peer that the hello is sent to.
     pub remote: Name,
-    /// The name of the peer that speaks.
+    /// The name of the peer that sends the hello.
     pub local: Name,
-    /// The id of its process.
+    /// The sender's process id.
     pub pid: u32,
-    /// That process's number among the peer's processes.
+    /// The number of that process among the sender's processes.
     pub relative: u32,
 }
 
-/// What a hello is answered with.
+/// The answer to a hello.
 #[derive(Debug, Drop, PartialEq, Eq)]
 pub enum Answer {
-    /// The peer of this name is let in; the hello had so many bytes.
+    /// The hello is accepted: the name of the peer that sent it, and the hello's length in bytes.
     Accepted(Name, usize),
-    /// The code of the status to answer, 501 to 504, and how many bytes it is the answer to.
+    /// The hello is refused: the status code to send, 501 to 504, and the number of bytes it answers.
     Refused(u16, usize),
-    /// The hello isn't whole yet.
+    /// The hello isn't complete yet.
     More,
 }
 
 impl Hello {
-    /// The hello's bytes.
+    /// Returns the hello's bytes. Fails if memory runs out.
     pub fn write(&self, alloc: Global) -> Result<Vec<u8>, Memory>
         ensures { IfOk result (λ bytes. bytes.items ≡ hello_text self.now) }
     {
@@ -56,8 +56,8 @@ impl Hello {
         Ok(text)
     }
 
-    /// What the peer `own`, who knows these peers, answers to the hello at the front of the bytes. Memory is wanted only
-    /// where it is accepted.
+    /// Returns the answer of the peer `own`, which knows `peers`, to the hello at the front of `bytes`. Allocates only
+    /// if the hello is accepted, and fails if memory runs out.
     pub fn read(alloc: Global, bytes: &[u8], own: &Name, peers: &[Name]) -> Result<Answer, Memory>
         ensures answer { IfOk result (λ answer. answer ≡ answer_of own.now peers.now bytes.now) }
         ensures memory { OnErr result (IsAccepted (answer_of own.now peers.now bytes.now)) }
@@ -86,7 +86,7 @@ fn push_hello(alloc: Global, text: &mut Vec<u8>, hello: &Hello) -> Result<(), Al
     push_introduction(alloc, text, hello)
 }
 
-/// Adds the third line.
+/// Appends the third line.
 fn push_introduction(alloc: Global, text: &mut Vec<u8>, hello: &Hello) -> Result<(), AllocError>
     ensures { OnOk result (text.new.items ≡ text.old.items ++ introduction_text hello.now) }
 {
@@ -95,7 +95,7 @@ fn push_introduction(alloc: Global, text: &mut Vec<u8>, hello: &Hello) -> Result
     text.extend_from_slice(format!(in alloc; " {pid} {relative}\n")?.as_bytes())
 }
 
-/// The three lines of a hello, and how many bytes they are.
+/// The three lines of a hello, and their length in bytes.
 #[derive(Drop)]
 struct Lines<'a> {
     first: &'a [u8],
@@ -123,7 +123,7 @@ fn lines_of(bytes: &[u8]) -> Result<Lines<'_>, NoLine>
     })
 }
 
-/// The code of the first thing that is wrong with the lines, whoever the peers are.
+/// Returns the status code of the first thing that is wrong with the lines, whichever peers are known.
 fn fault_of(lines: &Lines<'_>, own: &Name) -> Option<u16>
     ensures { result ≡ fault_of own.now lines.now.first.now lines.now.second.now lines.now.third.now }
 {
@@ -139,7 +139,7 @@ fn fault_of(lines: &Lines<'_>, own: &Name) -> Option<u16>
     None
 }
 
-/// Whether a first line names the protocol, whatever its version.
+/// Returns whether a first line names the protocol, in any version.
 fn is_greeting(line: &[u8]) -> bool
     ensures exactly { result ≡ is_greeting line.now }
     ensures long { result ≡ true → 9 ≤ length line.now }
@@ -147,7 +147,7 @@ fn is_greeting(line: &[u8]) -> bool
     line.len() >= 9 && is_same(&line[..9], b"HAProxyS ".as_slice())
 }
 
-/// Whether a third line is a name, a process id and a relative pid.
+/// Returns whether a third line is a name, a process id and a relative pid.
 fn is_introduction(line: &[u8]) -> bool
     ensures { result ≡ is_introduction line.now }
 {
@@ -156,7 +156,7 @@ fn is_introduction(line: &[u8]) -> bool
     is_name(local) && is_number(pid) && is_number(relative)
 }
 
-/// Whether a text is one or more decimal digits.
+/// Returns whether `text` is one or more decimal digits.
 fn is_number(text: &[u8]) -> bool
     ensures { result ≡ is_number text.now }
 {
@@ -171,7 +171,7 @@ fn is_number(text: &[u8]) -> bool
     true
 }
 
-/// The local name in a third line.
+/// Returns the local name in a third line.
 fn local_of(line: &[u8]) -> &[u8]
     ensures { result.now ≡ local_of line.now }
 {
@@ -179,7 +179,7 @@ fn local_of(line: &[u8]) -> &[u8]
     local
 }
 
-/// The peer of that name.
+/// Returns the peer called `name`.
 fn peer_called<'a>(peers: &'a [Name], name: &[u8]) -> Option<&'a Name>
     ensures found { IfSome result (λ peer. peer.now ≡ name.now) }
     ensures among { IfSome result (λ _. is_among name.now peers.now ≡ true) }

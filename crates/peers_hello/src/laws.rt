@@ -1,8 +1,8 @@
-//! What holds of hellos, whatever the program does.
+//! Laws of the definitions.
 ghost use Rattle.peers_hello.specs.Hellos.{IsReadAsWritten};
 
-/// Where neither name holds a space, CR or LF, what is written is accepted by the peer that it is for, if the peer that
-/// wrote it is one of those known, whatever follows.
+/// A peer accepts a hello written for it, whatever follows it, if it knows the sender and neither name has a space, CR
+/// or LF.
 pub fn what_is_written_is_accepted()
     ensures { IsReadAsWritten }
 {}

@@ -6,16 +6,16 @@ ghost use Rattle.peers_hello.specs.Lines.{is_same, until, past, without_cr, line
 /// The most bytes that a line may have before its LF.
 const MOST_BYTES: usize = 512;
 
-/// Why no line stands at the front.
+/// Why there is no line at the front.
 #[derive(Clone, Copy, Debug, PartialEq, Eq)]
 pub(crate) enum NoLine {
-    /// More than 512 bytes come before its LF.
+    /// More than 512 bytes come before the LF.
     TooLong,
-    /// Its LF may still come.
+    /// The LF hasn't come yet.
     More,
 }
 
-/// Whether two texts are the same.
+/// Returns whether two texts are the same.
 pub(crate) fn is_same(one: &[u8], other: &[u8]) -> bool
     ensures tests { result ≡ is_same one.now other.now }
     ensures exactly { IsTrue result ↔ (one.now ≡ other.now) }
@@ -23,7 +23,8 @@ pub(crate) fn is_same(one: &[u8], other: &[u8]) -> bool
     one == other
 }
 
-/// The bytes before the first that is `stop`, and those after it: all and none where there is no such byte.
+/// Returns the bytes before the first `stop`, and those after it. If there is no `stop`, these are all the bytes and
+/// none.
 pub(crate) fn split(stop: u8, bytes: &[u8]) -> (&[u8], &[u8])
     ensures until { result.0.now ≡ until stop bytes.now }
     ensures past { result.1.now ≡ past stop bytes.now }
@@ -46,7 +47,7 @@ fn without_cr(text: &[u8]) -> &[u8]
     }
 }
 
-/// The line at the front, without LF and a CR before it, and the bytes after it.
+/// Returns the line at the front, without its LF and a CR before that, and the bytes after it.
 pub(crate) fn cut(bytes: &[u8]) -> Result<(&[u8], &[u8]), NoLine>
     ensures stands { IfOk result (λ _. no_line bytes.now ≡ None) }
     ensures line { IfOk result (λ cut. cut.0.now ≡ line bytes.now) }

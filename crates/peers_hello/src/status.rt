@@ -8,15 +8,15 @@ use crate::lines::{NoLine, cut, is_same};
 /// What a status line says.
 #[derive(Clone, Copy, Debug, PartialEq, Eq)]
 pub enum Status {
-    /// One of the protocol's codes: 200, 300, or 501 to 504. The line had so many bytes.
+    /// One of the protocol's codes, 200, 300 or 501 to 504, and the line's length in bytes.
     Code(u16, usize),
-    /// Another line, or one that is too long, of so many bytes.
+    /// Any other line, or one that is too long, and its length in bytes.
     Other(usize),
-    /// The line isn't whole yet.
+    /// The line isn't complete yet.
     More,
 }
 
-/// Reads the status at the front of the bytes.
+/// Reads the status at the front of `bytes`.
 pub fn read_status(bytes: &[u8]) -> Status
     ensures { result ≡ status_of bytes.now }
 {
@@ -33,7 +33,7 @@ pub fn read_status(bytes: &[u8]) -> Status
     }
 }
 
-/// The code that a text is.
+/// Returns the code that `text` spells.
 fn code_of(text: &[u8]) -> Option<u16>
     ensures { result ≡ code_of text.now }
 {

@@ -1,10 +1,10 @@
--- What one turn of the loop does that appends the spelling of a number.
+-- One turn of the loop that appends the spelling of a number.
 use Rattle.std.proofs.Common.{◌≡◌, ℕ, zero, suc, ◌+◌, ◌-◌, ◌*◌, ◌/◌, ◌%◌, ◌^◌, ◌<◌, ◌≤◌, List, [], ◌∷◌, ◌++◌, length, sym, ap, ◌∙◌, append_assoc, arith}
 use Rattle.peers_encint.specs.Integers.{spelling, tail_of}
 use Rattle.peers_encint.proofs.OneTail.{tail_of-last, tail_of-more, length-tail_of-last, length-tail_of-more, some_tail, room_for-suc}
 use Rattle.peers_encint.proofs.OneSpelling.{spelling-high, length-high}
 
--- what is left of a number is spelled by later bytes, which make these the whole, and their count the total
+-- later bytes spell the rest of the number: with `bytes` they make `whole`, and with `count` their number makes `total`
 abbrev pub Remains : List ℕ → ℕ → ℕ → List ℕ → ℕ → Type 0
 Remains bytes count rest whole total =
     (most : ℕ)

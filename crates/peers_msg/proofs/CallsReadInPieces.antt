@@ -1,4 +1,4 @@
--- In whatever order a decoder is fed and asked, it reads in pieces.
+-- In whatever order a decoder is fed and asked, it reads a stream in pieces.
 use Rattle.std.proofs.Common.{◌≡◌, ℕ, List, [], ◌∷◌, ◌++◌, fold, Option, Some, None, Result, Ok, Err, refl, sym, ap, subst}
 use Rattle.peers_encint.specs.Integers.{IsBytes}
 use Rattle.peers_msg.specs.declared.fault.Fault.{Fault}
@@ -12,11 +12,11 @@ use Rattle.peers_msg.specs.Stream.{AllFit}
 use Rattle.peers_msg.proofs.CuttingIndependence.{whole}
 use Rattle.peers_msg.proofs.StreamRoundTrip.{read_spelled}
 
--- what is unread is the first piece
+-- reading begins with the unread bytes as the first piece
 abbrev Reads : Decoding → List (List ℕ) → List Message → Decoding → Type 0
 Reads d pieces ms e = AreReadInPieces d.received [] (d.unread ∷ pieces) ms e.received e.unread
 
--- what a decoder reads that is what another is, but for its fault
+-- a decoder reads like another with the same definitions and unread bytes
 reads_as : (d mid e : Decoding) (pieces : List (List ℕ)) (ms : List Message) → mid.received ≡ d.received → mid.unread ≡ d.unread → Reads mid pieces ms e → Reads d pieces ms e
 reads_as d mid e pieces ms received unread reads =
     subst (λ (bytes : List ℕ). AreReadInPieces d.received [] (bytes ∷ pieces) ms e.received e.unread) unread
@@ -54,7 +54,8 @@ read_in_pieces (Some piece ∷ calls) d e pieces ms (answer, others, mid, all, f
 read_in_pieces (None ∷ calls) d e pieces ms (answer, others, mid, all, asked, later) =
     subst (λ (ns : List Message). Reads d pieces ns e) (sym all) (asks d mid e answer pieces others asked (read_in_pieces calls mid e pieces others later))
 
--- the messages given are spelled by the bytes that were unread and those that were taken, up to what is unread
+-- the spelling of the messages returned is the bytes unread before and the pieces accepted, up to the bytes unread
+-- after
 pub called_spelled : (calls : List (Option (List ℕ))) (d e : Decoding) (pieces : List (List ℕ)) (ms : List Message) → IsBytes (d.unread ++ together pieces) → AreDecoderCalls d calls pieces ms e
     → (d.unread ++ together pieces ≡ stream_of ms ++ e.unread) × AllFit d.received ms × (e.received ≡ fold received_after d.received ms)
 called_spelled calls d e pieces ms good called =

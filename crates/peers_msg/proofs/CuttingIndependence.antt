@@ -1,4 +1,4 @@
--- However a stream is cut into pieces, the same messages are read of it.
+-- However a stream is cut into pieces, the same messages are read from it.
 use Rattle.std.proofs.Common.{◌≡◌, ◌-◌, ℕ, List, [], ◌∷◌, ◌++◌, length, Option, Some, None, Result, Ok, refl, sym, ap, subst, ◌∙◌, append_assoc}
 use Rattle.std.proofs.lemmas.List.{append-nil, take_at}
 use Rattle.peers_encint.specs.Integers.{IsBytes}
@@ -19,7 +19,7 @@ found_is m n x y e =
     let both : ◌≡◌ {A = Message × List ℕ} (m, x) (n, y) = cc in
     (ap (λ (p : Message × List ℕ). p.0) both, ap (λ (p : Message × List ℕ). p.1) both)
 
--- a message that is read is read with more bytes after
+-- a message read is also read with more bytes after it
 pub read_on : (h : Received) (m : Message) (bytes after more : List ℕ) → IsBytes bytes → message_at h bytes ≡ found m after → message_at h (bytes ++ more) ≡ found m (after ++ more)
 read_on h m bytes after more good read =
     message_stays h bytes more good (λ none. let no_message : found m after ≡ Ok None = sym read ∙ none in absurd cc) ∙ ap (with_more more) read
@@ -28,7 +28,7 @@ pub rest_good : (h : Received) (m : Message) (bytes after : List ℕ) → IsByte
 rest_good h m bytes after good read =
     subst IsBytes (rest_is_end h m bytes after good read).0 (IsBytes-drop (length bytes - length after) bytes good)
 
--- messages that are read, and messages read of what they leave with more bytes after
+-- joins messages read from bytes with those read from what is left and more bytes
 joined : (h : Received) (bytes more : List ℕ) (ms ns : List Message) (g k : Received) (left rest : List ℕ) → IsBytes bytes → AreRead h bytes ms g left → AreRead g (left ++ more) ns k rest → AreRead h (bytes ++ more) (ms ++ ns) k rest
 joined h bytes more [] ns g k left rest good one other =
     subst (λ (x : Received). AreRead x (bytes ++ more) ns k rest) one.0 (subst (λ (x : List ℕ). AreRead g (x ++ more) ns k rest) one.1 other)
@@ -47,7 +47,7 @@ left_good h bytes (m ∷ ms) g left good read = left_good (received_after h m) r
 pub front_good : (a b : List ℕ) → IsBytes (a ++ b) → IsBytes a
 front_good a b good = subst IsBytes (take_at a b (length a) refl) (IsBytes-take (length a) (a ++ b) good)
 
--- what is read of pieces is read of them together
+-- reading pieces is reading them joined
 pub whole : (h : Received) (unread : List ℕ) (pieces : List (List ℕ)) (ms : List Message) (g : Received) (rest : List ℕ) → IsBytes (unread ++ together pieces) → AreReadInPieces h unread pieces ms g rest → AreRead h (unread ++ together pieces) ms g rest
 whole h unread [] ms g rest good read = subst (λ (x : List ℕ). AreRead h x ms g rest) (sym (append-nil unread)) read
 whole h unread (piece ∷ pieces) ms g rest good read =
@@ -60,7 +60,7 @@ whole h unread (piece ∷ pieces) ms g rest good read =
     let all = joined h (unread ++ piece) more read.0 read.1 read.2 g read.3 rest good_front read.5 later in
     subst (λ (x : List ℕ). AreRead h x ms g rest) grouped (subst (λ (ks : List Message). AreRead h ((unread ++ piece) ++ more) ks g rest) (sym read.4) all)
 
--- of the same bytes the same messages are read
+-- the same messages are read from the same bytes
 pub same : (h : Received) (bytes : List ℕ) (ms ns : List Message) (g k : Received) (x y : List ℕ) → AreRead h bytes ms g x → AreRead h bytes ns k y → IsEnd g x → IsEnd k y → (ms ≡ ns) × (g ≡ k) × (x ≡ y)
 same h bytes [] [] g k x y one other a b = (refl, one.0 ∙ sym other.0, one.1 ∙ sym other.1)
 same h bytes [] (n ∷ ns) g k x y one other a b =

@@ -1,4 +1,4 @@
--- The data of an update that fits a table, and of a definition, are no longer than data may be.
+-- The data of a definition, and of an update that fits a table, are within the limit.
 use Rattle.std.proofs.Common.{◌≡◌, ℕ, ◌+◌, ◌*◌, ◌≤◌, true, List, [], ◌∷◌, ◌++◌, length, Option, Some, None, arith, refl, ap, ◌∙◌, length-append}
 use Rattle.std.specs.List.{flat_map}
 use Rattle.std.proofs.lemmas.Bool.{le-leb}
@@ -24,9 +24,9 @@ use Rattle.peers_msg.specs.Spelling.{optional_word, counted, key_text, value_tex
 use Rattle.peers_msg.specs.Fitting.{name_fits, update_fits}
 use Rattle.peers_msg.proofs.DataLengths.{types_short}
 
--- ---- what is small
+-- ---- limits of keys and values
 
--- a key of a table has at most 8,192 bytes
+-- a key that fits a table has at most 8,192 bytes
 key_small : (kind : KeyKind) (l : ℕ) (key : Key) → fits_length kind l ≡ true → key_fits kind l key ≡ true → key_bytes key ≤ 8192
 key_small kinds.Integer l (keys.Int n) a b = omega arith
 key_small kinds.Ip4 l (keys.Ip4 bytes) a b = grind (arith, nat_tests)
@@ -35,7 +35,7 @@ key_small kinds.String l (keys.Str bytes) a b = grind (arith, nat_tests)
 key_small kinds.Binary l (keys.Bin bytes) a b = grind (arith, nat_tests)
 key_small kind l key a b = cc
 
--- there are no more values than types
+-- there are at most as many values as types
 values_short : (ts : List (DataType × Option ℕ)) (vs : List Value) → values_fit ts vs ≡ true → length vs ≤ length ts
 values_short [] [] h = omega arith
 values_short [] (v ∷ vs) h = cc

@@ -1,4 +1,4 @@
--- The parts of a definition make it, and none of them is refused.
+-- A definition is made again of its parts, and none of them is refused.
 use Rattle.std.proofs.Common.{◌≡◌, ℕ, ◌+◌, ◌<◌, ◌≤◌, true, false, leb, List, [], ◌∷◌, length, Option, None, refl, sym, ap, ◌∙◌, arith, inl, inr}
 use Rattle.std.specs.List.{list_all, filter_map}
 use Rattle.std.proofs.lemmas.Bool.{leb-true, le-leb, eqb-true, eqb-false, and_parts, cases_Bool}
@@ -25,7 +25,7 @@ no_repeats : (least : ℕ) (ts : List (DataType × Option ℕ)) → rise_from le
 no_repeats least [] rises = refl
 no_repeats least (t ∷ ts) rises = grind (arith, nat_tests, not_stored t.0 (id_of t.0 + 1) ts, no_repeats (id_of t.0 + 1) ts)
 
--- an entry isn't found under greater ids
+-- types with greater ids don't change which entries are found
 skipped : (t : DataType × Option ℕ) (ts : List (DataType × Option ℕ)) (k : ℕ) (us : List DataType) → AreFrom k us → id_of t.0 < k → filter_map (entry_of (t ∷ ts)) us ≡ filter_map (entry_of ts) us
 skipped t ts k [] are lt = refl
 skipped t ts k (u ∷ us) are lt =
@@ -56,7 +56,7 @@ rising k (u ∷ us) (t ∷ ts) are all rises =
           rw (other, none_below u (id_of t.0 + 1) ts a.1 lt) (rising (k + 1) us (t ∷ ts) are.1 rest later)
     ]
 
--- the types of a definition stand in rising id
+-- the types of a definition are in ascending order of id
 pub kept : (d : Definition) → is_definition d ≡ true → in_rising_id d.types ≡ d.types
 kept d defined =
     let rises : rise_from 0 d.types ≡ true = grind (arith, nat_tests) in

@@ -1,4 +1,4 @@
--- A field that is read is spelled so.
+-- The bytes of a field read are its spelling.
 use Rattle.std.proofs.Common.{◌≡◌, ℕ, ◌+◌, ◌^◌, ◌<◌, ◌≤◌, Bool, true, false, not, cond, ltb, eqb, List, [], ◌∷◌, ◌++◌, length, take, drop, Option, Some, None, Result, Ok, Err, refl, sym, ap, subst, ◌∙◌, append_assoc, arith, ◌⊎◌, inl, inr}
 use Rattle.std.specs.Int.{w32, from_be_bytes}
 use Rattle.std.specs.List.{flat_map}
@@ -34,12 +34,12 @@ use Rattle.peers_msg.specs.Fitting.{name_fits}
 use Rattle.peers_msg.specs.Reading.{◌>>=◌, wanted, integer_from, integer_at, word_at, bytes_at, optional_at, key_at, count_at, value_at, values_at, slot_holds, field_of, name_at}
 use Rattle.peers_msg.proofs.FieldRoundTrip.{is_there}
 
--- the value of a step that did not fail
+-- the result of the first of two steps if both succeed
 pub bind_ok : {A B : Type 0} (r : Result A Breach) (f : A → Result B Breach) (y : B) → (r >>= f) ≡ Ok y → (x : A) × (r ≡ Ok x) × (f x ≡ Ok y)
 bind_ok (Ok x) f y e = (x, refl, e)
 bind_ok (Err d) f y e = absurd cc
 
--- a test that did not fail, and what was read after it
+-- a test that held, and what was read after it
 pub wanted_ok : {B : Type 0} (b : Bool) (breach : Breach) (f : Bool → Result B Breach) (y : B) → (wanted b breach >>= f) ≡ Ok y → (b ≡ true) × (f true ≡ Ok y)
 wanted_ok true breach f y e = (refl, e)
 wanted_ok false breach f y e = absurd cc
@@ -54,7 +54,7 @@ done x = Ok x
 pub ok_is : {A : Type 0} (x y : A) → done x ≡ done y → x ≡ y
 ok_is x y e = cc
 
--- what was taken from the front of bytes
+-- the bytes are a text taken from the front, and the rest
 pub record Takes (bytes text rest : List ℕ) : Type 0 where
   pub parts : bytes ≡ text ++ rest
   pub fits : IsBytes rest
@@ -158,7 +158,7 @@ key_takes kinds.Binary l bytes x fits e =
 
 -- ---- values
 
--- which branch it was
+-- which branch was taken
 pub chosen : {A : Type 0} (b : Bool) (x y z : A) → cond b x y ≡ z → ((b ≡ true) × (x ≡ z)) ⊎ ((b ≡ false) × (y ≡ z))
 chosen true x y z e = inl (refl, e)
 chosen false x y z e = inr (refl, e)
@@ -223,7 +223,7 @@ values_take (t ∷ ts) bytes x fits e =
 
 -- ---- the name field
 
--- what stands within the length of a name field
+-- a text is what is within the length of a name field
 abbrev IsField : List ℕ → NameField → Type 0
 IsField inner f = (name_text f ≡ counted inner) × ((d : Definition) → stores_name d ≡ true → name_fits d f ≡ true)
 

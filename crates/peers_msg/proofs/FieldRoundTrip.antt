@@ -1,4 +1,4 @@
--- A field that is spelled is read, whatever follows it.
+-- Reading a field's spelling returns the field, whatever follows.
 use Rattle.std.proofs.Common.{◌≡◌, ℕ, ◌^◌, ◌<◌, ◌≤◌, Bool, true, false, ◌&&◌, ltb, leb, eqb, List, [], ◌∷◌, ◌++◌, length, Option, Some, None, Result, Ok, refl, sym, ap, ◌∙◌, append_assoc, arith, inl, inr}
 use Rattle.std.specs.List.{flat_map}
 use Rattle.std.proofs.lemmas.Bool.{cases_Bool, ltb-true, leb-true, eqb-true, le-ltb, eq-eqb, and_parts}
@@ -29,7 +29,7 @@ use Rattle.peers_msg.specs.Spelling.{word, optional_word, counted, key_text, val
 use Rattle.table_types.specs.SlotIds.{is_slot}
 use Rattle.peers_msg.specs.Reading.{◌>>=◌, wanted, integer_from, integer_at, word_at, bytes_at, optional_at, key_at, count_at, value_at, values_at, slot_holds, field_of, name_at}
 
--- the next step, after one that did not fail
+-- the step after one that succeeded
 pub then : {A B : Type 0} (r : Result A Breach) (f : A → Result B Breach) (x : A) → r ≡ Ok x → (r >>= f) ≡ f x
 then r f x e = ap (λ r. r >>= f) e
 

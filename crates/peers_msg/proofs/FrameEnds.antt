@@ -1,4 +1,4 @@
--- Each message is one frame, and where a frame ends.
+-- Each message is one frame, and the end of a frame.
 use Rattle.std.proofs.Common.{◌≡◌, ◌∙◌, ◌+◌, ◌-◌, ◌^◌, ◌<◌, ◌≤◌, ◌⊎◌, inl, inr, ◌++◌, Bool, true, false, ℕ, List, [], ◌∷◌, ap, append_assoc, arith, drop, length, length-append, refl, subst, sym, take}
 use Rattle.std.specs.Prelude.{Option, None, Some, if◌then◌else◌, nat_lt}
 use Rattle.std.proofs.Math.Seq.{drop-append_seam, take-add, take-append_seam}
@@ -57,7 +57,7 @@ is_frame (messages.Ack table number) = inr (omega arith, (spelling table ++ word
 is_frame (messages.Update u) = inr (update_above u u.number u.life refl refl, (update_text u, refl))
 is_frame (messages.Other o) = other_frame o (nat_lt o.message_type 128) refl
 
--- what is read of an encoded length with that many bytes, whatever comes after
+-- the result of reading an encoded length with that many bytes, whatever follows
 read_counted : (front rest : List ℕ) → (is : IsCounted front) → length (front ++ rest) < 2 ^ 64
     → read_of (front ++ rest) ≡ Value (length is.0) (length (spelling (length is.0)))
 read_counted front rest (body, is) small =
@@ -74,7 +74,7 @@ abbrev bytes_read : Read → ℕ
 bytes_read (Value n used) = used
 bytes_read _ = 0
 
--- the length that is read is that of the body, and they all stand
+-- the length read is that of the body, which is complete
 pub counted_size : (bytes front rest : List ℕ) (n used : ℕ) → IsCounted front → bytes ≡ front ++ rest → length bytes < 2 ^ 64 → read_of bytes ≡ Value n used
     → (used + n ≡ length front) × (n ≤ length bytes - used)
 counted_size bytes front rest n used is same fits read =
@@ -86,14 +86,14 @@ counted_size bytes front rest n used is same fits read =
     let all : length bytes ≡ length front + length rest = ap length same ∙ length-append front rest in
     (omega (arith, number, taken, whole), omega (arith, number, taken, whole, all))
 
--- where a length isn't read, no encoded length stands with its bytes
+-- if no length can be read, there is no encoded length with its bytes
 pub never_unread : (bytes front rest : List ℕ) → IsCounted front → bytes ≡ front ++ rest → length bytes < 2 ^ 64 → (r : Read) → read_of bytes ≡ r → (r ≡ Short) ⊎ (r ≡ Over) → ⊥
 never_unread bytes front rest is same fits r read none =
     let small : length (front ++ rest) < 2 ^ 64 = subst (λ b. length b < 2 ^ 64) same fits in
     let found : r ≡ Value (length is.0) (length (spelling (length is.0))) = sym read ∙ ap read_of same ∙ read_counted front rest is small in
     elim none [ inl short ↦ absurd (cc) | inr over ↦ absurd (cc) ]
 
--- a length that is read, and that many bytes after it
+-- a length read, and that many bytes after it
 pub counted_front : (bytes : List ℕ) (n used : ℕ) → n < 2 ^ 64 → Reads bytes (Value n used) → n ≤ length bytes - used → IsCounted (take (used + n) bytes)
 counted_front bytes n used below (long, spells) within =
     let front : take used bytes ≡ spelling n = one_spelling (take used bytes) (spelling n) n spells (spelled_integer n below) in
@@ -102,6 +102,6 @@ counted_front bytes n used below (long, spells) within =
     let size : length (take n rest) ≡ n = length-take-le n rest (omega (arith, left, within)) in
     (take n rest, take-add used n bytes ∙ ap (λ t. t ++ take n rest) front ∙ ap (λ k. spelling k ++ take n rest) (sym size))
 
--- the parts at the end of a frame
+-- the two parts at the end of a frame
 pub frame_parts : (frame rest : List ℕ) → (take (length frame) (frame ++ rest) ≡ frame) × (drop (length frame) (frame ++ rest) ≡ rest)
 frame_parts frame rest = (take-append_seam frame rest, drop-append_seam frame rest)

@@ -1,4 +1,4 @@
--- A message that is read is spelled so, and fits what was received.
+-- The bytes of a message read are its spelling, and the message fits what was received.
 use Rattle.std.proofs.Common.{◌≡◌, ℕ, suc, ◌+◌, ◌-◌, ◌*◌, ◌^◌, ◌<◌, ◌≤◌, Bool, true, false, not, cond, ltb, leb, eqb, List, [], ◌∷◌, ◌++◌, length, take, drop, Option, Some, None, Result, Ok, Err, refl, sym, ap, subst, ◌∙◌, append_assoc, arith, inl, inr}
 use Rattle.std.specs.Prelude.{is_some}
 use Rattle.std.specs.List.{flat_map, list_all}
@@ -36,7 +36,7 @@ use Rattle.peers_msg.proofs.MessageRoundTrip.{frame_of, control_below, error_bel
 use Rattle.peers_msg.proofs.FieldCanonical.{IsBytes-drop, IsBytes-take, Takes, Takes-then, bind_ok, wanted_ok, ok_is, chosen, integer_takes, word_takes, bytes_take, optional_takes, key_takes, values_take, name_takes}
 use Rattle.peers_msg.proofs.TypeCanonical.{types_take}
 
--- what was read whole
+-- a complete result
 abbrev read_whole : {A : Type 0} → A → Result (Option A) Breach
 read_whole x = Ok (Some x)
 
@@ -51,7 +51,7 @@ ended_ok x y rest e =
       | inr c ↦ let wrong = c.1 in absurd cc
     ]
 
--- all of the bytes were taken
+-- all the bytes were taken
 all_taken : (bytes text rest : List ℕ) → Takes bytes text rest → rest ≡ [] → bytes ≡ text
 all_taken bytes text rest t e = t.parts ∙ ap (λ (x : List ℕ). text ++ x) e ∙ append-nil text
 
@@ -208,7 +208,7 @@ ack_takes bytes m fits e =
 
 -- ---- pairs of class and type
 
--- the type of an update with a number or none, and with a life or none
+-- the type of an update, with or without a number and a life
 abbrev pub type_of_update : Bool → Bool → ℕ
 type_of_update true false = 128
 type_of_update false false = 129
@@ -321,11 +321,11 @@ update_type_is u None (Some life) p q = rw (p, q) refl
 
 -- ---- frames
 
--- what stands after class and type
+-- what follows class and type
 abbrev pub data_text : ℕ → List ℕ → List ℕ
 data_text message_type body = cond (ltb message_type 128) [] (counted body)
 
--- the data that a type has: none below 128
+-- whether a type can have these data: none if it is below 128
 abbrev pub has_size : ℕ → List ℕ → Bool
 has_size message_type body = cond (ltb message_type 128) (eqb (length body) 0) (leb (length body) most_data)
 
@@ -414,7 +414,7 @@ no_body message_type body low h =
     let none : eqb (length body) 0 ≡ true = rw (lt-ltb message_type 128 low) at h in
     nil_from_length body (eqb-true _ _ none)
 
--- the message has that class, type and data, and the shape and ranges
+-- the message has this class, type and data, and the shape and ranges
 abbrev pub IsMessage : Received → Frame → Message → Type 0
 IsMessage h f m = (frame_of m ≡ f) × (has_shape h m ≡ true)
 
@@ -498,14 +498,14 @@ message_in_takes h bytes rest m (Some x) good read e =
     let whole : bytes ≡ spelled made.0 ++ x.1 = frame.0 ∙ ap (λ (f : Frame). frame_text f ++ x.1) (sym is.0) ∙ ap (λ (t : List ℕ). t ++ x.1) (sym (spelled_frame made.0)) in
     subst (λ (y : Message × List ℕ). (bytes ≡ spelled y.0 ++ y.1) × (fits h y.0 ≡ true)) same (whole, fits_from h made.0 x.0 is frame.3)
 
--- what is read is spelled so, and fits
+-- the bytes of a message read are its spelling, and the message fits
 pub message_takes : (h : Received) (m : Message) (bytes rest : List ℕ) → IsBytes bytes → message_at h bytes ≡ Ok (Some (m, rest)) → (bytes ≡ spelled m ++ rest) × (fits h m ≡ true)
 unfolding message_at
 message_takes h m bytes rest good e =
     let found = bind_ok (frame_at bytes) _ _ e in
     message_in_takes h bytes rest m found.0 good found.1 found.2
 
--- what is left after a message is an end of the bytes, and shorter
+-- what is left after a message is a suffix of the bytes, and shorter
 pub rest_is_end : (h : Received) (m : Message) (bytes rest : List ℕ) → IsBytes bytes → message_at h bytes ≡ Ok (Some (m, rest)) → (drop (length bytes - length rest) bytes ≡ rest) × (length rest < length bytes)
 rest_is_end h m bytes rest good e =
     let t = message_takes h m bytes rest good e in

@@ -1,4 +1,4 @@
--- A message that fits and is spelled is read, whatever follows it.
+-- Reading the spelling of a message that fits returns the message, whatever follows.
 use Rattle.std.proofs.Common.{◌≡◌, ℕ, ◌^◌, ◌<◌, ◌≤◌, true, false, not, ◌&&◌, ◌||◌, cond, ltb, leb, eqb, List, [], ◌∷◌, ◌++◌, length, Option, Some, None, Ok, refl, sym, ap, ◌∙◌, append_assoc, arith, inl, inr}
 use Rattle.std.specs.Prelude.{is_some}
 use Rattle.std.specs.List.{flat_map, list_all}
@@ -160,7 +160,7 @@ ack_again table number less less_number =
 
 -- ---- pairs of class and type
 
--- what a message is by its class and type
+-- the meaning of a message's class and type
 abbrev pub meaning_of : Message → Meaning
 meaning_of (messages.Control c) = meanings.Control c
 meaning_of (messages.Error e) = meanings.Error e
@@ -282,7 +282,7 @@ pub error_below : (e : ErrorKind) → error_type e < 128
 error_below errors.Protocol = omega arith
 error_below errors.SizeLimit = omega arith
 
--- a message without meaning here, whose data are empty below type 128
+-- a message without meaning here, whose data are empty if its type is below 128
 other_frame_again : (o : OtherFields) (rest : List ℕ) → length o.body ≤ most_data → is_other o ≡ true → frame_at (spelled (messages.Other o) ++ rest) ≡ Ok (Some (frame_of (messages.Other o), rest))
 unfolding spelled
 other_frame_again o rest short is =
@@ -333,7 +333,7 @@ pub body_again : (h : Received) (m : Message) → fits h m ≡ true → body_at 
 unfolding body_at
 body_again h m is = rw (meaning_again h m (shape h m is)) (data_again h m is)
 
--- what is spelled is read, whatever follows it
+-- reading a spelling returns the message, whatever follows
 pub message_again : (h : Received) (m : Message) (rest : List ℕ) → fits h m ≡ true → message_at h (spelled m ++ rest) ≡ Ok (Some (m, rest))
 unfolding message_at
 message_again h m rest is = rw (frame_again h m rest is, body_again h m is) refl

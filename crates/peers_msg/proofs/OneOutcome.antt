@@ -1,4 +1,4 @@
--- A decoder does one thing, but where memory is wanted.
+-- A decoder is deterministic, except when memory runs out.
 use Rattle.std.proofs.Common.{◌≡◌, ◌≢◌, ℕ, Bool, true, false, List, ◌++◌, Option, Some, None, Result, Ok, Err, refl, sym, ap, ◌∙◌}
 use Rattle.peers_msg.specs.declared.fault.Breach.{Breach}
 use Rattle.peers_msg.specs.declared.fault.Fault.{Fault}
@@ -13,7 +13,7 @@ parts {X} {Y} p q e = (ap (λ (r : X × Y). r.0) e, ap (λ (r : X × Y). r.1) e)
 
 -- ---- feeding
 
--- what feeding comes to, but want of memory
+-- the outcome of feeding, unless memory runs out
 abbrev feeding : Decoding → List ℕ → Bool → Result (Unit {0}) Fault × Decoding
 feeding d piece true = (Err faults.Closed, d)
 feeding d piece false = (Ok tt, record { received = d.received; unread = d.unread ++ piece; closed = false })
@@ -29,7 +29,7 @@ fed_once d a b piece one other fed again p q = parts (one, a) (other, b) (fed_so
 
 -- ---- asking for a message
 
--- what asking comes to, but want of memory
+-- the outcome of asking, unless memory runs out
 abbrev asking : Decoding → Bool → Result (Option (Message × List ℕ)) Breach → Result (Option Message) Fault × Decoding
 asking d true read = (Err faults.Closed, d)
 asking d false (Ok None) = (Ok None, d)

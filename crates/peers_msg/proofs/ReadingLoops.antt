@@ -1,4 +1,4 @@
--- Reading values and types one after another, as a loop does.
+-- Reading values and types one after another, as the loops do.
 use Rattle.std.proofs.Common.{◌≡◌, ◌≢◌, ℕ, suc, Bool, if◌then◌else◌, ◌+◌, ◌/◌, ◌%◌, ◌<◌, ◌≤◌, true, false, List, [], ◌∷◌, ◌++◌, length, drop, get_or, Option, Result, Ok, Err, refl, sym, ap, ◌∙◌, append_assoc, arith}
 use Rattle.std.proofs.lemmas.List.{append-nil, at_drop_more, drop_all}
 use Rattle.table_types.specs.declared.data_type.DataType.{DataType}
@@ -11,7 +11,7 @@ use Rattle.peers_msg.specs.declared.fault.Breach.{Breach}
 use Rattle.peers_msg.specs.Borrowed.{is_read, list_read, value_count, with_values}
 use Rattle.peers_msg.specs.Reading.{◌>>=◌, value_at, values_at, period_at, types_at}
 
--- what was read before, and what is still read
+-- what was read before, followed by what is still to be read
 abbrev pub with_front : {A : Type 0} → List A → Result (List A × List ℕ) Breach → Result (List A × List ℕ) Breach
 with_front front read = read >>= λ x. Ok (front ++ x.0, x.1)
 
@@ -26,14 +26,14 @@ pub begins : {A : Type 0} (read : Result (List A × List ℕ) Breach) → with_f
 begins (Ok x) = refl
 begins (Err f) = refl
 
--- what is read to its end
+-- the result of reading to the end
 pub all_read : {A : Type 0} (read : Result (List A × List ℕ) Breach) (front : List A) (rest : List ℕ) → read ≡ Ok (front, rest) → read ≡ Ok (list_read read, rest)
 all_read read front rest e = rw e refl
 
 pub list_found : {A : Type 0} (read : Result (List A × List ℕ) Breach) (front : List A) (rest : List ℕ) → read ≡ Ok (front, rest) → front ≡ list_read read
 list_found read front rest e = rw e refl
 
--- what is read meets no breach
+-- reading that finds no breach doesn't fail
 pub never_fails : {A : Type 0} (read : Result A Breach) (f : Breach) → read ≡ Err f → is_read read ≡ true → ⊥
 never_fails (Ok x) f e is = absurd cc
 never_fails (Err g) f e is = absurd cc
@@ -78,7 +78,7 @@ values_done front ts i bytes total le so_far =
     let none : with_front front (values_at [] bytes) ≡ total = ap (λ us. with_front front (values_at us bytes)) (sym (drop_all i ts le)) ∙ so_far in
     sym none ∙ ap (λ (vs : List Value). Ok (vs, bytes)) (append-nil front)
 
--- so many values are read as types have one
+-- as many values are read as types have one
 others_counted : (ts : List (DataType × Option ℕ)) (value : Value) (read : Result (List Value × List ℕ) Breach) → (is_read read ≡ true → length (list_read read) ≡ value_count ts)
     → is_read (with_first value read) ≡ true → length (list_read (with_first value read)) ≡ suc (value_count ts)
 others_counted ts value (Ok x) counted is = ap suc (counted refl)

@@ -1,4 +1,4 @@
--- More bytes after change only the answer that a message isn't whole.
+-- Appending bytes changes only the result that a message isn't complete.
 use Rattle.std.proofs.Common.{◌≡◌, ◌≢◌, ℕ, suc, ◌≤◌, true, ltb, List, [], ◌∷◌, ◌++◌, length, drop, Option, Some, None, Result, Ok, Err, refl, sym, ap, ◌∙◌, arith, inl, inr}
 use Rattle.std.proofs.lemmas.Bool.{cases_lt, cases_Bool, lt-ltb, le-ltb}
 use Rattle.std.proofs.lemmas.List.{take-append-le, drop-append-le, length-append, append-nil}
@@ -71,7 +71,7 @@ message_more h more (Ok (Some found)) = body_more (body_at h found.0.class found
     body_more (Err breach) = refl
 message_more h more (Err breach) = refl
 
--- a message that was read, and a breach, stay so with more bytes after
+-- a message read, and a breach, stay the same with more bytes after
 pub message_stays : (h : Received) (bytes more : List ℕ) → IsBytes bytes → message_at h bytes ≢ Ok None → message_at h (bytes ++ more) ≡ with_more more (message_at h bytes)
 unfolding message_at
 message_stays h bytes more good some =
@@ -93,7 +93,7 @@ whole_or_not h m more (Err breach) some e =
     let same : ◌≡◌ {A = Result (Option (Message × List ℕ)) Breach} (Ok (Some (m, []))) (Err breach) = e (λ none. absurd cc) in
     absurd cc
 
--- a message of which some bytes are still to come isn't whole, and shows no breach
+-- a message with bytes missing isn't complete, and reading finds no breach
 pub cut_is_not_whole : (h : Received) (m : Message) (bytes more : List ℕ) → IsBytes bytes → fits h m ≡ true → bytes ++ more ≡ spelled m → more ≢ [] → message_at h bytes ≡ Ok None
 cut_is_not_whole h m bytes more good is e some =
     let all : message_at h (bytes ++ more) ≡ Ok (Some (m, [])) = ap (message_at h) (e ∙ sym (append-nil (spelled m))) ∙ message_again h m [] is in

@@ -1,4 +1,4 @@
--- The tables received stand in ascending order of id, and no two of them have one name.
+-- The tables received are in ascending order of id, with distinct names.
 use Rattle.std.proofs.Common.{◌≡◌, ◌≢◌, ℕ, ◌<◌, Bool, true, false, not, ◌&&◌, cond, eqb, List, [], ◌∷◌, Option, Some, None, refl, sym, ap, subst, ◌∙◌, inl, inr, arith}
 use Rattle.std.specs.Prelude.{filter, fold, nat_lt}
 use Rattle.std.specs.List.{AllByRecursion}
@@ -11,7 +11,7 @@ use Rattle.peers_msg.specs.Received.{Received, IsBelow, AreDistinct, insert_tabl
 use Rattle.peers_msg.specs.OwnTables.{is_own, own_part}
 use Rattle.table_types.proofs.OneTableByShape.{same_name}
 
--- ---- of a list of tables those that pass
+-- ---- filtering a list of tables
 
 all-filter : (p : Definition → Type 0) (passes : Definition → Bool) (ds : List Definition) → AllByRecursion p ds → AllByRecursion p (filter passes ds)
 all-filter p passes [] all = tt
@@ -25,13 +25,13 @@ distinct-filter passes (d ∷ ds) distinct =
     let others = distinct-filter passes ds distinct.1 in
     elim (passes d) as (λ b. AreDistinct (cond b (d ∷ filter passes ds) (filter passes ds))) [ true ↦ (all-filter (IsBelow d) passes ds distinct.0, others) | false ↦ others ]
 
--- ---- one table more
+-- ---- inserting a table
 
 second : (a b : Bool) → (a && b) ≡ true → b ≡ true
 second true b h = h
 second false b h = let bad : false ≡ true = h in absurd cc
 
--- a table that outlives a definition has another id and another name
+-- a table that a definition keeps has another id and another name
 pub lives_apart : (new d : Definition) → outlives new d ≡ true → (d.id ≢ new.id) × (d.name ≢ new.name)
 lives_apart new d lives = (λ same. ids same, λ same. names same)
   where
@@ -61,7 +61,7 @@ all-insert p new [] is all = (is, tt)
 all-insert p new (d ∷ ds) is all =
     elim (nat_lt new.id d.id) as (λ b. AllByRecursion p (cond b (new ∷ (d ∷ ds)) (d ∷ insert_table new ds))) [ true ↦ (is, all) | false ↦ (all.0, all-insert p new ds is all.1) ]
 
--- what is above a table that is above a new one is above the new one
+-- tables above a table that is above a new one are above the new one too
 all_above : (new d : Definition) (ds : List Definition) → new.id < d.id → AllByRecursion (IsBelow d) ds → AllOutlive new ds → AllByRecursion (IsBelow new) ds
 all_above new d [] lt above live = tt
 all_above new d (x ∷ xs) lt above live =
@@ -81,7 +81,7 @@ distinct-insert new (d ∷ ds) distinct live =
           rw (le-ltb new.id d.id le) (all-insert (IsBelow d) new ds (below, unlike.1) distinct.0, distinct-insert new ds distinct.1 live.1)
     ]
 
--- ---- what is received
+-- ---- the tables received
 
 pub distinct-defined : (new : Definition) (ds : List Definition) → AreDistinct ds → AreDistinct (defined new ds)
 distinct-defined new ds distinct = distinct-insert new (filter (outlives new) ds) (distinct-filter (outlives new) ds distinct) (all_outlive new ds)

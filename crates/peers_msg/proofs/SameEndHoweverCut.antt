@@ -1,4 +1,4 @@
--- However a stream is cut into pieces, the same answer stands at its end.
+-- However a stream is cut into pieces, reading it ends with the same result.
 use Rattle.std.proofs.Common.{◌≡◌, ℕ, List, [], ◌++◌, Option, None, Result, Ok, Err, sym, ap, subst, ◌∙◌}
 use Rattle.peers_encint.specs.Integers.{IsBytes}
 use Rattle.peers_msg.specs.declared.fault.Breach.{Breach}
@@ -17,7 +17,7 @@ same_end h one other ms ns g k x y good cut read again a b =
     let all = any_cutting h one other ms ns g k x y good cut read again a b in
     (all.0, all.1, all.2, ap (λ (q : Received). message_at q x) all.1 ∙ ap (message_at k) all.2)
 
--- a breach at the front stays with more bytes after
+-- a breach at the front stays the same with more bytes after
 pub breach_on : (h : Received) (bytes more : List ℕ) (breach : Breach) → IsBytes bytes → message_at h bytes ≡ Err breach → message_at h (bytes ++ more) ≡ Err breach
 breach_on h bytes more breach good at =
     message_stays h bytes more good (λ none. let bad : breached breach ≡ Ok None = sym at ∙ none in absurd cc) ∙ ap (with_more more) at

@@ -1,4 +1,4 @@
--- Messages one after another are read from what spells them.
+-- Messages in a row are read back from their spelling.
 use Rattle.std.proofs.Common.{◌≡◌, ℕ, List, [], ◌∷◌, ◌++◌, refl, sym, ap, ◌∙◌, append_assoc}
 use Rattle.std.specs.Prelude.{fold}
 use Rattle.peers_encint.specs.Integers.{IsBytes}

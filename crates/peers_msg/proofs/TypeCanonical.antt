@@ -1,4 +1,4 @@
--- The types of a definition that are read are those that the bits and the periods are spelled for.
+-- The bits and periods of a definition read are the spelling of its types.
 use Rattle.std.proofs.Common.{◌≡◌, ℕ, ◌+◌, ◌*◌, ◌/◌, ◌%◌, ◌^◌, ◌<◌, true, leb, eqb, List, [], ◌∷◌, ◌++◌, length, Option, Some, None, Ok, refl, ap, subst, ◌∙◌, arith, inl, inr}
 use Rattle.std.specs.List.{flat_map, list_all}
 use Rattle.std.proofs.lemmas.Bool.{leb-true, le-leb, eqb-true, eqb-false, and_parts, and_from}
@@ -15,7 +15,7 @@ use Rattle.peers_msg.specs.Reading.{integer_at, period_at, types_at}
 use Rattle.peers_msg.proofs.FieldCanonical.{Takes, Takes-then, nothing_taken, bind_ok, wanted_ok, ok_is, chosen, integer_takes}
 use Rattle.peers_msg.proofs.TypeRoundTrip.{AreFrom}
 
--- a type with its period, or with none
+-- a type with its period, or without one
 abbrev IsEntry : DataType → List ℕ → Option ℕ × List ℕ → Type 0
 IsEntry t bytes x = Takes bytes (period_text (t, x.0)) x.1 × (has_its_period (t, x.0) ≡ true)
 
@@ -53,7 +53,7 @@ even_sum unit bits half e = rw e (omega arith)
 odd_sum : (unit bits half : ℕ) → bits ≡ 1 + 2 * half → unit + (unit * 2) * half ≡ unit * bits
 odd_sum unit bits half e = rw e (omega arith)
 
--- types from id k on, whose bits are those
+-- types with ids from k on that have these bits
 abbrev AreEntries : ℕ → ℕ → List ℕ → List (DataType × Option ℕ) × List ℕ → Type 0
 AreEntries k bits bytes x =
     Takes bytes (flat_map period_text x.0) x.1 × (bits_of x.0 ≡ 2 ^ k * bits) × (list_all has_its_period x.0 ≡ true) × (rise_from k x.0 ≡ true)

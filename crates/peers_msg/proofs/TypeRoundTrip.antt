@@ -1,4 +1,4 @@
--- The types of a definition are read back from the bits and the periods that are spelled for them.
+-- The types of a definition are read back from the spelling of their bits and periods.
 use Rattle.std.proofs.Common.{◌≡◌, ℕ, ◌+◌, ◌-◌, ◌*◌, ◌/◌, ◌%◌, ◌^◌, ◌<◌, ◌≤◌, true, false, ltb, leb, eqb, List, [], ◌∷◌, ◌++◌, length, get_or, Option, Some, None, Ok, refl, sym, ap, ◌∙◌, append_assoc, arith, inl, inr}
 use Rattle.std.specs.List.{flat_map, list_all}
 use Rattle.std.proofs.lemmas.Bool.{cases_Bool, cases_eq, le-leb, ltb-true, leb-true, eq-eqb, ne_eqb, and_parts}
@@ -18,7 +18,7 @@ use Rattle.peers_msg.proofs.FieldRoundTrip.{integer_again}
 
 -- ---- types and their ids
 
--- the types stand one after another, from id k on
+-- the types have consecutive ids, from k on
 abbrev pub AreFrom : ℕ → List DataType → Type 0
 AreFrom k [] = Unit {0}
 AreFrom k (t ∷ ts) = (id_of t ≡ k) × AreFrom (k + 1) ts
@@ -99,11 +99,11 @@ period_again t (Some p) rest h =
 
 -- ---- bits
 
--- what is left of a multiple of 2 ^ k
+-- the other factors of equal multiples of 2 ^ k are equal
 left_of : (k x y : ℕ) → 2 ^ k * x ≡ 2 ^ k * y → x ≡ y
 left_of k x y e = eq_of_mul-eq-mul_left (2 ^ k) (pow_pos k) x y e
 
--- what the types from id k on add to the bits is a multiple of 2 ^ k
+-- the bits of types with ids from k on are a multiple of 2 ^ k
 multiple : (k : ℕ) (es : List (DataType × Option ℕ)) → rise_from k es ≡ true → (m : ℕ) × (bits_of es ≡ 2 ^ k * m)
 multiple k [] h = (0, omega arith)
 multiple k (e ∷ es) h =
@@ -116,7 +116,7 @@ multiple k (e ∷ es) h =
     let cell : bits_of (e ∷ es) ≡ 2 ^ id_of e.0 + bits_of es = sum_by-cons (λ (t : DataType × Option ℕ). 2 ^ id_of t.0) e es in
     (2 ^ (id_of e.0 - k) + (2 ^ (id_of e.0 - k) * 2) * others.0, rw (cell, others.1, more, here) (omega arith))
 
--- and together with 2 ^ k it is no more than 2 ^ 20
+-- and added to 2 ^ k they are at most 2 ^ 20
 pub bits_within : (k : ℕ) (es : List (DataType × Option ℕ)) → k ≤ 20 → rise_from k es ≡ true → bits_of es + 2 ^ k ≤ 2 ^ 20
 bits_within k [] le h =
     let within : 2 ^ k ≤ 2 ^ 20 = pow-le-pow_right {n = 2} (omega arith) {i = k} {j = 20} le in

@@ -1,4 +1,4 @@
--- One spelling is one message, none begins another, and one stream is one list of messages.
+-- A spelling belongs to one message, no spelling is a prefix of another, and a stream is one list of messages.
 use Rattle.std.proofs.Common.{◌≡◌, ℕ, true, List, [], ◌∷◌, ◌++◌, Option, Some, None, Result, Ok, refl, sym, ap, subst, ◌∙◌}
 use Rattle.std.proofs.lemmas.List.{append-nil}
 use Rattle.std.proofs.lemmas.List.Concat.{flat_map-cons}
@@ -13,13 +13,13 @@ use Rattle.peers_msg.proofs.MessageRoundTrip.{frame_of, frame_again, body_again}
 
 -- ---- one message
 
--- class, type and data of a message are no other's
+-- no two messages have the same class, type and data
 one_frame : (h : Received) (m n : Message) → fits h m ≡ true → fits h n ≡ true → frame_of m ≡ frame_of n → m ≡ n
 one_frame h m n p q e =
     let read : ◌≡◌ {A = Result Message Breach} (Ok m) (Ok n) = sym (body_again h m p) ∙ ap (λ (f : Frame). body_at h f.class f.message_type f.body) e ∙ body_again h n q in
     cc
 
--- what stands at the front of the same bytes is the same
+-- messages at the front of the same bytes are the same
 same_front : (g h : Received) (m n : Message) (x y : List ℕ) → fits g m ≡ true → fits h n ≡ true → spelled m ++ x ≡ spelled n ++ y → (frame_of m ≡ frame_of n) × (x ≡ y)
 same_front g h m n x y p q e =
     let found : ◌≡◌ {A = Result (Option (Frame × List ℕ)) Breach} (Ok (Some (frame_of m, x))) (Ok (Some (frame_of n, y))) = sym (frame_again g m x p) ∙ ap frame_at e ∙ frame_again h n y q in

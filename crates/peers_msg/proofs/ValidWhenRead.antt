@@ -1,4 +1,4 @@
--- What is read can be made.
+-- The parts that are read make valid values.
 use Rattle.std.proofs.Common.{◌≡◌, ℕ, Bool, true, false, eqb, List, length, Option, Some, Result, Ok, Err, if◌then◌else◌, refl, sym, ap, ◌∙◌}
 use Rattle.std.proofs.lemmas.Bool.{lt-ltb, and_from}
 use Rattle.peers_encint.specs.Integers.{IsBytes}

@@ -1,10 +1,10 @@
--- The messages that borrowed messages are.
+-- The owned messages equal to borrowed ones.
 use Rattle.peers_msg.specs.declared.message.Message.{Message}
 use Rattle.peers_msg.specs.declared.message.Message.TheVariants as messages
 use Rattle.peers_msg.specs.declared.borrowed.message_ref.MessageRef.{MessageRef}
 use Rattle.peers_msg.specs.declared.borrowed.message_ref.MessageRef.TheVariants as borrowed
 
--- the message that a borrowed message is
+-- the owned message equal to a borrowed one
 abbrev pub owned_message : MessageRef → Message
 owned_message (borrowed.Control c) = messages.Control c
 owned_message (borrowed.Error e) = messages.Error e

@@ -1,9 +1,9 @@
--- What is wrong with bytes that are no messages (profile).
+-- Why bytes are not a message (profile).
 use Rattle.std.specs.Prelude.{ℕ, List, codes}
 use Rattle.peers_msg.specs.declared.fault.Breach.{Breach}
 use Rattle.peers_msg.specs.declared.fault.Breach.TheVariants as breaches
 
--- the word for a breach
+-- the name of a breach
 abbrev pub breach_name : Breach → List ℕ
 breach_name breaches.BadInteger = codes "BadInteger"
 breach_name breaches.SizeLimit = codes "SizeLimit"

@@ -1,21 +1,21 @@
--- A decoder's calls, one after another, in any order of feeding and asking.
+-- A sequence of calls of a decoder that feed pieces and ask for messages, in any order.
 use Rattle.std.specs.Prelude.{◌≡◌, ℕ, List, [], ◌∷◌, ◌++◌, Option, Some, None, Result, Ok, Err}
 use Rattle.peers_msg.specs.declared.fault.Fault.{Fault}
 use Rattle.peers_msg.specs.declared.message.Message.{Message}
 use Rattle.peers_msg.specs.Decoding.{Decoding, DecoderFeeds, DecoderNext}
 
--- the piece that was fed, where it was taken
+-- the piece fed, if it was accepted
 abbrev pub taken_of : List ℕ → Result (Unit {0}) Fault → List (List ℕ)
 taken_of piece (Ok _) = piece ∷ []
 taken_of piece (Err fault) = []
 
--- the message that was asked for, where one was given
+-- the message asked for, if one was returned
 abbrev pub messages_given : Result (Option Message) Fault → List Message
 messages_given (Ok (Some m)) = m ∷ []
 messages_given answer = []
 
--- Calls one after another lead from d to e, where Some feeds that piece and None asks for a message: these pieces were
--- taken, and these messages given.
+-- A sequence of calls leads from d to e, accepting these pieces and returning these messages. Some feeds a piece, None
+-- asks for a message.
 abbrev pub AreDecoderCalls : Decoding → List (Option (List ℕ)) → List (List ℕ) → List Message → Decoding → Type 0
 AreDecoderCalls d [] pieces ms e = (pieces ≡ []) × (ms ≡ []) × (e ≡ d)
 AreDecoderCalls d (Some piece ∷ calls) pieces ms e =

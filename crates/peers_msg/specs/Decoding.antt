@@ -1,4 +1,4 @@
--- What a decoder holds, and what it answers.
+-- The state of a decoder, and the results of its calls.
 use Rattle.std.specs.Prelude.{◌≡◌, ◌≢◌, ℕ, Bool, true, false, List, [], ◌∷◌, ◌++◌, drop, Option, Some, None, Result, Ok, Err}
 use Rattle.peers_msg.specs.declared.fault.Breach.{Breach}
 use Rattle.peers_msg.specs.declared.fault.Fault.{Fault}
@@ -9,7 +9,7 @@ use Rattle.peers_msg.specs.BorrowedMessages.{owned_message}
 use Rattle.peers_msg.specs.Received.{Received, received_after}
 use Rattle.peers_msg.specs.Reading.{message_at}
 
--- what was received, the bytes that weren't read yet, and whether there was a fault
+-- what was received, the bytes not read yet, and whether there was a breach
 pub record Decoding : Type 0 where
   pub received : Received
   pub unread : List ℕ
@@ -19,19 +19,19 @@ pub record Decoding : Type 0 where
 abbrev pub begun : Received → Decoding
 begun received = record { received = received; unread = []; closed = false }
 
--- What feeding bytes does. After a fault nothing is fed.
+-- The result of feeding bytes. After a breach nothing is fed.
 abbrev pub DecoderFeeds : Decoding → List ℕ → Result (Unit {0}) Fault → Decoding → Type 0
 DecoderFeeds d piece (Ok _) e = (d.closed ≡ false) × (e ≡ record { received = d.received; unread = d.unread ++ piece; closed = false })
 DecoderFeeds d piece (Err faults.Memory) e = (d.closed ≡ false) × (e ≡ d)
 DecoderFeeds d piece (Err faults.Closed) e = (d.closed ≡ true) × (e ≡ d)
 DecoderFeeds d piece (Err (faults.Breach breach)) e = ⊥
 
--- a whole message without a breach stands at the front
+-- a complete message without a breach is at the front
 abbrev pub IsWhole : Decoding → Type 0
 IsWhole d = (m : Message) × (rest : List ℕ) × (message_at d.received d.unread ≡ Ok (Some (m, rest)))
 
--- What asking for a message does. A message is taken off the bytes and received, a breach closes, and nothing else changes
--- anything. Memory is wanted only for a whole message.
+-- The result of asking for a message. A message is removed from the bytes and received, a breach closes the decoder,
+-- and otherwise nothing changes. Memory can run out only for a complete message.
 abbrev pub DecoderNext : Decoding → Result (Option Message) Fault → Decoding → Type 0
 DecoderNext d (Ok None) e = (d.closed ≡ false) × (message_at d.received d.unread ≡ Ok None) × (e ≡ d)
 DecoderNext d (Ok (Some m)) e =
@@ -46,8 +46,8 @@ DecoderNext d (Err (faults.Breach breach)) e =
     × (message_at d.received d.unread ≡ Err breach)
     × (e ≡ record { received = d.received; unread = d.unread; closed = true })
 
--- What looking at the front of bytes gives, by what was received: the message there and how many bytes it has, none, or
--- what is wrong with it. It takes no memory.
+-- The result of looking at the front of bytes, given what was received: the message and its length in bytes, none, or a
+-- breach. No memory is allocated.
 abbrev pub IsFrontOf : Received → List ℕ → Result (Option (MessageRef × ℕ)) Breach → Type 0
 IsFrontOf received bytes (Ok None) = message_at received bytes ≡ Ok None
 IsFrontOf received bytes (Ok (Some found)) = message_at received bytes ≡ Ok (Some (owned_message found.0, drop found.1 bytes))
@@ -55,14 +55,14 @@ IsFrontOf received bytes (Err breach) = message_at received bytes ≡ Err breach
 
 -- ---- streams in pieces
 
--- these messages are read one after another, which leads from what was received before to what was received then, and these
--- bytes are left
+-- these messages are read in a row, which leads from what was received before to what was received after and leaves
+-- these bytes
 abbrev pub AreRead : Received → List ℕ → List Message → Received → List ℕ → Type 0
 AreRead before bytes [] received rest = (received ≡ before) × (rest ≡ bytes)
 AreRead before bytes (m ∷ ms) received rest =
     (after : List ℕ) × (message_at before bytes ≡ Ok (Some (m, after))) × AreRead (received_after before m) after ms received rest
 
--- the same where the bytes come in pieces, and after each of them some messages are read, or none
+-- the same if the bytes arrive in pieces and any number of messages is read after each of them
 abbrev pub AreReadInPieces : Received → List ℕ → List (List ℕ) → List Message → Received → List ℕ → Type 0
 AreReadInPieces before unread [] ms received rest = AreRead before unread ms received rest
 AreReadInPieces before unread (piece ∷ pieces) ms received rest =
@@ -74,11 +74,11 @@ AreReadInPieces before unread (piece ∷ pieces) ms received rest =
     × AreRead before (unread ++ piece) first between left
     × AreReadInPieces between left pieces others received rest
 
--- the pieces as one stream
+-- the pieces joined into one stream
 abbrev pub together : List (List ℕ) → List ℕ
 together [] = []
 together (piece ∷ pieces) = piece ++ together pieces
 
--- no message is whole at the front: it isn't yet, or there is a breach
+-- no complete message is at the front: it isn't complete yet, or there is a breach
 abbrev pub IsEnd : Received → List ℕ → Type 0
 IsEnd received rest = (m : Message) (after : List ℕ) → message_at received rest ≢ Ok (Some (m, after))

@@ -1,4 +1,4 @@
--- Where a message ends, whatever it means (HAProxy, doc/peers-v2.0.txt, "Messages").
+-- Where a message ends, whatever its meaning (HAProxy, doc/peers-v2.0.txt, "Messages").
 use Rattle.std.specs.Prelude.{◌≡◌, ◌<◌, ◌≤◌, ◌⊎◌, ℕ, List, [], ◌∷◌}
 use Rattle.peers_msg.specs.Spelling.{counted}
 

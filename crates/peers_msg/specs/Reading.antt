@@ -1,5 +1,5 @@
--- Reading messages from left to right, with the first breach that is met (HAProxy, doc/peers-v2.0.txt, "Messages";
--- which breach it is, is the profile's choice). A field is its value and the bytes after it.
+-- Reading messages from left to right, up to the first breach (HAProxy, doc/peers-v2.0.txt, "Messages"; the choice of
+-- the breach is the profile's). A field is read as its value and the bytes after it.
 use Rattle.std.specs.Prelude.{ℕ, ◌/◌, ◌%◌, ◌^◌, Bool, true, false, ◌&&◌, ◌==◌, nat_lt, List, [], ◌∷◌, ◌++◌, length, take, drop, Option, Some, None, is_some, Result, Ok, Err, if◌then◌else◌}
 use Rattle.std.specs.Int.{w32, from_be_bytes}
 use Rattle.peers_encint.specs.declared.reading.Read.{Read}
@@ -39,7 +39,7 @@ abbrev pub ◌>>=◌ : {A B : Type 0} → Result A Breach → (A → Result B Br
 (Ok x) >>= f = f x
 (Err e) >>= f = Err e
 
--- a test in its place among the fields
+-- a breach unless the test holds
 abbrev pub wanted : Bool → Breach → Result Bool Breach
 wanted true breach = Ok true
 wanted false breach = Err breach
@@ -51,19 +51,19 @@ integer_from short bytes (Value n used) = Ok (n, drop used bytes)
 integer_from short bytes Short = Err short
 integer_from short bytes Over = Err BadInteger
 
--- an encoded integer, with what it is when the bytes end before it does
+-- an encoded integer, or `short` if the bytes end before the integer does
 unfoldable pub integer_at : Breach → List ℕ → Result (ℕ × List ℕ) Breach
 integer_at short bytes = integer_from short bytes (read_of bytes)
 
--- four bytes, the big end first
+-- four bytes in big-endian order
 unfoldable pub word_at : Breach → List ℕ → Result (ℕ × List ℕ) Breach
 word_at short bytes = if nat_lt (length bytes) 4 then Err short else Ok (from_be_bytes w32 (take 4 bytes), drop 4 bytes)
 
--- so many bytes
+-- `count` bytes
 unfoldable pub bytes_at : Breach → ℕ → List ℕ → Result (List ℕ × List ℕ) Breach
 bytes_at short n bytes = if nat_lt (length bytes) n then Err short else Ok (take n bytes, drop n bytes)
 
--- the data end with their last field
+-- a breach unless the data end with their last field
 abbrev pub ended : {A : Type 0} → A → List ℕ → Result A Breach
 ended x rest = if length rest == 0 then Ok x else Err Trailing
 
@@ -101,7 +101,7 @@ count_at bytes = do
   _ ← wanted (is_word n.0) BadValue
   Ok n
 
--- a value of each shape; a name is no value, but the update's name field
+-- a value of each shape; a name is not a value but goes into the update's name field
 unfoldable pub value_at : Shape → List ℕ → Result (RowValue × List ℕ) Breach
 value_at shapes.Count bytes = do
   n ← count_at bytes
@@ -116,7 +116,7 @@ value_at shapes.Rate bytes = do
   Ok (values.Rate elapsed.0 current.0 previous.0, previous.1)
 value_at shapes.Name bytes = Err BadValue
 
--- one value for each type but the server's name
+-- one value for each type except the server's name
 unfoldable pub values_at : List (DataType × Option ℕ) → List ℕ → Result (List RowValue × List ℕ) Breach
 values_at [] bytes = Ok ([], bytes)
 values_at (t ∷ ts) bytes = if is_name_type t.0 then values_at ts bytes else (do
@@ -124,7 +124,7 @@ values_at (t ∷ ts) bytes = if is_name_type t.0 then values_at ts bytes else (d
   others ← values_at ts value.1
   Ok (value.0 ∷ others.0, others.1))
 
--- after the slot, within the length of a name field: nothing, or an encoded length and a name of that length
+-- what follows the slot in a name field: nothing, or an encoded length and a name of that length
 unfoldable pub slot_holds : ℕ → List ℕ → Result NameField Breach
 slot_holds slot [] = Ok (names.Held slot)
 slot_holds slot (b ∷ bs) = do
@@ -132,7 +132,7 @@ slot_holds slot (b ∷ bs) = do
   _ ← wanted (n.0 == length n.1 && is_name n.1) BadValue
   Ok (names.Written slot n.1)
 
--- within the length of a name field: nothing, or an encoded slot and what stands after it
+-- what is within the length of a name field: nothing, or an encoded slot and what follows it
 unfoldable pub field_of : List ℕ → Result NameField Breach
 field_of [] = Ok names.NoName
 field_of (b ∷ bs) = do
@@ -149,7 +149,7 @@ name_at true bytes = do
   field ← field_of inner.0
   Ok (field, inner.1)
 
--- an update of a table, with a number and a life or without
+-- an update of a table, with or without a number and a life
 unfoldable pub update_at : Definition → Bool → Bool → List ℕ → Result UpdateFields Breach
 update_at d numbered timed bytes = do
   number ← optional_at numbered bytes
@@ -168,7 +168,7 @@ known_kind (Some kind) = Ok kind
 abbrev pub kind_of : ℕ → Result KeyKind Breach
 kind_of n = known_kind (kind_at n)
 
--- the period of a rate after its id; nothing for any other type
+-- a rate's id and period, or nothing for another type
 unfoldable pub period_at : DataType → List ℕ → Result (Option ℕ × List ℕ) Breach
 period_at t bytes = if is_rate t then (do
   id ← integer_at BadDefinition bytes
@@ -177,7 +177,7 @@ period_at t bytes = if is_rate t then (do
   _ ← wanted (is_period (Some period.0)) BadDefinition
   Ok (Some period.0, period.1)) else Ok (None, bytes)
 
--- those of the types whose bits stand, the first type by the lowest bit, and their periods
+-- the types whose bits are set, the first type at the lowest bit, with their periods
 unfoldable pub types_at : List DataType → ℕ → List ℕ → Result (List (DataType × Option ℕ) × List ℕ) Breach
 types_at [] bits bytes = Ok ([], bytes)
 types_at (t ∷ ts) bits bytes = if bits % 2 == 0 then types_at ts (bits / 2) bytes else (do
@@ -185,7 +185,7 @@ types_at (t ∷ ts) bits bytes = if bits % 2 == 0 then types_at ts (bits / 2) by
   others ← types_at ts (bits / 2) period.1
   Ok ((t, period.0) ∷ others.0, others.1))
 
--- the id of a table and its name
+-- a table's id and name
 unfoldable pub named_at : List ℕ → Result ((ℕ × List ℕ) × List ℕ) Breach
 named_at bytes = do
   id ← integer_at BadDefinition bytes
@@ -195,7 +195,7 @@ named_at bytes = do
   _ ← wanted (is_name name.0) BadDefinition
   Ok ((id.0, name.0), name.1)
 
--- the kind of its keys and their length
+-- the kind of a table's keys and their length
 unfoldable pub keyed_at : List ℕ → Result ((KeyKind × ℕ) × List ℕ) Breach
 keyed_at bytes = do
   number ← integer_at BadDefinition bytes
@@ -204,7 +204,7 @@ keyed_at bytes = do
   _ ← wanted (fits_length kind key_length.0) BadDefinition
   Ok ((kind, key_length.0), key_length.1)
 
--- its expire, and what it stores; the bits of what it stores stand before the expire, and the periods after it
+-- a table's expire and what it stores; the bits of its data types precede the expire, and the periods follow it
 unfoldable pub stored_at : List ℕ → Result ((ℕ × List (DataType × Option ℕ)) × List ℕ) Breach
 stored_at bytes = do
   bits ← integer_at BadDefinition bytes
@@ -267,7 +267,7 @@ table_meant message_type =
     else (if message_type == 134 then meanings.Update false true
     else meanings.Other))))))
 
--- what a pair of class and type stands for
+-- the meaning of a pair of class and type
 unfoldable pub meant : ℕ → ℕ → Meaning
 meant class message_type =
     if class == 0 then control_meant message_type
@@ -275,7 +275,7 @@ meant class message_type =
     else (if class == 10 then table_meant message_type
     else meanings.Other))
 
--- the message whose data are these bytes
+-- the message with these data
 abbrev pub message_of : Received → Meaning → ℕ → ℕ → List ℕ → Result Message Breach
 message_of h (meanings.Control c) class message_type body = Ok (messages.Control c)
 message_of h (meanings.Error e) class message_type body = Ok (messages.Error e)
@@ -290,7 +290,7 @@ message_of h meanings.Other class message_type body = Ok (messages.Other (record
 unfoldable pub body_at : Received → ℕ → ℕ → List ℕ → Result Message Breach
 body_at h class message_type body = message_of h (meant class message_type) class message_type body
 
--- ---- the bytes of a message, of which some may still be to come
+-- ---- messages that may not be complete yet
 
 -- class, type and data
 pub record Frame : Type 0 where
@@ -298,7 +298,7 @@ pub record Frame : Type 0 where
   pub message_type : ℕ
   pub body : List ℕ
 
--- so many bytes of data, once they all stand
+-- `count` bytes of data, if they are complete
 abbrev pub whole_data : ℕ → List ℕ → Result (Option (List ℕ × List ℕ)) Breach
 whole_data n bytes =
     if nat_lt most_data n then Err SizeLimit
@@ -310,7 +310,7 @@ data_from bytes (Value n used) = whole_data n (drop used bytes)
 data_from bytes Short = Ok None
 data_from bytes Over = Err BadInteger
 
--- the data after a type: none below 128, else so many bytes as an encoded length says
+-- the data after a type: none if it is below 128, otherwise as many bytes as an encoded length says
 unfoldable pub data_at : ℕ → List ℕ → Result (Option (List ℕ × List ℕ)) Breach
 data_at message_type bytes = if nat_lt message_type 128 then Ok (Some ([], bytes)) else data_from bytes (read_of bytes)
 
@@ -318,7 +318,7 @@ abbrev pub frame_with : ℕ → ℕ → Option (List ℕ × List ℕ) → Option
 frame_with class message_type None = None
 frame_with class message_type (Some found) = Some (record { class = class; message_type = message_type; body = found.0 }, found.1)
 
--- class, type and data at the front; None while they aren't whole
+-- class, type and data at the front, or None while they aren't complete
 unfoldable pub frame_at : List ℕ → Result (Option (Frame × List ℕ)) Breach
 frame_at [] = Ok None
 frame_at (class ∷ []) = Ok None
@@ -332,13 +332,13 @@ message_in h (Some found) = do
   m ← body_at h found.0.class found.0.message_type found.0.body
   Ok (Some (m, found.1))
 
--- the message at the front, and the bytes after it; None while it isn't whole
+-- the message at the front and the bytes after it, or None while the message isn't complete
 unfoldable pub message_at : Received → List ℕ → Result (Option (Message × List ℕ)) Breach
 message_at h bytes = do
   found ← frame_at bytes
   message_in h found
 
--- what was read, with more bytes after it
+-- the result with more bytes after it
 abbrev pub with_more : {A : Type 0} → List ℕ → Result (Option (A × List ℕ)) Breach → Result (Option (A × List ℕ)) Breach
 with_more more (Ok None) = Ok None
 with_more more (Ok (Some found)) = Ok (Some (found.0, found.1 ++ more))

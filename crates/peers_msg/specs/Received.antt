@@ -1,6 +1,6 @@
--- What of the tables was received on a stream: which definition each id stands for, and which id is selected
--- (HAProxy, doc/peers-v2.0.txt, "Table Definition Message" and "Table Switch Message"; what a definition under
--- another id or with another name takes away is the profile's choice).
+-- The definitions received on a stream: the definition of each id, and the selected id (HAProxy, doc/peers-v2.0.txt,
+-- "Table Definition Message" and "Table Switch Message"; which tables a definition with a known id or name replaces is
+-- the profile's choice).
 use Rattle.std.specs.Prelude.{◌≢◌, ◌<◌, ℕ, Bool, not, ◌&&◌, ◌==◌, nat_lt, List, [], ◌∷◌, filter, fold, Option, Some, None, option_and_then, if◌then◌else◌}
 use Rattle.std.specs.List.{AllByRecursion}
 use Rattle.table_types.specs.Tables.{Definition}
@@ -12,43 +12,43 @@ pub record Received : Type 0 where
   pub tables : List Definition
   pub selected : Option ℕ
 
--- a table has a lower id than another, and another name
+-- a table has a lower id than another, and a different name
 abbrev pub IsBelow : Definition → Definition → Type 0
 IsBelow d other = (d.id < other.id) × (d.name ≢ other.name)
 
--- the tables stand in ascending order of id, one for an id, and no two of them have one name
+-- the tables are in ascending order of id, with distinct ids and distinct names
 abbrev pub AreDistinct : List Definition → Type 0
 AreDistinct [] = Unit {0}
 AreDistinct (d ∷ ds) = AllByRecursion (IsBelow d) ds × AreDistinct ds
 
--- nothing is received yet
+-- nothing was received yet
 abbrev pub nothing_received : Received
 nothing_received = record { tables = []; selected = None }
 
--- a table in its place among tables in rising id
+-- inserts a table among tables in ascending order of id
 abbrev pub insert_table : Definition → List Definition → List Definition
 insert_table new [] = new ∷ []
 insert_table new (d ∷ ds) = if nat_lt new.id d.id then new ∷ (d ∷ ds) else d ∷ insert_table new ds
 
--- a table outlives a definition that has neither its id nor its name
+-- a definition keeps the tables that have neither its id nor its name
 abbrev pub outlives : Definition → Definition → Bool
 outlives new d = not (d.id == new.id) && not (is_same_name d.name new.name)
 
--- a definition replaces the table of its id, and takes its name from another id
+-- a definition replaces the tables with its id or its name
 abbrev pub defined : Definition → List Definition → List Definition
 defined new ds = insert_table new (filter (outlives new) ds)
 
--- a definition also selects its table, a switch selects a table, and nothing else changes what is received
+-- a definition also selects its table, a switch selects a table, and no other message changes what was received
 abbrev pub received_after : Received → Message → Received
 received_after h (messages.Define d) = record { tables = defined d h.tables; selected = Some d.id }
 received_after h (messages.Switch id) = record { tables = h.tables; selected = Some id }
 received_after h m = h
 
--- the table that is selected
+-- the selected table
 abbrev pub selected_table : Received → Option Definition
 selected_table h = option_and_then (table_at h.tables) h.selected
 
--- what is received after the roster's own definition of an id
+-- the tables received after the roster's own definition of an id
 abbrev pub with_own : List Definition → List Definition → ℕ → List Definition
 with_own roster ds id = with_found (table_at roster id) ds
   where
@@ -56,6 +56,7 @@ with_own roster ds id = with_found (table_at roster id) ds
     with_found None ds = ds
     with_found (Some d) ds = defined d ds
 
--- what is received where the roster's tables of these ids were defined, in this order, and that id was selected last
+-- what was received after the roster's tables with these ids were defined, in this order, and `selected` was selected
+-- last
 abbrev pub resumed : List Definition → List ℕ → Option ℕ → Received
 resumed roster ids selected = record { tables = fold (with_own roster) [] ids; selected = selected }

@@ -1,5 +1,5 @@
--- The one spelling of each message (HAProxy, doc/peers-v2.0.txt, "Messages"; the timed updates, the heartbeat,
--- the expire and the periods in a definition, and the dictionary of names are those of version 2.1).
+-- The one spelling of each message (HAProxy, doc/peers-v2.0.txt, "Messages"; version 2.1 adds the timed updates, the
+-- heartbeat, the expire and the periods in a definition, and the dictionary of names).
 use Rattle.std.specs.Prelude.{◌≡◌, ℕ, ◌^◌, List, [], ◌∷◌, ◌++◌, length, sum_by, flat_map, Option, Some, None, nat_lt, if◌then◌else◌}
 use Rattle.std.specs.Int.{w32, to_be_bytes}
 use Rattle.peers_encint.specs.Integers.{spelling}
@@ -21,7 +21,7 @@ use Rattle.peers_msg.specs.declared.message.Message.{Message}
 use Rattle.peers_msg.specs.declared.message.Message.TheVariants as messages
 use Rattle.peers_msg.specs.Messages.{UpdateFields}
 
--- four bytes, the big end first
+-- four bytes in big-endian order
 abbrev pub word : ℕ → List ℕ
 word n = to_be_bytes w32 n
 
@@ -33,7 +33,7 @@ optional_word (Some n) = word n
 abbrev pub counted : List ℕ → List ℕ
 counted bytes = spelling (length bytes) ++ bytes
 
--- class, type, and counted data
+-- class, type, and data after their encoded length
 abbrev pub framed : ℕ → ℕ → List ℕ → List ℕ
 framed class message_type body = class ∷ (message_type ∷ counted body)
 
@@ -49,7 +49,7 @@ abbrev pub value_text : Value → List ℕ
 value_text (values.Count n) = spelling n
 value_text (values.Rate elapsed current previous) = spelling elapsed ++ (spelling current ++ spelling previous)
 
--- a length of 0 is no name; else within that length a slot, and with it the name where it is written
+-- a length of 0 if there is no name; otherwise within that length a slot, followed by the name if the slot is written
 abbrev pub name_text : NameField → List ℕ
 name_text names.NotStored = []
 name_text names.NoName = spelling 0
@@ -59,7 +59,7 @@ name_text (names.Written slot name) = counted (spelling slot ++ counted name)
 abbrev pub update_text : UpdateFields → List ℕ
 update_text u = optional_word u.number ++ (optional_word u.life ++ (key_text u.key ++ (flat_map value_text u.values ++ name_text u.name)))
 
--- 128 has a number, 129 none; with a life they are 133 and 134
+-- 128 with a number, 129 without; 133 and 134 with a life
 abbrev pub update_type : UpdateFields → ℕ
 update_type u = type_for u.number u.life
   where
@@ -95,7 +95,7 @@ abbrev pub error_type : ErrorKind → ℕ
 error_type errors.Protocol = 0
 error_type errors.SizeLimit = 1
 
--- the data of a message: what its length counts
+-- the data of a message, which its length counts
 unfoldable pub data_of : Message → List ℕ
 data_of (messages.Control c) = []
 data_of (messages.Error e) = []
@@ -119,14 +119,14 @@ spelled (messages.Other o) = if nat_lt o.message_type 128 then o.class ∷ (o.me
 abbrev pub Spells : Message → List ℕ → Type 0
 Spells m b = b ≡ spelled m
 
--- how many bytes a message has
+-- the size of a message in bytes
 unfoldable pub size_of : Message → ℕ
 size_of m = length (spelled m)
 
--- the bytes of messages one after another
+-- the bytes of messages in a row
 abbrev pub stream_of : List Message → List ℕ
 stream_of ms = flat_map spelled ms
 
--- how many bytes they have together
+-- the size of messages in a row
 abbrev pub size_of_all : List Message → ℕ
 size_of_all ms = sum_by size_of ms

@@ -1,5 +1,5 @@
-//! Messages as their bytes stand where they were received. Nothing of them is copied and no memory is taken, until
-//! `to_owned` makes the message of its own.
+//! Messages borrowed from the received bytes. Nothing is copied and no memory is allocated until `to_owned` makes an
+//! owned message.
 
 mod definition_ref;
 mod key_ref;

@@ -13,10 +13,11 @@ use std::alloc::Global;
 use std::marker::Model;
 use table_types::{Memory, Roster};
 
-/// Reads the messages of a stream that comes in pieces, cut anywhere.
+/// Reads the messages of a stream that arrives in pieces, cut anywhere.
 ///
-/// It holds the bytes that were fed and not read yet, and what was received of the tables. While a message
-/// isn't whole only its first bytes are looked at, 12 at most, so the work goes with the bytes fed and the calls.
+/// The decoder holds the bytes that were fed but not read yet, and the definitions received. While a message isn't
+/// complete, the decoder looks only at its first bytes, 12 at most, so the work is linear in the bytes fed and the
+/// calls made.
 #[derive(Drop)]
 pub struct Decoder {
     alloc: Global,
@@ -33,7 +34,7 @@ impl Model for Decoder {
     ghost view = { λ d. record { received = d.received; unread = d.unread; closed = d.closed } };
 }
 
-/// Receives a message. After `Memory` nothing has changed.
+/// Receives a message. Changes nothing if memory runs out.
 fn receive(alloc: Global, received: &mut Received, message: &Message) -> Result<(), Memory>
     ensures received { OnOk result (received.new ≡ received_after received.old message.now) }
     ensures stays { OnErr result (received.new ≡ received.old) }
@@ -49,7 +50,7 @@ fn receive(alloc: Global, received: &mut Received, message: &Message) -> Result<
 }
 
 impl Decoder {
-    /// A decoder that has received nothing. Doesn't allocate.
+    /// Makes a decoder that has received nothing. Doesn't allocate.
     pub fn new(alloc: Global) -> Decoder
         ensures { result ≡ begun nothing_received }
     {
@@ -61,8 +62,8 @@ impl Decoder {
         }
     }
 
-    /// A decoder of a stream on which the roster's definitions of these ids were received before, in this order, and that
-    /// id was selected last. An id that the roster lacks is passed over.
+    /// Makes a decoder that resumes a stream on which the roster's tables with the ids `defined` were defined, in this
+    /// order, and `selected` was selected last. Skips ids that the roster lacks. Fails if memory runs out.
     pub fn resume(
         alloc: Global,
         roster: &Roster,
@@ -79,21 +80,22 @@ impl Decoder {
         })
     }
 
-    /// What was received of the tables.
+    /// Returns the definitions received so far.
     pub fn received(&self) -> &Received
         ensures { result.now ≡ self.now.received }
     {
         &self.received
     }
 
-    /// How many bytes were fed and not read. Where `next` answers `None` they are those of an unfinished message.
+    /// Returns the number of bytes that were fed but not read. After `next` has returned `None`, they are those of an
+    /// incomplete message.
     pub fn waiting(&self) -> usize
         ensures { result ≡ length self.now.unread }
     {
         self.unread.len()
     }
 
-    /// Takes the next piece of the stream. After a fault it answers `Closed`; after `Memory` nothing has changed.
+    /// Appends the next piece of the stream. Returns `Closed` after a breach. Changes nothing if memory runs out.
     pub fn feed(&mut self, piece: &[u8]) -> Result<(), Fault>
         ensures { DecoderFeeds self.old piece.now result self.new }
     {
@@ -104,9 +106,9 @@ impl Decoder {
         Ok(())
     }
 
-    /// The next message, and `None` while it isn't whole. Bytes that begin no message are a fault, and after it the
-    /// decoder answers `Closed`. It answers `Memory` only where a whole message without a fault stands at the front, and
-    /// then nothing has changed.
+    /// Returns the next message, or `None` while it isn't complete. After a breach, the decoder returns only `Closed`.
+    /// `Memory` is possible only if a complete message without a breach is at the front; the call then changes nothing
+    /// and can be repeated.
     pub fn next(&mut self) -> Result<Option<Message>, Fault>
         ensures { DecoderNext self.old result self.new }
     {
@@ -126,7 +128,7 @@ impl Decoder {
         }
     }
 
-    /// Gives a message that stands at the front and has so many bytes.
+    /// Receives `message`, which is at the front and has `used` bytes, drops these bytes and returns it.
     fn given(&mut self, message: Message, used: usize) -> Result<Option<Message>, Fault>
         requires within { used ≤ length self.old.unread }
         requires opened { self.old.closed ≡ false }

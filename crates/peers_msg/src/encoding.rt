@@ -1,5 +1,5 @@
-//! The bytes of messages. Room for a whole message is reserved before its first byte is appended, so that only this can
-//! fail; each function below that appends a part asks for room for it.
+//! The bytes of messages. Room for the whole message is reserved before its first byte is appended, so only the reservation
+//! can fail. Each function below that appends a part requires room for it.
 
 ghost use Rattle.std.specs.Prelude.{◌≡◌, ◌≤◌, ◌<◌, ◌+◌, ◌^◌, ◌++◌, ◌∷◌, [], true, length, flat_map, vec_len, vec_capacity, IfOk, OnOk, OnErr};
 ghost use Rattle.peers_encint.specs.Integers.{spelling};
@@ -54,7 +54,7 @@ fn append_integer(out: &mut Vec<u8>, n: u64)
     }
 }
 
-/// Appends four bytes, the big end first.
+/// Appends a number as four bytes in big-endian order.
 fn append_word(out: &mut Vec<u8>, n: u32)
     requires room { vec_len out.old + length (word n) ≤ vec_capacity out.old }
     ensures appended { out.new.items ≡ out.old.items ++ word n }
@@ -73,7 +73,7 @@ fn append_optional(out: &mut Vec<u8>, n: Option<u32>)
     }
 }
 
-/// Appends bytes after their encoded length.
+/// Appends bytes, with their encoded length first.
 fn append_counted(out: &mut Vec<u8>, bytes: &[u8])
     requires room { vec_len out.old + length (counted bytes.now) ≤ vec_capacity out.old }
     ensures appended { out.new.items ≡ out.old.items ++ counted bytes.now }
@@ -159,7 +159,7 @@ fn append_update(out: &mut Vec<u8>, update: &UpdateMsg)
     append_name(out, update.name());
 }
 
-/// Appends a rate's id and period, and for another type nothing.
+/// Appends a rate's id and period, or nothing for another type.
 fn append_period(out: &mut Vec<u8>, entry: &(DataType, Option<u32>))
     requires room { vec_len out.old + length (period_text entry.now) ≤ vec_capacity out.old }
     ensures appended { out.new.items ≡ out.old.items ++ period_text entry.now }
@@ -181,7 +181,7 @@ fn append_periods(out: &mut Vec<u8>, types: &[(DataType, Option<u32>)])
     }
 }
 
-/// Appends what a table stores: its data types as bits, how long its rows live, and the periods of its rates.
+/// Appends what a table stores: its data types as bits, its expire, and the periods of its rates.
 fn append_stored(out: &mut Vec<u8>, table: &TableDef)
     requires rising { rise_from 0 table.now.types ≡ true }
     requires room { vec_len out.old + length (spelling (bits_of table.now.types) ++ (spelling table.now.expire ++ flat_map period_text table.now.types)) ≤ vec_capacity out.old }
@@ -206,21 +206,21 @@ fn append_definition(out: &mut Vec<u8>, table: &TableDef)
     append_stored(out, table);
 }
 
-/// The type of a control message.
+/// Returns the type of a control message.
 fn control_type(control: Control) -> u8
     ensures { result ≡ control_type control }
 {
     control as u8
 }
 
-/// The type of an error message.
+/// Returns the type of an error message.
 fn error_type(error: ErrorKind) -> u8
     ensures { result ≡ error_type error }
 {
     error as u8
 }
 
-/// The type of an update.
+/// Returns the type of an update.
 fn update_type(update: &UpdateMsg) -> u8
     ensures { result ≡ update_type update.now }
 {
@@ -243,8 +243,8 @@ fn append_pair(out: &mut Vec<u8>, class: u8, message_type: u8) -> Result<(), Mem
     Ok(())
 }
 
-/// Reserves room for a message with that many bytes of data, and appends what stands before the data: class, type, and how
-/// many bytes there are.
+/// Reserves room for a message with `count` bytes of data, and appends what precedes the data: class, type and the
+/// encoded length.
 fn append_header(out: &mut Vec<u8>, class: u8, message_type: u8, count: usize) -> Result<(), Memory>
     requires { count < 2 ^ 63 }
     ensures appended { OnOk result (out.new.items ≡ out.old.items ++ (class ∷ (message_type ∷ spelling count))) }
@@ -272,10 +272,10 @@ fn append_other(out: &mut Vec<u8>, other: &Other) -> Result<(), Memory>
     }
 }
 
-/// Appends the bytes of a message. It reserves memory once, for as many bytes as `size` says.
+/// Appends the bytes of a message. Allocates at most once, for as many bytes as `size` returns.
 ///
 /// # Errors
-/// `Memory` where that is refused. `out` then has what it had.
+/// `Memory` if memory runs out. `out` is then unchanged.
 #[tactic(auto, unfolding(crate::specs::Spelling::spelled))]
 pub fn append(out: &mut Vec<u8>, message: &Message) -> Result<(), Memory>
     ensures appended { OnOk result (out.new.items ≡ out.old.items ++ spelled message.now) }
@@ -306,10 +306,10 @@ pub fn append(out: &mut Vec<u8>, message: &Message) -> Result<(), Memory>
     Ok(())
 }
 
-/// The bytes of a message. It takes memory once.
+/// Returns the bytes of a message. Allocates once.
 ///
 /// # Errors
-/// `Memory` where that is refused.
+/// `Memory` if memory runs out.
 pub fn encode(alloc: Global, message: &Message) -> Result<Vec<u8>, Memory>
     ensures spelled { IfOk result (λ bytes. Spells message.now bytes.items) }
 {

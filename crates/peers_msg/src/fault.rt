@@ -1,4 +1,4 @@
-//! What is wrong with bytes that are no messages.
+//! Why bytes are not a message.
 
 ghost use Rattle.std.specs.Prelude.{◌≡◌};
 ghost use Rattle.peers_msg.specs.Breaches.{breach_name};
@@ -7,28 +7,28 @@ ghost use Rattle.peers_msg.specs.declared.fault.Fault.TheVariants as faults;
 use table_types::Memory;
 use thiserror::Error;
 
-/// The first thing, from left to right, that is wrong with the bytes where a message is to stand (profile).
+/// The first breach, from left to right, in bytes that should be a message (profile).
 #[derive(Clone, Copy, Debug, PartialEq, Eq, Error)]
 pub enum Breach {
     /// An encoded integer is 2^64 or more, or the data of a switch or an acknowledgement end inside a field.
     #[error("an encoded integer is too large or cut short")]
     BadInteger,
-    /// The length of the data is above the most that a message may have.
+    /// The length of the data exceeds the limit for a message.
     #[error("a message has more data than a message may have")]
     SizeLimit,
-    /// A definition ends inside a field, or a field of it is out of its range.
+    /// A definition ends inside a field, or one of its fields is out of range.
     #[error("a table's definition is malformed")]
     BadDefinition,
     /// A definition has a bit from 20 up.
     #[error("a table's definition has an unknown data type")]
     UnknownDataType,
-    /// An update comes while no table is selected, or a switch to an id that stands for no table.
+    /// An update arrives while no table is selected, or a switch names an id without a table.
     #[error("no table is selected, or none is defined under the id")]
     NoTable,
-    /// An update ends inside its number, life or key, or its key is no key of the table.
+    /// An update ends inside its number, life or key, or its key doesn't fit the table.
     #[error("an update's key is malformed or doesn't fit its table")]
     BadKey,
-    /// An update ends inside its values or its name field, or one of them is out of its range.
+    /// An update ends inside its values or its name field, or one of them is out of range.
     #[error("an update's values are malformed or out of range")]
     BadValue,
     /// Bytes are left after the last field of the data.
@@ -36,16 +36,16 @@ pub enum Breach {
     Trailing,
 }
 
-/// Why a decoder returns no message, or takes no bytes (profile).
+/// Why a decoder returns no message, or accepts no bytes (profile).
 #[derive(Clone, Copy, Debug, PartialEq, Eq, Error)]
 pub enum Fault {
-    /// The bytes at the front are no message.
+    /// The bytes at the front are not a message.
     #[error("{0}")]
     Breach(Breach),
-    /// Memory was wanted, and the growth was refused.
+    /// Memory ran out.
     #[error("memory")]
     Memory,
-    /// There was a breach before: nothing more is read.
+    /// A breach occurred before: the decoder reads nothing more.
     #[error("nothing more is read after a fault")]
     Closed,
 }
@@ -59,7 +59,7 @@ impl From<Memory> for Fault {
 }
 
 impl Breach {
-    /// The breach's name, as the source writes it: `BadInteger`, `SizeLimit` and so on.
+    /// Returns the breach's name as the source spells it: `BadInteger`, `SizeLimit` and so on.
     pub fn name(self) -> &'static str
         ensures { result.now ≡ breach_name self }
     {

@@ -1,4 +1,4 @@
-//! Which messages fit what was received.
+//! Which messages fit the definitions received.
 
 ghost use Rattle.std.specs.Prelude.{◌≡◌, ◌^◌, ◌&&◌, nat_lt, IsTrue};
 ghost use Rattle.table_types.specs.Updates.{is_optional_word, is_word};
@@ -11,7 +11,7 @@ use crate::sizes::{definition_size, update_size};
 use peers_encint::len;
 use table_types::{TableDef, is_slot};
 
-/// True of each number of 32 bits, as the wire's four bytes hold.
+/// Returns `true`: every number of 32 bits fits the four bytes on the wire.
 fn is_optional_word(number: Option<u32>) -> bool
     ensures { result ≡ is_optional_word number }
 {
@@ -35,8 +35,8 @@ fn name_fits(table: &TableDef, field: &NameField) -> bool
 }
 
 impl UpdateMsg {
-    /// Whether the update is one of that table: its key, values and name field have the table's shape and ranges.
-    /// The life isn't tested.
+    /// Returns whether the update fits the table: its key, values and name field have the table's shape and ranges.
+    /// Doesn't check the life.
     pub fn fits(&self, table: &TableDef) -> bool
         ensures { result ≡ update_fits table.now self.now }
     {
@@ -54,8 +54,8 @@ fn is_acknowledgement(table: u64, number: u32) -> bool
 }
 
 impl Message {
-    /// Whether the message fits what was received: an update fits the selected table, a switch names an id that stands
-    /// for a table, and any other message fits as it is.
+    /// Returns whether the message fits the definitions received: an update fits the selected table, a switch names the
+    /// id of a table, and any other message always fits.
     #[tactic(auto, unfolding(crate::specs::Fitting::fits, crate::specs::Spelling::data_of))]
     pub fn fits(&self, received: &Received) -> bool
         ensures exact { result ≡ fits received.now self.now }

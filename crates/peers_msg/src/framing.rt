@@ -1,4 +1,4 @@
-//! Where messages end in a stream, whatever they mean.
+//! Where messages end in a stream, whatever their meaning.
 
 ghost use Rattle.std.specs.Prelude.{◌≡◌, ◌≤◌, ◌++◌, ℕ, List, None, Some, IfSome, IsSomeAnd, length, take};
 ghost use Rattle.peers_msg.specs.Framing.{IsCounted, IsFrame};
@@ -7,10 +7,10 @@ ghost use Rattle.peers_msg.specs.declared.message.Message.{Message};
 
 use peers_encint::{Read, get};
 
-/// The first message of a stream and the bytes after it; `None` while the bytes hold no whole message.
+/// Returns the first message of a stream and the bytes after it, or `None` while the message isn't complete.
 ///
-/// Only class, type and length are looked at, not what the message means: after a type of 128 or more stand an encoded
-/// length and that many bytes (doc/peers-v2.0.txt, "Messages").
+/// Only class, type and length are looked at: after a type of 128 or more follow an encoded length and that many bytes
+/// (doc/peers-v2.0.txt, "Messages").
 pub fn split_message(bytes: &[u8]) -> Option<(&[u8], &[u8])>
     ensures found { (frame rest : List ℕ) → IsFrame frame → bytes.now ≡ frame ++ rest → IsSomeAnd result (λ parts. (parts.0.now ≡ frame) × (parts.1.now ≡ rest)) }
     ensures message { (message : Message) (rest : List ℕ) → bytes.now ≡ spelled message ++ rest → IsSomeAnd result (λ parts. (parts.0.now ≡ spelled message) × (parts.1.now ≡ rest)) }
@@ -23,7 +23,7 @@ pub fn split_message(bytes: &[u8]) -> Option<(&[u8], &[u8])>
     }
 }
 
-/// How long the first message of a stream is.
+/// Returns the length of the first message of a stream.
 fn frame_length(bytes: &[u8]) -> Option<usize>
     ensures within { IfSome result (λ n. n ≤ length bytes.now) }
     ensures frame { IfSome result (λ n. IsFrame (take n bytes.now)) }
@@ -41,7 +41,7 @@ fn frame_length(bytes: &[u8]) -> Option<usize>
     }
 }
 
-/// How long an encoded length and that many bytes are.
+/// Returns the length of an encoded length together with the bytes that it counts.
 fn counted_length(bytes: &[u8]) -> Option<usize>
     ensures within { IfSome result (λ n. n ≤ length bytes.now) }
     ensures counted { IfSome result (λ n. IsCounted (take n bytes.now)) }

@@ -1,4 +1,4 @@
-//! The messages of HAProxy's peers protocol: what they are, what is received of them, and their bytes.
+//! The messages of HAProxy's peers protocol: their fields, their bytes, and the definitions that a stream carries.
 #![tactic(auto)]
 
 mod borrowed;

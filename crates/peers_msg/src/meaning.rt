@@ -1,8 +1,8 @@
-//! What the pairs of class and type stand for.
+//! The meanings of the pairs of class and type.
 
 use crate::control::{Control, ErrorKind};
 
-/// What a pair of class and type stands for (HAProxy, doc/peers-v2.0.txt, "Messages").
+/// The meaning of a pair of class and type (HAProxy, doc/peers-v2.0.txt, "Messages").
 #[derive(Clone, Copy)]
 pub enum Meaning {
     /// Class 0, types 0 to 4.
@@ -17,9 +17,9 @@ pub enum Meaning {
     Ack,
     /// Class 10, types 128, 129, 133 and 134.
     Update {
-        /// It has a number: 128 and 133.
+        /// The update has a number: types 128 and 133.
         numbered: bool,
-        /// It has a life: 133 and 134.
+        /// The update has a life: types 133 and 134.
         timed: bool,
     },
     /// Any other pair.

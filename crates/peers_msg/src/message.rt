@@ -9,12 +9,12 @@ use std::alloc::Global;
 use std::marker::Model;
 use table_types::{Items, Key, Memory, ShortList, TableDef, Value};
 
-/// How many bytes the data of a message may have (profile).
+/// The most bytes that the data of a message may have (profile).
 pub(crate) const MOST_DATA: usize = 16_384;
 
 /// An update of a row of the selected table (HAProxy, doc/peers-v2.0.txt, "Update Messages").
 ///
-/// It has a key of at most 8,192 bytes and at most 20 values, as each update of any table does.
+/// It meets the limits for an update of any table: a key of at most 8,192 bytes and at most 20 values.
 #[derive(Debug, Drop)]
 pub struct UpdateMsg {
     number: Option<u32>,
@@ -36,12 +36,13 @@ impl Model for UpdateMsg {
 }
 
 impl UpdateMsg {
-    /// The update with these fields.
+    /// Makes an update of its fields.
     ///
-    /// * `number`: the sender's number of the update; `None` is incremental, one more than the table's last;
-    /// * `life`: the remaining life of the row in milliseconds; `None` leaves it not given;
+    /// * `number`: the sender's number of the update; `None` for an incremental update, whose number is one above the
+    /// table's last;
+    /// * `life`: the row's remaining life in milliseconds; `None` if not given;
     /// * `key`: at most 8,192 bytes;
-    /// * `values`: at most 20, in rising id, without the server's name.
+    /// * `values`: at most 20, in ascending order of id, without the server's name.
     pub fn new(
         number: Option<u32>,
         life: Option<u32>,
@@ -61,7 +62,7 @@ impl UpdateMsg {
         }
     }
 
-    /// The sender's number; `None` where it is one more than the table's last.
+    /// Returns the sender's number of the update, or `None` if it is one above the table's last.
     pub fn number(&self) -> Option<u32>
         ensures value { result ≡ self.now.number }
         ensures small { is_small self.now.key self.now.values ≡ true }
@@ -69,35 +70,35 @@ impl UpdateMsg {
         self.number
     }
 
-    /// The remaining life of the row in milliseconds; `None` where it is not given.
+    /// Returns the row's remaining life in milliseconds, or `None` if it isn't given.
     pub fn life(&self) -> Option<u32>
         ensures { result ≡ self.now.life }
     {
         self.life
     }
 
-    /// The row's key.
+    /// Returns the row's key.
     pub fn key(&self) -> &Key
         ensures { result.now ≡ self.now.key }
     {
         &self.key
     }
 
-    /// The values in rising id, without the server's name.
+    /// Returns the values, in ascending order of id, without the server's name.
     pub fn values(&self) -> &[Value]
         ensures { result.now ≡ self.now.values }
     {
         self.values.as_slice()
     }
 
-    /// What stands where the server's name goes.
+    /// Returns the name field, which carries the server's name.
     pub fn name(&self) -> &NameField
         ensures { result.now ≡ self.now.name }
     {
         &self.name
     }
 
-    /// Key, values and name field, given up.
+    /// Splits the update into its key, values and name field.
     pub fn into_parts(self) -> (Key, ShortList<Value>, NameField)
         ensures key { result.0 ≡ self.key }
         ensures values { result.1 ≡ self.values }
@@ -113,7 +114,7 @@ impl UpdateMsg {
         (key, values, name)
     }
 
-    /// An equal update.
+    /// Returns an equal copy. Fails if memory runs out.
     pub fn copy(&self, alloc: Global) -> Result<UpdateMsg, Memory>
         ensures { IfOk result (λ copy. copy ≡ self.now) }
     {
@@ -127,7 +128,7 @@ impl UpdateMsg {
     }
 }
 
-/// Whether a pair of class and type has a meaning of its own.
+/// Returns whether a pair of class and type has a meaning of its own.
 fn is_known_pair(class: u8, message_type: u8) -> bool
     ensures { result ≡ is_known_pair class message_type }
 {
@@ -139,9 +140,9 @@ fn is_known_pair(class: u8, message_type: u8) -> bool
     }
 }
 
-/// A message of a pair of class and type that has no meaning here. A learner passes it over (profile).
+/// A message whose pair of class and type has no meaning here. A learner skips it (profile).
 ///
-/// Its body is empty where `message_type` is below 128, and has at most 16,384 bytes.
+/// Its body is empty if `message_type` is below 128, and has at most 16,384 bytes.
 #[derive(Debug, Drop)]
 pub struct Other {
     class: u8,
@@ -161,8 +162,8 @@ impl Model for Other {
 }
 
 impl Other {
-    /// The message of that class and type with these data. `None` where the pair has a meaning of its own, where
-    /// data stand after a type below 128, and above 16,384 bytes.
+    /// Makes a message of its class, type and data. Returns `None` if the pair has a meaning of its own, if there are
+    /// data but the type is below 128, or if there are more than 16,384 bytes of data.
     pub fn new(class: u8, message_type: u8, body: Vec<u8>) -> Option<Other>
         ensures made { IfSome result (λ o. o ≡ record { class = class; message_type = message_type; body = body.items }) }
         ensures exactly { IsSome result ↔ (is_other (record { class = class; message_type = message_type; body = body.items }) ≡ true) }
@@ -178,7 +179,7 @@ impl Other {
         })
     }
 
-    /// Its class.
+    /// Returns the message's class.
     pub fn class(&self) -> u8
         ensures value { result ≡ self.now.class }
         ensures other { is_other self.now ≡ true }
@@ -186,14 +187,14 @@ impl Other {
         self.class
     }
 
-    /// Its type.
+    /// Returns the message's type.
     pub fn message_type(&self) -> u8
         ensures { result ≡ self.now.message_type }
     {
         self.message_type
     }
 
-    /// Its data.
+    /// Returns the message's data.
     pub fn body(&self) -> &[u8]
         ensures value { result.now ≡ self.now.body }
         ensures other { is_other self.now ≡ true }
@@ -201,7 +202,7 @@ impl Other {
         self.body.as_slice()
     }
 
-    /// An equal message.
+    /// Returns an equal copy. Fails if memory runs out.
     pub fn copy(&self, alloc: Global) -> Result<Other, Memory>
         ensures { IfOk result (λ copy. copy ≡ self.now) }
     {
@@ -215,36 +216,36 @@ impl Other {
 
 /// A message of the peers protocol, version 2.1 (HAProxy, doc/peers-v2.0.txt, "Messages").
 ///
-/// On the wire: a class byte and a type byte; after a type of 128 or more an encoded data length and the data.
+/// On the wire: a class byte and a type byte; after a type of 128 or more also an encoded data length and the data.
 #[derive(Debug, Drop)]
 pub enum Message {
     /// Class 0. No data.
     Control(Control),
     /// Class 1. No data.
     Error(ErrorKind),
-    /// Class 10, type 130. Data: encoded table id, encoded name length, name, encoded key kind, encoded key
-    /// length, encoded bitfield of the data types, encoded expire in ms; then for each rate in rising id its
-    /// encoded id and its encoded period in ms. It also selects the table.
+    /// Class 10, type 130. Data: encoded table id, encoded name length, name, encoded key kind, encoded key length,
+    /// encoded bitfield of the data types, encoded expire in ms; then for each rate, in ascending order of id, its
+    /// encoded id and its encoded period in ms. Also selects the table.
     Define(TableDef),
-    /// Class 10, type 131. Data: the encoded id of a table that was defined, and is now selected.
+    /// Class 10, type 131. Data: the encoded id of a defined table, which is now selected.
     Switch(u64),
-    /// Class 10, type 132. Data: the encoded id that the sender of the updates gave the table, and the number
-    /// of the last update taken, in 4 bytes.
+    /// Class 10, type 132. Data: the encoded id that the sender of the updates gave the table, and the number of the
+    /// last update received, in 4 bytes.
     Ack {
         /// The id that the sender of the updates gave the table.
         table: u64,
-        /// The number of the last update taken.
+        /// The number of the last update received.
         number: u32,
     },
-    /// Class 10, type 133: number and remaining life in 4 bytes each, key, values, name field. Type 134 has no
-    /// number, type 128 no life, type 129 neither.
+    /// Class 10, type 133: number and remaining life in 4 bytes each, key, values, name field. Type 134 has no number,
+    /// type 128 no life, type 129 neither.
     Update(UpdateMsg),
     /// Any other class and type.
     Other(Other),
 }
 
 impl Message {
-    /// An equal message.
+    /// Returns an equal copy. Fails if memory runs out.
     pub fn copy(&self, alloc: Global) -> Result<Message, Memory>
         ensures { IfOk result (λ copy. copy ≡ self.now) }
     {

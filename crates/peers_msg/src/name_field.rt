@@ -1,4 +1,4 @@
-//! The name of a server in an update, by the dictionary.
+//! The name field of an update, which carries a server's name through the dictionary.
 
 ghost use Rattle.std.specs.Prelude.{◌≡◌, true, IfOk};
 ghost use Rattle.peers_msg.specs.Borrowed.{owned_name, is_named};
@@ -7,25 +7,25 @@ use crate::name_field_ref::NameFieldRef;
 use std::alloc::Global;
 use table_types::{Memory, Name};
 
-/// What stands where an update's server name goes. The dictionary's slots, 1 to 128, belong to the session and
-/// direction, and are shared by its tables.
+/// The name field of an update. The dictionary's slots, 1 to 128, belong to one direction of a session, whose tables
+/// share them.
 ///
-/// On the wire: an encoded length, 0 for no name; within that length an encoded slot, and where the slot is
-/// written an encoded name length and the name.
+/// On the wire: an encoded length, 0 for no name; within that length an encoded slot, and, if the slot is written, an
+/// encoded name length and the name.
 #[derive(Debug, Drop)]
 pub enum NameField {
     /// The table stores no server name: no bytes.
     NotStored,
     /// The row has no name: a length of 0.
     NoName,
-    /// The name is what that slot holds.
+    /// The name that this slot holds.
     Held(u8),
-    /// The slot is written with the name.
+    /// The name, which is also written to this slot.
     Written(u8, Name),
 }
 
 impl NameField {
-    /// The same field, lent.
+    /// Borrows the field.
     pub fn lend(&self) -> NameFieldRef<'_>
         ensures lent { owned_name result ≡ self.now }
         ensures named { is_named self.now ≡ true }
@@ -38,7 +38,7 @@ impl NameField {
         }
     }
 
-    /// An equal field.
+    /// Returns an equal copy. Fails if memory runs out.
     pub fn copy(&self, alloc: Global) -> Result<NameField, Memory>
         ensures { IfOk result (λ copy. copy ≡ self.now) }
     {

@@ -1,15 +1,15 @@
-//! The name of a server in an update, as its bytes stand in the message.
+//! The name field of an update, borrowed.
 
-/// What stands where an update's server name goes, borrowed from the bytes of the message. It is what a `NameField` is,
-/// but that the name is a slice of those bytes.
+/// The name field of an update, borrowed from the bytes of the message. It is like a `NameField`, except that the name
+/// is a slice of those bytes.
 #[derive(Clone, Copy, Debug)]
 pub enum NameFieldRef<'a> {
     /// The table stores no server name: no bytes.
     NotStored,
     /// The row has no name: a length of 0.
     NoName,
-    /// The name is what that slot holds.
+    /// The name that this slot holds.
     Held(u8),
-    /// The slot is written with the name of these bytes.
+    /// The name, which is also written to this slot.
     Written(u8, &'a [u8]),
 }

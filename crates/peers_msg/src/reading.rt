@@ -1,5 +1,5 @@
-//! Reading messages from left to right, with the first breach that is met. A reader answers what it read and the
-//! bytes after it. It copies nothing and doesn't allocate.
+//! Reading messages from left to right, up to the first breach. A reader returns what it read and the bytes after it.
+//! Readers copy nothing and don't allocate.
 
 mod definitions;
 mod fields;

@@ -1,4 +1,4 @@
-//! What is received of the tables on a stream.
+//! The definitions received on a stream.
 
 ghost use Rattle.std.specs.Prelude.{◌≡◌, ◌≤◌, ◌<◌, ◌+◌, IfOk, OnOk, OnErr, Some, option_copied, length, filter, insert, vec_len, vec_capacity};
 ghost use Rattle.table_types.specs.Tables.{Definition};
@@ -12,11 +12,11 @@ use std::alloc::Global;
 use std::marker::Model;
 use table_types::{Memory, Roster, TableDef, is_same_name, table_at};
 
-/// Which definition each id received stands for, and which id is selected: all that a decoder needs to know of the
-/// messages before (HAProxy, doc/peers-v2.0.txt, "Table Definition Message", "Table Switch Message").
+/// The definition of each id received, and the selected id: all that a decoder needs to know of earlier messages
+/// (HAProxy, doc/peers-v2.0.txt, "Table Definition Message", "Table Switch Message").
 #[derive(Debug, Drop)]
 pub struct Received {
-    /// In ascending order of id, and no two of one name.
+    /// In ascending order of id, with distinct names.
     tables: Vec<TableDef>,
     selected: Option<u64>,
 }
@@ -37,7 +37,8 @@ fn outlives(new: &TableDef, table: &TableDef) -> bool
     table.id() != new.id() && !is_same_name(table.name(), new.name())
 }
 
-/// Takes out the tables that don't outlive the definition. There are two at most: so many times the rest moves up.
+/// Removes the tables that the new definition replaces: those with its id or its name, two at most, so the rest moves
+/// up at most twice.
 fn keep_outliving(tables: &mut Vec<TableDef>, new: &TableDef)
     ensures kept { tables.new.items ≡ filter (outlives new.now) tables.old.items }
     ensures fewer { vec_len tables.new ≤ vec_len tables.old }
@@ -53,7 +54,7 @@ fn keep_outliving(tables: &mut Vec<TableDef>, new: &TableDef)
     }
 }
 
-/// Where a table of that id goes among tables in rising id.
+/// Returns the index at which a table with this id belongs among tables in ascending order of id.
 fn index_of(tables: &[TableDef], id: u64) -> usize
     ensures within { result ≤ length tables.now }
     ensures index { (new : Definition) → new.id ≡ id → insert tables.now result new ≡ insert_table new tables.now }
@@ -67,7 +68,7 @@ fn index_of(tables: &[TableDef], id: u64) -> usize
 }
 
 impl Received {
-    /// Nothing is received yet. Doesn't allocate.
+    /// Makes the state in which nothing was received. Doesn't allocate.
     pub fn new(alloc: Global) -> Received
         ensures { result ≡ nothing_received }
     {
@@ -77,8 +78,8 @@ impl Received {
         }
     }
 
-    /// What is received where the roster's tables of these ids were defined, in this order, and that id was
-    /// selected last. An id that the roster lacks is passed over.
+    /// Makes the state in which the roster's tables with the ids `defined` were defined, in this order, and `selected` was
+    /// selected last. Skips ids that the roster lacks. Fails if memory runs out.
     pub fn resume(
         alloc: Global,
         roster: &Roster,
@@ -97,7 +98,7 @@ impl Received {
         Ok(received)
     }
 
-    /// The tables received, in ascending order of id; no two of them have one id or one name.
+    /// Returns the tables received, in ascending order of id, with distinct ids and distinct names.
     pub fn tables(&self) -> &[TableDef]
         ensures tables { result.now ≡ self.now.tables }
         ensures distinct { AreDistinct self.now.tables }
@@ -105,21 +106,21 @@ impl Received {
         self.tables.as_slice()
     }
 
-    /// The id that is selected.
+    /// Returns the selected id.
     pub fn selected(&self) -> Option<u64>
         ensures { result ≡ self.now.selected }
     {
         self.selected
     }
 
-    /// The table that an id stands for.
+    /// Returns the table with this id.
     pub fn table(&self, id: u64) -> Option<&TableDef>
         ensures { option_copied result ≡ table_at self.now.tables id }
     {
         table_at(self.tables.as_slice(), id)
     }
 
-    /// The table that is selected.
+    /// Returns the selected table.
     pub fn selected_table(&self) -> Option<&TableDef>
         ensures { option_copied result ≡ selected_table self.now }
     {
@@ -129,8 +130,8 @@ impl Received {
         }
     }
 
-    /// Receives a definition: its id stands for it and is selected, and a table of its name loses its id.
-    /// After `Memory` nothing has changed.
+    /// Receives a definition: sets the table of its id, selects it, and removes any other table of the same name.
+    /// Changes nothing if memory runs out.
     pub fn define(&mut self, table: TableDef) -> Result<(), Memory>
         ensures received { OnOk result (self.new ≡ received_after self.old (messages.Define table)) }
         ensures stays { OnErr result (self.new ≡ self.old) }
@@ -144,15 +145,15 @@ impl Received {
         Ok(())
     }
 
-    /// Receives a switch: that id is selected.
+    /// Receives a switch: selects `id`.
     pub fn select(&mut self, id: u64)
         ensures { self.new ≡ received_after self.old (messages.Switch id) }
     {
         self.selected = Some(id);
     }
 
-    /// What was received of a roster's own tables: those whose id stands there for that very definition, and the id
-    /// selected where it is one of theirs.
+    /// Returns the part that belongs to the roster's own tables: the tables for which the roster has the very same
+    /// definition at their id, and the selected id if it is one of theirs. Fails if memory runs out.
     pub fn own_part(&self, alloc: Global, roster: &Roster) -> Result<Received, Memory>
         ensures { IfOk result (λ part. part ≡ own_part roster.now self.now) }
     {
@@ -177,7 +178,7 @@ impl Received {
         }
     }
 
-    /// An equal copy.
+    /// Returns an equal copy. Fails if memory runs out.
     pub fn copy(&self, alloc: Global) -> Result<Received, Memory>
         ensures { IfOk result (λ copy. copy ≡ self.now) }
     {

@@ -1,4 +1,4 @@
-//! How many bytes messages have.
+//! The sizes of messages in bytes.
 
 ghost use Rattle.std.specs.Prelude.{◌≡◌, ◌≤◌, ◌<◌, ◌+◌, ◌++◌, ◌^◌, true, length, flat_map, if◌then◌else◌};
 ghost use Rattle.peers_encint.specs.Integers.{spelling};
@@ -13,7 +13,7 @@ use crate::name_field::NameField;
 use peers_encint::len;
 use table_types::{DataType, Key, Name, TableDef, Value};
 
-/// How many bytes so many have with their encoded length before them.
+/// Returns the size of `count` bytes with their encoded length before them.
 pub fn counted_size(count: usize) -> usize
     requires { count < 2 ^ 63 }
     ensures exact { result ≡ length (spelling count) + count }
@@ -22,7 +22,7 @@ pub fn counted_size(count: usize) -> usize
     len(count as u64) + count
 }
 
-/// How many bytes a number has where it may be absent.
+/// Returns the size of an optional number.
 fn optional_size(word: Option<u32>) -> usize
     ensures exact { result ≡ length (optional_word word) }
     ensures within { result ≤ 4 }
@@ -73,7 +73,7 @@ fn values_size(values: &[Value]) -> usize
     total
 }
 
-/// How many bytes a slot and the name that is written to it have.
+/// Returns the size of a slot and the name written to it.
 pub fn written_size(slot: u8, name: &Name) -> usize
     ensures exact { result ≡ length (spelling slot ++ counted name.now) }
     ensures within { result ≤ 275 }
@@ -93,7 +93,7 @@ fn name_size(name: &NameField) -> usize
     }
 }
 
-/// How many bytes of data an update has.
+/// Returns the size of an update's data.
 pub fn update_size(update: &UpdateMsg) -> usize
     ensures exact { result ≡ length (update_text update.now) }
     ensures within { result ≤ most_data }
@@ -103,7 +103,7 @@ pub fn update_size(update: &UpdateMsg) -> usize
     words + row + name_size(update.name())
 }
 
-/// The data types as bits.
+/// Returns the data types as bits.
 pub fn bits(types: &[(DataType, Option<u32>)]) -> u64
     requires { rise_from 0 types.now ≡ true }
     ensures { result ≡ bits_of types.now }
@@ -137,7 +137,7 @@ fn periods_size(types: &[(DataType, Option<u32>)]) -> usize
     total
 }
 
-/// How many bytes of data a definition has.
+/// Returns the size of a definition's data.
 #[tactic(auto, using(crate::proofs::DataLengths::types_short))]
 pub fn definition_size(table: &TableDef) -> usize
     ensures exact { result ≡ length (definition_text table.now) }
@@ -150,7 +150,7 @@ pub fn definition_size(table: &TableDef) -> usize
     named + keyed + len(bits(types)) + len(u64::from(table.expire())) + periods_size(types)
 }
 
-/// How many bytes a message with that many bytes of data has.
+/// Returns the size of a message with `count` bytes of data.
 pub fn framed_size(count: usize) -> usize
     requires { count < 2 ^ 63 }
     ensures exact { result ≡ 2 + (length (spelling count) + count) }
@@ -159,7 +159,7 @@ pub fn framed_size(count: usize) -> usize
     2 + counted_size(count)
 }
 
-/// How many bytes a name field has with the name read from a slot, and with the slot written.
+/// Returns the size of a name field that reads the name from a slot, and of one that writes the slot.
 fn name_sizes(name: &Name) -> (usize, usize)
     ensures read { result.0 ≡ length (name_text (names.Held 1)) }
     ensures written { result.1 ≡ length (name_text (names.Written 1 name.now)) }
@@ -169,8 +169,8 @@ fn name_sizes(name: &Name) -> (usize, usize)
     (counted_size(len(1)), counted_size(written_size(1, name)))
 }
 
-/// How many bytes an update message of these parts has with its name read from a slot, and how many with the slot
-/// written, whichever of the 128 it is. This doesn't allocate.
+/// Returns the size of an update message whose name is read from a slot, and of one that writes the slot. Both are the
+/// same for all 128 slots. Doesn't allocate.
 #[tactic(auto, unfolding(crate::specs::Spelling::size_of, crate::specs::Spelling::spelled))]
 pub fn named_sizes(
     number: Option<u32>,
@@ -191,8 +191,8 @@ pub fn named_sizes(
     (framed_size(row + read), framed_size(row + written))
 }
 
-/// How many bytes an update message of these parts has without a name, of a table that stores names or of one that
-/// doesn't. This doesn't allocate.
+/// Returns the size of an update message without a name, for a table that stores names or for one that doesn't. Doesn't
+/// allocate.
 #[tactic(auto, unfolding(crate::specs::Spelling::size_of, crate::specs::Spelling::spelled))]
 pub fn nameless_size(
     number: Option<u32>,
@@ -214,7 +214,7 @@ pub fn nameless_size(
     }
 }
 
-/// How many bytes the definition of a table has as a message. This doesn't allocate.
+/// Returns the size of a table's definition as a message. Doesn't allocate.
 #[tactic(auto, unfolding(crate::specs::Spelling::size_of, crate::specs::Spelling::spelled))]
 pub fn define_size(table: &TableDef) -> usize
     ensures exact { result ≡ size_of (messages.Define table.now) }
@@ -223,7 +223,7 @@ pub fn define_size(table: &TableDef) -> usize
     framed_size(definition_size(table))
 }
 
-/// How many bytes a switch to that id has. This doesn't allocate.
+/// Returns the size of a switch to this id. Doesn't allocate.
 #[tactic(auto, unfolding(crate::specs::Spelling::size_of, crate::specs::Spelling::spelled))]
 pub fn switch_size(id: u64) -> usize
     ensures exact { result ≡ size_of (messages.Switch id) }
@@ -232,7 +232,7 @@ pub fn switch_size(id: u64) -> usize
     framed_size(len(id))
 }
 
-/// How many bytes a message has. This doesn't allocate.
+/// Returns the size of a message. Doesn't allocate.
 #[tactic(auto, unfolding(crate::specs::Spelling::size_of, crate::specs::Spelling::spelled))]
 pub fn size(message: &Message) -> usize
     ensures { result ≡ size_of message.now }

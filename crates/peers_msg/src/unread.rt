@@ -1,4 +1,4 @@
-//! The bytes of a stream that were fed and not read.
+//! The bytes of a stream that were fed but not read.
 
 ghost use Rattle.std.specs.Prelude.{◌≡◌, ◌≤◌, ◌++◌, [], IfOk, IfSome, OnOk, OnErr, true, length, drop, option_map};
 ghost use Rattle.peers_msg.specs.Borrowed.{Reads};
@@ -16,9 +16,9 @@ use std::alloc::Global;
 use std::marker::Model;
 use table_types::Memory;
 
-/// The bytes of a stream that were fed and not read yet. The stream comes in pieces, cut anywhere.
+/// The bytes of a stream that were fed but not read yet. The stream arrives in pieces, cut anywhere.
 ///
-/// While the message at the front isn't whole only its first bytes are looked at, 12 at most.
+/// While the message at the front isn't complete, only its first bytes are looked at, 12 at most.
 #[derive(Drop)]
 pub struct Unread {
     bytes: BytesMut<Global>,
@@ -32,8 +32,8 @@ impl Model for Unread {
     ghost view = { λ u. u.bytes.items };
 }
 
-/// The message at the front of these bytes, by what was received before it, and how many bytes it has; `None` while it
-/// isn't whole. It stays where it is, and no memory is taken.
+/// Returns the message at the front of `bytes` and its length in bytes, given what was received before it; `None` while
+/// it isn't complete. The message borrows the bytes. Doesn't allocate.
 #[inline(always)]
 pub fn front<'a>(
     received: &'a Received,
@@ -51,7 +51,7 @@ pub fn front<'a>(
 }
 
 impl Unread {
-    /// No bytes. Doesn't allocate.
+    /// Makes an empty buffer. Doesn't allocate.
     pub fn new(alloc: Global) -> Unread
         ensures { result ≡ [] }
     {
@@ -60,21 +60,21 @@ impl Unread {
         }
     }
 
-    /// How many bytes there are.
+    /// Returns the number of bytes.
     pub fn len(&self) -> usize
         ensures { result ≡ length self.now }
     {
         self.bytes.len()
     }
 
-    /// The bytes.
+    /// Returns the bytes.
     pub fn as_slice(&self) -> &[u8]
         ensures { result.now ≡ self.now }
     {
         self.bytes.as_slice()
     }
 
-    /// Takes the next piece of the stream. After `Memory` nothing has changed.
+    /// Appends the next piece of the stream. Changes nothing if memory runs out.
     pub fn append(&mut self, piece: &[u8]) -> Result<(), Memory>
         ensures appended { OnOk result (self.new ≡ self.old ++ piece.now) }
         ensures stays { OnErr result (self.new ≡ self.old) }
@@ -85,7 +85,7 @@ impl Unread {
         }
     }
 
-    /// The message at the front, as `front` returns it.
+    /// Returns the message at the front, as the function `front` does.
     #[inline(always)]
     pub fn front<'a>(
         &'a self,
@@ -98,7 +98,7 @@ impl Unread {
         front(received, self.bytes.as_slice())
     }
 
-    /// Drops so many bytes at the front.
+    /// Drops the first `count` bytes.
     pub fn advance(&mut self, count: usize)
         requires { count ≤ length self.old }
         ensures { self.new ≡ drop count self.old }

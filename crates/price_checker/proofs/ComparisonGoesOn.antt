@@ -1,4 +1,4 @@
--- How the updates carried compare with a batch after one more.
+-- How the updates carried compare with a batch, after one more.
 use Rattle.std.proofs.Common.{◌≡◌, ℕ, ◌+◌, ◌<◌, List, [], ◌∷◌, ◌++◌, length, get_or, take, drop, sym, ap, subst, ◌∙◌, arith}
 use Rattle.std.proofs.lemmas.List.{take_more, drop_more, take-append-drop, length-take-le}
 use Rattle.table_types.specs.declared.update.Update.{Update}

@@ -1,4 +1,4 @@
--- What the code finds, as it is said.
+-- What the code finds is what the definitions say.
 use Rattle.std.proofs.Common.{◌≡◌, ℕ, ◌<◌, ◌≤◌, ◌^◌, true, List, [], ◌∷◌, length, take, drop, Result, Ok, Err, refl, sym, ap, ◌∙◌, inl, inr, arith}
 use Rattle.std.specs.Prelude.{nat_lt, IfErr, IfOk}
 use Rattle.std.specs.List.{AllByRecursion, list_any}
@@ -7,17 +7,17 @@ use Rattle.std.proofs.lemmas.List.{append-nil, take-append-drop, length-take-le,
 use Rattle.table_types.specs.declared.update.Update.{Update}
 use Rattle.price_checker.specs.Verdicts.{AreApartFrom, BeginApart}
 
--- what holds of an answer that is none of memory
+-- what holds of a result other than out of memory
 pub of_answer : {X E : Type 0} (result : Result X E) (p q : X → Type 0) → ((x : X) → p x → q x) → IfOk result p → IfOk result q
 of_answer (Ok x) p q implied is = implied x is
 of_answer (Err e) p q implied is = tt
 
--- what holds whatever is answered holds of an answer of memory
+-- what holds of every result holds of out of memory
 pub of_error : {X E : Type 0} (result : Result X E) (p : Type 0) → p → IfErr result (λ e. p)
 of_error (Ok x) p is = tt
 of_error (Err e) p is = is
 
--- a price is above 2^32 where not all are at most that
+-- a price is above 2^32 if not all are at most that
 pub some_above : (prices : List ℕ) → (AllByRecursion (λ price. price ≤ 2 ^ 32) prices → ⊥) → list_any (λ price. nat_lt (2 ^ 32) price) prices ≡ true
 some_above [] none = absurd (none tt)
 some_above (p ∷ ps) none = elim (cases_lt (2 ^ 32) p) [
@@ -25,7 +25,7 @@ some_above (p ∷ ps) none = elim (cases_lt (2 ^ 32) p) [
   | inr le ↦ rw (le-ltb (2 ^ 32) p le) (some_above ps (λ all. none (le, all)))
 ]
 
--- a list that begins a longer one is apart from it at its end
+-- a list that begins a longer one differs from it where it ends
 pub ends_early : (us carried : List Update) (count : ℕ) → count < length us → carried ≡ take count us → AreApartFrom count carried us
 ends_early us carried count lt same = (
   take count us,

@@ -10,7 +10,7 @@ use Rattle.price_checker.proofs.LastPlaces.{after_requests-more, at_place}
 abbrev pub links_later : Asking → List Asked → List Bool → ℕ → List Link
 links_later asking rs keep i = links_from (after_requests asking (take i rs)) (drop i rs) (drop i keep)
 
--- those of them that are kept have one
+-- those of them that are kept have a link
 abbrev pub AreLinkedLater : Asking → List Asked → List Bool → ℕ → Type 0
 AreLinkedLater asking rs keep i = AreLinked (after_requests asking (take i rs)) (drop i rs) (drop i keep)
 
@@ -23,11 +23,11 @@ pub record IsAt (asking : Asking) (rs : List Asked) (keep : List Bool) (i : ℕ)
   pub mark : kept ≡ get_or keep i false
   pub last : from ≡ (after_requests asking (take i rs)).last r.name
 
--- what is left of a list begins with the element there
+-- the rest of a list begins with the element at its index
 left_at : {X : Type 0} → (xs : List X) (i : ℕ) (x d : X) → i < length xs → x ≡ get_or xs i d → drop i xs ≡ x ∷ drop (i + 1) xs
 left_at xs i x d below is = drop_more xs i d below ∙ ap (λ y. y ∷ drop (i + 1) xs) (sym is)
 
--- the links from an index on are that of its request, and those after it
+-- the links from an index on are the link of its request and those after it
 links-next : (asking : Asking) (rs : List Asked) (keep : List Bool) (i : ℕ) (r : Asked) (kept : Bool) (from : Option ℕ) → IsAt asking rs keep i r kept from → links_later asking rs keep i ≡ link_of from (i + 1) r kept ++ links_later asking rs keep (i + 1)
 links-next asking rs keep i r kept from is =
     let here : (after_requests asking (take i rs)).place ≡ i = at_place asking rs i is.first (omega (arith, is.below)) in
@@ -38,7 +38,7 @@ links-next asking rs keep i r kept from is =
     ∙ ap (λ (n : ℕ). link_of from (n + 1) r kept ++ links_from (after_request before r) (drop (i + 1) rs) (drop (i + 1) keep)) here
     ∙ ap (λ (a : Asking). link_of from (i + 1) r kept ++ links_from a (drop (i + 1) rs) (drop (i + 1) keep)) (sym (after_requests-more asking rs i r is.below is.request))
 
--- ---- whether those that are kept are linked
+-- ---- whether the kept requests are linked
 
 linked_on : (asking : Asking) (r : Asked) (rs : List Asked) (kept : Bool) (keep : List Bool) (from : Option ℕ) → from ≡ asking.last r.name → AreLinked asking (r ∷ rs) (kept ∷ keep) → ((is_some from || not kept) ≡ true) × AreLinked (after_request asking r) rs keep
 linked_on asking r rs true keep (Some from) is (one, others) = (refl, others)
@@ -51,7 +51,7 @@ linked_back asking r rs false keep from is may others = others
 linked_back asking r rs true keep (Some from) is may others = ((from, sym is), others)
 linked_back asking r rs true keep None is may others = absurd (cc)
 
--- whether those from an index on are linked, by the request there and those after it
+-- whether the requests from an index on are linked, given the request there and those after it
 linked-next : (asking : Asking) (rs : List Asked) (keep : List Bool) (i : ℕ) (r : Asked) (kept : Bool) (from : Option ℕ) → IsAt asking rs keep i r kept from → AreLinkedLater asking rs keep i ↔ (((is_some from || not kept) ≡ true) × AreLinkedLater asking rs keep (i + 1))
 linked-next asking rs keep i r kept from is =
     let before = after_requests asking (take i rs) in
@@ -76,7 +76,7 @@ both_and : (a b : Bool) → a ≡ true → b ≡ true → (a && b) ≡ true
 both_and true b one other = other
 both_and false b one other = absurd (cc)
 
--- one request later it is still known of all whether they are linked
+-- one request later, it is still known whether all are linked
 pub linked-more : (asking : Asking) (rs : List Asked) (keep : List Bool) (i : ℕ) (r : Asked) (kept : Bool) (from : Option ℕ) (linked : Bool) → IsAt asking rs keep i r kept from
     → (IsTrue linked × AreLinkedLater asking rs keep i) ↔ AreLinked asking rs keep → (IsTrue (linked && (is_some from || not kept)) × AreLinkedLater asking rs keep (i + 1)) ↔ AreLinked asking rs keep
 linked-more asking rs keep i r kept from linked is so_far =
@@ -85,7 +85,7 @@ linked-more asking rs keep i r kept from linked is so_far =
       λ all. let now = so_far.1 all in let later = next.0 now.1 in (both_and linked (is_some from || not kept) now.0 later.0, later.1),
     )
 
--- and the links found are those of the requests before, with that of the request where it has one
+-- and the links found are those of the earlier requests and that of the request, if it has one
 pub links-more : (asking : Asking) (rs : List Asked) (keep : List Bool) (i : ℕ) (r : Asked) (kept : Bool) (from : Option ℕ) (found one : List Link) → IsAt asking rs keep i r kept from
     → one ≡ link_of from (i + 1) r kept → found ++ links_later asking rs keep i ≡ links_from asking rs keep → (found ++ one) ++ links_later asking rs keep (i + 1) ≡ links_from asking rs keep
 links-more asking rs keep i r kept from found one is one_is so_far =
@@ -94,7 +94,7 @@ links-more asking rs keep i r kept from found one is one_is so_far =
     ∙ ap (λ (l : List Link). found ++ l) (sym (links-next asking rs keep i r kept from is))
     ∙ so_far
 
--- a request has one link at most
+-- a request has at most one link
 pub one_at_most : (link : Option Link) → length (option_to_list link) ≤ 1
 one_at_most None = omega arith
 one_at_most (Some link) = omega arith

@@ -1,4 +1,4 @@
--- A name is among those that slots hold exactly where a slot holds it.
+-- A name is among those that slots hold if and only if a slot holds it.
 use Rattle.std.proofs.Common.{◌≡◌, ℕ, zero, suc, ◌+◌, ◌-◌, ◌<◌, Bool, true, false, ◌||◌, List, [], ◌∷◌, ◌++◌, length, get_or, Option, Some, None, refl, sym, ap, ◌∙◌, arith}
 use Rattle.std.specs.Prelude.{IfSome, IsNone, is_some}
 use Rattle.std.specs.List.{list_any}
@@ -14,7 +14,7 @@ or_true : (b : Bool) → (b || true) ≡ true
 or_true true = refl
 or_true false = refl
 
--- one more name is passed over
+-- one more name that differs
 passed : (name : List ℕ) (held : Option (List ℕ)) (names : List (List ℕ)) → list_any (is_same_name name) names ≡ true → list_any (is_same_name name) (name_held held ++ names) ≡ true
 passed name None names found = found
 passed name (Some other) names found = ap (λ (b : Bool). is_same_name name other || b) found ∙ or_true (is_same_name name other)
@@ -45,7 +45,7 @@ no_index slots name long none i below is =
     let here : i + 1 - 1 ≡ i = omega arith in
     none (i + 1) (id, ap (λ (n : ℕ). get_or slots n None) here ∙ is)
 
--- a slot is found that holds the name, or none does
+-- a slot that holds the name is found, or no slot holds it
 pub found_in_slots : (found : Option ℕ) (slots : List (Option (List ℕ))) (name : List ℕ) → IfSome found (λ slot. Holds slots slot name) → (IsNone found → (slot : ℕ) → Holds slots slot name → ⊥) → length slots ≡ 128 → is_some found ≡ list_any (is_same_name name) (names_in slots)
 found_in_slots None slots name holds none long = sym (unheld_is_not_found slots name (no_index slots name long (none refl)))
 found_in_slots (Some slot) slots name holds none long = sym (held_is_found slots slot name holds)

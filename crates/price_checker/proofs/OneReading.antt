@@ -1,4 +1,4 @@
--- A stream is read in one way.
+-- A stream can be read in only one way.
 use Rattle.std.proofs.Common.{◌≡◌, ℕ, List, [], ◌∷◌, ◌++◌, length, Option, Some, None, Result, Ok, Err, refl, sym, ap, subst, ◌∙◌, append_assoc}
 use Rattle.std.proofs.lemmas.List.{append-nil}
 use Rattle.table_types.specs.declared.update.Update.{Update}
@@ -30,7 +30,7 @@ never_none m rest e = cc
 never_both : (breach : Breach) → ◌≡◌ {A = Result (Option (Message × List ℕ)) Breach} (Err breach) (Ok None) → ⊥
 never_both breach e = cc
 
--- ---- where no legal message stands
+-- ---- where no legal message begins
 
 -- the bytes begin with no legal message
 abbrev pub IsStuck : List Definition → State → List ℕ → Type 0
@@ -51,12 +51,12 @@ nothing_there s = refl
 pub end_is_stuck : (roster : List Definition) (s : State) → IsStuck roster s []
 end_is_stuck roster s = λ m after us e at is_own step. never_none m after (sym at ∙ nothing_there s)
 
--- ---- one way
+-- ---- only one way
 
 at_front : (s e : State) (m : Message) (us : List Update) (rest bytes : List ℕ) → bytes ≡ spelled m ++ rest → Step s m us e → message_at s.received bytes ≡ found m rest
 at_front s e m us rest bytes is step = ap (message_at s.received) is ∙ message_again s.received m rest (step_fits s e m us step)
 
--- where two lists of legal messages go as far as there is a legal one, they are one list
+-- two lists of legal messages that both go on until no legal message follows are the same list
 pub one_reading : (roster : List Definition) (s a b : State) (ms ns : List Message) (us vs : List Update) (x y : List ℕ) → stream_of ms ++ x ≡ stream_of ns ++ y → Legal roster s ms us a → Legal roster s ns vs b → IsStuck roster a x → IsStuck roster b y → (ms ≡ ns) × (us ≡ vs) × (a ≡ b) × (x ≡ y)
 one_reading roster s a b [] [] us vs x y same (_, (none, here)) (_, (others, there)) stuck other = (refl, none ∙ sym others, here ∙ sym there, same)
 one_reading roster s a b [] (n ∷ ns) us vs x y same (_, (none, here)) ((own, owns), (first, rest, mid, joined, step, later)) stuck other =
@@ -90,7 +90,7 @@ own_after roster s e (m ∷ ms) us own ((is, are), (first, rest, mid, joined, st
 
 -- ---- legal streams and others
 
--- a legal stream carries one list of updates
+-- a legal stream carries only one list of updates
 pub carries_one : (k : KnownState) (stream : List ℕ) (us vs : List Update) → Carries k stream us → Carries k stream vs → us ≡ vs
 carries_one k stream us vs (ms, a, spells, legal) (ns, b, respells, others) =
     let ended : (xs : List Message) → stream_of xs ++ [] ≡ stream_of xs = λ xs. append-nil (stream_of xs) in
@@ -108,7 +108,7 @@ stops_or_carries k stream us illegal place own (ms, carried, mid, rest, split, a
     nothing_is_legal s left (illegals.Decode breach) none is = never_both breach (sym is ∙ ap (message_at s.received) none ∙ nothing_there s)
     nothing_is_legal s left (illegals.Step error) none is = never_none is.0 is.1 (sym is.2 ∙ ap (message_at s.received) none ∙ nothing_there s)
 
--- ---- one cause
+-- ---- only one cause
 
 one_refusal : (k : KnownState) (m : Message) (one other : StepError) → Refuses k m one → Refuses k m other → one ≡ other
 one_refusal k (messages.Update u) one other p q = let same : Some one ≡ Some other = sym p ∙ q in cc
@@ -136,7 +136,7 @@ one_cause k rest (illegals.Step error) (illegals.Step other) p q =
     let refuses : Refuses k q.0 error = subst (λ (x : Message). Refuses k x error) same p.3 in
     ap (λ (e : StepError). illegals.Step e) (one_refusal k q.0 error other refuses q.3)
 
--- a stream stops being legal at one place, for one cause
+-- a stream stops being legal at only one place, for only one cause
 pub stops_once : (k : KnownState) (stream : List ℕ) (one other : Illegal) (place end : ℕ) → AreOwn k.roster k.state.received.tables → IsIllegalAt k stream one place → IsIllegalAt k stream other end → (one ≡ other) × (place ≡ end)
 stops_once k stream one other place end own (ms, carried, mid, rest, split, at, legal, is) (ns, us, there, left, joined, ends, goes, was) =
     let stuck = illegal_is_stuck (record { roster = k.roster; state = mid }) rest one (own_after k.roster k.state mid ms carried own legal) is in

@@ -1,4 +1,4 @@
--- Of a stream and prices one thing is said.
+-- A stream and prices have only one verdict.
 use Rattle.std.proofs.Common.{◌≡◌, ◌≢◌, ℕ, suc, ◌≤◌, ◌^◌, true, false, List, [], ◌∷◌, ◌++◌, length, refl, sym, ap, subst, ◌∙◌, inl, inr, ◌⊎◌}
 use Rattle.std.specs.Prelude.{nat_lt, ◌↔◌}
 use Rattle.std.specs.List.{AllByRecursion, list_any}
@@ -10,7 +10,7 @@ use Rattle.price_checker.specs.declared.verdict.Verdict.TheVariants as verdicts
 use Rattle.price_checker.specs.Verdicts.{AreApartFrom, BeginApart, Carries, Says, Show, IsNotLegal, IsNotCarried}
 use Rattle.price_checker.proofs.OneReading.{carries_one, stops_or_carries, stops_once}
 
--- ---- where lists are apart
+-- ---- where lists differ
 
 never_from_itself : (xs : List Update) → BeginApart xs xs → ⊥
 never_from_itself [] apart = apart
@@ -48,7 +48,7 @@ one_index : (one other : ℕ) (carried us : List Update) → AreApartFrom one ca
 one_index one other carried us (same, others, rest, begins, starts, at, apart) (also, others', rest', begins', starts', at', apart') =
     at ∙ one_length same also others others' rest rest' (sym begins ∙ begins') (sym starts ∙ starts') apart apart' ∙ sym at'
 
--- ---- what prices show
+-- ---- what prices prove
 
 none_above : (prices : List ℕ) → AllByRecursion (λ price. price ≤ 2 ^ 32) prices → list_any (λ price. nat_lt (2 ^ 32) price) prices ≡ true → ⊥
 none_above [] all any = let bad : false ≡ true = any in cc
@@ -79,7 +79,7 @@ shows_one k us prices size (verdicts.NotCarried index) other p q = absurd p
 shows_one k us prices size one (verdicts.NotLegal illegal place) p q = absurd q
 shows_one k us prices size one (verdicts.NotCarried index) p q = absurd q
 
--- ---- what is said
+-- ---- verdicts
 
 pub says_one : (k : KnownState) (us : List Update) (stream prices : List ℕ) (one other : Verdict) → AreOwn k.roster k.state.received.tables → Says k us stream prices one → Says k us stream prices other → one ≡ other
 says_one k us stream prices (verdicts.NotLegal illegal place) (verdicts.NotLegal why end) own p q = both (stops_once k stream illegal why place end own p q)
@@ -124,7 +124,7 @@ says_one k us stream prices (verdicts.Shortest bytes) verdicts.PriceRange own p 
 says_one k us stream prices (verdicts.Shortest bytes) (verdicts.Gap other bound) own p q = shows_one k us prices (length stream) (verdicts.Shortest bytes) (verdicts.Gap other bound) p.1 q.1
 says_one k us stream prices (verdicts.Shortest bytes) (verdicts.Shortest size) own p q = shows_one k us prices (length stream) (verdicts.Shortest bytes) (verdicts.Shortest size) p.1 q.1
 
--- a stream for which a verdict is said is legal, or the verdict is that it isn't
+-- a stream with a verdict is legal, or the verdict says that it isn't
 legal_or_not : (k : KnownState) (us : List Update) (stream prices : List ℕ) (verdict : Verdict) → Says k us stream prices verdict → IsNotLegal verdict ⊎ ((carried : List Update) × Carries k stream carried)
 legal_or_not k us stream prices (verdicts.NotLegal illegal place) says = inl (illegal, place, refl)
 legal_or_not k us stream prices (verdicts.NotCarried index) says = inr (says.0, says.1)
@@ -133,7 +133,7 @@ legal_or_not k us stream prices verdicts.PriceRange says = inr (us, says.0)
 legal_or_not k us stream prices (verdicts.Gap saved most) says = inr (us, says.0)
 legal_or_not k us stream prices (verdicts.Shortest bytes) says = inr (us, says.0)
 
--- it is said that a stream isn't legal just where it is no legal one
+-- the verdict says that a stream isn't legal if and only if it isn't
 pub not_legal : (k : KnownState) (us : List Update) (stream prices : List ℕ) (verdict : Verdict) → AreOwn k.roster k.state.received.tables → Says k us stream prices verdict → IsNotLegal verdict ↔ ((carried : List Update) → Carries k stream carried → ⊥)
 not_legal k us stream prices verdict own says = (there, back (legal_or_not k us stream prices verdict says))
   where
@@ -144,7 +144,7 @@ not_legal k us stream prices verdict own says = (there, back (legal_or_not k us 
     back (inl is) none = is
     back (inr (carried, carries)) none = absurd (none carried carries)
 
--- and that it carries other updates just where it does
+-- and that it carries other updates if and only if it does
 pub not_carried : (k : KnownState) (us : List Update) (stream prices : List ℕ) (verdict : Verdict) → AreOwn k.roster k.state.received.tables → Says k us stream prices verdict → IsNotCarried verdict ↔ ((carried : List Update) × Carries k stream carried × (carried ≢ us))
 not_carried k us stream prices verdict own says = (there, λ other. back verdict says other)
   where

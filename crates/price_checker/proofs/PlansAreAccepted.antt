@@ -1,4 +1,4 @@
--- A plan is accepted where what is found of it says so.
+-- A plan is accepted if the code's findings say so.
 use Rattle.std.proofs.Common.{◌≡◌, ℕ, ◌+◌, ◌-◌, ◌*◌, ◌≤◌, ◌^◌, ◌↔◌, Bool, true, List, [], ◌∷◌, length, map, arith, eqb, sym, ap, ◌∙◌, subst, inl, inr}
 use Rattle.std.specs.List.{AllByRecursion}
 use Rattle.std.proofs.lemmas.Bool.{cases_eq, eq-eqb, ne_eqb}
@@ -9,16 +9,16 @@ use Rattle.known_state.proofs.SavingsAreBounded.{above_alike}
 use Rattle.known_state.proofs.LinkPlaces.{links_forward}
 use Rattle.price_checker.specs.Links.{AreWithin}
 
--- links to so many places are within more
+-- links within some places are within more
 within_more : (places more : ℕ) (ls : List Link) → places ≤ more → AreWithin places ls → AreWithin more ls
 within_more places more [] le within = tt
 within_more places more (l ∷ ls) le ((forward, to), others) = ((forward, omega arith), within_more places more ls le others)
 
--- the links that are found go to places of the requests
+-- the links found end at places of the requests
 pub found_within : (places : ℕ) (held : List (List ℕ)) (rs : List Asked) (keep : List Bool) (ls : List Link) → length rs ≤ places → ls ≡ links held rs keep → AreWithin places ls
 found_within places held rs keep ls few is = subst (λ (l : List Link). AreWithin places l) (sym is) (within_more (length rs) places (links held rs keep) few (links_forward held rs keep))
 
--- the bound goes by all links, whichever of them are kept
+-- the bound depends on all links, whichever are kept
 bound-marked : (slots : ℕ) (held : List (List ℕ)) (rs : List Asked) (keep : List Bool) (prices : List ℕ) → length keep ≡ length rs → bound slots (links held rs keep) prices ≡ bound slots (all_links held rs) prices
 bound-marked slots held rs keep prices marks =
     ap (λ (n : ℕ). (slots - 1) * sum_of prices + n) (above_alike prices (at_start held) rs keep (map (λ (r : Asked). true) rs) marks (length-map rs (λ (r : Asked). true)))
@@ -26,7 +26,7 @@ bound-marked slots held rs keep prices marks =
 eqb-is : (a b : ℕ) → eqb a b ≡ true → a ≡ b
 eqb-is a b h = elim (cases_eq a b) [ inl same ↦ same | inr other ↦ absurd (let bad = sym (ne_eqb a b other) ∙ h in cc) ]
 
--- all but the sums was found as it has to be, so it is accepted exactly where the two are equal
+-- everything but the two sums is as it must be, so the plan is accepted if and only if the sums are equal
 pub accepted : (slots : ℕ) (held : List (List ℕ)) (rs : List Asked) (plan : Plan) (ls : List Link) (saved most : ℕ)
     → length plan.keep ≡ length rs → length plan.prices ≡ length rs → AllByRecursion (λ price. price ≤ 2 ^ 32) plan.prices → AreLinked (at_start held) rs plan.keep
     → ls ≡ links held rs plan.keep → ((place : ℕ) → kept_over ls place ≤ slots - 1) → saved ≡ kept_savings ls → most ≡ bound slots ls plan.prices

@@ -12,7 +12,7 @@ zero_at zero index = refl
 zero_at (suc n) zero = refl
 zero_at (suc n) (suc index) = zero_at n index
 
--- a place is inside of no more links than there are
+-- a place is inside no more links than there are
 pub kept_over_few : (ls : List Link) (place : ℕ) → kept_over ls place ≤ length ls
 kept_over_few [] place = omega arith
 kept_over_few (l ∷ ls) place = by (l.kept && is_inside place l) (kept_over_few ls place)
@@ -21,13 +21,13 @@ kept_over_few (l ∷ ls) place = by (l.kept && is_inside place l) (kept_over_few
     by true few = omega arith
     by false few = omega arith
 
--- the counts at all places are below the slots, so those at any place are
+-- if the counts at all places are less than the number of slots, so is each count
 pub room_kept : (slots : ℕ) (counts : List ℕ) (ls : List Link) → 1 ≤ slots → length counts ≡ 512 → AreWithin 512 ls → ((place : ℕ) → slice_index counts place ≡ kept_over ls place) → EachIndex counts (λ index. slice_index counts index < slots) → (place : ℕ) → kept_over ls place ≤ slots - 1
 room_kept slots counts ls some long within counted below place = elim (cases_lt place 512) [
   | inl before ↦ omega (arith, below place (omega arith), counted place)
   | inr beyond ↦ omega (arith, over_none 512 place ls within beyond)
 ]
 
--- and the other way round
+-- and conversely
 pub room_below : (slots : ℕ) (counts : List ℕ) (ls : List Link) → 1 ≤ slots → ((place : ℕ) → slice_index counts place ≡ kept_over ls place) → ((place : ℕ) → kept_over ls place ≤ slots - 1) → EachIndex counts (λ index. slice_index counts index < slots)
 room_below slots counts ls some counted room = λ index before. omega (arith, room index, counted index)

@@ -1,4 +1,4 @@
--- What is said to be shortest is.
+-- A stream that the verdict calls shortest is shortest.
 use Rattle.std.proofs.Common.{◌≡◌, ℕ, ◌+◌, ◌≤◌, List, [], ◌∷◌, length, None, refl, sym, ap, ◌∙◌, arith, length-append}
 use Rattle.std.proofs.lemmas.List.Sums.{sum_by-cons}
 use Rattle.table_types.specs.declared.update.Update.{Update}

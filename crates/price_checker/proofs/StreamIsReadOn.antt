@@ -18,7 +18,7 @@ use Rattle.price_checker.specs.declared.comparison.Comparison.{Comparison}
 use Rattle.price_checker.specs.declared.reading.Next.TheVariants as nexts
 use Rattle.price_checker.specs.Readings.{Compares, IsNext}
 
--- a legal list goes on by a legal message
+-- a legal list extended by a legal message
 teaches-more : (s mid e : State) (ms : List Message) (m : Message) (us one : List Update) → Teaches s ms us mid → Step mid m one e → Teaches s (ms ++ m ∷ []) (us ++ one) e
 teaches-more s mid e [] m us one (none, here) step =
     let from_there : Step s m one e = subst (λ (x : State). Step x m one e) here step in
@@ -31,14 +31,14 @@ own-more : (roster : List Definition) (ms : List Message) (m : Message) → AllB
 own-more roster [] m all own = (own, tt)
 own-more roster (x ∷ xs) m all own = (all.0, own-more roster xs m all.1 own)
 
--- a slice that goes to the end
+-- a slice up to the end
 pub to_the_end : {A : Type 0} (xs : List A) (i : ℕ) → take (length xs - i) (drop i xs) ≡ drop i xs
 to_the_end xs i = take_all (length xs - i) (drop i xs) (rw (length-drop i xs) (omega arith))
 
 pub legal-more : (roster : List Definition) (s mid e : State) (ms : List Message) (m : Message) (us one : List Update) → Legal roster s ms us mid → IsOwn roster m → Step mid m one e → Legal roster s (ms ++ m ∷ []) (us ++ one) e
 legal-more roster s mid e ms m us one legal own step = (own-more roster ms m legal.0 own, teaches-more s mid e ms m us one legal.1 step)
 
--- the bytes of the message at the front are those that were read next
+-- the bytes of the message at the front are the next bytes read
 pub stream-more : (h : Received) (ms : List Message) (m : Message) (stream : List ℕ) (place used : ℕ) → IsBytes stream → stream ≡ stream_of ms ++ drop place stream → place ≡ length (stream_of ms) → message_at h (drop place stream) ≡ Ok (Some (m, drop used (drop place stream))) → used ≤ length (drop place stream)
     → (stream ≡ stream_of (ms ++ m ∷ []) ++ drop (place + used) stream) × (place + used ≡ length (stream_of (ms ++ m ∷ []))) × (place + used ≤ length stream)
 stream-more h ms m stream place used good split at front within =
@@ -57,7 +57,7 @@ stream-more h ms m stream place used good split at front within =
       omega arith,
     )
 
--- what was read of a stream up to a place: legal messages, which carry updates that compare so with the batch
+-- what was read of a stream up to a place: legal messages, whose updates compare this way with the batch
 abbrev pub IsReadTo : KnownState → List Update → List ℕ → ℕ → Comparison → KnownState → Type 0
 IsReadTo k us stream place comparison after =
     (ms : List Message)

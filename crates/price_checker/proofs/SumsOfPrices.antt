@@ -1,4 +1,4 @@
--- Sums of prices: that of a part, and that of prices up to 2^32.
+-- Sums of prices: the sum of a part, and the sum of prices up to 2^32.
 use Rattle.std.proofs.Common.{ℕ, zero, suc, ◌*◌, ◌^◌, ◌≤◌, List, [], ◌∷◌, length, take, drop, arith}
 use Rattle.std.specs.List.{AllByRecursion}
 use Rattle.known_state.specs.Plans.{sum_of}
@@ -17,7 +17,7 @@ last_sum (suc n) (p ∷ ps) = omega (arith, last_sum n ps)
 pub part_sum : (n m : ℕ) (ps : List ℕ) → sum_of (take n (drop m ps)) ≤ sum_of ps
 part_sum n m ps = omega (arith, first_sum n (drop m ps), last_sum m ps)
 
--- prices up to 2^32 sum up to no more than so many times that
+-- prices up to 2^32 sum up to at most their number times 2^32
 pub prices_sum : (ps : List ℕ) → AllByRecursion (λ price. price ≤ 2 ^ 32) ps → sum_of ps ≤ 2 ^ 32 * length ps
 prices_sum [] small = omega arith
 prices_sum (p ∷ ps) (first, others) = omega (arith, prices_sum ps others)

@@ -1,5 +1,5 @@
--- What is said of a stream and of prices: whether the stream teaches the batch, and whether the prices show that no other that
--- does is shorter (profile).
+-- The verdict on a stream and prices: whether the stream teaches the batch, and whether the prices prove that no other
+-- stream that does is shorter (profile).
 use Rattle.std.specs.Prelude.{◌≡◌, ◌≢◌, ◌≤◌, ℕ, ◌+◌, ◌-◌, ◌^◌, nat_lt, true, List, [], ◌∷◌, ◌++◌, length, Some, None, Ok, Err, codes}
 use Rattle.std.specs.List.{AllByRecursion, list_any}
 use Rattle.table_types.specs.declared.update.Update.{Update}
@@ -24,15 +24,15 @@ use Rattle.price_checker.specs.declared.verdict.Verdict.TheVariants as verdicts
 abbrev pub Carries : KnownState → List ℕ → List Update → Type 0
 Carries k stream us = (ms : List Message) × (e : State) × (stream ≡ stream_of ms) × Legal k.roster k.state ms us e
 
--- Why no legal message stands at the front of the bytes that are left: they end before one is whole, they begin none,
--- or they begin one that the known state refuses.
+-- Why no legal message is at the front of the remaining bytes: they end before a message is whole, or they aren't the
+-- beginning of a message, or they begin with one that the known state refuses.
 abbrev pub IsIllegalHere : KnownState → List ℕ → Illegal → Type 0
 IsIllegalHere k rest illegals.Cut = (rest ≢ []) × (message_at k.state.received rest ≡ Ok None)
 IsIllegalHere k rest (illegals.Decode breach) = message_at k.state.received rest ≡ Err breach
 IsIllegalHere k rest (illegals.Step error) =
     (m : Message) × (after : List ℕ) × (message_at k.state.received rest ≡ Ok (Some (m, after))) × Refuses k m error
 
--- The stream is legal up to that place, where a message ends, and there no legal one stands.
+-- The stream is legal up to this place, where a message ends and no legal message follows.
 abbrev pub IsIllegalAt : KnownState → List ℕ → Illegal → ℕ → Type 0
 IsIllegalAt k stream illegal place =
     (ms : List Message)
@@ -44,14 +44,14 @@ IsIllegalAt k stream illegal place =
     × Legal k.roster k.state ms carried mid
     × IsIllegalHere (record { roster = k.roster; state = mid }) rest illegal
 
--- of two lists one ends, and the other doesn't, or their first updates differ
+-- one of the two lists ends and the other doesn't, or their first updates differ
 abbrev pub BeginApart : List Update → List Update → Type 0
 BeginApart [] [] = ⊥
 BeginApart [] (u ∷ us) = Unit {0}
 BeginApart (c ∷ cs) [] = Unit {0}
 BeginApart (c ∷ cs) (u ∷ us) = c ≢ u
 
--- two lists begin with the same updates, so many, and are apart from there on
+-- two lists begin with the same updates, this many, and differ from there on
 abbrev pub AreApartFrom : ℕ → List Update → List Update → Type 0
 AreApartFrom index carried us =
     (same : List Update)
@@ -68,7 +68,7 @@ AreApartFrom index carried us =
 abbrev pub requests : KnownState → List Update → List Asked
 requests k us = requests_of k.roster (knowledge_of k.state) us
 
--- how many bytes reads can save at most in 128 slots, as these prices show
+-- how many bytes reads can save at most in 128 slots, as these prices prove
 abbrev pub bound_shown : KnownState → List Update → List ℕ → ℕ
 bound_shown k us prices = bound slot_count (all_links (names_in k.state.slots) (requests k us)) prices
 
@@ -76,9 +76,9 @@ bound_shown k us prices = bound slot_count (all_links (names_in k.state.slots) (
 abbrev pub ArePrices : KnownState → List Update → List ℕ → Type 0
 ArePrices k us prices = (length prices ≡ length (requests k us)) × AllByRecursion (λ price. price ≤ 2 ^ 32) prices
 
--- What the prices show of a lesson of that many bytes: there are too few of them or too many; or one is above 2^32; or
--- the lesson doesn't save just what they bound, against the lesson that writes every name, where a longer one than that saves
--- nothing; or it does, so that none is shorter.
+-- What the prices prove of a lesson of this many bytes: there are too few or too many prices; or one is above 2^32; or
+-- the lesson doesn't save exactly the bound that they prove, compared with the lesson that writes every name (a longer
+-- lesson saves nothing); or it does, so no lesson is shorter.
 abbrev pub Show : KnownState → List Update → List ℕ → ℕ → Verdict → Type 0
 Show k us prices size verdicts.PriceCount = length prices ≢ length (requests k us)
 Show k us prices size verdicts.PriceRange =
@@ -94,8 +94,8 @@ Show k us prices size verdict = ⊥
 
 -- ---- both
 
--- What is said of a stream and prices in a known state, for a batch: the stream isn't legal; it is, and carries other
--- updates, from that index on; or it carries the batch, and then what the prices show.
+-- The verdict on a stream and prices, for a batch from a known state: the stream isn't legal; or it is legal and
+-- carries other updates, from this index on; or it carries the batch, and the verdict is what the prices prove.
 abbrev pub Says : KnownState → List Update → List ℕ → List ℕ → Verdict → Type 0
 Says k us stream prices (verdicts.NotLegal illegal place) = IsIllegalAt k stream illegal place
 Says k us stream prices (verdicts.NotCarried index) = (carried : List Update) × Carries k stream carried × AreApartFrom index carried us
@@ -111,7 +111,7 @@ IsNotCarried verdict = (index : ℕ) × (verdict ≡ verdicts.NotCarried index)
 
 -- ---- words
 
--- the word for the cause
+-- the name of the cause
 abbrev pub illegal_name : Illegal → List ℕ
 illegal_name (illegals.Decode breach) = breach_name breach
 illegal_name (illegals.Step error) = step_error_name error

@@ -1,4 +1,4 @@
-//! What links can save at most.
+//! The most that links can save.
 
 ghost use Rattle.std.specs.Prelude.{◌≡◌, ◌<◌, ◌≤◌, ◌-◌, ◌^◌, length};
 ghost use Rattle.std.specs.List.{AllByRecursion};
@@ -6,7 +6,7 @@ ghost use Rattle.table_types.specs.SlotIds.{slot_count};
 ghost use Rattle.known_state.specs.Plans.{sum_of, price_inside, kept_savings, bound};
 ghost use Rattle.price_checker.specs.Links.{AreWithin};
 
-use crate::links::Link;
+use crate::links::RequestLink;
 
 fn sum_of(numbers: &[u64]) -> u64
     requires { sum_of numbers.now < 2 ^ 64 }
@@ -19,8 +19,8 @@ fn sum_of(numbers: &[u64]) -> u64
     sum
 }
 
-/// What a link saves above the prices inside of it.
-fn saved_above(link: &Link, prices: &[u64]) -> u64
+/// Returns what a link saves above the prices inside it.
+fn saved_above(link: &RequestLink, prices: &[u64]) -> u64
     requires within { (link.now.from < link.now.to) × (link.now.to ≤ length prices.now) }
     requires small { sum_of prices.now < 2 ^ 64 }
     ensures saved { result ≡ link.now.saving - price_inside prices.now link.now }
@@ -30,9 +30,9 @@ fn saved_above(link: &Link, prices: &[u64]) -> u64
     saving.saturating_sub(sum_of(&prices[link.from..link.to - 1]))
 }
 
-/// What the links can save at most with so many slots, 1 to 128, as these prices show: at most 512, and each at most
-/// 2^32.
-pub fn bound(slots: usize, links: &[Link], prices: &[u64]) -> u64
+/// Returns the most that the links can save with `slots` slots, 1 to 128, as `prices` prove: at most 512 prices, each
+/// at most 2^32.
+pub fn bound(slots: usize, links: &[RequestLink], prices: &[u64]) -> u64
     requires slots { (1 ≤ slots) × (slots ≤ slot_count) }
     requires prices { (length prices.now ≤ 512) × AllByRecursion (λ price. price ≤ 2 ^ 32) prices.now }
     requires links { (length links.now ≤ 512) × AreWithin (length prices.now) links.now }
@@ -45,8 +45,8 @@ pub fn bound(slots: usize, links: &[Link], prices: &[u64]) -> u64
     (slots as u64 - 1) * sum_of(prices) + above
 }
 
-/// What the kept links save: of at most 512 links.
-pub fn kept_savings(links: &[Link]) -> u64
+/// Returns what the kept links save. There are at most 512 links.
+pub fn kept_savings(links: &[RequestLink]) -> u64
     requires { length links.now ≤ 512 }
     ensures { result ≡ kept_savings links.now }
 {

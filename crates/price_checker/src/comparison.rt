@@ -1,4 +1,4 @@
-//! How what a stream carries compares with a batch.
+//! Comparing what a stream carries with a batch.
 
 ghost use Rattle.std.specs.Prelude.{◌≡◌, ◌++◌, ◌∷◌, ◌≤◌, List, length};
 ghost use Rattle.table_types.specs.declared.update.Update.{Update};
@@ -10,16 +10,17 @@ use known_state::State;
 use peers_msg::{Message, UpdateMsg};
 use table_types::Update;
 
-/// How the updates that a stream carried so far compare with those of a batch.
+/// How the updates that a stream has carried so far compare with those of a batch.
 #[derive(Clone, Copy, Debug)]
 pub enum Comparison {
-    /// They are the batch's first ones, so many.
+    /// They are this many of the batch's first updates.
     Same(usize),
-    /// From that index on they are apart: one differs, or the batch ended there.
+    /// They differ from this index on: an update differs, or the batch has ended.
     Apart(usize),
 }
 
-/// How the updates carried compare after one more, where those before it were the batch's first ones, so many.
+/// Returns how the updates carried compare after one more update, if those before it were the batch's first `count`
+/// ones.
 fn after_update(count: usize, state: &State, sent: &UpdateMsg, updates: &[Update]) -> Comparison
     ensures { ComparesNext state.now (messages.Update sent.now) updates.now (comparisons.Same count) result }
 {
@@ -30,7 +31,7 @@ fn after_update(count: usize, state: &State, sent: &UpdateMsg, updates: &[Update
 }
 
 impl Comparison {
-    /// How the updates carried compare after a message, which is legal in that state.
+    /// Returns how the updates carried compare after `message`, which is legal in `state`.
     pub fn after(self, state: &State, message: &Message, updates: &[Update]) -> Comparison
         ensures { ComparesNext state.now message.now updates.now self result }
     {

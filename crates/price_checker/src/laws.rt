@@ -15,15 +15,15 @@ ghost use Rattle.price_checker.specs.declared.verdict.Verdict.{Verdict};
 ghost use Rattle.price_checker.specs.declared.verdict.Verdict.TheVariants as verdicts;
 ghost use Rattle.price_checker.specs.Verdicts.{requests, Carries, Says, IsNotLegal, IsNotCarried};
 
-/// A stream is read in one way, and of a stream and prices one thing is said.
+/// A stream can be read in only one way, and a stream and prices have only one verdict.
 pub fn one_verdict()
     ensures carries { (k : KnownState) (stream : List ℕ) (us vs : List Update) → Carries k stream us → Carries k stream vs → us ≡ vs }
     ensures says { (k : KnownState) (us : List Update) (stream prices : List ℕ) (one other : Verdict) →
         AreOwn k.roster k.state.received.tables → Says k us stream prices one → Says k us stream prices other → one ≡ other }
 {}
 
-/// It is said that a stream isn't legal exactly where it spells no legal list, and that it carries other updates exactly
-/// where it is legal and does.
+/// The verdict says that a stream isn't legal if and only if it spells no legal list, and that it carries other updates
+/// if and only if it is legal and does.
 pub fn said_of_streams()
     ensures legal { (k : KnownState) (us : List Update) (stream prices : List ℕ) (verdict : Verdict) →
         AreOwn k.roster k.state.received.tables → Says k us stream prices verdict →
@@ -33,7 +33,7 @@ pub fn said_of_streams()
         IsNotCarried verdict ↔ ((carried : List Update) × Carries k stream carried × (carried ≢ us)) }
 {}
 
-/// Of what is said to be shortest, no legal list that carries the batch is shorter.
+/// If the verdict is `Shortest`, no legal list that carries the batch is shorter.
 pub fn shortest_is_said()
     ensures { (k : KnownState) (us : List Update) (stream prices : List ℕ) (bytes : ℕ) →
         roster_fault k.roster ≡ None → AreOwn k.roster k.state.received.tables → length k.state.slots ≡ slot_count →
@@ -41,8 +41,8 @@ pub fn shortest_is_said()
         (ms : List Message) × (stream ≡ stream_of ms) × (bytes ≡ length stream) × Shortest k us ms }
 {}
 
-/// A legal list that carries the batch, and saves what the links save that an accepted plan keeps, is said to be shortest at
-/// the plan's prices.
+/// A legal list that carries the batch, and saves what the links kept by an accepted plan save, gets the verdict
+/// `Shortest` at the plan's prices.
 pub fn accepted_is_said()
     ensures { (k : KnownState) (e : State) (ms : List Message) (us : List Update) (plan : Plan) →
         roster_fault k.roster ≡ None → AreOwn k.roster k.state.received.tables → length k.state.slots ≡ slot_count →

@@ -1,6 +1,6 @@
-//! A checker that stands apart from the planner. It says whether a plan of which names are read is accepted, since its prices
-//! show that no other saves more bytes; and whether a stream teaches a batch, and its prices show that none is shorter
-//! (profile).
+//! A checker that is independent of the planner. It decides whether a plan of which names are read is accepted, because
+//! its prices prove that no other plan saves more bytes; and whether a stream teaches a batch, and its prices prove
+//! that no such stream is shorter (profile).
 #![tactic(auto)]
 
 mod bound;

@@ -5,20 +5,20 @@ ghost use Rattle.std.specs.Prelude.{◌≡◌, ◌<◌, ◌≤◌, [], ◌∷◌
 use std::marker::Model;
 use table_types::Batch;
 
-/// The most requests that are looked at: as many as a batch has updates.
+/// The greatest number of requests: as many as a batch has updates.
 pub const MOST_REQUESTS: usize = Batch::MOST;
 
-/// A link: from the place at which a name was requested last, or 0 where it is held at the start, to the place at which
-/// it is requested again; what is saved where its name is read, in bytes; and whether the plan keeps that request.
+/// A link: from the place at which a name was last requested, or 0 if it is held at the start, to the place at which it
+/// is requested again; what reading the name saves, in bytes; and whether the plan keeps that request.
 #[derive(Clone, Copy, Debug)]
-pub struct Link {
+pub struct RequestLink {
     pub from: usize,
     pub to: usize,
     pub saving: u32,
     pub kept: bool,
 }
 
-impl Model for Link {
+impl Model for RequestLink {
     ghost use Rattle.known_state.specs.Plans.{Link};
 
     ghost Value = { Link };
@@ -28,10 +28,10 @@ impl Model for Link {
     ghost inverse = { λ l. record { from = l.from; to = l.to; saving = l.saving; kept = l.kept } };
 }
 
-/// The links of at most 512 requests, in order. They lie in the value itself, so they take no memory.
+/// The links of at most 512 requests, in order. They are stored inline, without allocation.
 #[derive(Debug, Drop)]
 pub struct Links {
-    links: [Link; MOST_REQUESTS],
+    links: [RequestLink; MOST_REQUESTS],
     count: usize,
 }
 
@@ -47,11 +47,11 @@ impl Model for Links {
 }
 
 impl Links {
-    /// No links.
+    /// Returns no links.
     pub fn new() -> Links
         ensures { result ≡ [] }
     {
-        let none = Link {
+        let none = RequestLink {
             from: 0,
             to: 0,
             saving: 0,
@@ -63,8 +63,8 @@ impl Links {
         }
     }
 
-    /// One more, where there are less than 512.
-    pub fn push(&mut self, link: Link)
+    /// Appends a link. There must be fewer than 512.
+    pub fn push(&mut self, link: RequestLink)
         requires { length self.old < 512 }
         ensures { self.new ≡ self.old ++ link ∷ [] }
     {
@@ -72,8 +72,8 @@ impl Links {
         self.count += 1;
     }
 
-    /// The links, in order.
-    pub fn as_slice(&self) -> &[Link]
+    /// Returns the links, in order.
+    pub fn as_slice(&self) -> &[RequestLink]
         ensures links { result.now ≡ self.now }
         ensures most { length self.now ≤ 512 }
     {

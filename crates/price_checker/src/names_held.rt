@@ -9,14 +9,14 @@ ghost use Rattle.price_checker.specs.NamesHeld.{names_held};
 use dict_slots::Slots;
 use table_types::{Name, is_same_name};
 
-/// The names that are held at the start of a batch: these, or those of the slots.
+/// The names that are held at the start of a batch: these names, or those that the slots hold.
 #[derive(Clone, Copy)]
 pub enum Held<'a> {
     Names(&'a [Name]),
     Slots(&'a Slots),
 }
 
-/// Whether the name is one of these.
+/// Returns whether `name` is among `names`.
 fn is_among(names: &[Name], name: &Name) -> bool
     ensures { result ≡ list_any (is_same_name name.now) names.now }
 {
@@ -28,7 +28,7 @@ fn is_among(names: &[Name], name: &Name) -> bool
     false
 }
 
-/// Whether a slot holds the name.
+/// Returns whether a slot holds `name`.
 fn is_in_slot(slots: &Slots, name: &Name) -> bool
     ensures { result ≡ list_any (is_same_name name.now) (names_in slots.now) }
 {
@@ -36,7 +36,7 @@ fn is_in_slot(slots: &Slots, name: &Name) -> bool
 }
 
 impl Held<'_> {
-    /// Whether the name is held.
+    /// Returns whether `name` is held.
     pub fn has(self, name: &Name) -> bool
         ensures { result ≡ list_any (is_same_name name.now) (names_held self.entry) }
     {

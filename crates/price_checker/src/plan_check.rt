@@ -15,19 +15,19 @@ use table_types::Name;
 /// The greatest price.
 pub const MOST_PRICE: u64 = 1 << 32;
 
-/// Whether no price is above 2^32.
+/// Returns whether no price is above 2^32.
 pub fn are_prices(prices: &[u64]) -> bool
     ensures { IsTrue result ↔ AllByRecursion (λ price. price ≤ 2 ^ 32) prices.now }
 {
     prices.iter().all(|price| *price <= MOST_PRICE)
 }
 
-/// Whether the plan is accepted, for requests where these names are held at the start, with so many slots. It has one mark
-/// and one price for each request; no price is above 2^32; each kept request has a link; no place is inside of more
-/// kept links than there are slots but one; and the kept links together save what links can save at most with these
-/// prices. So no other choice of requests that are read saves more. It doesn't allocate.
+/// Returns whether the plan is accepted for `requests`, with `slots` slots, if the names in `held` are held at the
+/// start. It is accepted if it has one mark and one price for each request, no price is above 2^32, each kept request
+/// has a link, no place is inside more kept links than there are slots less one, and the kept links together save the
+/// most that links can save at these prices. Then no other choice of requests to read saves more. Doesn't allocate.
 ///
-/// There are 1 to 128 slots, at most as many names held, and at most 512 requests.
+/// There are 1 to 128 slots, at most as many held names, and at most 512 requests.
 pub fn check_plan(slots: usize, held: &[Name], requests: &[Request], plan: &Plan) -> bool
     requires slots { (1 ≤ slots) × (slots ≤ slot_count) }
     requires held { length held.now ≤ slots }

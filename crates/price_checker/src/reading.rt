@@ -1,4 +1,4 @@
-//! Streams, read message by message from a known state on.
+//! Reading streams message by message, from a known state on.
 
 ghost use Rattle.std.specs.Prelude.{◌≡◌, ◌≢◌, ◌≤◌, ℕ, List, [], length, drop, Ok, Some, IfOk};
 ghost use Rattle.peers_msg.specs.Reading.{message_at};
@@ -11,10 +11,10 @@ use peers_msg::{Message, front};
 use std::alloc::Global;
 use table_types::{Memory, Update};
 
-/// What stands at the front of the bytes that are left.
+/// What is at the front of the remaining bytes.
 #[derive(Debug, Drop)]
 enum Next {
-    /// A legal message: how the updates carried compare after it, and how many bytes it has.
+    /// A legal message: how the updates carried compare after it, and its length in bytes.
     Read(Comparison, usize),
     /// No legal message.
     Illegal(Illegal),
@@ -25,11 +25,11 @@ enum Next {
 pub enum Reading {
     /// It isn't legal: why, and the place of the first byte of the message that isn't.
     Illegal(Illegal, usize),
-    /// It is legal, and the updates that it carries compare so with the batch.
+    /// It is legal: how the updates it carries compare with the batch.
     Legal(Comparison),
 }
 
-/// Moves the known state by the message at the front, which has so many bytes, if it is legal. What the message owns moves
+/// Applies the message at the front, of `used` bytes, to the known state if it is legal. What the message owns moves
 /// into the state.
 fn follow_if_legal(
     known: &mut Known,
@@ -49,7 +49,7 @@ fn follow_if_legal(
     Ok(Next::Read(compared, used))
 }
 
-/// Reads the message at the front of the bytes that are left, and moves the known state by it if it is legal.
+/// Reads the message at the front of `rest`, and applies it to the known state if it is legal.
 fn read_message(
     alloc: Global,
     known: &mut Known,
@@ -70,7 +70,7 @@ fn read_message(
     }
 }
 
-/// Reads a stream from the known state on, as far as it is legal, and compares what it carries with the updates.
+/// Reads a stream from the known state on, as far as it is legal, and compares what it carries with `updates`.
 pub fn read(
     alloc: Global,
     known: &Known,

@@ -1,13 +1,13 @@
-//! Whether there are slots for all links that are kept.
+//! Whether the slots suffice for all kept links.
 
 ghost use Rattle.std.specs.Prelude.{◌≡◌, ℕ, ◌+◌, ◌-◌, ◌<◌, ◌≤◌, ◌↔◌, IsTrue, length, slice_index, EachIndex, if◌then◌else◌};
 ghost use Rattle.known_state.specs.Plans.{is_inside, kept_over};
 ghost use Rattle.price_checker.specs.Links.{AreWithin};
 
-use crate::links::{Link, MOST_REQUESTS};
+use crate::links::{MOST_REQUESTS, RequestLink};
 
-/// Adds one at each place inside of a link.
-fn add_inside(link: &Link, over: &mut [usize; MOST_REQUESTS])
+/// Adds one at each place inside a link.
+fn add_inside(link: &RequestLink, over: &mut [usize; MOST_REQUESTS])
     requires within { (link.now.from < link.now.to) × (link.now.to ≤ 512) }
     requires small { (place : ℕ) → slice_index over.old place ≤ 512 }
     ensures { (place : ℕ) → slice_index over.new place ≡ slice_index over.old place + (if is_inside place link.now then 1 else 0) }
@@ -17,8 +17,8 @@ fn add_inside(link: &Link, over: &mut [usize; MOST_REQUESTS])
     }
 }
 
-/// Inside of how many kept links each place is: at most 512 links, each to a place up to 512.
-fn kept_over(links: &[Link]) -> [usize; MOST_REQUESTS]
+/// Returns for each place how many kept links it is inside. There are at most 512 links, each to a place up to 512.
+fn kept_over(links: &[RequestLink]) -> [usize; MOST_REQUESTS]
     requires most { length links.now ≤ 512 }
     requires within { AreWithin 512 links.now }
     ensures counted { (place : ℕ) → slice_index result place ≡ kept_over links.now place }
@@ -33,16 +33,16 @@ fn kept_over(links: &[Link]) -> [usize; MOST_REQUESTS]
     over
 }
 
-/// Whether these are all below a limit.
+/// Returns whether all counts are below `limit`.
 fn are_below(limit: usize, counts: &[usize]) -> bool
     ensures { IsTrue result ↔ EachIndex counts.now (λ index. slice_index counts.now index < limit) }
 {
     counts.iter().all(|count| *count < limit)
 }
 
-/// Whether no place is inside of more kept links than there are slots but one: of at most 512 links, each to a place up
-/// to 512.
-pub fn have_room(slots: usize, links: &[Link]) -> bool
+/// Returns whether no place is inside more kept links than there are slots less one. There are at most 512 links, each
+/// to a place up to 512.
+pub fn have_room(slots: usize, links: &[RequestLink]) -> bool
     requires slots { 1 ≤ slots }
     requires most { length links.now ≤ 512 }
     requires within { AreWithin 512 links.now }

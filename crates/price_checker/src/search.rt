@@ -4,13 +4,13 @@ ghost use Rattle.std.specs.Prelude.{◌≡◌, ◌+◌, ◌≤◌, ◌<◌, ◌�
 ghost use Rattle.known_state.specs.Plans.{at_start, after_requests, links, link_of, AreLinked};
 ghost use Rattle.price_checker.specs.NamesHeld.{names_held};
 
-use crate::links::{Link, Links};
+use crate::links::{Links, RequestLink};
 use crate::names_held::Held;
 use known_state::Request;
 use table_types::{Name, is_same_name};
 
-/// The place at which the name was requested last: 0 where it wasn't and is held at the start, and `None` where it isn't
-/// held either.
+/// Returns the place at which `name` was last requested: 0 if it wasn't but is held at the start, and `None` if it
+/// isn't held either.
 fn last_place(held: Held<'_>, before: &[Request], name: &Name) -> Option<usize>
     ensures { result ≡ (after_requests (at_start (names_held held.entry)) before.now).last name.now }
 {
@@ -24,12 +24,12 @@ fn last_place(held: Held<'_>, before: &[Request], name: &Name) -> Option<usize>
     if held.has(name) { Some(0) } else { None }
 }
 
-/// The link of the request at a place, where its name was last requested or held.
-fn link_of(from: Option<usize>, to: usize, request: &Request, kept: bool) -> Option<Link>
+/// Returns the link of the request at the place `to`, if its name was requested or held at a place `from`.
+fn link_of(from: Option<usize>, to: usize, request: &Request, kept: bool) -> Option<RequestLink>
     ensures { option_to_list result ≡ link_of from to request.now kept }
 {
     let from = from?;
-    Some(Link {
+    Some(RequestLink {
         from,
         to,
         saving: request.write_cost() - request.read_cost(),
@@ -37,15 +37,15 @@ fn link_of(from: Option<usize>, to: usize, request: &Request, kept: bool) -> Opt
     })
 }
 
-/// Whether a request has a link, or isn't kept.
+/// Returns whether a request has a link or isn't kept.
 fn is_linked(from: Option<usize>, kept: bool) -> bool
     ensures { result ≡ (is_some from || not kept) }
 {
     from.is_some() || !kept
 }
 
-/// The links of requests where these names are held at the start, each with the mark of its request, and whether each
-/// request that is kept has one.
+/// Returns the links of `requests` if the names in `held` are held at the start, each with the mark of its request, and
+/// whether each kept request has a link.
 pub fn find_links(held: Held<'_>, requests: &[Request], keep: &[bool]) -> (Links, bool)
     requires most { length requests.now ≤ 512 }
     requires marks { length keep.now ≡ length requests.now }

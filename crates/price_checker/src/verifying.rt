@@ -1,4 +1,4 @@
-//! What is said of a stream and its prices.
+//! The verdict on a stream and its prices.
 
 ghost use Rattle.std.specs.Prelude.{◌≡◌, ◌≢◌, ◌≤◌, ◌^◌, ◌↔◌, ℕ, List, length, IfErr, IfOk};
 ghost use Rattle.std.specs.List.{AllByRecursion};
@@ -29,7 +29,7 @@ use known_state::{Costing, Known, Request};
 use std::alloc::Global;
 use table_types::{Batch, Memory, SLOT_COUNT, Update};
 
-/// How many bytes reads can save at most in 128 slots, as these prices show.
+/// Returns how many bytes reads can save at most in 128 slots, as `prices` prove.
 fn bound_shown(slots: &Slots, requests: &[Request], prices: &[u64]) -> u64
     requires requests { length requests.now ≤ 512 }
     requires prices { (length prices.now ≡ length requests.now) × AllByRecursion (λ price. price ≤ 2 ^ 32) prices.now }
@@ -40,7 +40,7 @@ fn bound_shown(slots: &Slots, requests: &[Request], prices: &[u64]) -> u64
     bound(SLOT_COUNT, links.as_slice(), prices)
 }
 
-/// How many of the updates have a name.
+/// Returns how many of the updates have a name.
 fn named_count(updates: &[Update]) -> usize
     ensures count { result ≡ named_count updates.now }
 {
@@ -53,8 +53,8 @@ fn named_count(updates: &[Update]) -> usize
     count
 }
 
-/// What prices, one for each request, show of a lesson of so many bytes, for a batch that costs so much from a state with
-/// these slots.
+/// Returns what prices, one for each request, prove of a lesson of `size` bytes, for a batch with this costing from a
+/// state with these slots.
 fn shown_by_bound(slots: &Slots, costing: &Costing, size: usize, prices: &[u64]) -> Verdict
     requires few { length costing.now.requests.items ≤ 512 }
     requires prices { (length prices.now ≡ length costing.now.requests.items) × AllByRecursion (λ price. price ≤ 2 ^ 32) prices.now }
@@ -72,8 +72,8 @@ fn shown_by_bound(slots: &Slots, costing: &Costing, size: usize, prices: &[u64])
     }
 }
 
-/// What the prices show of a lesson of so many bytes. Memory is wanted for the requests alone, and so where there is one
-/// price for each of them and none is above 2^32.
+/// Returns what the prices prove of a lesson of `size` bytes. Allocates only for the requests, and so only if there is
+/// one price for each of them and none is above 2^32.
 fn shown(
     alloc: Global,
     known: &Known,
@@ -95,7 +95,7 @@ fn shown(
     Ok(shown_by_bound(known.slots(), &costing, size, prices))
 }
 
-/// What is said of the stream and the prices.
+/// Returns the verdict on the stream and the prices.
 fn said(
     alloc: Global,
     known: &Known,
@@ -117,12 +117,12 @@ fn said(
     }
 }
 
-/// Says of a stream, which is to teach the batch to a learner in the known state, and of a price for each of the batch's
-/// requests: whether the stream is legal; whether it carries the batch; and whether the prices show that no legal stream
-/// that carries it is shorter. It needs nothing of whoever made them.
+/// Checks a stream that is to teach the batch to a learner in the known state, and the prices, one for each of the
+/// batch's requests. Returns whether the stream is legal, whether it carries the batch, and whether the prices prove
+/// that no legal stream that carries it is shorter. Trusts nothing about how they were made.
 ///
-/// The batch was made for the roster of the known state. The messages are read one after another, and each
-/// is compared with the batch; memory is wanted for a copy of the known state, the message at hand, and the requests.
+/// The batch was made for the roster of the known state. The messages are read one after another, and each is compared
+/// with the batch. Allocates for a copy of the known state, the current message, and the requests.
 pub fn verify(
     alloc: Global,
     known: &Known,
@@ -138,7 +138,8 @@ pub fn verify(
     ensures shortest { IfOk result (λ verdict. (bytes : ℕ) → verdict ≡ verdicts.Shortest bytes →
         (ms : List Message) × (stream.now ≡ stream_of ms) × (bytes ≡ length stream.now) × Shortest known.now batch.now ms) }
 {
-    // Called for their clauses alone: they say that the roster is sound and that there are 128 slots, which `shortest` needs.
+    // These calls serve their clauses alone: they say that the roster is sound and that there are 128 slots, which
+    // `shortest` needs.
     let _tables = known.roster().tables();
     let _slots = known.slots().len();
     said(alloc, known, batch, stream, prices)

@@ -1,4 +1,4 @@
--- What is spent at each place, by the arcs and by the links of requests.
+-- What is used at each place, in terms of the arcs and of the links of requests.
 use Rattle.std.proofs.Common.{◌≡◌, ℕ, ◌+◌, ◌&&◌, cond, List, [], ◌∷◌, ◌++◌, length, Option, Some, None, refl, ap, arith}
 use Rattle.std.specs.Prelude.{nat_lt}
 use Rattle.known_state.specs.Requests.{Asked}
@@ -6,7 +6,7 @@ use Rattle.known_state.specs.Plans.{Asking, at_start, after_request, link_of, li
 use Rattle.retention_flow.specs.declared.arcs.RequestArc.{RequestArc}
 use Rattle.retention_flow.specs.Network.{IsArc, AreArcs, AreSpent, IsRoom, marks, link_at, links_of}
 
--- the links of arcs are kept over places as those of their requests
+-- as many links of arcs are kept over a place as links of their requests
 pub kept_as_arcs : (asking : Asking) (rs : List Asked) (arcs : List RequestArc) (place : ℕ) → AreArcs asking rs arcs → kept_over (links_from asking rs (marks arcs)) place ≡ kept_over (links_of asking.place arcs) place
 kept_as_arcs asking [] [] place are = refl
 kept_as_arcs asking [] (arc ∷ arcs) place are = absurd are

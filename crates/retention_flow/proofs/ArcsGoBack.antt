@@ -1,4 +1,4 @@
--- The arcs of requests begin before them, and save little.
+-- The arcs of requests begin at or before them, and have small savings.
 use Rattle.std.proofs.Common.{◌≡◌, ℕ, zero, suc, ◌+◌, ◌<◌, ◌≤◌, List, [], ◌∷◌, ◌++◌, length, drop, Option, Some, None, refl, arith}
 use Rattle.known_state.specs.Requests.{Asked}
 use Rattle.known_state.specs.Plans.{Asking, at_start, after_request}
@@ -22,7 +22,7 @@ pub arcs_from-length : (asking : Asking) (rs : List Asked) → length (arcs_from
 arcs_from-length asking [] = refl
 arcs_from-length asking (r ∷ rs) = omega (arith, arcs_from-length (after_request asking r) rs)
 
--- one more arc that saves little
+-- one more arc with a small saving
 pub little_more : (arcs : List RequestArc) (arc : RequestArc) → arc.saving ≤ 32768 → SaveLittle arcs → SaveLittle (arcs ++ arc ∷ [])
 little_more [] arc few little = λ node below. by node below
   where
@@ -35,7 +35,7 @@ little_more (first ∷ arcs) arc few little = λ node below. by (little_more arc
     by rest zero below = little 0 (omega arith)
     by rest (suc node) below = rest node (omega arith)
 
--- after the last request there is none
+-- after the last request there is no arc
 pub arcs_end : (asking : Asking) (rs : List Asked) (i : ℕ) → length rs ≤ i → arcs_from asking (drop i rs) ≡ []
 arcs_end asking [] zero beyond = refl
 arcs_end asking [] (suc i) beyond = refl

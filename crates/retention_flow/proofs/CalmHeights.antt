@@ -1,4 +1,4 @@
--- Calm heights: what their prices sum up to, and what the kept links save by them.
+-- Calm heights: the sum of their prices, and what the kept links save at these prices.
 use Rattle.std.proofs.Common.{◌≡◌, ℕ, zero, suc, ◌+◌, ◌-◌, ◌*◌, ◌<◌, ◌≤◌, ◌^◌, Bool, true, false, ◌⊎◌, cond, List, [], ◌∷◌, ◌++◌, length, map, take, drop, slice_index, Option, Some, None, refl, sym, ap, ◌∙◌, subst, inl, inr, arith}
 use Rattle.std.specs.Prelude.{nat_lt, ◌&&◌}
 use Rattle.std.specs.List.{AllByRecursion, list_any}
@@ -39,7 +39,7 @@ first_sum (suc n) (h ∷ (k ∷ hs)) rises below =
     let up : h ≤ k = rises 0 (omega arith) in
     omega (arith, later, up)
 
--- from one node to a later one the heights rise by the prices between them
+-- from one node to a later one, the heights rise by the prices between them
 inside_sum : (m n : ℕ) (hs : List ℕ) → Rises hs → m + n < length hs → sum_of (take n (drop m (prices_of hs))) + slice_index hs m ≡ slice_index hs (m + n)
 inside_sum zero n hs rises below = let same : n ≡ 0 + n = omega arith in first_sum n hs rises (omega arith) ∙ ap (λ (i : ℕ). slice_index hs i) same
 inside_sum (suc m) n [] rises below = absurd (omega arith)
@@ -50,7 +50,7 @@ inside_sum (suc m) n (h ∷ (k ∷ hs)) rises below =
 
 -- ---- links
 
--- the prices inside of a link that ends at the request after a node
+-- the prices inside a link that ends at the request after a node
 inside_rise : (hs : List ℕ) (from node saving : ℕ) (kept : Bool) → Rises hs → from ≤ node → node < length hs
     → price_inside (prices_of hs) (record { from = from; to = node + 1; saving = saving; kept = kept }) + slice_index hs from ≡ slice_index hs node
 inside_rise hs from node saving kept rises before below =
@@ -61,7 +61,7 @@ kept_saving : (kept : Bool) (saving inside low high : ℕ) → inside + low ≡ 
 kept_saving true saving inside low high rise calm = omega arith
 kept_saving false saving inside low high rise calm = omega arith
 
--- no name was requested last after the places so far
+-- no name was last requested after the places so far
 abbrev pub AreSoFar : Asking → Type 0
 AreSoFar asking = (name : List ℕ) (place : ℕ) → asking.last name ≡ Some place → place ≤ asking.place
 
@@ -102,7 +102,7 @@ one_link hs asking r arc ls ms (Some from) is rises so_far below (from_is, savin
     four : (s i a ss is as_ : ℕ) → s ≡ i + a → ss ≡ is + as_ → s + ss ≡ (i + is) + (a + as_)
     four s i a ss is as_ one later = omega arith
 
--- what the kept links save is what is paid for the places inside of them, and what all links save above that
+-- the kept links save the prices of the places inside them plus what all links save above those
 three_sums : (hs : List ℕ) (asking : Asking) (rs : List Asked) (arcs : List RequestArc) → Rises hs → AreSoFar asking → asking.place + length rs < length hs → AreArcs asking rs arcs → AreCalmArcs hs asking.place arcs
     → kept_savings (links_from asking rs (marks arcs)) ≡ kept_inside (prices_of hs) (links_from asking rs (marks arcs)) + above (prices_of hs) (links_from asking rs (map (λ r. true) rs))
 three_sums hs asking [] [] rises so_far below are calm = refl
@@ -118,14 +118,14 @@ arcs-length asking [] (arc ∷ arcs) are = absurd are
 arcs-length asking (r ∷ rs) [] are = absurd are
 arcs-length asking (r ∷ rs) (arc ∷ arcs) (one, are) = omega (arith, arcs-length (after_request asking r) rs arcs are)
 
--- a place that has a price is spent
+-- a place with a price above 0 is used in full
 spent_or_free : (room cover slots low high price : ℕ) → room + cover ≡ slots → low ≤ high → (0 < room → high ≤ low) → price ≡ high - low → (cover ≡ slots) ⊎ (price ≡ 0)
 spent_or_free room cover slots low high price spent rise full is = elim (cases_lt 0 room) [
   | inl some ↦ let flat : high ≤ low = full some in inr (omega arith)
   | inr none ↦ inl (omega arith)
 ]
 
--- the kept links save as much as the prices of calm heights let all links save
+-- the kept links save as much as calm heights let all links save
 calm_is_tight : (slots : ℕ) (held : List (List ℕ)) (rs : List Asked) (heights room : List ℕ) (arcs : List RequestArc) → AreArcs (at_start held) rs arcs → IsCalm heights room arcs → AreSpent (slots - 1) room held rs arcs
     → kept_savings (links held rs (marks arcs)) ≡ bound slots (all_links held rs) (prices_of heights)
 calm_is_tight slots held rs heights room arcs are calm spent =
@@ -144,9 +144,9 @@ calm_is_tight slots held rs heights room arcs are calm spent =
     three_sums heights (at_start held) rs arcs rises (start_so_far held) (omega arith) are calm.calm
     ∙ ap (λ (n : ℕ). n + above ps (all_links held rs)) (sym (weighed_over (links held rs (marks arcs)) ps) ∙ paid)
 
--- ---- the rest of what is accepted
+-- ---- the other conditions of an accepted plan
 
--- arcs that are kept are those of links
+-- kept arcs are those of links
 arcs_linked : (asking : Asking) (rs : List Asked) (arcs : List RequestArc) → AreArcs asking rs arcs → AreLinked asking rs (marks arcs)
 arcs_linked asking [] [] are = tt
 arcs_linked asking [] (arc ∷ arcs) are = absurd are
@@ -169,7 +169,7 @@ outside_none true true false out = refl
 outside_none true false before out = refl
 outside_none false after before out = refl
 
--- no link is over the start, nor over a place after the requests
+-- no link passes over the start or over a place after the requests
 none_outside : (asking : Asking) (rs : List Asked) (keep : List Bool) (place : ℕ) → (place ≡ 0) ⊎ (asking.place + length rs ≤ place) → kept_over (links_from asking rs keep) place ≡ 0
 none_outside asking [] keep place out = refl
 none_outside asking (r ∷ rs) [] place out = refl

@@ -9,7 +9,7 @@ use Rattle.retention_flow.specs.declared.arcs.RequestArc.{RequestArc}
 use Rattle.retention_flow.specs.Network.{IsCalmRise, IsCalmArc, IsCalm, prices_of, link_at, links_of, arc_at, GoBack, IsRoom, SaveLittle}
 use Rattle.retention_flow.proofs.RaisedIsCalm.{calm_at}
 
--- an arc that is kept over a place
+-- an arc kept over a place
 abbrev IsKeptOver : ℕ → List RequestArc → ℕ → ℕ → Type 0
 IsKeptOver node arcs place i = (i < length arcs) × ((arc_at arcs i).kept ≡ true) × ((arc_at arcs i).from < place) × (place < node + i + 1)
 
@@ -17,7 +17,7 @@ inside_means : (kept : Bool) (from place to : ℕ) → (kept && (nat_lt from pla
 inside_means true from place to is = (refl, grind (arith, nat_tests), grind (arith, nat_tests))
 inside_means false from place to is = absurd (cc)
 
--- where links are kept over a place, one is
+-- if any links are kept over a place, there is such a link
 some_over : (node : ℕ) (arcs : List RequestArc) (place : ℕ) → 0 < kept_over (links_of node arcs) place → (i : ℕ) × IsKeptOver node arcs place i
 some_over node [] place some = absurd (omega arith)
 some_over node (arc ∷ arcs) place some = by (arc.kept && is_inside place (link_at node arc)) refl some (some_over (node + 1) arcs place)
@@ -30,7 +30,7 @@ some_over node (arc ∷ arcs) place some = by (arc.kept && is_inside place (link
         let later = others (omega arith) in
         (suc later.0, (omega (arith, later.1.0), later.1.1, later.1.2, omega (arith, later.1.3)))
 
--- heights never fall
+-- heights never decrease
 pub rises_to : (hs room : List ℕ) (arcs : List RequestArc) (low more : ℕ) → IsCalm hs room arcs → low + more ≤ length arcs → slice_index hs low ≤ slice_index hs (low + more)
 rises_to hs room arcs low zero calm below = let same : low ≡ low + 0 = omega arith in subst (λ (n : ℕ). slice_index hs low ≤ slice_index hs n) same (omega arith)
 rises_to hs room arcs low (suc more) calm below =
@@ -46,7 +46,7 @@ kept_rise : (kept : Bool) (saving low high : ℕ) → kept ≡ true → IsCalmRi
 kept_rise true saving low high is calm = calm
 kept_rise false saving low high is calm = absurd (cc)
 
--- over one place they rise by no more than an arc saves
+-- over one place, they rise by at most what one arc saves
 one_rise : (hs room : List ℕ) (arcs : List RequestArc) (slots node : ℕ) → 0 < slots → IsCalm hs room arcs → IsRoom slots room arcs → GoBack arcs → SaveLittle arcs → node < length arcs
     → slice_index hs (node + 1) ≤ slice_index hs node + 32768
 one_rise hs room arcs slots node some calm spent back little below = elim (cases_lt 0 (slice_index room node)) [
@@ -73,7 +73,7 @@ height_bounded hs room arcs slots (suc node) some first calm spent back little b
     let up : slice_index hs (suc node) ≤ slice_index hs node + 32768 = subst (λ (n : ℕ). slice_index hs n ≤ slice_index hs node + 32768) next (one_rise hs room arcs slots node some calm spent back little (omega arith)) in
     omega (arith, up, height_bounded hs room arcs slots node some first calm spent back little (omega arith))
 
--- and its price with it
+-- and so is its price
 pub prices_bounded : (hs : List ℕ) → ((i : ℕ) → i < length hs → slice_index hs i ≤ 2 ^ 32) → AllByRecursion (λ price. price ≤ 2 ^ 32) (prices_of hs)
 prices_bounded [] each = tt
 prices_bounded (h ∷ []) each = tt

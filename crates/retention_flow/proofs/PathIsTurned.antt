@@ -1,4 +1,4 @@
--- Turning the arcs of a whole path, from the first node to the last.
+-- Augmenting along a whole path, from the first node to the last.
 use Rattle.std.proofs.Common.{◌≡◌, ℕ, ◌-◌, ◌<◌, ◌≤◌, Bool, true, false, inl, inr, List, length, Option, Some, None, refl, sym, ap, ◌∙◌, subst, arith}
 use Rattle.std.specs.Prelude.{slice_set}
 use Rattle.std.proofs.lemmas.Bool.{cases_eq}
@@ -8,14 +8,14 @@ use Rattle.retention_flow.specs.declared.arcs.RequestArc.{RequestArc}
 use Rattle.retention_flow.specs.declared.steps.Step.{Step}
 use Rattle.retention_flow.specs.declared.steps.ResidualArc.{ResidualArc}
 use Rattle.retention_flow.specs.declared.steps.ResidualArc.TheVariants as residuals
-use Rattle.retention_flow.specs.Network.{AreArcs, GoBack, SaveLittle, IsCalm, IsRoom, arc_at, arc_kept, is_reached, step_at, IsResidual, tail_of, IsReachedFrom, IsSearch, turned_room, turned_arcs}
+use Rattle.retention_flow.specs.Network.{AreArcs, GoBack, SaveLittle, IsCalm, IsRoom, arc_at, arc_kept, is_reached, step_at, IsResidual, tail_of, IsReachedFrom, IsSearch, augmented_room, augmented_arcs}
 use Rattle.retention_flow.proofs.ResidualsStayOpen.{some_step, some_same}
 use Rattle.retention_flow.proofs.TurnedArcs.{arc_other, arc_set, from_set, arcs_set}
-use Rattle.retention_flow.proofs.TurnedResiduals.{turned_room-length, turned_arcs-length, turned_is_calm}
+use Rattle.retention_flow.proofs.TurnedResiduals.{augmented_room-length, augmented_arcs-length, turned_is_calm}
 use Rattle.retention_flow.proofs.ResidualsAreTurned.{residual_stays}
 use Rattle.retention_flow.proofs.TurnedIsSpent.{side_yes, side_no, AreWalked, turned_is_walked}
 
--- ---- one arc that is turned
+-- ---- one arc is augmented
 
 saving_set : (arcs : List RequestArc) (i j : ℕ) (kept : Bool) → i < length arcs → (arc_at (slice_set arcs i (arc_kept kept (arc_at arcs i))) j).saving ≡ (arc_at arcs j).saving
 saving_set arcs i j kept below = elim (cases_eq j i) [
@@ -23,32 +23,32 @@ saving_set arcs i j kept below = elim (cases_eq j i) [
   | inr differs ↦ ap (λ (a : RequestArc). a.saving) (arc_other arcs i j (arc_kept kept (arc_at arcs i)) differs)
 ]
 
-from_turned : (hs room : List ℕ) (arcs : List RequestArc) (residual : ResidualArc) (node i : ℕ) → IsResidual hs room arcs residual node 0 → (arc_at (turned_arcs residual node arcs) i).from ≡ (arc_at arcs i).from
+from_turned : (hs room : List ℕ) (arcs : List RequestArc) (residual : ResidualArc) (node i : ℕ) → IsResidual hs room arcs residual node 0 → (arc_at (augmented_arcs residual node arcs) i).from ≡ (arc_at arcs i).from
 from_turned hs room arcs residuals.Start node i residual = refl
 from_turned hs room arcs residuals.Right node i residual = refl
 from_turned hs room arcs residuals.Left node i residual = refl
 from_turned hs room arcs (residuals.Back later) node i (within, kept, from, tight) = from_set arcs later i false within
 from_turned hs room arcs residuals.On node i (within, kept, tight) = from_set arcs node i true within
 
-saving_turned : (hs room : List ℕ) (arcs : List RequestArc) (residual : ResidualArc) (node i : ℕ) → IsResidual hs room arcs residual node 0 → (arc_at (turned_arcs residual node arcs) i).saving ≡ (arc_at arcs i).saving
+saving_turned : (hs room : List ℕ) (arcs : List RequestArc) (residual : ResidualArc) (node i : ℕ) → IsResidual hs room arcs residual node 0 → (arc_at (augmented_arcs residual node arcs) i).saving ≡ (arc_at arcs i).saving
 saving_turned hs room arcs residuals.Start node i residual = refl
 saving_turned hs room arcs residuals.Right node i residual = refl
 saving_turned hs room arcs residuals.Left node i residual = refl
 saving_turned hs room arcs (residuals.Back later) node i (within, kept, from, tight) = saving_set arcs later i false within
 saving_turned hs room arcs residuals.On node i (within, kept, tight) = saving_set arcs node i true within
 
-before_turned : (hs room : List ℕ) (arcs : List RequestArc) (turned residual : ResidualArc) (node other : ℕ) → IsResidual hs room arcs turned node 0 → tail_of (turned_arcs turned node arcs) residual other ≡ tail_of arcs residual other
+before_turned : (hs room : List ℕ) (arcs : List RequestArc) (turned residual : ResidualArc) (node other : ℕ) → IsResidual hs room arcs turned node 0 → tail_of (augmented_arcs turned node arcs) residual other ≡ tail_of arcs residual other
 before_turned hs room arcs turned residuals.Start node other open_arc = refl
 before_turned hs room arcs turned residuals.Right node other open_arc = refl
 before_turned hs room arcs turned residuals.Left node other open_arc = refl
 before_turned hs room arcs turned (residuals.Back later) node other open_arc = refl
 before_turned hs room arcs turned residuals.On node other open_arc = from_turned hs room arcs turned node other open_arc
 
-reached_turned : (hs room : List ℕ) (arcs : List RequestArc) (steps : List (Option Step)) (turned : ResidualArc) (node other : ℕ) (step : Step) → IsResidual hs room arcs turned node 0 → IsReachedFrom arcs steps other step → IsReachedFrom (turned_arcs turned node arcs) steps other step
+reached_turned : (hs room : List ℕ) (arcs : List RequestArc) (steps : List (Option Step)) (turned : ResidualArc) (node other : ℕ) (step : Step) → IsResidual hs room arcs turned node 0 → IsReachedFrom arcs steps other step → IsReachedFrom (augmented_arcs turned node arcs) steps other step
 reached_turned hs room arcs steps turned node other step open_arc (inl start) = inl start
 reached_turned hs room arcs steps turned node other step open_arc (inr (before, at, earlier)) = inr (before, ap (step_at steps) (before_turned hs room arcs turned step.arc node other open_arc) ∙ at, earlier)
 
-arcs_turned : (held : List (List ℕ)) (rs : List Asked) (hs room : List ℕ) (arcs : List RequestArc) (residual : ResidualArc) (node : ℕ) → IsResidual hs room arcs residual node 0 → (tail_of arcs residual node ≡ node → ⊥) → AreArcs (at_start held) rs arcs → AreArcs (at_start held) rs (turned_arcs residual node arcs)
+arcs_turned : (held : List (List ℕ)) (rs : List Asked) (hs room : List ℕ) (arcs : List RequestArc) (residual : ResidualArc) (node : ℕ) → IsResidual hs room arcs residual node 0 → (tail_of arcs residual node ≡ node → ⊥) → AreArcs (at_start held) rs arcs → AreArcs (at_start held) rs (augmented_arcs residual node arcs)
 arcs_turned held rs hs room arcs residuals.Start node residual differs are = are
 arcs_turned held rs hs room arcs residuals.Right node residual differs are = are
 arcs_turned held rs hs room arcs residuals.Left node residual differs are = are
@@ -65,8 +65,8 @@ rank_of (Some step) = step.rank
 abbrev pub rank_at : List (Option Step) → ℕ → ℕ
 rank_at steps node = rank_of (step_at steps node)
 
--- The path is walked from the first node to this one: heights are calm for what was turned, and the arcs by which nodes were
--- reached no later than this one may still be turned.
+-- The path has been walked from the first node to this one: heights are calm for what was augmented, and the arcs by
+-- which nodes were reached no later than this one can still be augmented.
 pub record IsWalk (hs : List ℕ) (slots : ℕ) (room : List ℕ) (arcs : List RequestArc) (steps : List (Option Step)) (node : ℕ) : Type 0 where
   pub calm : IsCalm hs room arcs
   pub walked : AreWalked slots room arcs node
@@ -92,7 +92,7 @@ first_walk hs room arcs steps count slots back little reached calm found spent =
   tight = λ other step at low. (found.tight other step at).2;
 }
 
--- the arc by which the node was reached may be turned
+-- the arc by which the node was reached can be augmented
 pub residual_here : (hs room : List ℕ) (arcs : List RequestArc) (steps : List (Option Step)) (slots node : ℕ) (step : Step) → IsWalk hs slots room arcs steps node → step_at steps node ≡ Some step → IsResidual hs room arcs step.arc node 0
 residual_here hs room arcs steps slots node step walk is =
     let rank : rank_at steps node ≡ step.rank = ap rank_of is in
@@ -101,7 +101,7 @@ residual_here hs room arcs steps slots node step walk is =
 abbrev pub IsBefore : List RequestArc → List (Option Step) → ℕ → Step → Step → Type 0
 IsBefore arcs steps node step before = (step_at steps (tail_of arcs step.arc node) ≡ Some before) × (before.rank < step.rank)
 
--- it was reached from another
+-- the node was reached from another
 before_here : (hs room : List ℕ) (arcs : List RequestArc) (steps : List (Option Step)) (slots node : ℕ) (step : Step) → IsWalk hs slots room arcs steps node → step_at steps node ≡ Some step → node < length arcs
     → (before : Step) × IsBefore arcs steps node step before
 before_here hs room arcs steps slots node step walk is below = elim (walk.from node step is) [
@@ -126,16 +126,16 @@ step_differs steps one other first second at there less same =
     absurd (omega (arith, rank))
 
 turned_walk : (hs room : List ℕ) (arcs : List RequestArc) (steps : List (Option Step)) (slots node : ℕ) (step before : Step) → IsWalk hs slots room arcs steps node → step_at steps node ≡ Some step → IsBefore arcs steps node step before
-    → IsWalk hs slots (turned_room step.arc node room) (turned_arcs step.arc node arcs) steps (tail_of arcs step.arc node)
+    → IsWalk hs slots (augmented_room step.arc node room) (augmented_arcs step.arc node arcs) steps (tail_of arcs step.arc node)
 turned_walk hs room arcs steps slots node step before walk is (at, earlier) =
     let residual = residual_here hs room arcs steps slots node step walk is in
-    let long : length (turned_arcs step.arc node arcs) ≡ length arcs = turned_arcs-length step.arc node arcs in
+    let long : length (augmented_arcs step.arc node arcs) ≡ length arcs = augmented_arcs-length step.arc node arcs in
     let rank : rank_at steps node ≡ step.rank = ap rank_of is in
     let lower : rank_at steps (tail_of arcs step.arc node) ≡ before.rank = ap rank_of at in
     record {
       calm = turned_is_calm hs room arcs step.arc node walk.long walk.calm residual;
       walked = turned_is_walked hs room arcs step.arc node slots walk.long walk.back residual walk.walked;
-      long = turned_room-length step.arc node room ∙ walk.long ∙ sym long;
+      long = augmented_room-length step.arc node room ∙ walk.long ∙ sym long;
       back = λ i within. omega (arith, from_turned hs room arcs step.arc node i residual, walk.back i (omega (arith, long)));
       little = λ i within. omega (arith, saving_turned hs room arcs step.arc node i residual, walk.little i (omega (arith, long)));
       here = (before, at);
@@ -146,23 +146,23 @@ turned_walk hs room arcs steps slots node step before walk is (at, earlier) =
     }
 
 pub next_walk : (hs room : List ℕ) (arcs : List RequestArc) (steps : List (Option Step)) (slots node : ℕ) (step : Step) (room_next : List ℕ) (arcs_next : List RequestArc) (next : ℕ) → step_at steps node ≡ Some step → node < length arcs
-    → room_next ≡ turned_room step.arc node room → arcs_next ≡ turned_arcs step.arc node arcs → next ≡ tail_of arcs step.arc node
+    → room_next ≡ augmented_room step.arc node room → arcs_next ≡ augmented_arcs step.arc node arcs → next ≡ tail_of arcs step.arc node
     → IsWalk hs slots room arcs steps node → IsWalk hs slots room_next arcs_next steps next
 next_walk hs room arcs steps slots node step room_next arcs_next next is below room_is arcs_is next_is walk =
     let before = before_here hs room arcs steps slots node step walk is below in
     subst (λ (n : ℕ). IsWalk hs slots room_next arcs_next steps n) (sym next_is)
     (subst (λ (l : List RequestArc). IsWalk hs slots room_next l steps (tail_of arcs step.arc node)) (sym arcs_is)
-    (subst (λ (l : List ℕ). IsWalk hs slots l (turned_arcs step.arc node arcs) steps (tail_of arcs step.arc node)) (sym room_is)
+    (subst (λ (l : List ℕ). IsWalk hs slots l (augmented_arcs step.arc node arcs) steps (tail_of arcs step.arc node)) (sym room_is)
     (turned_walk hs room arcs steps slots node step before.0 walk is before.1)))
 
 pub next_arcs : (held : List (List ℕ)) (rs : List Asked) (hs room : List ℕ) (arcs : List RequestArc) (steps : List (Option Step)) (slots node : ℕ) (step : Step) (arcs_next : List RequestArc) → step_at steps node ≡ Some step → node < length arcs
-    → arcs_next ≡ turned_arcs step.arc node arcs → IsWalk hs slots room arcs steps node → AreArcs (at_start held) rs arcs → AreArcs (at_start held) rs arcs_next
+    → arcs_next ≡ augmented_arcs step.arc node arcs → IsWalk hs slots room arcs steps node → AreArcs (at_start held) rs arcs → AreArcs (at_start held) rs arcs_next
 next_arcs held rs hs room arcs steps slots node step arcs_next is below arcs_is walk are =
     let before = before_here hs room arcs steps slots node step walk is below in
     subst (AreArcs (at_start held) rs) (sym arcs_is)
     (arcs_turned held rs hs room arcs step.arc node (residual_here hs room arcs steps slots node step walk is) (step_differs steps (tail_of arcs step.arc node) node before.0 step before.1.0 is before.1.1) are)
 
--- at the last node a slot less is left or taken at each place
+-- at the last node, one slot less is free or used at each place
 pub last_walk : (hs room : List ℕ) (arcs : List RequestArc) (steps : List (Option Step)) (slots node : ℕ) → length arcs ≤ node → IsWalk hs slots room arcs steps node → IsCalm hs room arcs × IsRoom (slots - 1) room arcs
 last_walk hs room arcs steps slots node beyond walk = (
   walk.calm,

@@ -1,4 +1,4 @@
--- Where names were requested last, kept in a tree.
+-- The places at which names were last requested, kept in a tree.
 use Rattle.std.proofs.Common.{◌≡◌, ℕ, ◌+◌, ◌<◌, Bool, true, false, ◌||◌, cond, List, [], ◌∷◌, ◌++◌, length, get_or, take, drop, Option, Some, None, refl, sym, ap, ◌∙◌}
 use Rattle.std.specs.List.{list_any}
 use Rattle.std.specs.BTreeMap as tree
@@ -19,11 +19,11 @@ use Rattle.retention_flow.specs.Network.{arc_of, arcs_from}
 abbrev pub place_in : BTreeMap (Bor (List ℕ)) ℕ → List ℕ → Option ℕ
 place_in places name = tree.get_by (λ key. slice_cmp nat_cmp name key.now) places
 
--- a tree with another place for one name
+-- a tree with a new place for one name
 abbrev pub Puts : List ℕ → ℕ → BTreeMap (Bor (List ℕ)) ℕ → BTreeMap (Bor (List ℕ)) ℕ → Type 0
 Puts name place old new = tree.UpdatesBy (λ x y. slice_cmp nat_cmp x.now y.now) (λ key. slice_cmp nat_cmp name key.now) old new (Some place)
 
--- it has that place for that name, and the other places for the others
+-- it has the new place for that name, and the old places for the others
 place_put : (name : List ℕ) (place : ℕ) (old new : BTreeMap (Bor (List ℕ)) ℕ) → Puts name place old new → (other : List ℕ) → place_in new other ≡ cond (is_same_name name other) (Some place) (place_in old other)
 place_put name place old new puts other = btree_map_updates_str name old new (Some place) puts other
 
@@ -46,7 +46,7 @@ held_more held i name bytes old new below is bytes_are puts so_far = λ other.
     ∙ either_held (Some 0) None (list_any (is_same_name other) (take i held)) (is_same_name other name)
     ∙ ap (λ (b : Bool). cond b (Some 0) None) (sym more)
 
--- arcs go by the places of the names alone
+-- arcs depend only on the places of the names
 arcs-same : (one other : Asking) (rs : List Asked) → one.place ≡ other.place → ((name : List ℕ) → one.last name ≡ other.last name) → arcs_from one rs ≡ arcs_from other rs
 arcs-same one other [] place last = refl
 arcs-same one other (r ∷ rs) place last =
@@ -56,11 +56,11 @@ arcs-same one other (r ∷ rs) place last =
     ∙ ap (λ (n : ℕ). arc_of (other.last r.name) n r ∷ arcs_from (after_request one r) rs) place
     ∙ ap (λ (l : List RequestArc). arc_of (other.last r.name) other.place r ∷ l) later
 
--- the places of a tree with so many requests
+-- the places of a tree after this many requests
 abbrev pub asking_in : ℕ → BTreeMap (Bor (List ℕ)) ℕ → Asking
 asking_in place places = record { place = place; last = λ name. place_in places name }
 
--- the arcs of the first requests, as the start has them
+-- the arcs of the first requests, from the start
 pub arcs_first : (held : List (List ℕ)) (rs : List Asked) (places : BTreeMap (Bor (List ℕ)) ℕ) → ((name : List ℕ) → place_in places name ≡ (at_start held).last name) → arcs_from (asking_in 0 places) rs ≡ arcs_from (at_start held) rs
 arcs_first held rs places last = arcs-same (asking_in 0 places) (at_start held) rs refl last
 

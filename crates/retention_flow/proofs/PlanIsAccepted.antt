@@ -1,4 +1,4 @@
--- A plan is accepted once the slots too many are taken away.
+-- A plan is accepted once the surplus slots are taken away.
 use Rattle.std.proofs.Common.{◌≡◌, ℕ, ◌+◌, ◌-◌, ◌^◌, ◌<◌, ◌≤◌, Bool, List, length, replicate, slice_index, sym, ap, ◌∙◌, subst, arith}
 use Rattle.known_state.specs.Requests.{Asked}
 use Rattle.known_state.specs.Plans.{Plan, at_start, Accepts}

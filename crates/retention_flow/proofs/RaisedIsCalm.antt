@@ -1,16 +1,16 @@
--- Heights that rise where nodes are reached.
+-- Raising the heights of the nodes reached.
 use Rattle.std.proofs.Common.{◌≡◌, ℕ, zero, suc, ◌+◌, ◌<◌, ◌≤◌, Bool, true, false, cond, List, [], ◌∷◌, length, slice_index, refl, sym, ap, ◌∙◌, subst, arith}
 use Rattle.retention_flow.specs.declared.arcs.RequestArc.{RequestArc}
 use Rattle.retention_flow.specs.Network.{IsCalmRise, IsCalmArc, AreCalmArcs, IsCalm, arc_at, GoBack, IsRaised, IsSlack, IsSlackOf}
 
--- nothing that leaves the nodes reached over the place after a node, nor over the arc of its request, would lose less
+-- nothing that leaves the nodes reached has less slack: neither the place after a node, nor the arc of its request
 abbrev pub IsSlackAt : List ℕ → List ℕ → List RequestArc → (ℕ → Bool) → ℕ → ℕ → Type 0
 IsSlackAt heights room arcs reached by node =
     (reached node ≡ true → reached (node + 1) ≡ false → slice_index heights node + by ≤ slice_index heights (node + 1))
     × (0 < slice_index room node → reached (node + 1) ≡ true → reached node ≡ false → slice_index heights (node + 1) + by ≤ slice_index heights node)
     × IsSlackOf (arc_at arcs node).kept (arc_at arcs node).saving (slice_index heights (arc_at arcs node).from) (slice_index heights node) (reached (arc_at arcs node).from) (reached node) by
 
--- calm arcs by their indices
+-- calm arcs, by index
 pub calm_at : (hs : List ℕ) (node i : ℕ) (arcs : List RequestArc) → AreCalmArcs hs node arcs → i < length arcs → IsCalmArc hs (node + i) (arc_at arcs i)
 calm_at hs node i [] calm below = absurd (omega arith)
 calm_at hs node zero (arc ∷ arcs) (one, calm) below = let same : node ≡ node + 0 = omega arith in subst (λ (n : ℕ). IsCalmArc hs n arc) same one
@@ -26,7 +26,7 @@ calm_all hs node (arc ∷ arcs) each =
       calm_all hs (node + 1) arcs (λ i below. let next : node + suc i ≡ node + 1 + i = omega arith in subst (λ (n : ℕ). IsCalmArc hs n (arc_at arcs i)) next (each (suc i) (omega arith))),
     )
 
--- one arc, after its ends rose or not
+-- one arc, after each of its ends was raised or not
 rise_calm : (kept reached_low reached_high : Bool) (saving low high by low_new high_new : ℕ) → IsCalmRise kept saving low high
     → low_new ≡ low + cond reached_low by 0 → high_new ≡ high + cond reached_high by 0
     → IsSlackOf kept saving low high reached_low reached_high by → IsCalmRise kept saving low_new high_new
@@ -39,7 +39,7 @@ rise_calm false true false saving low high by low_new high_new calm ls hs slack 
 rise_calm false false true saving low high by low_new high_new calm ls hs slack = omega arith
 rise_calm false false false saving low high by low_new high_new calm ls hs slack = omega arith
 
--- one place, after the nodes at its sides rose or not
+-- one place, after each node next to it was raised or not
 rise_up : (before after : Bool) (low high by low_new high_new : ℕ) → low ≤ high → low_new ≡ low + cond before by 0 → high_new ≡ high + cond after by 0
     → (before ≡ true → after ≡ false → low + by ≤ high) → low_new ≤ high_new
 rise_up true true low high by low_new high_new up ls hs slack = omega arith
@@ -63,7 +63,7 @@ raised_is_calm hs new room arcs reached by back calm long raised slack = record 
       (subst (λ (n : ℕ). IsCalmArc hs n arc) (sym same) (calm_at hs 0 i arcs calm.calm below)) (raised arc.from (omega (arith, calm.count, back i below))) (raised i (omega (arith, calm.count))) (slack.over i below)));
 }
 
--- a list of heights that rose
+-- a list of heights after raising
 abbrev pub risen : ℕ → List ℕ → (ℕ → Bool) → ℕ → List ℕ
 risen node [] reached by = []
 risen node (h ∷ hs) reached by = (h + cond (reached node) by 0) ∷ risen (node + 1) hs reached by

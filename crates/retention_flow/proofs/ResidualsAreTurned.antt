@@ -1,15 +1,15 @@
--- Residual arcs to other nodes stay so as the arc by which one node is reached is turned.
+-- Residual arcs to other nodes stay residual when the arc by which one node is reached is augmented.
 use Rattle.std.proofs.Common.{◌≡◌, ℕ, ◌+◌, ◌-◌, ◌<◌, Bool, true, false, inl, inr, List, length, slice_index, refl, sym, ap, ◌∙◌, subst, arith}
 use Rattle.std.specs.Prelude.{slice_set}
 use Rattle.std.proofs.lemmas.Bool.{cases_eq}
 use Rattle.retention_flow.specs.declared.arcs.RequestArc.{RequestArc}
 use Rattle.retention_flow.specs.declared.steps.ResidualArc.{ResidualArc}
 use Rattle.retention_flow.specs.declared.steps.ResidualArc.TheVariants as residuals
-use Rattle.retention_flow.specs.Network.{arc_at, arc_kept, IsResidual, turned_room, turned_arcs}
+use Rattle.retention_flow.specs.Network.{arc_at, arc_kept, IsResidual, augmented_room, augmented_arcs}
 use Rattle.retention_flow.proofs.TurnedArcs.{arc_other, arc_set}
 use Rattle.retention_flow.proofs.TurnedResiduals.{set_at, set-length}
 
--- where room stays at a place or grows, what is left there stays
+-- if the room at a place stays or grows, a free slot there stays free
 still_left : (room new : List ℕ) (arcs : List RequestArc) (hs : List ℕ) (residual : ResidualArc) (node : ℕ) → (0 < slice_index room node → 0 < slice_index new node) → IsResidual hs room arcs residual node 0 → IsResidual hs new arcs residual node 0
 still_left room new arcs hs residuals.Start node left residual = residual
 still_left room new arcs hs residuals.Right node left residual = residual
@@ -17,7 +17,7 @@ still_left room new arcs hs residuals.Left node left (below, some, tight) = (bel
 still_left room new arcs hs (residuals.Back later) node left residual = residual
 still_left room new arcs hs residuals.On node left residual = residual
 
--- no residual arc is one that is set to what it was not
+-- a residual arc stays residual when a mark is set, unless the mark is its own and changes
 still_kept : (hs room : List ℕ) (arcs : List RequestArc) (i : ℕ) (kept : Bool) (residual : ResidualArc) (node : ℕ) → i < length arcs → (residual ≡ residuals.Back i → kept ≡ true) → (residual ≡ residuals.On → node ≡ i → kept ≡ false)
     → IsResidual hs room arcs residual node 0 → IsResidual hs room (slice_set arcs i (arc_kept kept (arc_at arcs i))) residual node 0
 still_kept hs room arcs i kept residuals.Start node below back on residual = omega (arith, residual, set-length arcs i (arc_kept kept (arc_at arcs i)))
@@ -46,9 +46,9 @@ still_kept hs room arcs i kept residuals.On node below back on (within, is, tigh
       (omega (arith, set-length arcs i set), is, tight)
 ]
 
--- the residual arcs to other nodes stay so
+-- the residual arcs to other nodes stay residual
 pub residual_stays : (hs room : List ℕ) (arcs : List RequestArc) (turned residual : ResidualArc) (node other : ℕ) → length room ≡ length arcs → (other ≡ node → ⊥) → IsResidual hs room arcs turned node 0 → IsResidual hs room arcs residual other 0
-    → IsResidual hs (turned_room turned node room) (turned_arcs turned node arcs) residual other 0
+    → IsResidual hs (augmented_room turned node room) (augmented_arcs turned node arcs) residual other 0
 residual_stays hs room arcs residuals.Start residual node other long differs turned open_arc = open_arc
 residual_stays hs room arcs residuals.Right residual node other long differs (some, most, tight) open_arc =
     still_left room (slice_set room (node - 1) (slice_index room (node - 1) + 1)) arcs hs residual other (λ left. elim (set_at room (node - 1) other (slice_index room (node - 1) + 1) (omega arith)) [

@@ -1,4 +1,4 @@
--- Residual arcs to nodes that are reached, as heights rise.
+-- Residual arcs to reached nodes, as heights rise.
 use Rattle.std.proofs.Common.{◌≡◌, ℕ, zero, suc, ◌+◌, ◌-◌, ◌<◌, ◌≤◌, Bool, true, false, cond, inl, inr, List, [], ◌∷◌, length, slice_index, Option, Some, None, refl, sym, ap, ◌∙◌, subst, arith}
 use Rattle.std.specs.Prelude.{slice_set, is_some}
 use Rattle.std.proofs.lemmas.Bool.{cases_eq}
@@ -10,7 +10,7 @@ use Rattle.retention_flow.specs.declared.steps.ResidualArc.{ResidualArc}
 use Rattle.retention_flow.specs.declared.steps.ResidualArc.TheVariants as residuals
 use Rattle.retention_flow.specs.Network.{arc_at, GoBack, IsRaised, is_reached, IsResidual, tail_of, Leaves, step_at, IsReachedFrom, IsSearch}
 
--- An arc loses less by as much as the height of its first end rises, and more by as much as that of its second.
+-- The slack of an arc shrinks by the rise of its first end and grows by the rise of its second.
 pub residual_raised : (hs new room : List ℕ) (arcs : List RequestArc) (residual : ResidualArc) (node slack : ℕ) (reached : ℕ → Bool) (by left : ℕ) → GoBack arcs → length hs ≡ length arcs + 1 → IsRaised hs new reached by
     → IsResidual hs room arcs residual node slack → reached (tail_of arcs residual node) ≡ true → left + by ≡ slack + cond (reached node) by 0 → node ≤ length arcs → IsResidual new room arcs residual node left
 residual_raised hs new room arcs residuals.Start node slack reached by left back long raised residual before is below = residual
@@ -31,7 +31,7 @@ residual_raised hs new room arcs residuals.On node slack reached by left back lo
 pub reached_some : (steps : List (Option Step)) (node : ℕ) (step : Step) → step_at steps node ≡ Some step → is_reached steps node ≡ true
 reached_some steps node step is = ap is_some is
 
--- a node that is reached stays so over the same arc, as all that are reached rise
+-- a reached node stays reached over the same arc, if all reached nodes rise
 step_raised : (hs new room : List ℕ) (arcs : List RequestArc) (steps : List (Option Step)) (count by node : ℕ) (step : Step) → GoBack arcs → length hs ≡ length arcs + 1 → IsRaised hs new (is_reached steps) by
     → IsSearch hs room arcs steps count → step_at steps node ≡ Some step → IsResidual new room arcs step.arc node 0
 step_raised hs new room arcs steps count by node step back long raised found is = by_from (found.from node step is)

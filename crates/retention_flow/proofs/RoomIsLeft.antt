@@ -10,9 +10,9 @@ use Rattle.known_state.proofs.LinkPlaces.{over_start, over_none, over_next}
 use Rattle.retention_flow.specs.declared.arcs.RequestArc.{RequestArc}
 use Rattle.retention_flow.specs.Network.{link_at, links_of, arc_at, GoBack}
 
--- ---- no more than there are arcs
+-- ---- counts are at most the number of arcs
 
--- no more links are kept over a place than there are arcs, and no more begin at one
+-- at most as many links are kept over a place as there are arcs, and at most as many begin at one
 pub few_over : (node : ℕ) (arcs : List RequestArc) (place : ℕ) → kept_over (links_of node arcs) place ≤ length arcs
 few_over node [] place = omega arith
 few_over node (arc ∷ arcs) place = by (arc.kept && is_inside place (link_at node arc)) (few_over (node + 1) arcs place)
@@ -34,14 +34,14 @@ counts-few arcs over most counted place = omega (arith, counted place, few_over 
 
 -- ---- arcs that begin at nodes
 
--- the counts so far, and the arcs to come
+-- the counts so far, and the remaining arcs
 abbrev pub AreCounted : List RequestArc → ℕ → List ℕ → Type 0
 AreCounted arcs node begun = (place : ℕ) → slice_index begun place + kept_from (links_of node (drop node arcs)) place ≡ kept_from (links_of 0 arcs) place
 
 pub counted-few : (arcs : List RequestArc) (node : ℕ) (begun : List ℕ) → length arcs ≤ 512 → AreCounted arcs node begun → (place : ℕ) → slice_index begun place ≤ 512
 counted-few arcs node begun most counted place = omega (arith, counted place, few_from 0 arcs place)
 
--- what stands at an index within a list, whatever stands beyond its end
+-- the element at an index within a list, whatever follows the list
 pub any_default : (counts : List ℕ) (index default : ℕ) → index < length counts → slice_index_or counts index default ≡ slice_index counts index
 any_default [] index default within = absurd (omega arith)
 any_default (n ∷ counts) zero default within = refl
@@ -51,7 +51,7 @@ from_more : (arcs : List RequestArc) (node place : ℕ) → node < length arcs
     → kept_from (links_of node (drop node arcs)) place ≡ cond ((arc_at arcs node).kept && eqb (arc_at arcs node).from place) 1 0 + kept_from (links_of (node + 1) (drop (node + 1) arcs)) place
 from_more arcs node place below = ap (λ (l : List RequestArc). kept_from (links_of node l) place) (drop_more arcs node (record { from = 0; saving = 0; kept = false }) below)
 
--- one more arc, which is kept
+-- one more arc that is kept
 pub counted_kept : (arcs : List RequestArc) (node : ℕ) (begun : List ℕ) → node < length arcs → (arc_at arcs node).kept ≡ true → (arc_at arcs node).from < length begun → AreCounted arcs node begun
     → AreCounted arcs (node + 1) (slice_set begun (arc_at arcs node).from (slice_index begun (arc_at arcs node).from + 1))
 counted_kept arcs node begun below kept within counted place =
@@ -70,7 +70,7 @@ counted_kept arcs node begun below kept within counted place =
       | inr differs ↦ rw (ne_eqb from place differs) (omega (arith, get_or-set_other begun from place (slice_index begun from + 1) 0 (λ same. differs (sym same))))
     ]
 
--- or isn't
+-- or isn't kept
 pub counted_other : (arcs : List RequestArc) (node : ℕ) (begun : List ℕ) → node < length arcs → (arc_at arcs node).kept ≡ false → AreCounted arcs node begun → AreCounted arcs (node + 1) begun
 counted_other arcs node begun below other counted place =
     let here : ◌≡◌ {A = ℕ} (cond ((arc_at arcs node).kept && eqb (arc_at arcs node).from place) 1 0) 0 = ap (λ (b : Bool). cond (b && eqb (arc_at arcs node).from place) 1 0) other in
@@ -88,7 +88,7 @@ forward_links n node (arc ∷ arcs) back within =
 go_forward : (arcs : List RequestArc) → GoBack arcs → AllByRecursion (λ l. (l.from < l.to) × (l.to ≤ length arcs)) (links_of 0 arcs)
 go_forward arcs back = forward_links (length arcs) 0 arcs (λ i below. omega (arith, back i below)) (omega arith)
 
--- the link of an arc goes to the place after its node, and no other does
+-- the link of an arc ends at the place after its node, and no other link does
 none_to : (place node : ℕ) (arcs : List RequestArc) → place ≤ node → kept_to (links_of node arcs) place ≡ 0
 none_to place node [] le = refl
 none_to place node (arc ∷ arcs) le = let later = none_to place (node + 1) arcs (omega arith) in let here = by arc.kept in omega arith
@@ -114,7 +114,7 @@ ends_at node (suc i) (arc ∷ arcs) below =
     by true = grind (arith, nat_tests)
     by false = refl
 
--- from a place to the next those come that begin at it, and that of the next place's request goes
+-- from a place to the next, the links that begin at it are added, and the link of the next place's request is dropped
 pub passing_next : (arcs : List RequestArc) (node : ℕ) → GoBack arcs → node < length arcs
     → kept_over (links_of 0 arcs) (node + 1) + cond (arc_at arcs node).kept 1 0 ≡ kept_over (links_of 0 arcs) node + kept_from (links_of 0 arcs) node
 passing_next arcs node back below =
@@ -122,14 +122,14 @@ passing_next arcs node back below =
     let ends = subst (λ (place : ℕ). kept_to (links_of 0 arcs) place ≡ cond (arc_at arcs node).kept 1 0) at (ends_at 0 node arcs below) in
     omega (arith, ends, over_next (length arcs) node (links_of 0 arcs) (go_forward arcs back))
 
--- before the first place none passes, and none after the last
+-- no link passes before the first place or after the last
 pub passing_first : (arcs : List RequestArc) → kept_over (links_of 0 arcs) 0 ≡ 0
 passing_first arcs = over_start (links_of 0 arcs)
 
 pub passing_none : (arcs : List RequestArc) (place : ℕ) → GoBack arcs → length arcs ≤ place → kept_over (links_of 0 arcs) place ≡ 0
 passing_none arcs place back beyond = over_none (length arcs) place (links_of 0 arcs) (go_forward arcs back) beyond
 
--- the counts up to a node are those of the arcs that pass the next place, and the others are as they were
+-- the counts up to a node are those of the arcs that pass the next place, and the other counts are unchanged
 pub passed_more : (arcs : List RequestArc) (counts : List ℕ) (node passing : ℕ) → node < length counts → passing ≡ kept_over (links_of 0 arcs) (node + 1) → ((place : ℕ) → place < node → slice_index counts place ≡ kept_over (links_of 0 arcs) (place + 1))
     → (place : ℕ) → place < node + 1 → slice_index (slice_set counts node passing) place ≡ kept_over (links_of 0 arcs) (place + 1)
 passed_more arcs counts node passing within is done place below = elim (cases_eq place node) [

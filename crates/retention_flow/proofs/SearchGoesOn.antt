@@ -20,7 +20,7 @@ none_at (suc n) (suc node) = none_at n node
 
 -- ---- the start
 
--- at first the last node alone is reached
+-- at first only the last node is reached
 pub first_search : (hs room : List ℕ) (arcs : List RequestArc) (steps : List (Option Step)) (nodes : ℕ) → nodes ≡ length arcs + 1 → steps ≡ slice_set (replicate nodes None) (nodes - 1) (Some (record { rank = 0; arc = residuals.Start })) → IsSearch hs room arcs steps 1
 first_search hs room arcs steps nodes many is =
     let end : nodes - 1 ≡ length arcs = omega arith in
@@ -58,9 +58,9 @@ first_search hs room arcs steps nodes many is =
         let empty : step_at first node ≡ None = get_or-set_other none (length arcs) node (Some start) None differs ∙ none_at (length arcs + 1) node in
         let bad : true ≡ false = ap is_some (sym at ∙ empty) in absurd (cc)
 
--- ---- something leaves
+-- ---- some arc leaves
 
--- where nothing leaves the nodes reached, heights would rise past any bound
+-- if no arc left the nodes reached, heights could rise past any bound
 pub some_leaves : (hs room : List ℕ) (arcs : List RequestArc) (steps : List (Option Step)) (slots : ℕ) (least : Option Leaving) → 0 < slots → slice_index hs 0 ≡ 0 → IsCalm hs room arcs → IsRoom slots room arcs → GoBack arcs → SaveLittle arcs
     → is_reached steps 0 ≡ false → is_reached steps (length arcs) ≡ true → ((by : ℕ) → IsNoMore by least → IsSlack hs room arcs (is_reached steps) by) → IsSome least
 some_leaves hs room arcs steps slots (Some leaving) some first calm spent back little start last slack = refl
@@ -96,7 +96,7 @@ pub heights_small : (hs room : List ℕ) (arcs : List RequestArc) (slots : ℕ) 
 heights_small hs room arcs slots most some first calm spent back little node below =
     omega (arith, height_bounded hs room arcs slots node some first calm spent back little (omega (arith, calm.count)))
 
--- nor does an arc lose more than that and what it saves
+-- nor is an arc's slack more than that plus what the arc saves
 pub slack_small : (hs room : List ℕ) (arcs : List RequestArc) (steps : List (Option Step)) (leaving : Leaving) → length hs ≡ length arcs + 1 → SaveLittle arcs → ((node : ℕ) → node < length hs → slice_index hs node ≤ 2 ^ 24)
     → is_reached steps (length arcs) ≡ true → Leaves hs room arcs steps leaving → leaving.slack ≤ 2 ^ 25
 slack_small hs room arcs steps leaving long little small last (most, residual, fresh, before) = by leaving.arc residual

@@ -35,7 +35,7 @@ one_spread hs new room arcs steps order leaving back long raised leaves spread =
       many = omega (arith, more, spread.many, fewer_unreached steps leaving.node made (omega (arith, leaves.0, spread.found.long)) leaves.2);
     }
 
--- where nothing is lost, the heights stay
+-- if the slack is 0, the heights stay
 pub one_reached : (hs room : List ℕ) (arcs : List RequestArc) (steps : List (Option Step)) (order : List ℕ) (leaving : Leaving) → GoBack arcs → length hs ≡ length arcs + 1 → leaving.slack ≡ 0
     → Leaves hs room arcs steps leaving → IsSpread hs room arcs steps order
     → IsSpread hs room arcs (slice_set steps leaving.node (Some (record { rank = length order; arc = leaving.arc }))) (order ++ leaving.node ∷ [])
@@ -45,7 +45,7 @@ one_reached hs room arcs steps order leaving back long none leaves spread = one_
     by node true = omega (arith, none)
     by node false = omega arith
 
--- at first the last node alone is reached
+-- at first only the last node is reached
 pub first_spread : (hs room : List ℕ) (arcs : List RequestArc) (steps : List (Option Step)) (nodes : ℕ) → nodes ≡ length arcs + 1 → steps ≡ slice_set (replicate nodes None) (nodes - 1) (Some (record { rank = 0; arc = residuals.Start }))
     → IsSpread hs room arcs steps (length arcs ∷ [])
 first_spread hs room arcs steps nodes many is =
@@ -80,7 +80,7 @@ raised_least hs new room arcs steps least leaving back calm first start is slack
 pub least_leaves : (hs room : List ℕ) (arcs : List RequestArc) (steps : List (Option Step)) (least : Option Leaving) (leaving : Leaving) → least ≡ Some leaving → IfSome least (Leaves hs room arcs steps) → Leaves hs room arcs steps leaving
 least_leaves hs room arcs steps least leaving is some = subst (λ (o : Option Leaving). IfSome o (Leaves hs room arcs steps)) is some
 
--- a list that was lent whole is what was written
+-- a list that was borrowed whole is what was written
 pub steps_written : (new rest : List (Option Step)) (n : ℕ) → n ≡ length new → take n (new ++ rest) ≡ new
 steps_written [] rest zero is = refl
 steps_written [] rest (suc n) is = absurd (omega (arith, is))

@@ -1,4 +1,4 @@
--- Arcs that are turned.
+-- Augmented arcs.
 use Rattle.std.proofs.Common.{◌≡◌, ℕ, zero, suc, ◌+◌, ◌<◌, Bool, false, ◌&&◌, cond, ◌⊎◌, inl, inr, List, [], ◌∷◌, length, Option, Some, None, sym, ap, ◌∙◌, arith}
 use Rattle.std.specs.Prelude.{slice_set}
 use Rattle.std.proofs.lemmas.Bool.{cases_eq}
@@ -8,7 +8,7 @@ use Rattle.known_state.specs.Plans.{Asking, after_request, is_inside, kept_over}
 use Rattle.retention_flow.specs.declared.arcs.RequestArc.{RequestArc}
 use Rattle.retention_flow.specs.Network.{IsArc, AreArcs, link_at, links_of, arc_at, arc_kept}
 
--- one arc is kept or not: the count over a place changes by it alone
+-- one arc is marked as kept or not: only its own count over a place changes
 pub over_set : (node : ℕ) (arcs : List RequestArc) (i place : ℕ) (kept : Bool) → i < length arcs
     → kept_over (links_of node (slice_set arcs i (arc_kept kept (arc_at arcs i)))) place + cond ((arc_at arcs i).kept && is_inside place (link_at (node + i) (arc_at arcs i))) 1 0
     ≡ kept_over (links_of node arcs) place + cond (kept && is_inside place (link_at (node + i) (arc_at arcs i))) 1 0
@@ -25,7 +25,7 @@ over_set node (arc ∷ arcs) (suc i) place kept below =
     let after : ◌≡◌ {A = ℕ} (cond (kept && is_inside place (link_at (node + 1 + i) at)) 1 0) (cond (kept && is_inside place (link_at (node + suc i) at)) 1 0) = ap (λ (n : ℕ). cond (kept && is_inside place (link_at n at)) 1 0) next in
     omega (arith, before, after, over_set (node + 1) arcs i place kept (omega arith))
 
--- the arcs stay those of the requests, where it is no loop that comes to be kept
+-- the arcs stay those of the requests, unless a loop comes to be kept
 pub arcs_set : (asking : Asking) (rs : List Asked) (arcs : List RequestArc) (i : ℕ) (kept : Bool) → i < length arcs → (kept ≡ false) ⊎ ((arc_at arcs i).from ≡ asking.place + i → ⊥) → AreArcs asking rs arcs → AreArcs asking rs (slice_set arcs i (arc_kept kept (arc_at arcs i)))
 arcs_set asking [] [] i kept below either are = absurd (omega arith)
 arcs_set asking [] (arc ∷ arcs) i kept below either are = absurd are
@@ -43,7 +43,7 @@ arcs_set asking (r ∷ rs) (arc ∷ arcs) (suc i) kept below either (one, are) =
     later : (kept ≡ false) ⊎ ((arc_at arcs i).from ≡ asking.place + 1 + i → ⊥)
     later = elim either [ inl none ↦ inl none | inr other ↦ inr (λ same. other (omega (arith, same))) ]
 
--- an arc that isn't set stays, and the one that is keeps its start and its saving
+-- an arc whose mark isn't set is unchanged, and the one whose mark is set keeps its start and its saving
 pub arc_other : (arcs : List RequestArc) (i j : ℕ) (arc : RequestArc) → (j ≡ i → ⊥) → arc_at (slice_set arcs i arc) j ≡ arc_at arcs j
 arc_other arcs i j arc differs = get_or-set_other arcs i j arc (record { from = 0; saving = 0; kept = false }) differs
 

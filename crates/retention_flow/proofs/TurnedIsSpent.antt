@@ -1,4 +1,4 @@
--- What is left and kept at each place as the arcs of a path are turned one by one.
+-- What is free and kept at each place as the arcs of a path are augmented one by one.
 use Rattle.std.proofs.Common.{◌≡◌, ℕ, ◌+◌, ◌-◌, ◌<◌, ◌≤◌, Bool, true, false, ◌&&◌, cond, inl, inr, List, length, slice_index, refl, sym, ap, ◌∙◌, arith}
 use Rattle.std.specs.Prelude.{slice_set, nat_lt}
 use Rattle.std.proofs.lemmas.Bool.{cases_lt}
@@ -8,7 +8,7 @@ use Rattle.known_state.specs.Plans.{is_inside, kept_over}
 use Rattle.retention_flow.specs.declared.arcs.RequestArc.{RequestArc}
 use Rattle.retention_flow.specs.declared.steps.ResidualArc.{ResidualArc}
 use Rattle.retention_flow.specs.declared.steps.ResidualArc.TheVariants as residuals
-use Rattle.retention_flow.specs.Network.{GoBack, link_at, links_of, arc_at, arc_kept, IsResidual, tail_of, turned_room, turned_arcs}
+use Rattle.retention_flow.specs.Network.{GoBack, link_at, links_of, arc_at, arc_kept, IsResidual, tail_of, augmented_room, augmented_arcs}
 use Rattle.retention_flow.proofs.TurnedArcs.{over_set}
 use Rattle.retention_flow.proofs.TurnedResiduals.{set-length}
 
@@ -34,7 +34,7 @@ passed_before from to place before = grind (arith, nat_tests)
 passed_beyond : (from to place : ℕ) → to ≤ place → passed from to place ≡ 0
 passed_beyond from to place beyond = grind (arith, nat_tests)
 
--- past an arc the places before a node are those that it passes more
+-- the places before the end of an arc are those before its start and those that the arc passes
 sides : (from to place : ℕ) → from ≤ to → side place from + passed from to place ≡ side place to
 sides from to place up = elim (cases_lt place from) [
   | inl before ↦ omega (arith, side_yes place from before, side_yes place to (omega arith), passed_before from to place before)
@@ -44,11 +44,11 @@ sides from to place up = elim (cases_lt place from) [
   ]
 ]
 
--- on the path from the first node to the last, one slot less is left or kept at the places walked
+-- on the path from the first node to the last, one slot less is free or kept at each place walked
 abbrev pub AreWalked : ℕ → List ℕ → List RequestArc → ℕ → Type 0
 AreWalked slots room arcs node = (place : ℕ) → place < length arcs → slice_index room place + kept_over (links_of 0 arcs) (place + 1) + side place node ≡ slots
 
--- the arc set is passed or not, by whether it is kept
+-- a kept arc counts over exactly the places that it passes
 over_kept : (kept inside : Bool) → kept ≡ true → ◌≡◌ {A = ℕ} (cond (kept && inside) 1 0) (cond inside 1 0)
 over_kept kept inside is = ap (λ (b : Bool). cond (b && inside) 1 0) is
 
@@ -62,7 +62,7 @@ set_other : (l : List ℕ) (i j n : ℕ) → i < length l → (j ≡ i → ⊥) 
 set_other l i j n below differs = get_or-set_other l i j n 0 differs
 
 pub turned_is_walked : (hs room : List ℕ) (arcs : List RequestArc) (residual : ResidualArc) (node slots : ℕ) → length room ≡ length arcs → GoBack arcs → IsResidual hs room arcs residual node 0 → AreWalked slots room arcs node
-    → AreWalked slots (turned_room residual node room) (turned_arcs residual node arcs) (tail_of arcs residual node)
+    → AreWalked slots (augmented_room residual node room) (augmented_arcs residual node arcs) (tail_of arcs residual node)
 turned_is_walked hs room arcs residuals.Start node slots long back residual walked = walked
 turned_is_walked hs room arcs residuals.Right node slots long back (some, most, tight) walked = λ place below.
     elim (cases_lt place (node - 1)) [

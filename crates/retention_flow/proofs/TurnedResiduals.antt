@@ -1,4 +1,4 @@
--- What turning the arc by which a node is reached leaves as it was.
+-- What augmenting the arc by which a node is reached leaves unchanged.
 use Rattle.std.proofs.Common.{◌≡◌, ℕ, zero, suc, ◌+◌, ◌-◌, ◌<◌, ◌≤◌, Bool, true, false, ◌⊎◌, inl, inr, List, [], ◌∷◌, length, slice_index, refl, sym, ap, ◌∙◌, subst, arith}
 use Rattle.std.specs.Prelude.{slice_set}
 use Rattle.std.proofs.lemmas.Bool.{cases_eq}
@@ -6,7 +6,7 @@ use Rattle.std.proofs.lemmas.List.{get_or-set_same, get_or-set_other}
 use Rattle.retention_flow.specs.declared.arcs.RequestArc.{RequestArc}
 use Rattle.retention_flow.specs.declared.steps.ResidualArc.{ResidualArc}
 use Rattle.retention_flow.specs.declared.steps.ResidualArc.TheVariants as residuals
-use Rattle.retention_flow.specs.Network.{IsCalmRise, IsCalmArc, IsCalm, arc_at, arc_kept, IsResidual, turned_room, turned_arcs}
+use Rattle.retention_flow.specs.Network.{IsCalmRise, IsCalmArc, IsCalm, arc_at, arc_kept, IsResidual, augmented_room, augmented_arcs}
 use Rattle.retention_flow.proofs.RaisedIsCalm.{calm_at, calm_all}
 use Rattle.retention_flow.proofs.TurnedArcs.{arc_other, arc_set}
 
@@ -15,19 +15,19 @@ set-length [] i a = refl
 set-length (x ∷ xs) zero a = refl
 set-length (x ∷ xs) (suc i) a = omega (arith, set-length xs i a)
 
-pub turned_room-length : (residual : ResidualArc) (node : ℕ) (room : List ℕ) → length (turned_room residual node room) ≡ length room
-turned_room-length residuals.Start node room = refl
-turned_room-length residuals.Right node room = set-length room (node - 1) (slice_index room (node - 1) + 1)
-turned_room-length residuals.Left node room = set-length room node (slice_index room node - 1)
-turned_room-length (residuals.Back later) node room = refl
-turned_room-length residuals.On node room = refl
+pub augmented_room-length : (residual : ResidualArc) (node : ℕ) (room : List ℕ) → length (augmented_room residual node room) ≡ length room
+augmented_room-length residuals.Start node room = refl
+augmented_room-length residuals.Right node room = set-length room (node - 1) (slice_index room (node - 1) + 1)
+augmented_room-length residuals.Left node room = set-length room node (slice_index room node - 1)
+augmented_room-length (residuals.Back later) node room = refl
+augmented_room-length residuals.On node room = refl
 
-pub turned_arcs-length : (residual : ResidualArc) (node : ℕ) (arcs : List RequestArc) → length (turned_arcs residual node arcs) ≡ length arcs
-turned_arcs-length residuals.Start node arcs = refl
-turned_arcs-length residuals.Right node arcs = refl
-turned_arcs-length residuals.Left node arcs = refl
-turned_arcs-length (residuals.Back later) node arcs = set-length arcs later (arc_kept false (arc_at arcs later))
-turned_arcs-length residuals.On node arcs = set-length arcs node (arc_kept true (arc_at arcs node))
+pub augmented_arcs-length : (residual : ResidualArc) (node : ℕ) (arcs : List RequestArc) → length (augmented_arcs residual node arcs) ≡ length arcs
+augmented_arcs-length residuals.Start node arcs = refl
+augmented_arcs-length residuals.Right node arcs = refl
+augmented_arcs-length residuals.Left node arcs = refl
+augmented_arcs-length (residuals.Back later) node arcs = set-length arcs later (arc_kept false (arc_at arcs later))
+augmented_arcs-length residuals.On node arcs = set-length arcs node (arc_kept true (arc_at arcs node))
 
 pub set_at : (l : List ℕ) (i j n : ℕ) → i < length l → slice_index (slice_set l i n) j ≡ slice_index l j ⊎ (j ≡ i) × (slice_index (slice_set l i n) j ≡ n)
 set_at l i j n below = elim (cases_eq j i) [
@@ -37,7 +37,7 @@ set_at l i j n below = elim (cases_eq j i) [
 
 -- ---- calm
 
--- an arc over which nothing is lost is calm whether it is kept or not
+-- an arc of slack 0 is calm whether it is kept or not
 set_calm : (hs : List ℕ) (arcs : List RequestArc) (i : ℕ) (kept : Bool) → i < length arcs → slice_index hs i ≡ slice_index hs (arc_at arcs i).from + (arc_at arcs i).saving
     → ((j : ℕ) → j < length arcs → IsCalmArc hs j (arc_at arcs j)) → (j : ℕ) → j < length arcs → IsCalmArc hs j (arc_at (slice_set arcs i (arc_kept kept (arc_at arcs i))) j)
 set_calm hs arcs i kept below tight calm j within = elim (cases_eq j i) [
@@ -68,11 +68,11 @@ with_set hs room arcs i kept below tight calm =
       calm = calm_all hs 0 new (all_calm hs arcs new long (set_calm hs arcs i kept below tight (arcs_calm hs room arcs calm)));
     }
 
--- with other room, where a place that came to have some is flat
+-- with other room, if each place that gained room is flat
 with_room : (hs room new : List ℕ) (arcs : List RequestArc) → IsCalm hs room arcs → ((node : ℕ) → node < length arcs → 0 < slice_index new node → slice_index hs (node + 1) ≤ slice_index hs node) → IsCalm hs new arcs
 with_room hs room new arcs calm full = record { count = calm.count; rises = calm.rises; full = full; calm = calm.calm }
 
-pub turned_is_calm : (hs room : List ℕ) (arcs : List RequestArc) (residual : ResidualArc) (node : ℕ) → length room ≡ length arcs → IsCalm hs room arcs → IsResidual hs room arcs residual node 0 → IsCalm hs (turned_room residual node room) (turned_arcs residual node arcs)
+pub turned_is_calm : (hs room : List ℕ) (arcs : List RequestArc) (residual : ResidualArc) (node : ℕ) → length room ≡ length arcs → IsCalm hs room arcs → IsResidual hs room arcs residual node 0 → IsCalm hs (augmented_room residual node room) (augmented_arcs residual node arcs)
 turned_is_calm hs room arcs residuals.Start node long calm residual = calm
 turned_is_calm hs room arcs residuals.Right node long calm (some, most, tight) =
     with_room hs room (slice_set room (node - 1) (slice_index room (node - 1) + 1)) arcs calm (λ place below left. elim (set_at room (node - 1) place (slice_index room (node - 1) + 1) (omega arith)) [

@@ -1,10 +1,10 @@
--- Prices, each as many times as something stands over its place.
+-- Prices, each multiplied by a count for its place.
 use Rattle.std.proofs.Common.{◌≡◌, ℕ, zero, suc, ◌+◌, ◌-◌, ◌*◌, ◌<◌, ◌≤◌, Bool, true, false, ◌&&◌, ◌⊎◌, cond, List, [], ◌∷◌, length, take, drop, slice_index, refl, sym, ap, ◌∙◌, subst, inl, inr, arith}
 use Rattle.std.proofs.lemmas.Bool.{cases_lt}
 use Rattle.std.proofs.lemmas.Bool.Decides.{nat_tests}
 use Rattle.known_state.specs.Plans.{Link, total, sum_of, is_inside, kept_over, price_inside}
 
--- the prices of the places after q, each so many times as c says of its place
+-- the prices of the places after q, each multiplied by what c gives for its place
 abbrev pub weighed : (ℕ → ℕ) → ℕ → List ℕ → ℕ
 weighed c q [] = 0
 weighed c q (p ∷ ps) = p * c (q + 1) + weighed c (q + 1) ps
@@ -21,7 +21,7 @@ times_const : (p c k : ℕ) → (c ≡ k) ⊎ (p ≡ 0) → p * c ≡ k * p
 times_const p c k (inl same) = rw same (omega arith)
 times_const p c k (inr none) = rw none (omega arith)
 
--- where each place that has a price counts k times, all do
+-- if each place with a price above 0 counts k times, all prices together do
 pub weighed-const : (c : ℕ → ℕ) (k q : ℕ) (ps : List ℕ) → ((i : ℕ) → i < length ps → (c (q + i + 1) ≡ k) ⊎ (slice_index ps i ≡ 0)) → weighed c q ps ≡ k * sum_of ps
 weighed-const c k q [] each = omega arith
 weighed-const c k q (p ∷ ps) each =
@@ -83,7 +83,7 @@ weighed_before l q (p ∷ ps) before = elim (cases_lt q l.from) [
       weighed_after l q (p ∷ ps) least ∙ ap (λ (n : ℕ). sum_of (take (l.to - 1 - n) (p ∷ ps))) here ∙ ap (λ (n : ℕ). sum_of (take (l.to - 1 - l.from) (drop n (p ∷ ps)))) (sym none)
 ]
 
--- the prices inside of a link
+-- the prices inside a link
 weighed_inside : (l : Link) (ps : List ℕ) → weighed (inside l) 0 ps ≡ price_inside ps l
 weighed_inside l ps = weighed_before l 0 ps (omega arith) ∙ ap (λ (n : ℕ). sum_of (take (l.to - 1 - l.from) (drop n ps))) (omega arith)
 
@@ -91,7 +91,7 @@ one_over : (l : Link) (kept : Bool) (ps : List ℕ) → weighed (λ place. cond 
 one_over l true ps = weighed_inside l ps
 one_over l false ps = weighed-none 0 ps
 
--- the prices inside of the kept links are those of the places, each as often as links are kept over it
+-- the prices inside the kept links are those of the places, each as often as links are kept over its place
 pub weighed_over : (ls : List Link) (ps : List ℕ) → weighed (kept_over ls) 0 ps ≡ total (λ l. cond l.kept (price_inside ps l) 0) ls
 weighed_over [] ps = weighed-none 0 ps
 weighed_over (l ∷ ls) ps =

@@ -1,5 +1,5 @@
--- The requests and their links as a network. Its nodes stand between the places of the requests: node 0 before place 1,
--- and each other node between the place of its number and the next.
+-- The requests and their links as a network. Its nodes are between the places of the requests: node 0 is before place
+-- 1, and each other node is between the place of its number and the next.
 use Rattle.std.specs.Prelude.{◌≡◌, ◌≤◌, ◌<◌, ℕ, suc, ◌+◌, ◌-◌, Bool, true, false, List, [], ◌∷◌, length, map, slice_index, slice_index_or, slice_set, is_some, Option, Some, None, if◌then◌else◌, IfSome, ◌⊎◌}
 use Rattle.std.specs.List.{AllByRecursion}
 use Rattle.known_state.specs.Requests.{Asked}
@@ -10,13 +10,13 @@ use Rattle.retention_flow.specs.declared.steps.Leaving.{Leaving}
 use Rattle.retention_flow.specs.declared.steps.ResidualArc.{ResidualArc}
 use Rattle.retention_flow.specs.declared.steps.ResidualArc.TheVariants as residuals
 
--- The arc of a request's link, kept: from the node at which the link begins to the one before the request, past the
--- places inside of it. Without a link it is a loop that saves nothing, and isn't kept.
+-- The arc of a request's link, kept: from the node at which the link begins to the node before the request, past the
+-- places inside the link. Without a link, it is a loop that saves nothing and isn't kept.
 abbrev pub arc_of : Option ℕ → ℕ → Asked → RequestArc
 arc_of None node r = record { from = node; saving = 0; kept = false }
 arc_of (Some from) node r = record { from = from; saving = r.write_cost - r.read_cost; kept = true }
 
--- the arcs of requests, one after another, all kept that are links
+-- the arcs of requests, one after another, with all links kept
 abbrev pub arcs_from : Asking → List Asked → List RequestArc
 arcs_from asking [] = []
 arcs_from asking (r ∷ rs) = arc_of (asking.last r.name) asking.place r ∷ arcs_from (after_request asking r) rs
@@ -26,7 +26,7 @@ abbrev pub IsArc : Option ℕ → ℕ → Asked → RequestArc → Type 0
 IsArc None node r arc = arc ≡ arc_of None node r
 IsArc (Some from) node r arc = (arc.from ≡ from) × (arc.saving ≡ r.write_cost - r.read_cost)
 
--- the arcs are those of the requests, whichever of them are kept
+-- the arcs are those of the requests, whichever are kept
 abbrev pub AreArcs : Asking → List Asked → List RequestArc → Type 0
 AreArcs asking [] [] = Unit {0}
 AreArcs asking (r ∷ rs) (arc ∷ arcs) = IsArc (asking.last r.name) asking.place r arc × AreArcs (after_request asking r) rs arcs
@@ -44,12 +44,12 @@ prices_of [] = []
 prices_of (height ∷ []) = []
 prices_of (height ∷ (next ∷ heights)) = (next - height) ∷ prices_of (next ∷ heights)
 
--- the plan of what is kept, at the prices of heights
+-- the plan that keeps what is kept, at the prices of the heights
 abbrev pub plan_of : List ℕ → List RequestArc → Plan
 plan_of heights arcs = record { keep = marks arcs; prices = prices_of heights }
 
--- Nothing is gained by a change of what is kept: where an arc is kept, the heights rise by no more than its saving from
--- its one end to the other, and where it isn't, by no less.
+-- No change to what is kept gains anything: if an arc is kept, the heights rise by at most its saving from its one end
+-- to the other; if it isn't, by at least its saving.
 abbrev pub IsCalmRise : Bool → ℕ → ℕ → ℕ → Type 0
 IsCalmRise true saving low high = high ≤ low + saving
 IsCalmRise false saving low high = low + saving ≤ high
@@ -61,19 +61,20 @@ abbrev pub AreCalmArcs : List ℕ → ℕ → List RequestArc → Type 0
 AreCalmArcs heights node [] = Unit {0}
 AreCalmArcs heights node (arc ∷ arcs) = IsCalmArc heights node arc × AreCalmArcs heights (node + 1) arcs
 
--- The heights are calm: there is one for each node; they never fall from a node to the next, and rise over a place only
--- where no slot is left there; and no arc of a request gains. The first number of `room` is that of place 1.
+-- The heights are calm: there is one for each node; they never decrease from a node to the next, and rise over a place
+-- only if no slot is free there; and no change to a request's arc gains anything. The first number of `room` is that of
+-- place 1.
 pub record IsCalm (heights room : List ℕ) (arcs : List RequestArc) : Type 0 where
   pub count : length heights ≡ length arcs + 1
   pub rises : (node : ℕ) → node < length arcs → slice_index heights node ≤ slice_index heights (node + 1)
   pub full : (node : ℕ) → node < length arcs → 0 < slice_index room node → slice_index heights (node + 1) ≤ slice_index heights node
   pub calm : AreCalmArcs heights 0 arcs
 
--- at each place the slots left and the links kept over it are so many together
+-- at each place, the free slots and the links kept over it are together this many
 abbrev pub AreSpent : ℕ → List ℕ → List (List ℕ) → List Asked → List RequestArc → Type 0
 AreSpent slots room held rs arcs = (node : ℕ) → node < length rs → slice_index room node + kept_over (links held rs (marks arcs)) (node + 1) ≡ slots
 
--- ---- slots left
+-- ---- free slots
 
 -- the link of the arc of the request after a node
 abbrev pub link_at : ℕ → RequestArc → Link
@@ -92,7 +93,7 @@ arc_at arcs node = slice_index_or arcs node (record { from = 0; saving = 0; kept
 abbrev pub GoBack : List RequestArc → Type 0
 GoBack arcs = (node : ℕ) → node < length arcs → (arc_at arcs node).from ≤ node
 
--- at each place the slots left and the arcs kept over it are so many together
+-- at each place, the free slots and the arcs kept over it are together this many
 pub record IsRoom (slots : ℕ) (room : List ℕ) (arcs : List RequestArc) : Type 0 where
   pub count : length room ≡ length arcs
   pub spent : (node : ℕ) → node < length arcs → slice_index room node + kept_over (links_of 0 arcs) (node + 1) ≡ slots
@@ -103,30 +104,30 @@ pub record IsRoom (slots : ℕ) (room : List ℕ) (arcs : List RequestArc) : Typ
 abbrev pub is_reached : List (Option Step) → ℕ → Bool
 is_reached steps node = is_some (slice_index_or steps node None)
 
--- the heights of the nodes reached rise by so much, and no others
+-- the heights of the nodes reached rise by this much, and no others do
 abbrev pub IsRaised : List ℕ → List ℕ → (ℕ → Bool) → ℕ → Type 0
 IsRaised heights new reached by = (node : ℕ) → node < length heights → slice_index new node ≡ slice_index heights node + (if reached node then by else 0)
 
--- An arc that may be turned leaves the nodes reached where its first end is reached and its other isn't: back from the
--- later end where it is kept, on to it where it isn't. What it would lose is no less than `by`.
+-- A residual arc leaves the nodes reached if one of its ends is reached and the other isn't: it goes back from the
+-- later end if the arc is kept, and on to the later end if it isn't. Its slack is at least `by`.
 abbrev pub IsSlackOf : Bool → ℕ → ℕ → ℕ → Bool → Bool → ℕ → Type 0
 IsSlackOf true saving low high reached_low reached_high by = reached_high ≡ true → reached_low ≡ false → high + by ≤ low + saving
 IsSlackOf false saving low high reached_low reached_high by = reached_low ≡ true → reached_high ≡ false → low + saving + by ≤ high
 
--- nothing that leaves the nodes reached would lose less than `by`: to a next node, to one before where a slot is left, or
--- over an arc
+-- every residual arc that leaves the nodes reached has a slack of at least `by`: to the next node, to the node before
+-- if a slot is free, or over a request's arc
 pub record IsSlack (heights room : List ℕ) (arcs : List RequestArc) (reached : ℕ → Bool) (by : ℕ) : Type 0 where
   pub right : (node : ℕ) → node < length arcs → reached node ≡ true → reached (node + 1) ≡ false → slice_index heights node + by ≤ slice_index heights (node + 1)
   pub left : (node : ℕ) → node < length arcs → 0 < slice_index room node → reached (node + 1) ≡ true → reached node ≡ false → slice_index heights (node + 1) + by ≤ slice_index heights node
   pub over : (node : ℕ) → node < length arcs →
       IsSlackOf (arc_at arcs node).kept (arc_at arcs node).saving (slice_index heights (arc_at arcs node).from) (slice_index heights node) (reached (arc_at arcs node).from) (reached node) by
 
--- no arc saves more than the greatest message
+-- no arc saves more than the size of the greatest message
 abbrev pub SaveLittle : List RequestArc → Type 0
 SaveLittle arcs = (node : ℕ) → node < length arcs → (arc_at arcs node).saving ≤ 32768
 
--- The arc by which a node is reached is a residual one, and its reduced cost is so much: from the node before it; from the node after
--- it, where a slot is left between them; back over an arc that is kept; on over one that isn't.
+-- The arc by which a node is reached is residual, with this reduced cost: from the node before it; from the node after
+-- it, if a slot is free between them; back over an arc that is kept; or on over one that isn't.
 abbrev pub IsResidual : List ℕ → List ℕ → List RequestArc → ResidualArc → ℕ → ℕ → Type 0
 IsResidual heights room arcs residuals.Start node slack = node ≡ length arcs
 IsResidual heights room arcs residuals.Right node slack = (1 ≤ node) × (node ≤ length arcs) × (slice_index heights (node - 1) + slack ≡ slice_index heights node)
@@ -149,7 +150,7 @@ abbrev pub Leaves : List ℕ → List ℕ → List RequestArc → List (Option S
 Leaves heights room arcs steps leaving =
     (leaving.node ≤ length arcs) × IsResidual heights room arcs leaving.arc leaving.node leaving.slack × (is_reached steps leaving.node ≡ false) × (is_reached steps (tail_of arcs leaving.arc leaving.node) ≡ true)
 
--- `by` is no more than the least
+-- `by` is at most the least slack
 abbrev pub IsNoMore : ℕ → Option Leaving → Type 0
 IsNoMore by least = IfSome least (λ leaving. by ≤ leaving.slack)
 
@@ -157,11 +158,11 @@ IsNoMore by least = IfSome least (λ leaving. by ≤ leaving.slack)
 abbrev pub step_at : List (Option Step) → ℕ → Option Step
 step_at steps node = slice_index_or steps node None
 
--- a node is the last, or reached from one that was reached earlier
+-- a node is the last, or was reached from one that was reached earlier
 abbrev pub IsReachedFrom : List RequestArc → List (Option Step) → ℕ → Step → Type 0
 IsReachedFrom arcs steps node step = (step.arc ≡ residuals.Start) ⊎ ((before : Step) × (step_at steps (tail_of arcs step.arc node) ≡ Some before) × (before.rank < step.rank))
 
--- the last node is reached, and each other over a residual arc by which nothing is lost, from one that was reached
+-- the last node is reached, and each other reached node over a residual arc of slack 0, from one that was reached
 -- earlier
 pub record IsSearch (heights room : List ℕ) (arcs : List RequestArc) (steps : List (Option Step)) (count : ℕ) : Type 0 where
   pub long : length steps ≡ length arcs + 1
@@ -169,33 +170,33 @@ pub record IsSearch (heights room : List ℕ) (arcs : List RequestArc) (steps : 
   pub tight : (node : ℕ) (step : Step) → step_at steps node ≡ Some step → (node ≤ length arcs) × (step.rank < count) × IsResidual heights room arcs step.arc node 0
   pub from : (node : ℕ) (step : Step) → step_at steps node ≡ Some step → IsReachedFrom arcs steps node step
 
--- how many nodes are not reached
+-- how many nodes aren't reached
 abbrev pub unreached : List (Option Step) → ℕ
 unreached [] = 0
 unreached (None ∷ steps) = suc (unreached steps)
 unreached (Some step ∷ steps) = unreached steps
 
--- so far the nodes of this list are reached, one after another
+-- so far, the nodes of this list are reached, one after another
 pub record IsSpread (heights room : List ℕ) (arcs : List RequestArc) (steps : List (Option Step)) (order : List ℕ) : Type 0 where
   pub found : IsSearch heights room arcs steps (length order)
   pub nodes : AllByRecursion (λ node. node ≤ length arcs) order
   pub many : length order + unreached steps ≤ length arcs + 1
 
--- the room after the arc by which a node is reached is turned
-abbrev pub turned_room : ResidualArc → ℕ → List ℕ → List ℕ
-turned_room residuals.Start node room = room
-turned_room residuals.Right node room = slice_set room (node - 1) (slice_index room (node - 1) + 1)
-turned_room residuals.Left node room = slice_set room node (slice_index room node - 1)
-turned_room (residuals.Back later) node room = room
-turned_room residuals.On node room = room
+-- the room after the arc by which a node is reached is augmented
+abbrev pub augmented_room : ResidualArc → ℕ → List ℕ → List ℕ
+augmented_room residuals.Start node room = room
+augmented_room residuals.Right node room = slice_set room (node - 1) (slice_index room (node - 1) + 1)
+augmented_room residuals.Left node room = slice_set room node (slice_index room node - 1)
+augmented_room (residuals.Back later) node room = room
+augmented_room residuals.On node room = room
 
 -- and the arcs
 abbrev pub arc_kept : Bool → RequestArc → RequestArc
 arc_kept kept arc = record { from = arc.from; saving = arc.saving; kept = kept }
 
-abbrev pub turned_arcs : ResidualArc → ℕ → List RequestArc → List RequestArc
-turned_arcs residuals.Start node arcs = arcs
-turned_arcs residuals.Right node arcs = arcs
-turned_arcs residuals.Left node arcs = arcs
-turned_arcs (residuals.Back later) node arcs = slice_set arcs later (arc_kept false (arc_at arcs later))
-turned_arcs residuals.On node arcs = slice_set arcs node (arc_kept true (arc_at arcs node))
+abbrev pub augmented_arcs : ResidualArc → ℕ → List RequestArc → List RequestArc
+augmented_arcs residuals.Start node arcs = arcs
+augmented_arcs residuals.Right node arcs = arcs
+augmented_arcs residuals.Left node arcs = arcs
+augmented_arcs (residuals.Back later) node arcs = slice_set arcs later (arc_kept false (arc_at arcs later))
+augmented_arcs residuals.On node arcs = slice_set arcs node (arc_kept true (arc_at arcs node))

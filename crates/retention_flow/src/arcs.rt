@@ -12,19 +12,19 @@ use std::alloc::Global;
 use std::collections::BTreeMap;
 use table_types::{Memory, Name};
 
-/// The arc of a request's link: from the node at which the link begins to the node before the request. A request without
-/// a link has an arc from the node before it to that node, which saves nothing.
+/// The arc of a request's link: from the node at which the link begins to the node before the request. A request
+/// without a link has an arc from the node before it to that same node, which saves nothing.
 #[derive(Clone, Copy, Debug)]
 pub struct RequestArc {
-    /// The node at which it begins.
+    /// The node at which the arc begins.
     pub from: usize,
-    /// How many bytes are saved where it is kept.
+    /// How many bytes are saved if the arc is kept.
     pub saving: u64,
-    /// Whether it is kept.
+    /// Whether the arc is kept.
     pub kept: bool,
 }
 
-/// The arc of the request after a node, whose name was last requested there or held, if anywhere.
+/// Returns the arc of the request after `node`, whose name was last requested or held at `from`, if anywhere.
 fn arc_of(from: Option<usize>, node: usize, request: &Request) -> RequestArc
     ensures arc { result ≡ arc_of from node request.now }
     ensures little { result.saving ≤ 32768 }
@@ -43,7 +43,7 @@ fn arc_of(from: Option<usize>, node: usize, request: &Request) -> RequestArc
     }
 }
 
-/// Place 0 for each of these names.
+/// Returns place 0 for each of these names.
 fn held_at_start<'a>(alloc: Global, held: &'a [Name]) -> Result<BTreeMap<&'a [u8], usize>, Memory>
     ensures { IfOk result (λ last. (name : List ℕ) → get_by (λ key. slice_cmp nat_cmp name key.now) last ≡ (at_start held.now).last name) }
 {
@@ -54,7 +54,7 @@ fn held_at_start<'a>(alloc: Global, held: &'a [Name]) -> Result<BTreeMap<&'a [u8
     Ok(last)
 }
 
-/// The arcs of the requests where these names are held at the start, with all links kept.
+/// Returns the arcs of `requests` with all links kept, if the names in `held` are held at the start.
 pub fn find_arcs(
     alloc: Global,
     held: &[Name],

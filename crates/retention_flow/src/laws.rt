@@ -13,8 +13,8 @@ pub fn the_start_is_calm()
         AreArcs (at_start held) rs (arcs_from (at_start held) rs) × IsCalm (replicate (length rs + 1) 0) room (arcs_from (at_start held) rs) }
 {}
 
-/// Where heights are calm, all slots but one are spent at each place, and no price is above 2^32, the plan is accepted
-/// that keeps the arcs that are kept, at the prices of those heights.
+/// If heights are calm, one slot less than there are is free or used at each place, and no price is above 2^32, then
+/// the plan that keeps the kept arcs at the prices of those heights is accepted.
 pub fn calm_heights_are_accepted()
     ensures { (slots : ℕ) → (held : List (List ℕ)) → (rs : List Asked) → (heights room : List ℕ) → (arcs : List RequestArc) →
         AreArcs (at_start held) rs arcs → IsCalm heights room arcs → AreSpent (slots - 1) room held rs arcs →

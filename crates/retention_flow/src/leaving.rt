@@ -7,7 +7,7 @@ ghost use Rattle.retention_flow.specs.Network.{is_reached, arc_at, GoBack, SaveL
 use crate::arcs::RequestArc;
 use crate::steps::{Leaving, ResidualArc, Step};
 
-/// Whether the node is reached.
+/// Returns whether the node is reached.
 fn is_reached(steps: &[Option<Step>], node: usize) -> bool
     requires { node < length steps.now }
     ensures { result ≡ is_reached steps.now node }
@@ -15,8 +15,8 @@ fn is_reached(steps: &[Option<Step>], node: usize) -> bool
     steps[node].is_some()
 }
 
-/// The residual arc over the place after a node, if it leaves the nodes reached: on to the next node, or back from that
-/// where a slot is left at the place.
+/// Returns the residual arc over the place after `node`, if it leaves the nodes reached: on to the next node, or back
+/// from it if a slot is free at the place.
 pub fn over_place(
     heights: &[u64],
     room: &[usize],
@@ -53,8 +53,8 @@ pub fn over_place(
     })
 }
 
-/// The residual arc of the request after a node, if it leaves the nodes reached: back to where its link begins, if it is
-/// kept, and else on from there.
+/// Returns the residual arc of the request after `node`, if it leaves the nodes reached: back to where the request's
+/// link begins if the arc is kept, and on from there if it isn't.
 pub fn over_arc(
     heights: &[u64],
     arcs: &[RequestArc],
@@ -88,7 +88,7 @@ pub fn over_arc(
     })
 }
 
-/// The arc of lesser slack.
+/// Returns the arc with the lesser slack.
 fn lesser(one: Option<Leaving>, other: Option<Leaving>) -> Option<Leaving>
     ensures both { (by : ℕ) → IsNoMore by result → IsNoMore by one × IsNoMore by other }
     ensures either { (result ≡ one) ⊎ (result ≡ other) }
@@ -100,7 +100,7 @@ fn lesser(one: Option<Leaving>, other: Option<Leaving>) -> Option<Leaving>
     }
 }
 
-/// An arc of least slack among those that leave the nodes reached.
+/// Returns an arc of least slack among those that leave the nodes reached.
 pub fn least_leaving(
     heights: &[u64],
     room: &[usize],

@@ -12,7 +12,7 @@ use crate::steps::{ResidualArc, Step};
 use std::alloc::Global;
 use table_types::Memory;
 
-/// The last node alone is reached.
+/// Returns the steps by which only the last node is reached.
 fn first_step(alloc: Global, nodes: usize) -> Result<Vec<Option<Step>>, Memory>
     requires { 1 ≤ nodes }
     ensures { IfOk result (λ steps. steps.items ≡ slice_set (replicate nodes None) (nodes - 1) (Some (record { rank = 0; arc = Start }))) }
@@ -25,7 +25,7 @@ fn first_step(alloc: Global, nodes: usize) -> Result<Vec<Option<Step>>, Memory>
     Ok(steps)
 }
 
-/// Raises the heights of the nodes reached until nothing is lost by an arc that leaves them, and goes on from there.
+/// Raises the heights of the nodes reached until an arc that leaves them has slack 0, and goes on from there.
 fn go_on(
     heights: &mut [u64],
     room: &[usize],
@@ -55,7 +55,7 @@ fn go_on(
     Ok(())
 }
 
-/// Reaches nodes over arcs by which nothing is lost, and goes on until the first is reached.
+/// Reaches nodes over arcs of slack 0, and raises heights as needed until the first node is reached.
 fn reach_first(
     heights: &mut [u64],
     room: &[usize],
@@ -84,8 +84,7 @@ fn reach_first(
     Ok(())
 }
 
-/// Raises heights until the first node is reached from the last over arcs by which nothing is lost, and answers how each
-/// node is reached.
+/// Raises heights until the first node is reached from the last over arcs of slack 0. Returns how each node is reached.
 pub fn search(
     alloc: Global,
     heights: &mut [u64],

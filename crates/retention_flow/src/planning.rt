@@ -7,10 +7,10 @@ ghost use Rattle.known_state.specs.Plans.{at_start, Accepts};
 ghost use Rattle.retention_flow.specs.Network.{AreArcs, GoBack, SaveLittle, IsCalm, IsRoom, marks, prices_of};
 
 use crate::arcs::{RequestArc, find_arcs};
+use crate::augmenting::augment;
 use crate::path_search::search;
 use crate::room::find_room;
 use crate::spreading::later_ends;
-use crate::turning::turn;
 use known_state::{Plan, Request};
 use std::alloc::{AllocError, Global};
 use table_types::{Memory, Name};
@@ -19,7 +19,7 @@ use thiserror::Error;
 /// Why there is no plan.
 #[derive(Clone, Copy, Debug, PartialEq, Eq, Error)]
 pub enum PlanError {
-    /// Memory was wanted, and the growth was refused.
+    /// Out of memory.
     #[error("memory")]
     Memory,
 }
@@ -36,7 +36,7 @@ impl From<Memory> for PlanError {
     }
 }
 
-/// Which requests are kept.
+/// Returns which requests are kept.
 fn marks(alloc: Global, arcs: &[RequestArc]) -> Result<Vec<bool>, Memory>
     ensures { IfOk result (λ keep. keep.items ≡ marks arcs.now) }
 {
@@ -47,7 +47,7 @@ fn marks(alloc: Global, arcs: &[RequestArc]) -> Result<Vec<bool>, Memory>
     Ok(keep)
 }
 
-/// How far the heights rise over each place.
+/// Returns how far the heights rise over each place.
 fn prices_of(alloc: Global, heights: &[u64]) -> Result<Vec<u64>, Memory>
     requires some { 1 ≤ length heights.now }
     requires rises { (node : ℕ) → node + 1 < length heights.now → slice_index heights.now node ≤ slice_index heights.now (node + 1) }
@@ -60,7 +60,7 @@ fn prices_of(alloc: Global, heights: &[u64]) -> Result<Vec<u64>, Memory>
     Ok(prices)
 }
 
-/// Takes so many slots away, one by one, each along an augmenting path from the last node to the first, one of least cost.
+/// Takes `count` slots away, one by one, each along an augmenting path of least cost from the last node to the first.
 fn take_away(
     alloc: Global,
     count: usize,
@@ -82,12 +82,12 @@ fn take_away(
     let later = later_ends(alloc, arcs)?;
     for _ in 0..count {
         let steps = search(alloc, heights, room, arcs, later.as_slice())?;
-        turn(room, arcs, &steps);
+        augment(room, arcs, &steps);
     }
     Ok(())
 }
 
-/// The plan for so many slots less.
+/// Returns the plan for `count` slots fewer.
 fn best_plan(
     alloc: Global,
     count: usize,
@@ -108,10 +108,10 @@ fn best_plan(
     Ok(Plan::new(marks(alloc, arcs)?, prices_of(alloc, heights)?))
 }
 
-/// An accepted plan of requests where these names are held at the start, with so many slots: no choice of requests that
-/// are read saves more bytes (profile).
+/// Returns an accepted plan for `requests`, with `slots` slots, if the names in `held` are held at the start: no other
+/// choice of requests to read saves more bytes (profile).
 ///
-/// There are 1 to 128 slots, at most as many names held, and at most 512 requests.
+/// There are 1 to 128 slots, at most as many held names, and at most 512 requests.
 pub fn plan(
     alloc: Global,
     slots: usize,

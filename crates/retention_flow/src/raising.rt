@@ -1,4 +1,4 @@
-//! Heights that rise.
+//! Raising heights.
 
 ghost use Rattle.std.specs.Prelude.{◌≡◌, ℕ, ◌+◌, ◌^◌, ◌<◌, length, slice_index};
 ghost use Rattle.retention_flow.specs.Network.{is_reached, IsRaised};

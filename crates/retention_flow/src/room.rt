@@ -1,4 +1,4 @@
-//! The slots that are left at each place.
+//! The free slots at each place.
 
 ghost use Rattle.std.specs.Prelude.{◌≡◌, ℕ, ◌+◌, ◌-◌, ◌≤◌, ◌<◌, IfOk, length, slice_index};
 ghost use Rattle.table_types.specs.SlotIds.{slot_count};
@@ -9,7 +9,7 @@ use crate::arcs::RequestArc;
 use std::alloc::Global;
 use table_types::Memory;
 
-/// How many kept arcs begin at each node, from the first on.
+/// Returns how many kept arcs begin at each node, from the first node on.
 fn kept_from(alloc: Global, arcs: &[RequestArc]) -> Result<Vec<usize>, Memory>
     requires most { length arcs.now ≤ 512 }
     requires back { GoBack arcs.now }
@@ -24,8 +24,8 @@ fn kept_from(alloc: Global, arcs: &[RequestArc]) -> Result<Vec<usize>, Memory>
     Ok(begun)
 }
 
-/// Adds up along the places: from how many kept arcs begin at each node to how many pass the place after it. The arc of the
-/// request at that place doesn't pass it.
+/// Adds up along the places: turns how many kept arcs begin at each node into how many pass the place after it. The arc
+/// of the request at a place doesn't pass that place.
 fn add_up(arcs: &[RequestArc], counts: &mut [usize])
     requires most { length arcs.now ≤ 512 }
     requires back { GoBack arcs.now }
@@ -44,7 +44,7 @@ fn add_up(arcs: &[RequestArc], counts: &mut [usize])
     }
 }
 
-/// How many kept arcs pass each place, from place 1 on.
+/// Returns how many kept arcs pass each place, from place 1 on.
 fn kept_over(alloc: Global, arcs: &[RequestArc]) -> Result<Vec<usize>, Memory>
     requires most { length arcs.now ≤ 512 }
     requires back { GoBack arcs.now }
@@ -55,7 +55,7 @@ fn kept_over(alloc: Global, arcs: &[RequestArc]) -> Result<Vec<usize>, Memory>
     Ok(counts)
 }
 
-/// The greatest of these counts and `least`.
+/// Returns the greatest of `counts` and `least`.
 fn greatest(least: usize, counts: &[usize]) -> usize
     requires { (least ≤ 512) × ((index : ℕ) → slice_index counts.now index ≤ 512) }
     ensures range { (least ≤ result) × (result ≤ 512) }
@@ -68,7 +68,7 @@ fn greatest(least: usize, counts: &[usize]) -> usize
     most
 }
 
-/// Takes each of these counts from `most`.
+/// Replaces each count by `most` less the count.
 fn take_from(most: usize, counts: &mut [usize])
     requires { (index : ℕ) → index < length counts.old → slice_index counts.old index ≤ most }
     ensures long { length counts.new ≡ length counts.old }
@@ -79,8 +79,8 @@ fn take_from(most: usize, counts: &mut [usize])
     }
 }
 
-/// The slots that are left at each place, from place 1 on, and how many it takes to keep the arcs that are kept: at least
-/// one less than there are slots.
+/// Returns the free slots at each place, from place 1 on, and how many slots it takes to keep the kept arcs: at least
+/// `slots - 1`.
 pub fn find_room(
     alloc: Global,
     slots: usize,

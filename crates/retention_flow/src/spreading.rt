@@ -1,4 +1,4 @@
-//! Reaching nodes over arcs by which nothing is lost.
+//! Reaching nodes over arcs of slack 0.
 
 ghost use Rattle.std.specs.Prelude.{◌≡◌, ℕ, ◌+◌, ◌^◌, ◌≤◌, ◌<◌, List, [], ◌∷◌, ◌++◌, Some, slice_set, length, slice_index, IfOk, IfSome};
 ghost use Rattle.retention_flow.specs.declared.arcs.RequestArc.{RequestArc};
@@ -10,8 +10,9 @@ use crate::steps::{Leaving, Step};
 use std::alloc::Global;
 use table_types::Memory;
 
-/// For each node but the last, where the arc of a request that begins there ends: at the node before that request. Where
-/// none begins it is any node, since whoever asks looks at the arc of the request after it.
+/// Returns for each node but the last where the arc of a request that begins there ends: at the node before that
+/// request. For a node where no arc begins, the entry is an arbitrary node, since callers look at the arc of the
+/// request after it.
 pub fn later_ends(alloc: Global, arcs: &[RequestArc]) -> Result<Vec<usize>, Memory>
     requires back { GoBack arcs.now }
     ensures long { IfOk result (λ later. length later.items ≡ length arcs.now) }
@@ -24,7 +25,7 @@ pub fn later_ends(alloc: Global, arcs: &[RequestArc]) -> Result<Vec<usize>, Memo
     Ok(later)
 }
 
-/// Reaches a node over this arc.
+/// Reaches the node of `leaving` over its arc.
 pub fn reach(
     leaving: Leaving,
     steps: &mut [Option<Step>],
@@ -43,7 +44,7 @@ pub fn reach(
     Ok(())
 }
 
-/// Reaches a node over this arc, if nothing is lost by it.
+/// Reaches the node of `leaving` over its arc, if there is one and its slack is 0.
 fn reach_freely(
     leaving: Option<Leaving>,
     steps: &mut [Option<Step>],
@@ -64,7 +65,7 @@ fn reach_freely(
     Ok(())
 }
 
-/// Reaches a node over the place after a node, where nothing is lost by it.
+/// Reaches a node over the place after `node`, if the slack is 0.
 fn reach_over_place(
     heights: &[u64],
     room: &[usize],
@@ -86,7 +87,7 @@ fn reach_over_place(
     Ok(())
 }
 
-/// Reaches the node before a node, if there is one and nothing is lost by it.
+/// Reaches the node before `node`, if there is one and the slack is 0.
 fn reach_before(
     heights: &[u64],
     room: &[usize],
@@ -110,7 +111,7 @@ fn reach_before(
     Ok(())
 }
 
-/// Reaches a node over the arc of the request after a node, where nothing is lost by it.
+/// Reaches a node over the arc of the request after `node`, if the slack is 0.
 fn reach_over_arc(
     heights: &[u64],
     arcs: &[RequestArc],
@@ -132,7 +133,7 @@ fn reach_over_arc(
     Ok(())
 }
 
-/// Reaches the nodes next to one over arcs by which nothing is lost, those before it first.
+/// Reaches the nodes next to `node` over arcs of slack 0, earlier nodes first.
 fn spread_from(
     heights: &[u64],
     room: &[usize],
@@ -163,7 +164,7 @@ fn spread_from(
     Ok(())
 }
 
-/// Reaches node after node over arcs by which nothing is lost, until the first node is reached or no such arc is left.
+/// Reaches nodes over arcs of slack 0 until the first node is reached or no such arc is left.
 pub fn spread(
     heights: &[u64],
     room: &[usize],

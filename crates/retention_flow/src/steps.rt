@@ -5,13 +5,13 @@
 pub enum ResidualArc {
     /// None: it is the last node, at which a search begins.
     Start,
-    /// From the node before it: a slot more is left at the place between them.
+    /// From the node before it: frees a slot at the place between them.
     Right,
-    /// From the node after it: a slot less is left at the place between them.
+    /// From the node after it: takes a free slot at the place between them.
     Left,
-    /// From this later node, back over the arc of the request after that: it isn't kept any more.
+    /// From this later node, back over the arc of the request after that node, which is then no longer kept.
     Back(usize),
-    /// From an earlier node, over the arc of the request after this one: it is kept.
+    /// From an earlier node, over the arc of the request after this node, which is then kept.
     On,
 }
 
@@ -24,13 +24,13 @@ pub struct Step {
     pub arc: ResidualArc,
 }
 
-/// A residual arc from a node that is reached to one that isn't.
+/// A residual arc from a reached node to one that isn't reached.
 #[derive(Clone, Copy, Debug)]
 pub struct Leaving {
     /// The node that isn't reached.
     pub node: usize,
-    /// The arc, as of that node.
+    /// The arc, as seen from that node.
     pub arc: ResidualArc,
-    /// Its reduced cost: how far the heights of the nodes reached may rise until nothing is lost by it.
+    /// Its reduced cost: how far the heights of the nodes reached can rise before it is 0.
     pub slack: u64,
 }

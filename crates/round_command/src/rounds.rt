@@ -13,7 +13,7 @@ use crate::worker::{Worker, work};
 use known_state::Known;
 use peers_devices::{Faults, write_all};
 use scene_commands::Ending;
-use session_actions::Open;
+use session_actions::AlwaysOpen;
 use std::alloc::Global;
 use std::io::Write;
 use std::sync::Wait;
@@ -134,7 +134,7 @@ fn seats_at_last<R: Wait>(
 ) -> Result<Vec<Seat>, RoundFailure> {
     let Worker { seat, known } = worker;
     seats.push(seat)?;
-    let (worker, ended) = work(rt, alloc, &Open, shards, Worker { seat: own, known });
+    let (worker, ended) = work(rt, alloc, &AlwaysOpen, shards, Worker { seat: own, known });
     ended?;
     seats.push(worker.seat)?;
     Ok(seats)
@@ -189,7 +189,7 @@ fn run_threads<R: Threads + Wait + Sync>(
                 Err(_) => return Err(RoundFailure::NoThread),
             }
         }
-        let Ok(teaching) = scope.spawn(move || work(rt, alloc, &Open, shards, worker)) else {
+        let Ok(teaching) = scope.spawn(move || work(rt, alloc, &AlwaysOpen, shards, worker)) else {
             return Err(RoundFailure::NoThread);
         };
         let seats = joined(rt, alloc, trackers)?;

@@ -1,4 +1,4 @@
--- What the calls that do an action answer.
+-- The answers of the calls that perform an action.
 use Rattle.std.proofs.Common.{◌≡◌, ◌⊎◌, ℕ, List, [], Option, Some, None, Result, Ok, Err, IfOk, IfErr, refl, sym, ap, ◌∙◌, subst, inl, inr}
 use Rattle.std.proofs.KnownBytes.{Appends-nil}
 use Rattle.std.proofs.lemmas.Bool.{false≢true}
@@ -35,11 +35,11 @@ falls_short (errors.Session refused) n now k s act bytes answer old new done fal
 abbrev pub IsAnswer : Result Event EngineError → Option Event → Type 0
 IsAnswer result answer = (event : Event) × (result ≡ Ok event) × (answer ≡ Some event)
 
--- what the call says of an answer holds of it
+-- what the call says of its answers holds of this one
 of_event : (P : Event → Type 0) (result : Result Event EngineError) (event : Event) → IfOk result P → result ≡ Ok event → P event
 of_event P result event given is = subst (λ (r : Result Event EngineError). IfOk r P) is given
 
--- an acknowledgement that was taken, and a copy that was made
+-- an acknowledgement that was passed on, and a batch that was copied
 abbrev pub IsTaken : ℕ → SeatState → ℕ → ℕ → SeatState → Event → Type 0
 IsTaken n s table number t event =
     ((settled : Settled) × (event ≡ events.Settled table settled) × CallsAck n s table number (Ok settled) t)
@@ -74,7 +74,7 @@ pub copy_done : (n now : ℕ) (k : KnownState) (s t : SeatState) (action : Actio
 copy_done n now k s t action table kind known result answer is given (event, ok, some) =
     ([], subst (λ (a : Action). Done n now k s a [] answer t) (sym is) (copied_as n now k s t table kind answer event some (of_event (IsCopied n now s table kind t) result event given ok)), Appends-nil known)
 
--- what a call that answered says
+-- what a call that succeeded says
 on_ok : (P : Type 0) (result : Result (Unit {0}) EngineError) → IsOk result → OnOk result P → P
 on_ok P (Ok done) is given = given
 on_ok P (Err error) is given = absurd (false≢true is)
@@ -106,7 +106,7 @@ teach_done n now k s t action batch old new result answer is same given (event, 
     subst (λ (a : Action). (out : List ℕ) × Done n now k s a out answer t × Appends old new out) (sym is)
     (taught_as n now k s t batch old new answer event some same (of_event (IsAnswerToTeach n k s batch old new) result event given ok))
 
--- an error message that didn't go out whole
+-- an error message that wasn't written whole
 pub part_falls : (n now : ℕ) (k : KnownState) (s : SeatState) (action : Action) (kind : ErrorKind) (old new : Option (List ℕ)) (result : Result (Unit {0}) EngineError) (error : EngineError)
     → action ≡ actions.Part kind → IfErr result (λ (e : EngineError). Falls (error_text kind) e old new) → result ≡ Err error
     → (out : List ℕ) × Fails n now k s action error out × Appends old new out

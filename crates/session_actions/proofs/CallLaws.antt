@@ -1,4 +1,4 @@
--- What the calls on tables come to, by what they answer.
+-- What the calls on tables do, by their answers.
 use Rattle.std.proofs.Common.{◌≡◌, ℕ, List, Result, Ok, inl, refl, subst}
 use Rattle.table_types.specs.declared.update.Update.{Update}
 use Rattle.table_types.specs.declared.copies.CopyKind.{CopyKind}

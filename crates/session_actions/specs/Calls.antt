@@ -1,6 +1,6 @@
--- The calls on tables with which a session's actions are done (profile). Which cell a call finds behind the lock is in no clause:
--- these say of some cell of that table what the call does. A call that makes an event of the table leaves its receipt at the seat,
--- with the answer; one that makes none leaves the seat as it was.
+-- The calls on tables that perform a session's actions. No clause says which cell a call finds behind the lock: they
+-- say what the call does to some cell of that table. A call that makes an event of the table leaves its receipt at the
+-- seat, with the answer; any other leaves the seat as it was.
 use Rattle.std.specs.Prelude.{◌≡◌, ◌⊎◌, ℕ, List, Result, Ok, Err, Some, slice_get}
 use Rattle.table_types.specs.declared.update.Update.{Update}
 use Rattle.table_types.specs.declared.copies.CopyKind.{CopyKind}
@@ -20,7 +20,7 @@ use Rattle.table_shards.specs.declared.errors.ShardError.TheVariants as errors
 use Rattle.table_shards.specs.Holding.{Holds, Looks, Settles, receipted}
 use Rattle.table_shards.specs.Receipts.{SeatState}
 
--- Session n calls a table from the seat s at that moment, which answers so and leaves the seat as t.
+-- Session n calls a table from the seat s at the moment now; the call gives the answer and leaves the seat as t.
 abbrev pub CallsLearn : ℕ → ℕ → SeatState → Update → Result Reply (ShardError LearnError) → SeatState → Type 0
 CallsLearn n now s u answer t =
     (c e : CellState)
@@ -44,18 +44,18 @@ abbrev pub CallsClose : ℕ → SeatState → ℕ → Result (Unit {0}) (ShardEr
 CallsClose n s table answer t =
     (c e : CellState) × Holds (λ x r y. Closes x n r y) (λ done. receipted table c s (events.Close n) replies.Close) table c s answer e t
 
--- ---- what is done with them
+-- ---- what they do
 
--- a row is learned, or left out by a table that is full
+-- a row is learned, or skipped by a full table
 abbrev pub IsLearned : ℕ → ℕ → SeatState → Update → SeatState → Type 0
 IsLearned n now s u t =
     ((reply : Reply) × CallsLearn n now s u (Ok reply) t) ⊎ CallsLearn n now s u (Err (errors.Cell learn_errors.TableFull)) t
 
--- the session is closed in the table, and opened anew
+-- the session is closed in the table and opened anew
 abbrev pub IsReopened : ℕ → SeatState → ℕ → SeatState → Type 0
 IsReopened n s table t = (mid : SeatState) × CallsClose n s table (Ok tt) mid × CallsOpen n mid table (Ok tt) t
 
--- the table of the batch's first update, which is that of each, has the batch as the session's latest one
+-- the batch is the session's latest one in the table of its first update, to which all its updates belong
 abbrev pub IsSettled : ℕ → SeatState → List Update → Type 0
 IsSettled n s batch =
     (u : Update) × (slice_get batch 0 ≡ Some u) × (c e : CellState) × Looks (λ x r y. Settles x n batch r y) u.table c s (Ok tt) e s

@@ -1,4 +1,4 @@
--- How what a session asks for is done, and what is written then (profile).
+-- How a session's actions are performed, and what is written for them.
 use Rattle.std.specs.Prelude.{◌≡◌, ◌⊎◌, ◌<◌, ℕ, List, [], ◌∷◌, length, take, Option, Some, None, Ok, Err}
 use Rattle.std.specs.Io.KnownBytes.{Appends}
 use Rattle.table_types.specs.declared.update.Update.{Update}
@@ -25,16 +25,16 @@ use Rattle.session_actions.specs.declared.errors.EngineError.TheVariants as erro
 abbrev pub error_text : ErrorKind → List ℕ
 error_text kind = 1 ∷ (error_type kind ∷ [])
 
--- the bytes spell messages that are shortest of those that teach the batch from that known state
+-- the bytes spell messages that are among the shortest that teach the batch from the known state k
 abbrev pub AreShortest : KnownState → List Update → List ℕ → Type 0
 AreShortest k batch bytes = (ms : List Message) × (bytes ≡ stream_of ms) × Shortest k batch ms
 
--- a lesson than which none of the batch from that known state has fewer bytes, and which leads to the known state after
+-- a shortest lesson of the batch from the known state k, which leads to the known state after
 abbrev pub IsShortestLesson : KnownState → List Update → List ℕ → KnownState → Type 0
 IsShortestLesson k batch bytes after = IsLessonFor k batch bytes after × AreShortest k batch bytes
 
--- Session n, whose known state is k, does an action at that moment from the seat s: what is written for it, what it is answered
--- with, and how the seat is left.
+-- Session n, whose known state is k, performs an action from the seat s at the moment now: what is written for it, its
+-- answer, and how it leaves the seat.
 abbrev pub Done : ℕ → ℕ → KnownState → SeatState → Action → List ℕ → Option Event → SeatState → Type 0
 Done n now k s (actions.Send bytes) out answer t = (out ≡ bytes) × (answer ≡ None) × (t ≡ s)
 Done n now k s (actions.Learn u) out answer t = (out ≡ []) × (answer ≡ None) × IsLearned n now s u t
@@ -50,26 +50,26 @@ Done n now k s (actions.Teach batch) out answer t =
 Done n now k s (actions.Part kind) out answer t = (out ≡ error_text kind) × (answer ≡ None) × (t ≡ s)
 Done n now k s actions.Close out answer t = (out ≡ []) × (answer ≡ None) × (t ≡ s)
 
--- the error of a table that refused an action, or of memory that was wanted for it
+-- the error if a table refuses an action, or if memory runs out
 abbrev pub IsRefusal : EngineError → Type 0
 IsRefusal errors.Memory = Unit {0}
 IsRefusal errors.Strange = Unit {0}
 IsRefusal error = ⊥
 
--- an action for which a table is called; for a lesson that is to test that its batch is the session's latest one
+-- an action that calls a table; a lesson calls it to test that its batch is the session's latest one
 abbrev pub IsAtTable : Action → Type 0
 IsAtTable (actions.Send bytes) = ⊥
 IsAtTable (actions.Part kind) = ⊥
 IsAtTable actions.Close = ⊥
 IsAtTable act = Unit {0}
 
--- a write of these bytes failed: the first of them went out, and not all
+-- a write of these bytes failed: exactly the first sent of them were written, and not all
 abbrev pub Falls : List ℕ → EngineError → Option (List ℕ) → Option (List ℕ) → Type 0
 Falls bytes (errors.Write sent) old new = (sent < length bytes) × Appends old new (take sent bytes)
 Falls bytes error old new = ⊥
 
--- An action isn't done whole: a write failed, and the first of its bytes went out; or a table refused it, or memory was
--- wanted for it, and nothing was written.
+-- An action fails: a write failed after some of its bytes; or a table refused it or memory ran out, and nothing was
+-- written.
 abbrev pub Fails : ℕ → ℕ → KnownState → SeatState → Action → EngineError → List ℕ → Type 0
 Fails n now k s act (errors.Write sent) out =
     (bytes : List ℕ) × (answer : Option Event) × Done n now k s act bytes answer s × (sent < length bytes) × (out ≡ take sent bytes)

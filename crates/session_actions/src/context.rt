@@ -7,13 +7,13 @@ use table_types::Moment;
 /// What a session's worker needs, and what stays the same throughout a turn.
 #[derive(Drop)]
 pub struct Context<'a, H, G> {
-    /// The runtime, with which it waits for locks.
+    /// The runtime with which the worker waits for locks.
     pub rt: &'a H,
-    /// Where memory comes from.
+    /// The allocator.
     pub alloc: Global,
-    /// Where it stops between its steps.
+    /// The gate at which the worker stops between its steps.
     pub gate: &'a G,
-    /// The tables, each under its lock.
+    /// The tables, each with its lock.
     pub shards: &'a Shards,
     /// The session's number in the tables.
     pub number: u32,

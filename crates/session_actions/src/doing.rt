@@ -1,4 +1,4 @@
-//! Doing what a session asks for.
+//! Performing a session's actions.
 
 ghost use Rattle.std.specs.Prelude.{◌≡◌, ◌≢◌, ◌⊎◌, Ok, Err, Some, None, IsOk, IfErr, IfOk, OnOk, List, ℕ};
 ghost use Rattle.std.specs.Io.KnownBytes.{Appends};
@@ -50,7 +50,7 @@ fn part<W: Write + Faults>(output: &mut W, kind: ErrorKind) -> Result<(), Engine
     }
 }
 
-/// Copies a batch, and comes to the gate with it, if there is one.
+/// Copies a batch and, if there is one, stops at the gate.
 fn copy_batch<H: Wait, G: Gate>(
     context: &Context<H, G>,
     seat: Seat,
@@ -69,7 +69,7 @@ fn copy_batch<H: Wait, G: Gate>(
     (seat, copied)
 }
 
-/// Makes the lesson of a batch. No table's lock is held.
+/// Plans the lesson of a batch. No table's lock is held.
 fn plan<H, G>(context: &Context<H, G>, known: &Known, batch: &Batch) -> Result<Lesson, EngineError>
     ensures lesson { IfOk result (λ lesson. IsShortestLesson known.now batch.now lesson.bytes lesson.known) }
     ensures refused { IfErr result IsRefusal }
@@ -83,7 +83,8 @@ fn plan<H, G>(context: &Context<H, G>, known: &Known, batch: &Batch) -> Result<L
     }
 }
 
-/// Writes the lesson of a batch from that known state. The batch must be the session's latest one when the writing begins.
+/// Writes the lesson of a batch, starting from `known`. The batch must be the session's latest one when the writing
+/// begins.
 fn teach_batch<H: Wait, G: Gate, W: Write + Faults>(
     context: &Context<H, G>,
     known: &Known,
@@ -114,7 +115,7 @@ fn teach_batch<H: Wait, G: Gate, W: Write + Faults>(
     (seat, Ok(Event::Written(lesson.known)))
 }
 
-/// The answer of an action that has one.
+/// Returns the answer of an action that has one.
 fn answered(done: (Seat, Result<Event, EngineError>)) -> (Seat, Result<Option<Event>, EngineError>)
     ensures seat { result.0 ≡ done.0 }
     ensures answer { IfOk result.1 (λ answer. (event : Event) × (done.1 ≡ Ok event) × (answer ≡ Some event)) }
@@ -127,7 +128,7 @@ fn answered(done: (Seat, Result<Event, EngineError>)) -> (Seat, Result<Option<Ev
     }
 }
 
-/// The answer of an action that has none.
+/// Returns the answer of an action that has none.
 fn unanswered(done: (Seat, Result<(), EngineError>)) -> (Seat, Result<Option<Event>, EngineError>)
     ensures seat { result.0 ≡ done.0 }
     ensures answer { IfOk result.1 (λ answer. IsOk done.1 × (answer ≡ None)) }
@@ -140,7 +141,10 @@ fn unanswered(done: (Seat, Result<(), EngineError>)) -> (Seat, Result<Option<Eve
     }
 }
 
-/// Does one action of a session whose known state is that one, and gives its answer, if it has one.
+/// Performs one action of a session whose known state is `known`, and returns its answer, if it has one.
+///
+/// Fails with `Write` if not all of its bytes are written, and with `Memory` or `Strange` before any are. Returns the
+/// seat in any case.
 pub fn do_action<H: Wait, G: Gate, W: Write + Faults>(
     context: &Context<H, G>,
     known: &Known,

@@ -1,4 +1,4 @@
-//! Why an action isn't done, or a turn ends early.
+//! Why an action fails, or a turn ends early.
 
 ghost use Rattle.std.specs.Prelude.{◌≡◌};
 ghost use Rattle.session_actions.specs.declared.errors.EngineError.TheVariants as errors;
@@ -6,7 +6,8 @@ ghost use Rattle.session_actions.specs.declared.errors.EngineError.TheVariants a
 use session_core::SessionError;
 use thiserror::Error;
 
-/// Why an action isn't done, or a turn ended early. A turn that ends so ends its session, and what it still asked for isn't done.
+/// Why an action failed, or a turn ended early. The turn then ends its session and performs none of the remaining
+/// actions.
 #[derive(Clone, Copy, Debug, PartialEq, Eq, Error)]
 pub enum EngineError {
     /// The session refused an event.
@@ -15,18 +16,18 @@ pub enum EngineError {
     /// A read failed, and the reader counted it.
     #[error("a read failed")]
     Read,
-    /// A write failed and the writer counted it, or the writer takes no more. Exactly the first `sent` bytes went out of what
-    /// was then written: a `Send`, a lesson or an error message.
+    /// A write failed and the writer counted it, or the writer takes no more. Exactly the first `sent` bytes of what
+    /// was being written went out: of a `Send`, a lesson or an error message.
     #[error("a write failed after {sent} bytes")]
     Write {
-        /// How many bytes went out.
+        /// The number of bytes that went out.
         sent: usize,
     },
-    /// Memory was wanted, and the growth was refused.
+    /// Memory ran out.
     #[error("memory")]
     Memory,
-    /// A table refused a call for another cause than those that a session answers; or there is no such table, the seat has
-    /// seen more events than it has, a batch isn't the session's latest one, or it doesn't fit the session's roster.
+    /// A table refused a call for a reason that can't be passed on to the session; or the table doesn't exist, the seat
+    /// has seen more events than the table has, or the batch isn't the session's latest one or doesn't fit its roster.
     #[error("the tables and the session do not agree")]
     Strange,
 }

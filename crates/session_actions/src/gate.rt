@@ -2,27 +2,27 @@
 
 use std::sync::Wait;
 
-/// How far a batch has come.
+/// How far a batch has progressed.
 #[derive(Clone, Copy, Debug, PartialEq, Eq)]
 pub enum Stage {
-    /// It is copied from its table.
+    /// The batch is copied from its table.
     Copied,
-    /// Its lesson is made, and not a byte of it is written.
+    /// The batch's lesson is planned, and none of its bytes are written.
     Planned,
-    /// Its lesson is written.
+    /// The batch's lesson is written.
     Written,
 }
 
-/// Where a session's worker stops after each step of a batch. No table's lock is held there.
+/// A gate at which a session's worker stops after each step of a batch. The worker holds no table's lock there.
 pub trait Gate {
-    /// The worker has come to this stage, and goes on once the call returns.
+    /// Stops the worker at `stage`; it goes on once the call returns.
     fn at<R: Wait>(&self, rt: &R, stage: Stage);
 }
 
-/// A gate that holds nobody up.
+/// A gate that never stops anybody.
 #[derive(Clone, Copy, Debug)]
-pub struct Open;
+pub struct AlwaysOpen;
 
-impl Gate for Open {
+impl Gate for AlwaysOpen {
     fn at<R: Wait>(&self, _: &R, _: Stage) {}
 }

@@ -1,4 +1,4 @@
-//! What comes of a read.
+//! Reading from the remote peer.
 
 ghost use Rattle.std.specs.Prelude.{◌≡◌, Err, IfErr, IfOk, List, ℕ, vec_len};
 ghost use Rattle.std.specs.Io.KnownBytes.{Consumes, IsAtEnd, Keeps};
@@ -13,17 +13,21 @@ use std::alloc::{AllocError, Global};
 use std::io::Read;
 use table_types::Items;
 
-/// How many bytes one read takes at most.
+/// The most bytes that one read takes.
 const MOST_BYTES: usize = 4096;
 
-/// Room for one read.
+/// Returns a buffer for one read.
 fn room(alloc: Global) -> Result<Vec<u8>, AllocError>
     ensures { IfOk result (λ bytes. vec_len bytes ≡ 4096) }
 {
     vec![in alloc; 0; MOST_BYTES]
 }
 
-/// Reads once. A read that fails without being counted, as an interrupted one may, is no event.
+/// Reads once, and returns the event, if there is one. A read that fails without being counted, as an interrupted one
+/// may, gives none.
+///
+/// Fails with `Read` if a read fails and the reader counts it, and with `Memory` if memory runs out. Nothing was then
+/// read.
 pub fn read_event<R: Read + Faults>(
     alloc: Global,
     input: &mut R,

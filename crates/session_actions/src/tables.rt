@@ -1,4 +1,4 @@
-//! The calls on tables that a session asks for. Each takes the table's lock for itself alone.
+//! The calls on tables that a session asks for. Each takes the table's lock for that call only.
 
 ghost use Rattle.std.specs.Prelude.{◌≡◌, ◌⊎◌, IfErr, IfOk, OnOk, Ok, Err, List};
 ghost use Rattle.table_types.specs.declared.update.Update.{Update};
@@ -18,13 +18,14 @@ use table_cell::{AckError, CloseError, CopyError, LearnError, OpenError};
 use table_shards::{Locked, Seat, ShardError, held};
 use table_types::{Batch, CopyKind, Update};
 
-/// A table under its lock, if there is one of that id. It waits for the lock. Nothing else in this crate takes one, nor does
-/// `peers_engine`, and what calls this gives no lock away: so each is held for one call of a table.
+/// Waits for the lock of `table` and takes it; returns `None` if there is no such table. Nothing else in this crate or
+/// in `peers_engine` takes a lock, and no caller passes this one on, so each is held for one call on a table.
 fn lock<'a, H: Wait, G>(context: &Context<'a, H, G>, table: u64) -> Option<MutexGuard<'a, Locked>> {
     Some(context.shards.cell(table)?.lock(context.rt))
 }
 
-/// The engine's error for a refusal to which the session machine has no answer. `memory` is the cell's own want of memory.
+/// Returns the engine's error for a refusal that can't be passed on to the session. `memory` is the cell's own error
+/// for running out of memory.
 fn refused<E: Copy + PartialEq>(error: ShardError<E>, memory: E) -> EngineError
     ensures { IsRefusal result }
 {
@@ -35,7 +36,7 @@ fn refused<E: Copy + PartialEq>(error: ShardError<E>, memory: E) -> EngineError
     }
 }
 
-/// Learns an update. A table that is full leaves it out.
+/// Learns an update. A full table skips it.
 pub(crate) fn learn<H: Wait, G>(
     context: &Context<H, G>,
     seat: Seat,
@@ -64,7 +65,7 @@ pub(crate) fn learn<H: Wait, G>(
     }
 }
 
-/// Takes an acknowledgement.
+/// Passes on an acknowledgement.
 pub(crate) fn acknowledge<H: Wait, G>(
     context: &Context<H, G>,
     seat: Seat,
@@ -118,7 +119,7 @@ pub(crate) fn copy<H: Wait, G>(
     }
 }
 
-/// Tests that the batch, which is of one table, is the session's latest one.
+/// Tests that `batch`, which is of one table, is the session's latest one.
 pub(crate) fn settle<H: Wait, G>(
     context: &Context<H, G>,
     seat: Seat,

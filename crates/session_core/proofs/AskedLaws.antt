@@ -1,4 +1,4 @@
--- An event that makes a step is one that is asked for.
+-- An event that makes a step is one that may happen.
 use Rattle.std.proofs.Common.{◌≡◌, ℕ, true, List, refl}
 use Rattle.std.proofs.lemmas.Bool.{eq-eqb}
 use Rattle.peers_hello.specs.declared.hello.Hello.{Hello}

@@ -1,4 +1,4 @@
--- What a session holds of bytes stays bytes.
+-- A session that holds only bytes goes on to hold only bytes.
 use Rattle.std.proofs.Common.{◌≡◌, ℕ, Bool, true, false, List, [], ◌∷◌, ◌++◌, Option, Some, None, Ok, Err, sym, subst, arith, inl, inr}
 use Rattle.std.specs.Prelude.{drop}
 use Rattle.std.specs.List.{AllByRecursion}
@@ -32,11 +32,11 @@ use Rattle.session_core.specs.Sessions.{SessionState, Accepts, Connects, Finishe
 use Rattle.session_core.proofs.IntakeGoesOn.{append_good}
 use Rattle.session_core.proofs.ReceivingGoesOn.{received_good}
 
--- where it stands then, bytes are held
+-- the session after a step holds only bytes
 held : (e x : SessionState) → e ≡ x → HoldsBytes x.phase → HoldsBytes e.phase
 held e x ends holds = subst (λ (y : SessionState). HoldsBytes y.phase) (sym ends) holds
 
--- a course of which an answer came has the same unread
+-- an answer leaves the unread bytes as they were
 answered_good : (c mid : Course) (due : List Due) → mid ≡ record c { due = due } → IsBytes c.intake.unread → IsBytes mid.intake.unread
 answered_good c mid due is good = subst (λ (x : Course). IsBytes x.intake.unread) (sym is) good
 
@@ -59,7 +59,7 @@ held_new s e hello c (events.Written known) acts good goes = absurd goes
 held_new s e hello c (events.Settled table settled) acts good goes = absurd goes
 held_new s e hello c (events.Refused table) acts good goes = absurd goes
 
--- what follows a greeting is fed
+-- only bytes are fed after a greeting
 pub fed_good : (c : Course) (used : ℕ) (bytes : List ℕ) → IsBytes c.intake.unread → IsBytes bytes → IsBytes (course_fed c (drop used bytes)).intake.unread
 fed_good c used bytes unread good = append_good c.intake.unread (drop used bytes) unread (IsBytes-drop used bytes good)
 

@@ -1,4 +1,4 @@
--- It is confirmed where that was sent.
+-- A session is confirmed exactly if it sent resync confirmed.
 use Rattle.std.proofs.Common.{◌≡◌, ℕ, Bool, true, false, ◌||◌, List, [], ◌∷◌, ◌++◌, Some, None, Option, Ok, Err, Result, refl, ap, ◌∙◌, inl, inr}
 use Rattle.std.specs.Prelude.{drop}
 use Rattle.std.specs.Fmt.{decimal}
@@ -38,11 +38,11 @@ or_group : (a b c : Bool) → ((a || b) || c) ≡ (a || (b || c))
 or_group true b c = refl
 or_group false b c = refl
 
--- it is confirmed then where it was, or is with these actions
+-- the session after a step is confirmed if it was before, or if one of the actions sends resync confirmed
 abbrev IsSaid : SessionState → List Action → SessionState → Type 0
 IsSaid s acts e = e.confirmed ≡ (s.confirmed || confirms acts)
 
--- other actions leave it as it was
+-- any other actions leave it as it was
 unsaid : (s e x : SessionState) (acts given : List Action) → acts ≡ given → confirms given ≡ false → e ≡ x → x.confirmed ≡ s.confirmed → IsSaid s acts e
 unsaid s e x acts given is plain ends same =
     let none : confirms acts ≡ false = ap confirms is ∙ plain in

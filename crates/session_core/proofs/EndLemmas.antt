@@ -1,4 +1,4 @@
--- What ends a resync, and what copies: not what answers the remote peer's messages.
+-- What ends a resync, and what copies: not the answers to the remote peer's messages.
 use Rattle.std.proofs.Common.{◌≡◌, ℕ, Bool, true, false, ◌&&◌, List, [], ◌∷◌, ◌++◌, Some, None, Option, refl, ◌∙◌, cond}
 use Rattle.std.specs.Prelude.{filter_map, option_map}
 use Rattle.std.specs.Fmt.{decimal}
@@ -21,7 +21,7 @@ use Rattle.session_core.specs.Actions.{control_text, sends_acks, status_text, re
 use Rattle.session_core.specs.Courses.{Course, message_received, said, requested, acknowledged, AreReceived}
 use Rattle.session_core.specs.Runs.{is_end, ends_resync, is_copy_of, copies}
 
--- neither ends a resync nor copies
+-- the actions neither end a resync nor copy
 abbrev pub is_plain : ℕ → List Action → Type 0
 is_plain id acts = (ends_resync acts ≡ false) × (copies id acts ≡ false)
 

@@ -1,4 +1,4 @@
--- A session has a fault only where it is over.
+-- A session has a fault only once it is over.
 use Rattle.std.proofs.Common.{◌≡◌, ◌⊎◌, ℕ, Bool, true, false, List, [], ◌∷◌, ◌++◌, Some, None, Option, Ok, Err, Result, refl, ap, ◌∙◌, inl, inr}
 use Rattle.std.specs.Prelude.{drop}
 use Rattle.table_types.specs.Tables.{Definition}
@@ -27,11 +27,11 @@ use Rattle.session_core.specs.Courses.{Course, course_fed, table_to_ask}
 use Rattle.session_core.specs.Sessions.{SessionState, GoesIn, GoesNew, GoesHello, GoesOpen, Concludes, ReceivesBytes, IsWelcomed, Connects, Accepts, Greets, Turns, HasNothing, FinishesResync, StartsPendingResync, Settles}
 use Rattle.session_core.specs.Runs.{Runs, IsBegun}
 
--- it is over then, or has no fault
+-- the session is over or has no fault
 abbrev IsFaultless : SessionState → Type 0
 IsFaultless s = (s.phase ≡ phases.Ended) ⊎ (s.fault ≡ None)
 
--- it goes on without a fault
+-- the session after a step has no fault if it had none before
 keeps : (s e x : SessionState) → e ≡ x → x.fault ≡ s.fault → s.fault ≡ None → IsFaultless e
 keeps s e x ends same none = inr (ap (λ (y : SessionState). y.fault) ends ∙ (same ∙ none))
 
@@ -128,7 +128,7 @@ unfaulted_in (phases.Hello greeter bytes c) s event acts e goes none = unfaulted
 unfaulted_in (phases.Open c) s event acts e goes none = unfaulted_open s c event acts e goes none
 unfaulted_in phases.Ended s event acts e goes none = absurd goes
 
--- a session that is over goes nowhere
+-- a session that is over makes no step
 ended_stays : (phase : Phase) (s : SessionState) (event : Event) (acts : List Action) (e : SessionState) → phase ≡ phases.Ended → GoesIn phase s event acts e → ⊥
 ended_stays phases.Ended s event acts e over goes = goes
 ended_stays (phases.New hello c) s event acts e over goes = absurd (cc)

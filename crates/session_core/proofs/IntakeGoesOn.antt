@@ -1,4 +1,4 @@
--- An intake takes the message at its front, waits for more, or stops at a fault: one of them it always does.
+-- An intake always does one of three things: it takes its next message, waits for more bytes, or stops at a fault.
 use Rattle.std.proofs.Common.{◌≡◌, ◌≢◌, ◌⊎◌, ℕ, zero, suc, ◌<◌, Bool, true, false, List, [], ◌∷◌, ◌++◌, length, Option, Some, None, Result, Ok, Err, refl, sym, ap, inl, inr}
 use Rattle.std.specs.Prelude.{is_none, option_map, option_and_then, slice_index, if◌then◌else◌}
 use Rattle.std.specs.List.{cons_option}
@@ -35,9 +35,9 @@ append_good [] b one other i = other i
 append_good (x ∷ xs) b one other zero = one zero
 append_good (x ∷ xs) b one other (suc i) = append_good xs b (λ (j : ℕ). one (suc j)) other i
 
--- ---- a message that isn't refused
+-- ---- a message that is accepted
 
--- it has an effect, and the answer to it gives the updates of local tables which it carries
+-- the message has an effect, and its answer gives the updates of local tables that it carries
 abbrev IsAnswered : Taking → Message → Type 0
 IsAnswered t m =
     (effect : Effect)
@@ -46,7 +46,7 @@ IsAnswered t m =
     × (rows_of answer ≡ local_updates t.roster t.state.received (carried_by t.state m effect))
     × Answers m answer
 
--- an update of a local table is a row, and any other is passed over
+-- an update of a local table is a row; any other is ignored
 row_answered : (t : Taking) (u : UpdateFields) (x : Update) (own : Option Update) → local_update t.roster t.state.received x ≡ own
     → (answer : Taken) × (rows_of answer ≡ local_updates t.roster t.state.received (x ∷ [])) × Answers (messages.Update u) answer
 row_answered t u x None is = (taken.Passed, sym (ap (λ (o : Option Update). cons_option o []) is), refl)
@@ -57,7 +57,7 @@ answered_as t u r effect =
     let row = row_answered t u _ _ refl in
     (effects.Update r, row.0, effect, row.1, row.2)
 
--- an update that isn't refused has a table and a number
+-- an update that is accepted has a table and a number
 update_answered : (t : Taking) (u : UpdateFields) (table number : Option ℕ) → t.state.received.selected ≡ table → selected_number t.state u.number ≡ number → message_refusal t.state (messages.Update u) ≡ None → IsAnswered t (messages.Update u)
 update_answered t u table None selected is unrefused = absurd (numbered t.state u.number u.name unrefused is)
 update_answered t u None (Some number) selected is unrefused =
@@ -78,7 +78,7 @@ always_answered t (messages.Other other) unrefused = (effects.Nothing, taken.Pas
 
 -- ---- what an intake does
 
--- it waits for more; or takes a message, and then fewer bytes are left; or stops, and not for want of memory
+-- it waits for more bytes; takes a message and has fewer bytes left; or stops at a fault, though memory suffices
 abbrev pub Does : Taking → Type 0
 Does t =
     IntakeNext t (Ok None) t
@@ -111,20 +111,20 @@ never_memory s (messages.Error kind) is = cc
 never_memory s (messages.Ack table number) is = cc
 never_memory s (messages.Other other) is = cc
 
--- by whether the message at the front is refused
+-- by whether the next message is refused
 at_message : (t : Taking) (m : Message) (rest : List ℕ) (refusal : Option Refusal) → IsBytes t.unread → t.closed ≡ false → message_at t.state.received t.unread ≡ Ok (Some (m, rest)) → message_refusal t.state m ≡ refusal → Does t
 at_message t m rest None good is_open at is = takes t m rest good is_open at (always_answered t m is)
 at_message t m rest (Some refusals.NoNumber) good is_open at is = inr (inr (faults.NoNumber, shut t, (λ same. cc), (is_open, m, rest, at, ap (option_map as_fault) is, refl)))
 at_message t m rest (Some refusals.EmptySlot) good is_open at is = inr (inr (faults.EmptySlot, shut t, (λ same. cc), (is_open, m, rest, at, ap (option_map as_fault) is, refl)))
 at_message t m rest (Some refusals.Memory) good is_open at is = absurd (never_memory t.state m is)
 
--- by what stands at the front
+-- by what the unread bytes begin with
 at_front : (t : Taking) (read : Result (Option (Message × List ℕ)) Breach) → IsBytes t.unread → t.closed ≡ false → message_at t.state.received t.unread ≡ read → Does t
 at_front t (Ok None) good is_open at = inl (is_open, at, refl)
 at_front t (Ok (Some (m, rest))) good is_open at = at_message t m rest _ good is_open at refl
 at_front t (Err breach) good is_open at = inr (inr (faults.Breach breach, shut t, (λ same. cc), (is_open, at, refl)))
 
--- by whether there was a fault before
+-- by whether the intake had a fault before
 by_closed : (t : Taking) (closed : Bool) → IsBytes t.unread → t.closed ≡ closed → Does t
 by_closed t true good is = inr (inr (faults.Closed, t, (λ same. cc), (is, refl)))
 by_closed t false good is = at_front t _ good is refl

@@ -1,4 +1,4 @@
--- The messages that are whole are received up to an end.
+-- The complete messages are received up to an end.
 use Rattle.std.proofs.Common.{◌≡◌, ℕ, zero, suc, ◌<◌, Bool, true, false, List, [], ◌∷◌, ◌++◌, length, Some, Result, Ok, Err, refl, sym, subst, arith, inl, inr}
 use Rattle.peers_msg.specs.Integers.{IsBytes}
 use Rattle.peers_msg.specs.declared.control.Control.{Control}
@@ -17,7 +17,7 @@ use Rattle.session_core.specs.Sessions.{SessionState, ReceivesBytes, confirmed_b
 use Rattle.session_core.proofs.IntakeGoesOn.{Does, does}
 use Rattle.session_core.proofs.StepIsUnique.{Ends}
 
--- ---- what receiving leaves of the intake
+-- ---- what receiving leaves in the intake
 
 requested_intake : (waits : Bool) (c : Course) → (requested waits c).1.intake ≡ c.intake
 requested_intake true c = refl
@@ -41,7 +41,7 @@ received_intake c (taken.Said control) = said_intake c control
 received_intake c (taken.Acked table number) = acknowledged_intake _ c table number
 received_intake c (taken.Failed kind) = refl
 
--- what is left unread are bytes
+-- the unread values are all bytes
 pub received_good : (c e : Course) (ts : List Taken) (acts : List Action) → IsBytes c.intake.unread → AreReceived c ts acts e → IsBytes e.intake.unread
 received_good c e [] acts good (none, here) = subst (λ (x : Course). IsBytes x.intake.unread) (sym here) good
 received_good c e (t ∷ ts) acts good (mid, rest, (whole, (m, takes, answers), then), all, later) =
@@ -53,7 +53,7 @@ received_good c e (t ∷ ts) acts good (mid, rest, (whole, (m, takes, answers), 
 abbrev AreAllReceived : Course → Type 0
 AreAllReceived c = (ts : List Taken) × (acts : List Action) × (m : Course) × (end : Result (Unit {0}) Halt) × AreReceived c ts acts m × Ends m end
 
--- courses with fewer bytes are all received
+-- courses with fewer unread bytes receive all their messages
 abbrev IsLater : ℕ → Type 0
 IsLater n = (d : Course) → length d.intake.unread < n → IsBytes d.intake.unread → AreAllReceived d
 
@@ -97,7 +97,7 @@ concluded s c m first given ts (Err (halts.Fault fault)) receives ends =
     )
 concluded s c m first given ts (Err halts.Memory) receives ends = absurd ends
 
--- bytes that come to a course are received
+-- bytes fed to a course are received
 pub received_some : (s : SessionState) (c : Course) (first : List Action) → IsBytes c.intake.unread → (acts : List Action) × (e : SessionState) × ReceivesBytes s c first acts e
 received_some s c first good =
     let out = received_out (suc (length c.intake.unread)) c (omega arith) good in

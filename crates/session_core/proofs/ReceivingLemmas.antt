@@ -9,7 +9,7 @@ use Rattle.session_core.specs.declared.action.Action.{Action}
 use Rattle.session_core.specs.declared.halt.Halt.TheVariants as halts
 use Rattle.session_core.specs.Courses.{Course, course_fed, message_received, Receives, AreReceived, IsHalted, halt_of}
 
--- one message more
+-- one more message
 pub received_more : (c mid e : Course) (ts : List Taken) (t : Taken) (acts : List Action) → AreReceived c ts acts mid → Receives mid t e → AreReceived c (ts ++ (t ∷ [])) (acts ++ (message_received e t).0) (message_received e t).1
 received_more c mid e [] t acts (none, here) receives =
     let begins : Receives c t e = subst (λ (x : Course). Receives x t e) here receives in
@@ -18,7 +18,7 @@ received_more c mid e (k ∷ ts) t acts (next, rest, first, all, later) receives
     let grouped : acts ++ (message_received e t).0 ≡ (message_received next k).0 ++ (rest ++ (message_received e t).0) = rw all (simp append_assoc) in
     (next, rest ++ (message_received e t).0, first, grouped, received_more (message_received next k).1 mid e ts t rest later receives)
 
--- bytes that aren't taken, though there is memory
+-- bytes that the intake refuses, though memory suffices
 pub feed_halts : (c : Course) (bytes : List ℕ) (fault : Fault) (e : Taking) → IntakeFeeds c.intake bytes (Err fault) e → halt_of fault ≢ halts.Memory → IsHalted (course_fed c bytes) (halt_of fault)
 feed_halts c bytes faults.Memory e feeds other = absurd (other refl)
 feed_halts c bytes faults.Closed e feeds other = ((λ same. cc), fed c.intake bytes, (feeds.0, refl))

@@ -1,4 +1,4 @@
--- A resync ends only where all is taught.
+-- A resync ends only once everything is taught.
 use Rattle.std.proofs.Common.{◌≡◌, ℕ, Bool, true, false, List, [], ◌∷◌, ◌++◌, Some, None, Option, Ok, Err, Result, refl, sym, ap, ◌∙◌, subst, inl, inr, append_assoc, cond, ◌==◌}
 use Rattle.std.specs.Prelude.{drop}
 use Rattle.std.specs.List.{AllByRecursion}
@@ -54,11 +54,11 @@ begun_kept roster s (inr (own, peers, up_to_date, is)) = subst (λ (x : SessionS
 
 -- ---- the step that ends a resync
 
--- nothing is out then, and no table has anything left
+-- no batch is outstanding then, and no table has anything left to teach
 abbrev HasTaughtAll : List Definition → List (Event × List Action) → SessionState → Event → List Action → Type 0
 HasTaughtAll roster steps s event acts = HasNothingOut s × AllByRecursion (λ d. HasNothingLeft (with_step steps event acts) d.id) roster
 
--- what ends no resync
+-- actions that end no resync
 no_end : {X : Type 0} (acts given : List Action) → acts ≡ given → ends_resync given ≡ false → ends_resync acts ≡ true → X
 no_end acts given is plain ends = absurd (false≢true (sym plain ∙ (sym (ap ends_resync is) ∙ ends)))
 
@@ -132,7 +132,7 @@ no_end_settles settles.All s c table acts e starts ends = no_end_starts _ s _ ac
 no_end_settles settles.Some s c table acts e (is, then) ends = no_end acts [] is refl ends
 no_end_settles settles.Older s c table acts e (is, then) ends = no_end acts [] is refl ends
 
--- one table made quiet: those that are out stay out
+-- making one table quiet leaves the outstanding batches as they were
 quiet_keeps_out : (table : ℕ) (ss : List Share) → any_out (quiet_set table ss) ≡ any_out ss
 quiet_keeps_out table [] = refl
 quiet_keeps_out table (s ∷ ss) = rw (one_keeps_out (s.table == table) s, quiet_keeps_out table ss) refl

@@ -1,4 +1,4 @@
--- What every run keeps.
+-- What every run preserves.
 use Rattle.std.proofs.Common.{◌≡◌, ℕ, Bool, true, false, not, List, [], ◌∷◌, ◌++◌, refl, sym, ap, ◌∙◌, subst, append_assoc}
 use Rattle.std.specs.List.{list_all, AllByRecursion}
 use Rattle.std.proofs.lemmas.Bool.{false≢true}
@@ -22,20 +22,21 @@ use Rattle.session_core.specs.Courses.{Course, message_received, said, requested
 use Rattle.session_core.specs.Runs.{is_reopen_of, reopened, IsLeft, HasNothingLeft}
 use Rattle.session_core.proofs.ShareLemmas.{shares_in, never, unquieted_in, IsFree}
 
--- ---- one step more
+-- ---- one more step
 
 all_and_one : {X : Type 0} (P : X → Type 0) (xs : List X) (x : X) → AllByRecursion P xs → P x → AllByRecursion P (xs ++ (x ∷ []))
 all_and_one P [] x all one = (one, tt)
 all_and_one P (y ∷ ys) x all one = (all.0, all_and_one P ys x all.1 one)
 
--- what has nothing left has nothing left after a step that doesn't copy from it
+-- a table with nothing left to teach stays so after a step that neither copies from it nor reopens it
 pub left_more : (steps : List (Event × List Action)) (id : ℕ) (event : Event) (acts : List Action) → HasNothingLeft steps id → IsLeft id acts → HasNothingLeft (steps ++ ((event, acts) ∷ [])) id
 left_more steps id event acts (before, given, since, is, still, none) left =
     (before, given, since ++ ((event, acts) ∷ []), rw is (simp append_assoc), still, all_and_one (λ step. IsLeft id step.1) since (event, acts) none left)
 
--- ---- what is kept
+-- ---- what is preserved
 
--- the flags of the tables are functions of their ids, and in a resync what is quiet isn't out, and has nothing left
+-- the flags of the tables depend on their ids alone; in a resync a quiet table has no batch outstanding and nothing
+-- left to teach
 abbrev pub AreFlags : List ℕ → List (Event × List Action) → Bool → List Share → (ℕ → Bool) → (ℕ → Bool) → Type 0
 AreFlags ids steps teaching ss out quiet =
     (ss ≡ shares_in ids out quiet)
@@ -48,7 +49,7 @@ is_copy_due d = false
 abbrev pub no_copies : List Due → Bool
 no_copies due = list_all (λ d. not (is_copy_due d)) due
 
--- a copy that is due is due alone, and was asked for last, from a table that is free
+-- a copy that is due is the only copy due and was asked for last, from a table that may be copied
 abbrev pub IsDueSound : List (Event × List Action) → Bool → (ℕ → Bool) → (ℕ → Bool) → List Due → Type 0
 IsDueSound steps teaching out quiet [] = Unit {0}
 IsDueSound steps teaching out quiet (dues.Copy id ∷ rest) =
@@ -65,7 +66,7 @@ IsSound ids steps c =
     × AreFlags ids steps c.teaching c.shares out quiet
     × IsDueSound steps c.teaching out quiet c.due
 
--- the same where no copy is due
+-- the same if no copy is due
 abbrev pub IsCalm : List ℕ → List (Event × List Action) → Course → Type 0
 IsCalm ids steps c =
     (out : ℕ → Bool)
@@ -99,7 +100,7 @@ calm_sound ids steps c (out, quiet, flags, none) = (out, quiet, flags, due_sound
 pub fresh_calm : (ids : List ℕ) (steps : List (Event × List Action)) (c : Course) → IsFresh ids c → IsCalm ids steps c
 fresh_calm ids steps c (shares, ready, none) = (never, never, (shares, λ teaching. absurd (false≢true (sym ready ∙ teaching))), rw none refl)
 
--- a step that leaves the tables that are quiet
+-- a step that neither copies from the quiet tables nor reopens them
 pub flags_more : (ids : List ℕ) (steps : List (Event × List Action)) (teaching : Bool) (ss : List Share) (out quiet : ℕ → Bool) (event : Event) (acts : List Action) → (teaching ≡ true → (id : ℕ) → quiet id ≡ true → IsLeft id acts) → AreFlags ids steps teaching ss out quiet → AreFlags ids (steps ++ ((event, acts) ∷ [])) teaching ss out quiet
 flags_more ids steps teaching ss out quiet event acts leaves (shares, left) =
     (shares, λ is id quiets. ((left is id quiets).0, left_more steps id event acts (left is id quiets).1 (leaves is id quiets)))
@@ -158,7 +159,7 @@ calm_received ids steps given c (taken.Failed kind) calm = calm_still ids steps 
 calm_receives : (ids : List ℕ) (steps : List (Event × List Action)) (given : List Action) (c e : Course) (t : Taken) → Receives c t e → IsCalmAfter ids steps given c → IsCalmAfter ids steps given e
 calm_receives ids steps given c e t (no_failure, gives, is) calm = subst (IsCalmAfter ids steps given) (sym is) calm
 
--- messages received keep it
+-- receiving messages preserves it
 calm_all : (ids : List ℕ) (steps : List (Event × List Action)) (given : List Action) (c e : Course) (ts : List Taken) (acts : List Action) → AreReceived c ts acts e → IsCalmAfter ids steps given c → IsCalmAfter ids steps (given ++ acts) e
 calm_all ids steps given c e [] acts (none, here) calm =
     subst (λ (xs : List Action). IsCalmAfter ids steps (given ++ xs) e) (sym none) (subst (IsCalmAfter ids steps (given ++ [])) (sym here) (calm_still ids steps given [] c (λ id. refl) calm))

@@ -1,4 +1,4 @@
--- Tables whose flags are functions of their ids.
+-- Tables whose flags depend on their ids alone.
 use Rattle.std.proofs.Common.{◌≡◌, ℕ, Bool, true, false, ◌&&◌, ◌==◌, not, List, [], ◌∷◌, Some, None, Option, refl, sym, ap, ◌∙◌, cond, subst, ◌⊎◌, inl, inr}
 use Rattle.std.specs.Prelude.{map, is_some}
 use Rattle.std.specs.List.{AllByRecursion}
@@ -20,7 +20,7 @@ ids_of roster = map (λ d. d.id) roster
 abbrev pub never : ℕ → Bool
 never id = false
 
--- the flag of one id set
+-- the flags, with that of one id set
 abbrev pub set_at : ℕ → Bool → (ℕ → Bool) → ℕ → Bool
 set_at table flag flags id = cond (id == table) flag (flags id)
 
@@ -63,7 +63,7 @@ may_facts true false true may = absurd (false≢true may)
 may_facts true false false may = (refl, λ _. refl)
 may_facts false false quiet may = (refl, λ is. absurd (false≢true is))
 
--- a batch may be copied from the table of that id
+-- a batch may be copied from the table with this id
 abbrev pub IsFree : Bool → (ℕ → Bool) → (ℕ → Bool) → ℕ → Type 0
 IsFree teaching out quiet id = (out id ≡ false) × (teaching ≡ true → quiet id ≡ false)
 
@@ -126,7 +126,7 @@ and_right : (a b : Bool) → (a && b) ≡ true → b ≡ true
 and_right true b both = both
 and_right false b both = absurd (false≢true both)
 
--- where each quiet table is not out, and all are quiet, none is out
+-- if no quiet table has a batch outstanding, and all are quiet, no batch is outstanding
 pub none_out : (ids : List ℕ) (out quiet : ℕ → Bool) → ((id : ℕ) → quiet id ≡ true → out id ≡ false) → all_quiet (shares_in ids out quiet) ≡ true → any_out (shares_in ids out quiet) ≡ false
 none_out [] out quiet not_out all = refl
 none_out (id ∷ ids) out quiet not_out all =

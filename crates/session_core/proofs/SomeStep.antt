@@ -1,4 +1,4 @@
--- An event that may come has a step.
+-- Every event that may happen has a step.
 use Rattle.std.proofs.Common.{◌≡◌, ℕ, Bool, true, false, List, [], ◌∷◌, ◌++◌, Option, Some, None, refl, ap, ◌∙◌}
 use Rattle.std.specs.Prelude.{◌==◌, drop}
 use Rattle.std.specs.List.{AllByRecursion}
@@ -97,7 +97,7 @@ one_due dues.Teach (dues.Ack b) is = absurd (false≢true is)
 one_due (dues.Ack a) (dues.Copy b) is = absurd (false≢true is)
 one_due (dues.Ack a) dues.Teach is = absurd (false≢true is)
 
--- what is due first can be answered
+-- the first answer due can be given
 answered_by : (c : Course) (d : Due) (due : List Due) → c.due ≡ due → is_due d due ≡ true → (mid : Course) × Answered c d mid
 answered_by c d [] at is = absurd (false≢true is)
 answered_by c d (first ∷ rest) at is = (record c { due = rest }, (at ∙ ap (λ (x : Due). x ∷ rest) (one_due first d is), refl))

@@ -1,4 +1,4 @@
--- A session does one thing at an event.
+-- A session's step at an event is unique.
 use Rattle.std.proofs.Common.{◌≡◌, ◌≢◌, ℕ, Bool, true, false, List, [], ◌∷◌, ◌++◌, Option, Some, None, Result, Ok, Err, refl, sym, ap, subst, ◌∙◌, drop}
 use Rattle.table_types.specs.declared.copies.Settled.{Settled}
 use Rattle.table_types.specs.declared.copies.Settled.TheVariants as settles
@@ -31,28 +31,28 @@ use Rattle.session_core.specs.declared.phase.Phase.TheVariants as phases
 use Rattle.session_core.specs.Courses.{Course, AreReceived, Answered, Receives, ReceivesAll, IsHalted, acks_sent, course_fed, message_received, is_failure, table_to_ask}
 use Rattle.session_core.specs.Sessions.{SessionState, Accepts, Concludes, Connects, FinishesResync, Goes, GoesHello, GoesIn, GoesNew, GoesOpen, Greets, HasNothing, IsCopied, IsWelcomed, ReceivesBytes, Settles, StartsPendingResync, Turns, confirmed_by, ended, going}
 
--- what both are is the same
+-- two results that equal the same result are equal
 both : {given acts others : List Action} → {then e end : SessionState} → (acts ≡ given) × (e ≡ then) → (others ≡ given) × (end ≡ then) → (acts ≡ others) × (e ≡ end)
 both p q = (p.0 ∙ sym q.0, p.1 ∙ sym q.1)
 
--- where a session stands by what it asks for
+-- the actions determine the session after the step
 same_end : (s e end : SessionState) (by : List Action → SessionState) (acts others : List Action) → acts ≡ others → e ≡ by acts → end ≡ by others → (acts ≡ others) × (e ≡ end)
 same_end s e end by acts others same p q = (same, p ∙ ap by same ∙ sym q)
 
 -- ---- messages one after another
 
--- what ends the messages that are received, by what the intake answers: none where another message is received
+-- what ends the received messages, by the answer of the intake; none if another message is received
 abbrev ending : Result (Option Taken) Fault → Option (Result (Unit {0}) Halt)
 ending (Ok None) = Some (Ok tt)
 ending (Ok (Some (taken.Failed kind))) = Some (Err halts.Failed)
 ending (Ok (Some t)) = None
 ending (Err fault) = Some (Err (halts.Fault fault))
 
--- the intake answers that
+-- the intake gives this answer, and doesn't run out of memory
 abbrev Shows : Course → Option (Result (Unit {0}) Halt) → Taking → Result (Option Taken) Fault → Type 0
 Shows c end e answer = IntakeNext c.intake answer e × (answer ≢ Err faults.Memory) × (ending answer ≡ end)
 
--- what halts, but want of memory
+-- no complete message is left, or one halts the session, though memory suffices
 abbrev pub Ends : Course → Result (Unit {0}) Halt → Type 0
 Ends c (Ok _) = IntakeNext c.intake (Ok None) c.intake
 Ends c (Err halts.Memory) = ⊥
@@ -107,7 +107,7 @@ one_received c mid next t u receives again =
     let same = intake_next_once c.intake mid.intake next.intake (Ok (Some t)) (Ok (Some u)) receives.1 again.1 (some_answer (Some t)) (some_answer (Some u)) in
     (taken_of t u same.0, receives.2 ∙ ap (λ (x : Taking). record c { intake = x }) same.1 ∙ sym again.2)
 
--- from one course the messages are received up to one end, and ask for the same
+-- the messages of a course are received up to one end, and ask for the same actions
 all_received_once : (c m n : Course) (ts us : List Taken) (acts others : List Action) (a b : Result (Unit {0}) Halt)
     → AreReceived c ts acts m → AreReceived c us others n → Ends m a → Ends n b → (acts ≡ others) × (m ≡ n) × (a ≡ b)
 all_received_once c m n [] [] acts others a b one again ends ends' =
@@ -124,7 +124,7 @@ all_received_once c m n (t ∷ ts) (u ∷ us) acts others a b (mid, rest, receiv
     let asked : acts ≡ others = is ∙ ap (λ (x : List Action). (message_received mid t).0 ++ x) all.0 ∙ ap (λ (x : List Action × Course). x.0 ++ rest') (sym moved) ∙ sym is' in
     (asked, all.1, all.2)
 
--- bytes were received: which messages were received, up to what, and what followed
+-- bytes were received: which messages, up to which end, and what followed
 abbrev Received : SessionState → Course → List Action → Result (Unit {0}) Halt → List Action → List Action → SessionState → Type 0
 Received s c first end given acts e =
     (ts : List Taken) × (m : Course) × AreReceived c ts given m × Ends m end × Concludes s m end (first ++ given) acts e
@@ -209,7 +209,7 @@ hello_once s e end greeter bytes c (events.Refused table) acts others p q = absu
 same_tail : (d : Due) (ds others : List Due) → d ∷ ds ≡ d ∷ others → ds ≡ others
 same_tail d ds others same = cc
 
--- what is due first is answered in one way
+-- the first answer due is given in one way
 answered_once : (c mid next : Course) (d : Due) → Answered c d mid → Answered c d next → next ≡ mid
 answered_once c mid next d p q =
     q.1 ∙ ap (λ (x : List Due). record c { due = x }) (same_tail d next.due mid.due (sym q.0 ∙ p.0)) ∙ sym p.1

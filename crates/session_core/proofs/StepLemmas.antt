@@ -1,4 +1,4 @@
--- Each step of a session keeps what every run keeps.
+-- Each step of a session preserves what every run preserves.
 use Rattle.std.proofs.Common.{◌≡◌, ℕ, Bool, true, false, List, [], ◌∷◌, ◌++◌, Some, None, Option, Ok, Err, Result, refl, sym, ap, ◌∙◌, subst, inl, inr, append_assoc, cond}
 use Rattle.std.specs.Prelude.{is_some, drop}
 use Rattle.std.proofs.lemmas.Bool.{cases_eq, eq-eqb, ne_eqb, false≢true}
@@ -41,7 +41,7 @@ use Rattle.session_core.proofs.RunLemmas.{IsSound, IsCalm, IsFresh, IsKeptIn, Ar
 abbrev pub with_step : List (Event × List Action) → Event → List Action → List (Event × List Action)
 with_step steps event acts = steps ++ ((event, acts) ∷ [])
 
--- the session stands there
+-- the session after the step is in this phase
 stands : (ids : List ℕ) (steps : List (Event × List Action)) (e : SessionState) (phase : Phase) → e.phase ≡ phase → IsKeptIn ids steps phase → IsKeptIn ids steps e.phase
 stands ids steps e phase is kept = subst (IsKeptIn ids steps) (sym is) kept
 
@@ -150,16 +150,16 @@ turns_kept ids steps (Some table) s c acts e asks (out, quiet, flags, none) (is,
 
 -- ---- answers
 
--- what is due after the first is no copy
+-- no copy is due after the first answer
 rest_none : (ids : List ℕ) (steps : List (Event × List Action)) (c : Course) (d : Due) (rest : List Due) (out quiet : ℕ → Bool) → c.due ≡ d ∷ rest → IsDueSound steps c.teaching out quiet c.due → no_copies rest ≡ true
 rest_none ids steps c d rest out quiet due sound = due_rest steps c.teaching out quiet d rest (subst (IsDueSound steps c.teaching out quiet) due sound)
 
--- what is due first is answered, and nothing else changes
+-- an event that asks for nothing and leaves the course calm
 stays_kept : (ids : List ℕ) (steps : List (Event × List Action)) (s : SessionState) (c : Course) (acts : List Action) (e : SessionState) (event : Event) → IsCalm ids steps c → acts ≡ [] → e.phase ≡ phases.Open c → IsKeptIn ids (with_step steps event acts) e.phase
 stays_kept ids steps s c acts e event calm is ends =
     stands ids (with_step steps event acts) e (phases.Open c) ends (calm_sound ids (with_step steps event acts) c (calm_more ids steps c event acts (λ id. rw is (refl, refl)) calm))
 
--- a table that is free isn't one that is quiet
+-- a table that may be copied differs from one that is quiet
 set_other : (flag : Bool) (table id : ℕ) (out quiet : ℕ → Bool) → quiet table ≡ false → quiet id ≡ true → set_at table flag out id ≡ out id
 set_other flag table id out quiet not_quiet quiets =
     elim (cases_eq id table) [
@@ -181,13 +181,13 @@ copied_kept ids steps s c table batch rest acts e event (out, quiet, flags, soun
       here.0,
     )
 
--- the copy that is answered is the last thing asked for
+-- the copy that is answered was asked for last
 answered_left : (steps before : List (Event × List Action)) (table : ℕ) (teaching : Bool) (acts : List Action) → teaching ≡ true → steps ≡ before ++ ((events.Turn, actions.Copy table (kind_of teaching) ∷ []) ∷ []) → reopened table acts ≡ false → HasNothingLeft (with_step steps (events.Nothing table) acts) table
 answered_left steps before table teaching acts is_teaching last still =
     let resync : steps ≡ before ++ ((events.Turn, actions.Copy table kinds.Resync ∷ []) ∷ []) = last ∙ rw is_teaching refl in
     (before, acts, [], rw resync (simp append_assoc), still, tt)
 
--- what is known of the tables that are quiet once one more is
+-- what is known of the quiet tables after one more becomes quiet
 quiet_left : (steps before : List (Event × List Action)) (table id : ℕ) (out quiet : ℕ → Bool) (teaching : Bool) (acts : List Action) → teaching ≡ true → IsFree teaching out quiet table → steps ≡ before ++ ((events.Turn, actions.Copy table (kind_of teaching) ∷ []) ∷ []) → IsLeft id acts → ((other : ℕ) → quiet other ≡ true → (out other ≡ false) × HasNothingLeft steps other) → set_at table true quiet id ≡ true → (out id ≡ false) × HasNothingLeft (with_step steps (events.Nothing table) acts) id
 quiet_left steps before table id out quiet teaching acts is_teaching free last leaves left quiets =
     elim (cases_eq id table) [
@@ -197,7 +197,7 @@ quiet_left steps before table id out quiet teaching acts is_teaching free last l
           ((left id was).0, left_more steps id (events.Nothing table) acts (left id was).1 leaves)
     ]
 
--- the tables of a course in which one more is quiet
+-- the tables of a course after one more becomes quiet
 pub quieted : (ids : List ℕ) (steps : List (Event × List Action)) (c : Course) (table : ℕ) (rest : List Due) (acts : List Action) → IsSound ids steps c → c.due ≡ dues.Copy table ∷ rest → c.teaching ≡ true → ((id : ℕ) → IsLeft id acts) → (out : ℕ → Bool) × (quiet : ℕ → Bool) × AreFlags ids (with_step steps (events.Nothing table) acts) c.teaching (quiet_set table c.shares) out quiet × (no_copies rest ≡ true)
 quieted ids steps c table rest acts (out, quiet, flags, sound) due teaching leaves =
     let here : IsDueSound steps c.teaching out quiet (dues.Copy table ∷ rest) = subst (IsDueSound steps c.teaching out quiet) due sound in (
@@ -220,7 +220,7 @@ finishes_kept ids steps false s c table rest acts e sound due teaching (is, ends
     stands ids (with_step steps (events.Nothing table) acts) e (phases.Open (record c { shares = quiet_set table c.shares; due = rest })) (ap (λ (x : SessionState). x.phase) ends)
     (q.0, q.1, q.2, due_sound _ c.teaching q.0 q.1 rest q.3)
 
--- the course after an answer keeps the flags
+-- an answer leaves the flags as they were
 answered_calm : (ids : List ℕ) (steps : List (Event × List Action)) (c : Course) (d : Due) (rest : List Due) → IsSound ids steps c → c.due ≡ d ∷ rest → IsCalm ids steps (record c { due = rest })
 answered_calm ids steps c d rest (out, quiet, flags, sound) due = (out, quiet, flags, rest_none ids steps c d rest out quiet due sound)
 
@@ -229,7 +229,7 @@ nothing_kept ids steps true s c table rest acts e sound due teaching has = finis
 nothing_kept ids steps false s c table rest acts e sound due teaching (is, ends) =
     stays_kept ids steps s (record c { due = rest }) acts e (events.Nothing table) (answered_calm ids steps c (dues.Copy table) rest sound due) is (ap (λ (x : SessionState). x.phase) ends)
 
--- a flag that is set to what all quiet tables have
+-- an id whose flag is false keeps it when a flag is set to false
 set_false : (table id : ℕ) (out : ℕ → Bool) → out id ≡ false → set_at table false out id ≡ false
 set_false table id out is =
     elim (cases_eq id table) [

@@ -18,16 +18,16 @@ control_text control = 0 ∷ (control_type control ∷ [])
 abbrev pub sends_control : Control → Action
 sends_control control = actions.Send (control_text control)
 
--- a status: its code in digits, and LF
+-- a status line: its code in digits, and LF
 abbrev pub status_text : ℕ → List ℕ
 status_text code = decimal code ++ codes "\n"
 
--- the acknowledgements that are due are one Send, where there are any
+-- one Send of the acknowledgements that are due, if there are any
 abbrev pub sends_acks : List Message → List Action
 sends_acks [] = []
 sends_acks (m ∷ ms) = actions.Send (stream_of (m ∷ ms)) ∷ []
 
--- the session is closed and opened anew in each table, in roster order
+-- a Reopen for each table, in roster order
 abbrev pub reopens : List Share → List Action
 reopens ss = map (λ s. actions.Reopen s.table) ss
 
@@ -37,6 +37,6 @@ abbrev pub is_confirmation : Action → Bool
 is_confirmation (actions.Send bytes) = is_same bytes (control_text controls.ResyncConfirmed)
 is_confirmation action = false
 
--- one of the actions sends that a resync is confirmed
+-- one of the actions sends resync confirmed
 abbrev pub confirms : List Action → Bool
 confirms acts = list_any is_confirmation acts

@@ -1,5 +1,5 @@
--- The course of a session that is open, and what each message of the remote peer does to it (HAProxy, doc/peers-v2.0.txt,
--- "Control Messages"; the rules of a resync are this profile's).
+-- The course of an open session, and how each message of the remote peer changes it (HAProxy, doc/peers-v2.0.txt,
+-- "Control Messages"; the rules of a resync are this node's own).
 use Rattle.std.specs.Prelude.{◌≡◌, ◌≢◌, ℕ, Bool, true, false, ◌==◌, List, [], ◌∷◌, ◌++◌, Option, None, Result, Ok, Err, if◌then◌else◌}
 use Rattle.table_types.specs.Tables.{Definition}
 use Rattle.table_types.specs.declared.copies.CopyKind.{CopyKind}
@@ -24,9 +24,9 @@ use Rattle.session_core.specs.declared.halt.Halt.TheVariants as halts
 use Rattle.session_core.specs.Shares.{any_out, is_out, shares_of, unquieted, next_table}
 use Rattle.session_core.specs.Actions.{reopens, sends_control, sends_acks}
 
--- What was taken of the remote peer's messages; whether this node is itself up to date; the tables, in roster order; the
--- one asked last; whether the remote peer is taught all rows; whether its request for that waits; and which actions aren't
--- answered yet, the first due first.
+-- What was received from the remote peer; whether this node is up to date itself; the tables, in roster order; the
+-- table that was last asked for a batch; whether the remote peer is being taught every row; whether its resync request
+-- is deferred; and the actions not answered yet, in the order in which their answers are due.
 pub record Course : Type 0 where
   pub intake : Taking
   pub up_to_date : Bool
@@ -36,32 +36,32 @@ pub record Course : Type 0 where
   pub waits : Bool
   pub due : List Due
 
--- no message came yet
+-- before any message
 abbrev pub course_begun : List Definition → Bool → Course
 course_begun roster up_to_date = record { intake = begun roster; up_to_date = up_to_date; shares = shares_of roster; asked = None; teaching = false; waits = false; due = [] }
 
--- bytes of messages come
+-- bytes of messages are received
 abbrev pub course_fed : Course → List ℕ → Course
 course_fed c bytes = record c { intake = fed c.intake bytes }
 
--- a resync begins: none is quiet
+-- a resync begins: no table is quiet
 abbrev pub teaching_anew : Course → Course
 teaching_anew c = record c { shares = unquieted c.shares; teaching = true; waits = false }
 
 -- ---- one message
 
--- A request for a resync: where a batch is out it waits; else the session is reopened in each table, and teaching
--- begins.
+-- A resync request is deferred while a batch is outstanding. Otherwise the session is reopened in each table, and
+-- teaching begins.
 abbrev pub requested : Bool → Course → List Action × Course
 requested true c = ([], record c { waits = true })
 requested false c = (reopens c.shares, teaching_anew c)
 
--- an acknowledgement of a table that is out is passed on, and its answer is due; any other is passed over
+-- an acknowledgement of a table with an outstanding batch is passed on, and its answer is due; any other is ignored
 abbrev pub acknowledged : Bool → Course → ℕ → ℕ → List Action × Course
 acknowledged true c table number = (actions.Ack table number ∷ [], record c { due = c.due ++ (dues.Ack table ∷ []) })
 acknowledged false c table number = ([], c)
 
--- the end of a resync is confirmed, asked for or not
+-- the end of a resync is answered with resync confirmed, whether this node requested the resync or not
 abbrev pub said : Course → Control → List Action × Course
 said c controls.ResyncRequest = requested (any_out c.shares) c
 said c controls.ResyncFinished = (sends_control controls.ResyncConfirmed ∷ [], c)
@@ -69,7 +69,7 @@ said c controls.ResyncPartial = (sends_control controls.ResyncConfirmed ∷ [], 
 said c controls.ResyncConfirmed = ([], c)
 said c controls.Heartbeat = ([], c)
 
--- what a message asks for, and the course then
+-- the actions that a message asks for, and the course after it
 abbrev pub message_received : Course → Taken → List Action × Course
 message_received c (taken.Row u) = (actions.Learn u ∷ [], c)
 message_received c taken.Passed = ([], c)
@@ -79,12 +79,12 @@ message_received c (taken.Failed kind) = ([], c)
 
 -- ---- messages one after another
 
--- an error message ends the session
+-- an error message, which ends the session
 abbrev pub is_failure : Taken → Bool
 is_failure (taken.Failed kind) = true
 is_failure t = false
 
--- the message at the front is taken off the bytes, and isn't an error message
+-- the next message is taken, and isn't an error message
 abbrev pub Receives : Course → Taken → Course → Type 0
 Receives c t e = (is_failure t ≡ false) × Gives c.intake (Ok t) e.intake × (e ≡ record c { intake = e.intake })
 
@@ -98,18 +98,18 @@ AreReceived c (t ∷ ts) acts e =
     × (acts ≡ (message_received mid t).0 ++ rest)
     × AreReceived (message_received mid t).1 ts rest e
 
--- why the message at the front isn't received: it is an error message, or the intake has a fault
+-- why the next message isn't received: it is an error message, or the intake has a fault
 abbrev pub IsHalted : Course → Halt → Type 0
 IsHalted c halts.Failed = (kind : ErrorKind) × (e : Taking) × Gives c.intake (Ok (taken.Failed kind)) e
 IsHalted c (halts.Fault fault) = (fault ≢ faults.Memory) × (e : Taking) × Stops c.intake fault e
 IsHalted c halts.Memory = Unit {0}
 
--- want of memory is no fault of the remote peer
+-- running out of memory is no fault of the remote peer
 abbrev pub halt_of : Fault → Halt
 halt_of faults.Memory = halts.Memory
 halt_of fault = halts.Fault fault
 
--- The messages that are whole are received one after another, up to the first that halts.
+-- The complete messages are received one after another, up to the first that halts the session.
 abbrev pub ReceivesAll : Course → Result (Unit {0}) Halt → List Action → Course → Type 0
 ReceivesAll c (Ok _) acts e = (ts : List Taken) × AreReceived c ts acts e × IntakeNext e.intake (Ok None) e.intake
 ReceivesAll c (Err halt) acts e = (ts : List Taken) × (mid : Course) × AreReceived c ts acts mid × IsHalted mid halt
@@ -123,12 +123,12 @@ acks_given c = sends_acks (acks_of c.intake)
 
 -- ---- a turn
 
--- rows of this node's own, or in a resync all rows
+-- this node's own rows, or every row in a resync
 abbrev pub kind_of : Bool → CopyKind
 kind_of true = kinds.Resync
 kind_of false = kinds.Push
 
--- the table that a turn asks: none while a resync request waits
+-- the table that a turn asks for a batch; none while a resync request is deferred
 abbrev pub table_to_ask : Course → Option ℕ
 table_to_ask c = if c.waits then None else next_table c.teaching c.asked c.shares
 
@@ -140,7 +140,7 @@ is_same_due dues.Teach dues.Teach = true
 is_same_due (dues.Ack a) (dues.Ack b) = a == b
 is_same_due a b = false
 
--- what is due first is that
+-- d is the first answer due
 abbrev pub is_due : Due → List Due → Bool
 is_due d [] = false
 is_due d (first ∷ rest) = is_same_due first d
@@ -149,16 +149,16 @@ abbrev pub none_due : List Due → Bool
 none_due [] = true
 none_due (d ∷ ds) = false
 
--- what is due first is that, and is answered; what follows it stays due
+-- d is the first answer due and is given; the others stay due
 abbrev pub Answered : Course → Due → Course → Type 0
 Answered c d e = (c.due ≡ d ∷ e.due) × (e ≡ record c { due = e.due })
 
--- all rows were taught: resync finished, or partial where this node isn't itself up to date
+-- how a resync ends: finished, or partial if this node isn't up to date itself
 abbrev pub finished : Bool → Control
 finished true = controls.ResyncFinished
 finished false = controls.ResyncPartial
 
--- ---- what can be read
+-- ---- what a caller can read
 
 abbrev pub state_of_course : Bool → State
 state_of_course true = states.Teaching

@@ -1,4 +1,4 @@
--- Runs of a session, and what stands where it ends a resync.
+-- Runs of a session, and what holds when it ends a resync.
 use Rattle.std.specs.Prelude.{◌≡◌, ◌⊎◌, ℕ, Bool, false, ◌==◌, ◌||◌, List, [], ◌∷◌, ◌++◌}
 use Rattle.std.specs.List.{list_any, AllByRecursion}
 use Rattle.table_types.specs.Tables.{Definition}
@@ -18,12 +18,12 @@ use Rattle.session_core.specs.Shares.{any_out}
 use Rattle.session_core.specs.Courses.{Course}
 use Rattle.session_core.specs.Sessions.{SessionState, Goes, connecting, accepting}
 
--- the events that came one after another, each with the actions that it asked for
+-- the events of a run in order, each with the actions that it asked for
 abbrev pub Runs : SessionState → List (Event × List Action) → SessionState → Type 0
 Runs s [] e = e ≡ s
 Runs s (step ∷ steps) e = (mid : SessionState) × Goes s step.0 step.1 mid × Runs mid steps e
 
--- a session of that roster at its beginning
+-- a new session for the roster
 abbrev pub IsBegun : List Definition → SessionState → Type 0
 IsBegun roster s =
     ((hello : Hello) × (up_to_date : Bool) × (s ≡ connecting hello roster up_to_date))
@@ -37,7 +37,7 @@ is_end action = false
 abbrev pub ends_resync : List Action → Bool
 ends_resync acts = list_any is_end acts
 
--- an action that copies from the table of that id
+-- an action that copies from the table with this id
 abbrev pub is_copy_of : ℕ → Action → Bool
 is_copy_of table (actions.Copy other kind) = other == table
 is_copy_of table action = false
@@ -45,7 +45,7 @@ is_copy_of table action = false
 abbrev pub copies : ℕ → List Action → Bool
 copies table acts = list_any (is_copy_of table) acts
 
--- an action that closes the session and opens it anew in the table of that id
+-- an action that reopens the session in the table with this id
 abbrev pub is_reopen_of : ℕ → Action → Bool
 is_reopen_of table (actions.Reopen other) = other == table
 is_reopen_of table action = false
@@ -53,12 +53,12 @@ is_reopen_of table action = false
 abbrev pub reopened : ℕ → List Action → Bool
 reopened table acts = list_any (is_reopen_of table) acts
 
--- the table of that id is neither copied from nor reopened
+-- the table with this id is neither copied from nor reopened
 abbrev pub IsLeft : ℕ → List Action → Type 0
 IsLeft table acts = (copies table acts ≡ false) × (reopened table acts ≡ false)
 
--- The last copy from the table of that id was one of a resync, and was answered at once that there is nothing to teach:
--- nothing was copied from it since, nor was it reopened, so the copy was one of the resync that goes on.
+-- The last copy from the table with this id belonged to a resync and found nothing to teach. Since then the table was
+-- neither copied from nor reopened, so the copy belonged to the resync under way.
 abbrev pub HasNothingLeft : List (Event × List Action) → ℕ → Type 0
 HasNothingLeft steps table =
     (before : List (Event × List Action))
@@ -68,26 +68,26 @@ HasNothingLeft steps table =
     × (reopened table given ≡ false)
     × AllByRecursion (λ step. IsLeft table step.1) since
 
--- no batch is out
+-- no batch is outstanding
 abbrev pub HasNothingOut : SessionState → Type 0
 HasNothingOut s = (c : Course) × (s.phase ≡ phases.Open c) × (any_out c.shares ≡ false)
 
 -- ---- bytes
 
--- what the session holds of what came, and hasn't read, are bytes
+-- the session's unread values are all bytes
 abbrev pub HoldsBytes : Phase → Type 0
 HoldsBytes (phases.New hello c) = IsBytes c.intake.unread
 HoldsBytes (phases.Hello greeter bytes c) = IsBytes bytes × IsBytes c.intake.unread
 HoldsBytes (phases.Open c) = IsBytes c.intake.unread
 HoldsBytes phases.Ended = Unit {0}
 
--- what comes with an event are bytes
+-- the values that an event brings are all bytes
 abbrev pub BringsBytes : Event → Type 0
 BringsBytes (events.Bytes bytes) = IsBytes bytes
 BringsBytes event = Unit {0}
 
 -- ---- confirmations
 
--- somewhere in a run it was sent that a resync is confirmed
+-- resync confirmed was sent somewhere in the run
 abbrev pub was_confirmed : List (Event × List Action) → Bool
 was_confirmed steps = list_any (λ step. confirms step.1) steps

@@ -1,5 +1,5 @@
 -- The machine of a session: what it does at each event (HAProxy, doc/peers-v2.0.txt, "Handshake" and "Control
--- Messages"; who is asked when, and what is answered to what, are choices of the profile).
+-- Messages"; the order in which tables are asked for batches, and the answers, are this node's own).
 use Rattle.std.specs.Prelude.{◌≡◌, ℕ, Bool, true, false, ◌==◌, ◌&&◌, ◌||◌, not, List, [], ◌∷◌, ◌++◌, drop, Option, Some, None, Result, Ok, Err}
 use Rattle.table_types.specs.Tables.{Definition}
 use Rattle.table_types.specs.declared.update.Update.{Update}
@@ -45,8 +45,8 @@ use Rattle.session_core.specs.Shares.{any_out, all_quiet, out_set, quiet_set}
 use Rattle.session_core.specs.Actions.{sends_control, status_text, reopens, confirms}
 use Rattle.session_core.specs.Courses.{Course, course_begun, course_fed, teaching_anew, ReceivesAll, acks_sent, acks_given, kind_of, table_to_ask, is_due, none_due, Answered, finished, state_of_course}
 
--- Where a session stands; what it knows of the remote peer as a learner; the fault of the remote peer's messages that ended
--- it, if any; and whether it sent that a resync is confirmed.
+-- A session's phase; what it knows of the remote peer as a learner; the fault in the remote peer's messages that ended
+-- it, if any; and whether it sent resync confirmed.
 pub record SessionState : Type 0 where
   pub phase : Phase
   pub known : KnownState
@@ -67,27 +67,27 @@ seen t = record { phase = phase_of t.stage t.course; known = t.known; fault = t.
 abbrev pub in_phase : SessionState → Phase → SessionState
 in_phase s phase = record { phase = phase; known = s.known; fault = s.fault; confirmed = s.confirmed }
 
--- the session is over; what was known stays readable
+-- the session is over; what it knew stays readable
 abbrev pub ended : SessionState → SessionState
 ended s = in_phase s phases.Ended
 
--- the session goes on with that course
+-- the session goes on with the course c
 abbrev pub going : SessionState → Course → SessionState
 going s c = in_phase s (phases.Open c)
 
 -- ---- the beginning
 
--- the side that opens the connection, and greets
+-- the side that opens the connection and sends the hello
 abbrev pub connecting : Hello → List Definition → Bool → SessionState
 connecting hello roster up_to_date = record { phase = phases.New hello (course_begun roster up_to_date); known = fresh_of roster; fault = None; confirmed = false }
 
--- the side that was connected to, which has that name and knows these peers
+-- the side that accepts the connection: this node is own, and accepts these peers
 abbrev pub accepting : List ℕ → List (List ℕ) → List Definition → Bool → SessionState
 accepting own peers roster up_to_date = record { phase = phases.Hello (greeters.Accepts own peers) [] (course_begun roster up_to_date); known = fresh_of roster; fault = None; confirmed = false }
 
--- ---- rows that several phases share
+-- ---- what several phases share
 
--- nothing is asked for, and the session stands there
+-- the session enters the phase and asks for nothing
 abbrev pub Stays : SessionState → Phase → List Action → SessionState → Type 0
 Stays s phase acts e = (acts ≡ []) × (e ≡ in_phase s phase)
 
@@ -96,22 +96,23 @@ Closes s acts e = (acts ≡ actions.Close ∷ []) × (e ≡ ended s)
 
 -- ---- bytes of messages
 
--- the error message that a breach is answered with
+-- the error message that answers a breach
 abbrev pub kind_of_breach : Breach → ErrorKind
 kind_of_breach breaches.SizeLimit = kinds.SizeLimit
 kind_of_breach breach = kinds.Protocol
 
--- the error message that a fault is answered with
+-- the error message that answers a fault
 abbrev pub kind_of_fault : Fault → ErrorKind
 kind_of_fault (faults.Breach breach) = kind_of_breach breach
 kind_of_fault fault = kinds.Protocol
 
--- whether it is confirmed now: it was, or is with these actions
+-- the session is confirmed if it was before, or if one of the actions sends resync confirmed
 abbrev pub confirmed_by : List Action → SessionState → SessionState
 confirmed_by acts s = record { phase = s.phase; known = s.known; fault = s.fault; confirmed = s.confirmed || confirms acts }
 
--- What follows the messages that were received: where no message is whole any more, the acknowledgements that are due.
--- An error message closes, and a fault parts, both without the acknowledgements.
+-- What follows the received messages: the acknowledgements that are due, unless one of the messages halted the session.
+-- An error message closes the connection, and a fault is answered with an error message, both without the
+-- acknowledgements.
 abbrev pub Concludes : SessionState → Course → Result (Unit {0}) Halt → List Action → List Action → SessionState → Type 0
 Concludes s c (Ok _) given acts e = (acts ≡ given ++ acks_given c) × (e ≡ confirmed_by acts (going s (acks_sent c)))
 Concludes s c (Err halts.Failed) given acts e = (acts ≡ given ++ (actions.Close ∷ [])) × (e ≡ confirmed_by acts (ended s))
@@ -120,7 +121,7 @@ Concludes s c (Err (halts.Fault fault)) given acts e =
     × (e ≡ confirmed_by acts (record { phase = phases.Ended; known = s.known; fault = Some fault; confirmed = s.confirmed }))
 Concludes s c (Err halts.Memory) given acts e = ⊥
 
--- The course c was fed bytes: its messages are received one after another, after these first actions.
+-- The course c was fed bytes: its messages are received one after another, after the actions first.
 abbrev pub ReceivesBytes : SessionState → Course → List Action → List Action → SessionState → Type 0
 ReceivesBytes s c first acts e =
     (result : Result (Unit {0}) Halt)
@@ -141,24 +142,24 @@ GoesNew s hello c event acts e = ⊥
 
 -- ---- Hello
 
--- status 200 is answered with a resync request, and what follows it are messages; any other closes
+-- status 200 is answered with a resync request, and the bytes after it are messages; any other status closes
 abbrev pub IsWelcomed : Bool → SessionState → Course → List ℕ → List Action → SessionState → Type 0
 IsWelcomed true s c rest acts e = ReceivesBytes s (course_fed c rest) (sends_control controls.ResyncRequest ∷ []) acts e
 IsWelcomed false s c rest acts e = Closes s acts e
 
--- by the status; the bytes are kept until its line is whole
+-- by the status; the bytes are kept until its line is complete
 abbrev pub Connects : Status → SessionState → List ℕ → Course → List Action → SessionState → Type 0
 Connects statuses.More s bytes c acts e = Stays s (phases.Hello greeters.Connects bytes c) acts e
 Connects (statuses.Code code used) s bytes c acts e = IsWelcomed (code == 200) s c (drop used bytes) acts e
 Connects (statuses.Other used) s bytes c acts e = Closes s acts e
 
--- a hello that is accepted is answered with status 200, and what follows it are messages; any other with its code
+-- an accepted hello is answered with status 200, and the bytes after it are messages; any other with its code
 abbrev pub Accepts : Answer → SessionState → Greeter → List ℕ → Course → List Action → SessionState → Type 0
 Accepts answers.More s greeter bytes c acts e = Stays s (phases.Hello greeter bytes c) acts e
 Accepts (answers.Accepted name used) s greeter bytes c acts e = ReceivesBytes s (course_fed c (drop used bytes)) (actions.Send (status_text 200) ∷ []) acts e
 Accepts (answers.Refused code used) s greeter bytes c acts e = (acts ≡ actions.Send (status_text code) ∷ (actions.Close ∷ [])) × (e ≡ ended s)
 
--- by who greets, and the bytes so far
+-- by this node's side of the handshake, and the bytes so far
 abbrev pub Greets : SessionState → Greeter → List ℕ → Course → List Action → SessionState → Type 0
 Greets s greeters.Connects bytes c acts e = Connects (status_of bytes) s bytes c acts e
 Greets s (greeters.Accepts own peers) bytes c acts e = Accepts (answer_of own peers bytes) s (greeters.Accepts own peers) bytes c acts e
@@ -180,28 +181,28 @@ Turns (Some table) s c acts e =
     (acts ≡ actions.Copy table (kind_of c.teaching) ∷ [])
     × (e ≡ going s (record c { asked = Some table; due = dues.Copy table ∷ [] }))
 
--- a batch was copied: it is out, and is to be taught
+-- a batch was copied: it is outstanding, and its lesson is to be written
 abbrev pub IsCopied : SessionState → Course → ℕ → List Update → List Action → SessionState → Type 0
 IsCopied s c table batch acts e =
     (acts ≡ actions.Teach batch ∷ [])
     × (e ≡ going s (record c { shares = out_set table true c.shares; due = dues.Teach ∷ c.due }))
 
--- in a resync the last table that has nothing to teach ends it
+-- a resync ends once all tables are quiet
 abbrev pub FinishesResync : Bool → SessionState → Course → List Action → SessionState → Type 0
 FinishesResync true s c acts e = (acts ≡ sends_control (finished c.up_to_date) ∷ []) × (e ≡ going s (record c { teaching = false }))
 FinishesResync false s c acts e = Stays s (phases.Open c) acts e
 
--- a table has nothing to teach: in a resync it is quiet then
+-- a table has nothing to teach: in a resync it is now quiet
 abbrev pub HasNothing : Bool → SessionState → Course → ℕ → List Action → SessionState → Type 0
 HasNothing true s c table acts e = FinishesResync (all_quiet (quiet_set table c.shares)) s (record c { shares = quiet_set table c.shares }) acts e
 HasNothing false s c table acts e = Stays s (phases.Open c) acts e
 
--- nothing is out any more: a request that waits begins its resync
+-- a deferred resync begins once no batch is outstanding
 abbrev pub StartsPendingResync : Bool → SessionState → Course → List Action → SessionState → Type 0
 StartsPendingResync true s c acts e = (acts ≡ reopens c.shares) × (e ≡ going s (teaching_anew c))
 StartsPendingResync false s c acts e = Stays s (phases.Open c) acts e
 
--- an acknowledgement of a whole batch brings it in
+-- a batch that is acknowledged to its end is no longer outstanding
 abbrev pub Settles : Settled → SessionState → Course → ℕ → List Action → SessionState → Type 0
 Settles settles.All s c table acts e = StartsPendingResync (c.waits && not (any_out (out_set table false c.shares))) s (record c { shares = out_set table false c.shares }) acts e
 Settles settled s c table acts e = Stays s (phases.Open c) acts e
@@ -249,13 +250,13 @@ GoesIn (phases.Hello greeter bytes c) s event acts e = GoesHello s greeter bytes
 GoesIn (phases.Open c) s event acts e = GoesOpen s c event acts e
 GoesIn phases.Ended s event acts e = ⊥
 
--- the session s goes at an event to e, and asks for these actions
+-- at the event the session s becomes e, and asks for these actions
 abbrev pub Goes : SessionState → Event → List Action → SessionState → Type 0
 Goes s event acts e = GoesIn s.phase s event acts e
 
 -- ---- refusals
 
--- whether an event of an open session answers what is due first, or comes where nothing is due
+-- whether an open session may receive the event: an answer if it is the first due, bytes and a turn if none is due
 abbrev pub is_asked_open : List Due → Event → Bool
 is_asked_open due events.Turn = none_due due
 is_asked_open due (events.Bytes bytes) = none_due due
@@ -283,25 +284,25 @@ is_asked_hello events.ReadFault = true
 is_asked_hello events.WriteFault = true
 is_asked_hello event = false
 
--- whether an event may come there
+-- whether the event may happen in the phase
 abbrev pub is_asked : Phase → Event → Bool
 is_asked (phases.New hello c) event = is_asked_new event
 is_asked (phases.Hello greeter bytes c) event = is_asked_hello event
 is_asked (phases.Open c) event = is_asked_open c.due event
 is_asked phases.Ended event = false
 
--- why an event is refused, by whether it may come there: it isn't asked for, or memory was wanted for it
+-- why an event is refused: it may not happen, or else memory ran out
 abbrev pub IsWhy : Bool → SessionError → Type 0
 IsWhy true errors.Memory = Unit {0}
 IsWhy false errors.Unasked = Unit {0}
 IsWhy asked error = ⊥
 
--- a session that is over refuses every event for that
+-- a session that is over refuses every event with Ended
 abbrev pub Refuses : Phase → Event → SessionError → Type 0
 Refuses phases.Ended event error = error ≡ errors.Ended
 Refuses phase event error = IsWhy (is_asked phase event) error
 
--- ---- what can be read
+-- ---- what a caller can read
 
 abbrev pub state_of : Phase → State
 state_of (phases.New hello c) = states.New

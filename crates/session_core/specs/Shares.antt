@@ -1,28 +1,28 @@
--- The tables of a roster, as a session shares them (profile).
+-- The tables of a roster, as a session shares them.
 use Rattle.std.specs.Prelude.{ℕ, Bool, true, false, not, ◌&&◌, ◌==◌, List, [], ◌∷◌, map, Option, Some, None, if◌then◌else◌}
 use Rattle.std.specs.List.{list_any, list_all}
 use Rattle.std.specs.Option.{option_or}
 use Rattle.table_types.specs.Tables.{Definition}
 use Rattle.session_core.specs.declared.share.Share.{Share}
 
--- what holds up the beginning of a resync: a batch that is out
+-- what delays the beginning of a resync: an outstanding batch
 abbrev pub holds_up : Share → Bool
 holds_up s = s.out
 
 abbrev pub any_out : List Share → Bool
 any_out ss = list_any holds_up ss
 
--- the table of that id is the roster's, and a batch of it is out
+-- the table with this id is in the roster, and a batch of it is outstanding
 abbrev pub is_out : ℕ → List Share → Bool
 is_out table ss = list_any (λ s. s.table == table && s.out) ss
 
--- each table answered that it has nothing to teach
+-- every table has answered that it has nothing to teach
 abbrev pub all_quiet : List Share → Bool
 all_quiet ss = list_all (λ s. s.quiet) ss
 
--- ---- what becomes of them
+-- ---- changes
 
--- nothing is out, and none is quiet
+-- no batch is outstanding, and no table is quiet
 abbrev pub shares_of : List Definition → List Share
 shares_of roster = map (λ d. record { table = d.id; out = false; quiet = false }) roster
 
@@ -37,7 +37,7 @@ unquieted ss = map (λ s. record { table = s.table; out = s.out; quiet = false }
 
 -- ---- the next table
 
--- a batch may be copied where none is out, and in a resync where the table isn't quiet
+-- a batch may be copied unless one is outstanding or, in a resync, the table is quiet
 abbrev pub may_copy : Bool → Share → Bool
 may_copy teaching s = not s.out && not (teaching && s.quiet)
 
@@ -45,12 +45,12 @@ abbrev pub first_to_copy : Bool → List Share → Option ℕ
 first_to_copy teaching [] = None
 first_to_copy teaching (s ∷ ss) = if may_copy teaching s then Some s.table else first_to_copy teaching ss
 
--- the tables up to the one of that id, with it; all, where it isn't among them
+-- the tables up to and including the one with this id; all if it isn't among them
 abbrev pub through : ℕ → List Share → List Share
 through table [] = []
 through table (s ∷ ss) = if s.table == table then s ∷ [] else s ∷ through table ss
 
--- the tables after it; none, where it isn't among them
+-- the tables after it; none if it isn't among them
 abbrev pub past : ℕ → List Share → List Share
 past table [] = []
 past table (s ∷ ss) = if s.table == table then ss else past table ss

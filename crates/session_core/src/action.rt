@@ -1,4 +1,4 @@
-//! What a session asks for.
+//! What a session asks its caller to do.
 
 ghost use Rattle.std.specs.Prelude.{◌≡◌, ◌++◌, ◌∷◌, [], IfOk, OnOk};
 ghost use Rattle.session_core.specs.Actions.{confirms, is_confirmation};
@@ -7,40 +7,39 @@ use peers_msg::ErrorKind;
 use std::alloc::Global;
 use table_types::{Batch, CopyKind, Items, Memory, Update};
 
-/// What is to be done for a session, each thing after those before it.
+/// One thing to do for a session. The caller performs a session's actions in order.
 #[derive(Debug, Drop)]
 pub enum Action {
-    /// These bytes are to be written.
+    /// Write these bytes.
     Send(Items<u8>),
-    /// The update of a table of the roster is to be learned. A table that is full leaves it out.
+    /// Learn this update of a table of the roster. A full table skips it.
     Learn(Update),
-    /// The remote peer took the updates of a table up to this number. It is answered by `Settled`, and where the number is
-    /// above all that were taught by `Refused`.
+    /// Pass on that the remote peer acknowledged the updates of a table up to `number`. The answer is `Settled`, or
+    /// `Refused` if `number` is above every number taught.
     Ack {
         /// The table's id.
         table: u64,
-        /// The number of the last update that the remote peer took.
+        /// The number of the last update that the remote peer acknowledged.
         number: u32,
     },
-    /// The session is to be closed and opened anew in the table of that id.
+    /// Close the session in the table with this id and open it anew.
     Reopen(u64),
-    /// A batch is to be copied from a table. It is answered by `Copied`, and where there is nothing to teach by
-    /// `Nothing`.
+    /// Copy a batch from a table. The answer is `Copied`, or `Nothing` if the table has nothing to teach.
     Copy {
         /// The table's id.
         table: u64,
-        /// Which rows: this node's own, and in a resync all.
+        /// Which rows to copy: this node's own, or every row in a resync.
         kind: CopyKind,
     },
-    /// The lesson of that batch is to be written, from the session's known state. It is answered by `Written`.
+    /// Write the lesson of this batch, starting from the session's known state. The answer is `Written`.
     Teach(Batch),
-    /// That error message is to be written, and the connection closed.
+    /// Write this error message and close the connection.
     Part(ErrorKind),
-    /// The connection is to be closed.
+    /// Close the connection.
     Close,
 }
 
-/// Adds an action.
+/// Appends an action.
 pub(crate) fn push(actions: &mut Vec<Action>, action: Action) -> Result<(), Memory>
     ensures { OnOk result (actions.new.items ≡ actions.old.items ++ (action ∷ [])) }
 {
@@ -48,7 +47,7 @@ pub(crate) fn push(actions: &mut Vec<Action>, action: Action) -> Result<(), Memo
     Ok(())
 }
 
-/// One action.
+/// Returns a list of this one action.
 pub(crate) fn only(alloc: Global, action: Action) -> Result<Vec<Action>, Memory>
     ensures { IfOk result (λ actions. actions.items ≡ action ∷ []) }
 {
@@ -57,7 +56,7 @@ pub(crate) fn only(alloc: Global, action: Action) -> Result<Vec<Action>, Memory>
     Ok(actions)
 }
 
-/// Whether an action sends that a resync is confirmed.
+/// Returns whether an action sends resync confirmed.
 fn is_confirmation(action: &Action) -> bool
     ensures { result ≡ is_confirmation action.now }
 {
@@ -76,7 +75,7 @@ fn is_confirmation(action: &Action) -> bool
     }
 }
 
-/// Whether one of the actions sends that a resync is confirmed.
+/// Returns whether one of the actions sends resync confirmed.
 pub(crate) fn confirms(actions: &[Action]) -> bool
     ensures { result ≡ confirms actions.now }
 {

@@ -1,4 +1,4 @@
-//! The course of a session that is open.
+//! The course of an open session.
 
 ghost use Rattle.std.specs.Prelude.{◌≡◌, ◌∷◌, ◌++◌, [], Some, None, Ok, true, false, IfOk, IfErr, IsOk, OnOk, OnErr, length};
 ghost use Rattle.session_core.specs.declared.error.SessionError.TheVariants as errors;
@@ -18,21 +18,21 @@ use std::alloc::Global;
 use std::marker::Model;
 use table_types::{CopyKind, Memory, Roster};
 
-/// The course of a session: what it takes of the remote peer's messages, and where its teaching stands.
+/// The course of a session: what it received from the remote peer, and the state of its teaching.
 #[derive(Drop)]
 pub(crate) struct Course {
     pub(crate) intake: Intake,
-    /// Whether this node is itself up to date.
+    /// Whether this node is up to date itself.
     pub(crate) up_to_date: bool,
-    /// The tables in roster order.
+    /// The tables, in roster order.
     pub(crate) shares: Vec<Share>,
-    /// The id of the table asked last.
+    /// The id of the table that was last asked for a batch.
     pub(crate) asked: Option<u64>,
-    /// Whether the remote peer is taught all rows.
+    /// Whether the remote peer is being taught every row.
     pub(crate) teaching: bool,
-    /// Whether a request of the remote peer for that waits.
+    /// Whether a resync request of the remote peer is deferred.
     pub(crate) waits: bool,
-    /// Which actions aren't answered yet, the first due first.
+    /// The actions not answered yet, in the order in which their answers are due.
     pub(crate) due: Vec<Due>,
 }
 
@@ -44,7 +44,7 @@ impl Model for Course {
     ghost view = { λ c. record { intake = c.intake; up_to_date = c.up_to_date; shares = c.shares.items; asked = c.asked; teaching = c.teaching; waits = c.waits; due = c.due.items } };
 }
 
-/// Adds that the session is to be closed and opened anew in each of the tables.
+/// Appends a `Reopen` for each of the tables.
 fn push_reopens(actions: &mut Vec<Action>, shares: &[Share]) -> Result<(), Memory>
     ensures { OnOk result (actions.new.items ≡ actions.old.items ++ reopens shares.now) }
 {
@@ -54,7 +54,7 @@ fn push_reopens(actions: &mut Vec<Action>, shares: &[Share]) -> Result<(), Memor
     Ok(())
 }
 
-/// Whether what is due first is that.
+/// Returns whether `first` is the first answer due.
 fn is_due(due: &[Due], first: Due) -> bool
     ensures { result ≡ is_due first due.now }
 {
@@ -65,7 +65,7 @@ fn is_due(due: &[Due], first: Due) -> bool
 }
 
 impl Course {
-    /// The course at its beginning.
+    /// Returns the course of a new session.
     pub(crate) fn new(alloc: Global, roster: Roster, up_to_date: bool) -> Result<Course, Memory>
         ensures { IfOk result (λ course. course ≡ course_begun roster up_to_date) }
     {
@@ -81,14 +81,14 @@ impl Course {
         })
     }
 
-    /// Whether nothing is due.
+    /// Returns whether no answer is due.
     pub(crate) fn none_due(&self) -> bool
         ensures { result ≡ none_due self.now.due }
     {
         self.due.is_empty()
     }
 
-    /// The first thing due is answered, which is to be that one.
+    /// Removes the first answer due, which must be `first`. Otherwise refuses with `Unasked` and changes nothing.
     pub(crate) fn answer(&mut self, first: Due) -> Result<(), SessionError>
         ensures answered { OnOk result (Answered self.old first self.new) }
         ensures asked { OnOk result (is_due first self.old.due ≡ true) }
@@ -102,7 +102,7 @@ impl Course {
         Ok(())
     }
 
-    /// The table that a turn asks.
+    /// Returns the table that a turn asks for a batch. There is none while a resync request is deferred.
     pub(crate) fn table_to_ask(&self) -> Option<u64>
         ensures { result ≡ table_to_ask self.now }
     {
@@ -112,7 +112,7 @@ impl Course {
         next_table(self.shares.as_slice(), self.asked, self.teaching)
     }
 
-    /// Which rows are copied.
+    /// Returns which rows to copy.
     pub(crate) fn kind(&self) -> CopyKind
         ensures { result ≡ kind_of self.now.teaching }
     {
@@ -123,7 +123,7 @@ impl Course {
         }
     }
 
-    /// Where an open session stands.
+    /// Returns the state of the open session.
     pub(crate) fn state(&self) -> State
         ensures { result ≡ state_of_course self.now.teaching }
     {
@@ -134,7 +134,7 @@ impl Course {
         }
     }
 
-    /// How a resync ends.
+    /// Returns the control message that ends a resync.
     pub(crate) fn finished(&self) -> Control
         ensures { result ≡ finished self.now.up_to_date }
     {
@@ -145,7 +145,7 @@ impl Course {
         }
     }
 
-    /// A resync begins: the session is reopened in each table, and none is quiet.
+    /// Begins a resync: appends a `Reopen` for each table, and clears every quiet mark.
     pub(crate) fn begin_teaching(&mut self, actions: &mut Vec<Action>) -> Result<(), Memory>
         ensures reopens { OnOk result (actions.new.items ≡ actions.old.items ++ reopens self.old.shares) }
         ensures teaching { OnOk result (self.new ≡ teaching_anew self.old) }
@@ -157,7 +157,7 @@ impl Course {
         Ok(())
     }
 
-    /// A batch is to be copied from the table of that id. Nothing else is due.
+    /// Makes the copy from `table` the only answer due.
     pub(crate) fn ask(&mut self, table: u64) -> Result<(), Memory>
         ensures { OnOk result (self.new ≡ record self.old { asked = Some table; due = dues.Copy table ∷ [] }) }
     {
@@ -167,7 +167,7 @@ impl Course {
         Ok(())
     }
 
-    /// A lesson is to be written before anything else is answered.
+    /// Makes the answer to `Teach` the first one due.
     pub(crate) fn owe_lesson(&mut self) -> Result<(), Memory>
         ensures { OnOk result (self.new ≡ record self.old { due = dues.Teach ∷ self.old.due }) }
     {
@@ -175,14 +175,14 @@ impl Course {
         Ok(())
     }
 
-    /// Sets whether the table of that id is out.
+    /// Sets whether a batch of `table` is outstanding.
     pub(crate) fn set_out(&mut self, table: u64, out: bool)
         ensures { self.new ≡ record self.old { shares = out_set table out self.old.shares } }
     {
         set_out(self.shares.as_mut_slice(), table, out);
     }
 
-    /// Makes the table of that id quiet.
+    /// Marks `table` as quiet.
     pub(crate) fn set_quiet(&mut self, table: u64)
         ensures { self.new ≡ record self.old { shares = quiet_set table self.old.shares } }
     {

@@ -6,16 +6,16 @@ ghost use Rattle.session_core.specs.declared.error.SessionError.TheVariants as e
 use table_types::Memory;
 use thiserror::Error;
 
-/// Why a session refuses an event. After each of these it is ended, and no action is given.
+/// Why a session refuses an event. The session is over afterwards, and it asks for no action.
 #[derive(Clone, Copy, Debug, PartialEq, Eq, Error)]
 pub enum SessionError {
-    /// The session was over before.
+    /// The session was over already.
     #[error("the session is over")]
     Ended,
-    /// Memory was wanted, and the growth was refused.
+    /// Memory ran out.
     #[error("memory")]
     Memory,
-    /// The event answers no action, or not the first that isn't answered yet, or can't come where the session stands.
+    /// The event answers no action, answers one out of order, or can't happen in the session's state.
     #[error("an event that nothing asked for")]
     Unasked,
 }

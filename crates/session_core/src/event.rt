@@ -1,4 +1,4 @@
-//! What happens to a session.
+//! The events of a session.
 
 use known_state::Known;
 use table_types::{Batch, Items, Settled};
@@ -6,27 +6,28 @@ use table_types::{Batch, Items, Settled};
 /// What happens to a session.
 #[derive(Debug, Drop)]
 pub enum Event {
-    /// The connection stands.
+    /// The connection is established.
     Opened,
-    /// These bytes came.
+    /// These bytes were received.
     Bytes(Items<u8>),
-    /// The remote peer sends no more.
+    /// The remote peer sends nothing more.
     End,
     /// Reading failed.
     ReadFault,
-    /// Nothing else is to be done: a batch may be copied.
+    /// There is nothing else to do: the session may ask for a batch.
     Turn,
-    /// The answer to `Copy`: of the table of that id this batch was copied. All its updates are of that table, and it isn't empty,
-    /// which the session doesn't check.
+    /// The answer to `Copy`: this batch was copied from the table with this id. The batch isn't empty and all its
+    /// updates belong to that table; the session checks neither.
     Copied(u64, Batch),
-    /// The answer to `Copy`: the table of that id has nothing to teach.
+    /// The answer to `Copy`: the table with this id has nothing to teach.
     Nothing(u64),
-    /// The answer to `Teach`: the lesson was written, and ends in this known state, one of the session's roster.
+    /// The answer to `Teach`: the lesson was written, and it leads to this known state, which must be for the session's
+    /// roster.
     Written(Known),
     /// Writing failed.
     WriteFault,
-    /// The answer to `Ack`: what it settled in the table of that id.
+    /// The answer to `Ack`: what the acknowledgement settled in the table with this id.
     Settled(u64, Settled),
-    /// The answer to `Ack`: the number is above all that the table of that id taught.
+    /// The answer to `Ack`: the number is above every number that the table with this id taught.
     Refused(u64),
 }

@@ -1,4 +1,4 @@
-//! What holds of the definitions, whatever the program does.
+//! Laws of the definitions, which hold whatever the program does.
 
 ghost use Rattle.std.specs.Prelude.{◌≡◌, ◌⊎◌, None, ◌∷◌, ◌++◌, [], true, false, List};
 ghost use Rattle.std.specs.List.{AllByRecursion};
@@ -9,9 +9,9 @@ ghost use Rattle.session_core.specs.declared.phase.Phase.TheVariants as phases;
 ghost use Rattle.session_core.specs.Sessions.{SessionState, Goes, is_asked};
 ghost use Rattle.session_core.specs.Runs.{Runs, IsBegun, ends_resync, HasNothingLeft, HasNothingOut, HoldsBytes, BringsBytes, was_confirmed};
 
-/// A resync ends only where all is taught: in every run from the beginning, where an event has the session send resync
-/// finished or resync partial, no batch is out, and the last copy from each table was one of that resync, which was
-/// answered that there is nothing to teach. After that answer the table wasn't copied from, nor reopened for another.
+/// A resync ends only once everything is taught. In every run from the beginning, at an event at which the session
+/// sends resync finished or resync partial, no batch is outstanding, and the last copy from each table belonged to that
+/// resync and found nothing to teach. Since then the table was neither copied from nor reopened.
 pub fn resyncs_end_taught()
     ensures out { (roster : List Definition) (begun s e : SessionState) (steps : List (Event × List Action)) (event : Event) (acts : List Action) →
         IsBegun roster begun → Runs begun steps s → Goes s event acts e → ends_resync acts ≡ true → HasNothingOut s }
@@ -20,32 +20,32 @@ pub fn resyncs_end_taught()
         AllByRecursion (λ d. HasNothingLeft (steps ++ ((event, acts) ∷ [])) d.id) roster }
 {}
 
-/// An event that comes where it isn't asked for makes no step: no case of the machine fits it.
+/// An event that may not happen makes no step: no case of the machine fits it.
 pub fn unasked_is_no_step()
     ensures { (s e : SessionState) (event : Event) (acts : List Action) → Goes s event acts e → is_asked s.phase event ≡ true }
 {}
 
-/// A session says that it confirmed a resync exactly where it had that sent, somewhere in its run.
+/// A session says that it confirmed a resync exactly if it asked to send resync confirmed somewhere in its run.
 pub fn confirmed_is_sent()
     ensures { (roster : List Definition) (begun s : SessionState) (steps : List (Event × List Action)) →
         IsBegun roster begun → Runs begun steps s → s.confirmed ≡ was_confirmed steps }
 {}
 
-/// A session that has a fault is over, in every run from the beginning.
+/// In every run from the beginning, a session that has a fault is over.
 pub fn a_fault_ends_the_session()
     ensures { (roster : List Definition) (begun s : SessionState) (steps : List (Event × List Action)) →
         IsBegun roster begun → Runs begun steps s → (s.phase ≡ phases.Ended) ⊎ (s.fault ≡ None) }
 {}
 
-/// A session does one thing at an event: what it asks for, and where it stands then, are given by the event and by where it
-/// stood.
+/// A step is unique: the event and the session before it determine the actions and the session after it.
 pub fn a_step_is_unique()
     ensures { (s e end : SessionState) (event : Event) (acts others : List Action) →
         Goes s event acts e → Goes s event others end → (acts ≡ others) × (e ≡ end) }
 {}
 
-/// Each event that may come has a step: something is asked for, and the session stands somewhere then. So it is in every
-/// run from the beginning, where what comes are bytes; and wherever a session holds bytes, which each step keeps.
+/// Every event that may happen has a step, which gives the actions and the session after it. `run` says so of every run
+/// from the beginning in which only bytes are received, and `step` of every session that holds only bytes, which `kept`
+/// says each step preserves.
 pub fn a_step_exists()
     ensures run { (roster : List Definition) (begun s : SessionState) (steps : List (Event × List Action)) (event : Event) →
         IsBegun roster begun → Runs begun steps s → AllByRecursion (λ step. BringsBytes step.0) steps → BringsBytes event →

@@ -1,5 +1,5 @@
-//! A session between two peers as a machine: what it does at each event (HAProxy, doc/peers-v2.0.txt, "Handshake" and
-//! "Control Messages"). It reads and writes nothing itself: it answers with what is to be done.
+//! The machine of a session between two peers: what it does at each event (HAProxy, doc/peers-v2.0.txt, "Handshake" and
+//! "Control Messages"). It does no I/O itself: it returns the actions that its caller performs.
 #![tactic(auto)]
 
 mod action;

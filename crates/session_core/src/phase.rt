@@ -1,31 +1,31 @@
-//! How far a session has come.
+//! The phases of a session.
 
 use crate::course::Course;
 use peers_hello::Hello;
 use table_types::{Items, Name};
 
-/// Who greets whom.
+/// Which side of the handshake this node takes.
 #[derive(Debug, Drop)]
 pub(crate) enum Greeter {
-    /// This node connects: it sent its hello, and a status is to come.
+    /// This node opened the connection: it sent its hello and awaits the status.
     Connects,
-    /// This node was connected to: a hello is to come.
+    /// The remote peer opened the connection: this node awaits its hello.
     Accepts {
-        /// Its own name.
+        /// This node's own name.
         own: Name,
-        /// The peers that it lets in.
+        /// The peers that this node accepts.
         peers: Items<Name>,
     },
 }
 
-/// How far a session has come.
+/// The phase of a session.
 #[derive(Drop)]
 pub(crate) enum Phase {
-    /// The connection doesn't stand yet, on which that hello is to be sent.
+    /// The connection isn't established yet. The session sends this hello first.
     New(Hello, Course),
-    /// The hello or the status isn't whole yet; these bytes of it came.
+    /// The hello or the status is incomplete. These bytes of it were received.
     Hello(Greeter, Items<u8>, Course),
-    /// Messages go to and fro.
+    /// Both sides send messages.
     Open(Course),
     /// The session is over.
     Ended,

@@ -1,4 +1,4 @@
-//! What the remote peer's messages do to the course of a session.
+//! How the remote peer's messages change the course of a session.
 
 ghost use Rattle.std.specs.Prelude.{◌≡◌, ◌≢◌, ◌<◌, ◌∷◌, ◌++◌, [], List, Ok, Err, Some, None, IfOk, IfErr, IfSome, IsSome, OnOk, OnErr, length};
 ghost use Rattle.learner.specs.declared.taken.Taken.{Taken};
@@ -20,7 +20,7 @@ use peers_msg::{Control, Message, append};
 use std::alloc::Global;
 use table_types::{Items, Memory};
 
-/// The bytes of a control message.
+/// Returns the bytes of a control message.
 fn control_text(alloc: Global, control: Control) -> Result<Items<u8>, Memory>
     ensures { IfOk result (λ bytes. bytes ≡ control_text control) }
 {
@@ -30,21 +30,21 @@ fn control_text(alloc: Global, control: Control) -> Result<Items<u8>, Memory>
     Ok(Items::new(bytes))
 }
 
-/// Adds that a control message is to be sent.
+/// Appends the action that sends a control message.
 fn push_control(alloc: Global, actions: &mut Vec<Action>, control: Control) -> Result<(), Memory>
     ensures { OnOk result (actions.new.items ≡ actions.old.items ++ (sends_control control ∷ [])) }
 {
     push(actions, Action::Send(control_text(alloc, control)?))
 }
 
-/// One action, that a control message is to be sent.
+/// Returns the action that sends a control message.
 pub(crate) fn only_control(alloc: Global, control: Control) -> Result<Vec<Action>, Memory>
     ensures { IfOk result (λ acts. acts.items ≡ sends_control control ∷ []) }
 {
     only(alloc, Action::Send(control_text(alloc, control)?))
 }
 
-/// The bytes of messages one after another.
+/// Returns the bytes of the messages, one after another.
 fn stream_of(alloc: Global, messages: &[Message]) -> Result<Items<u8>, Memory>
     ensures { IfOk result (λ bytes. bytes ≡ stream_of messages.now) }
 {
@@ -55,7 +55,7 @@ fn stream_of(alloc: Global, messages: &[Message]) -> Result<Items<u8>, Memory>
     Ok(Items::new(bytes))
 }
 
-/// Adds that these acknowledgements are to be sent, if there are any.
+/// Appends the action that sends these acknowledgements, if there are any.
 fn push_acks(alloc: Global, actions: &mut Vec<Action>, acks: &[Message]) -> Result<(), Memory>
     ensures { OnOk result (actions.new.items ≡ actions.old.items ++ sends_acks acks.now) }
 {
@@ -133,7 +133,7 @@ impl Course {
         }
     }
 
-    /// Takes the message at the front; `None` while it isn't whole.
+    /// Takes the next message; returns `None` if it is incomplete.
     fn next(&mut self) -> Result<Option<Taken>, Halt>
         ensures receives { IfOk result (λ found. IfSome found (λ taken. Receives self.old taken self.new)) }
         ensures waits { result ≡ Ok None → (self.new ≡ self.old) × IntakeNext self.old.intake (Ok None) self.old.intake }
@@ -146,7 +146,7 @@ impl Course {
         }
     }
 
-    /// Receives the messages that are whole, and adds what they ask for, up to the first that halts.
+    /// Receives the complete messages, up to the first that halts the session, and appends what they ask for.
     fn receive_all(&mut self, alloc: Global, actions: &mut Vec<Action>) -> Result<(), Halt>
         ensures { result ≢ Err halts.Memory → (given : List Action) × ReceivesAll self.old result given self.new × (actions.new.items ≡ actions.old.items ++ given) }
     {
@@ -156,7 +156,8 @@ impl Course {
         Ok(())
     }
 
-    /// Takes bytes and receives the messages that are whole then, and adds what they ask for, up to the first that halts.
+    /// Takes in `bytes`, receives the messages that are then complete, up to the first that halts the session, and
+    /// appends what they ask for.
     pub(crate) fn receive_bytes(
         &mut self,
         alloc: Global,
@@ -169,7 +170,7 @@ impl Course {
         self.receive_all(alloc, actions)
     }
 
-    /// Adds that the acknowledgements that are due are to be sent.
+    /// Appends the action that sends the acknowledgements that are due.
     pub(crate) fn send_acks(
         &mut self,
         alloc: Global,

@@ -6,26 +6,26 @@ ghost use Rattle.session_core.specs.Shares.{holds_up, any_out, is_out, all_quiet
 use std::alloc::Global;
 use table_types::{Memory, TableDef};
 
-/// One table of the roster, as a session shares it.
+/// A table of the roster, as a session shares it.
 #[derive(Clone, Copy, Debug)]
 pub(crate) struct Share {
     /// The table's id.
     pub(crate) table: u64,
-    /// Whether a batch of it is out: taught or to be taught, and not acknowledged whole.
+    /// Whether a batch of it is outstanding: copied to be taught, and not acknowledged to its end.
     pub(crate) out: bool,
-    /// Whether it answered that it has nothing to teach, since the resync began.
+    /// Whether it has answered, since the resync began, that it has nothing to teach.
     pub(crate) quiet: bool,
 }
 
 impl Share {
-    /// Whether the table holds up the beginning of a resync.
+    /// Returns whether the table delays the beginning of a resync.
     fn holds_up(self) -> bool
         ensures { result ≡ holds_up self }
     {
         self.out
     }
 
-    /// Whether a batch may be copied from the table.
+    /// Returns whether a batch may be copied from the table.
     fn may_copy(self, teaching: bool) -> bool
         ensures { result ≡ may_copy teaching self }
     {
@@ -33,7 +33,7 @@ impl Share {
     }
 }
 
-/// The tables of a roster, of which nothing is out.
+/// Returns the tables of a roster, with no batch outstanding.
 pub(crate) fn shares_of(alloc: Global, tables: &[TableDef]) -> Result<Vec<Share>, Memory>
     ensures { IfOk result (λ shares. shares.items ≡ shares_of tables.now) }
 {
@@ -48,7 +48,7 @@ pub(crate) fn shares_of(alloc: Global, tables: &[TableDef]) -> Result<Vec<Share>
     Ok(shares)
 }
 
-/// Whether some table holds up the beginning of a resync.
+/// Returns whether some table delays the beginning of a resync.
 pub(crate) fn any_out(shares: &[Share]) -> bool
     ensures { result ≡ any_out shares.now }
 {
@@ -60,7 +60,7 @@ pub(crate) fn any_out(shares: &[Share]) -> bool
     false
 }
 
-/// Whether the table of that id is among them and out.
+/// Returns whether `table` is one of the tables and has a batch outstanding.
 pub(crate) fn is_out(shares: &[Share], table: u64) -> bool
     ensures { result ≡ is_out table shares.now }
 {
@@ -72,7 +72,7 @@ pub(crate) fn is_out(shares: &[Share], table: u64) -> bool
     false
 }
 
-/// Whether all tables are quiet.
+/// Returns whether all tables are quiet.
 pub(crate) fn all_quiet(shares: &[Share]) -> bool
     ensures { result ≡ all_quiet shares.now }
 {
@@ -84,7 +84,7 @@ pub(crate) fn all_quiet(shares: &[Share]) -> bool
     true
 }
 
-/// Sets whether the table of that id is out.
+/// Sets whether a batch of `table` is outstanding.
 pub(crate) fn set_out(shares: &mut [Share], table: u64, out: bool)
     ensures { shares.new ≡ out_set table out shares.old }
 {
@@ -95,7 +95,7 @@ pub(crate) fn set_out(shares: &mut [Share], table: u64, out: bool)
     }
 }
 
-/// Makes the table of that id quiet.
+/// Marks `table` as quiet.
 pub(crate) fn set_quiet(shares: &mut [Share], table: u64)
     ensures { shares.new ≡ quiet_set table shares.old }
 {
@@ -106,7 +106,7 @@ pub(crate) fn set_quiet(shares: &mut [Share], table: u64)
     }
 }
 
-/// Makes none quiet.
+/// Clears the quiet mark of every table.
 pub(crate) fn unquiet(shares: &mut [Share])
     ensures { shares.new ≡ unquieted shares.old }
 {
@@ -115,7 +115,7 @@ pub(crate) fn unquiet(shares: &mut [Share])
     }
 }
 
-/// The id of the first table from which a batch may be copied.
+/// Returns the id of the first table from which a batch may be copied.
 fn first_to_copy(shares: &[Share], teaching: bool) -> Option<u64>
     ensures { result ≡ first_to_copy teaching shares.now }
 {
@@ -127,7 +127,7 @@ fn first_to_copy(shares: &[Share], teaching: bool) -> Option<u64>
     None
 }
 
-/// The tables up to the one of that id, and those after it: all and none where it isn't among them.
+/// Returns the tables up to and including `table`, and those after it: all and none if it isn't among them.
 fn split(shares: &[Share], table: u64) -> (&[Share], &[Share])
     ensures through { result.0.now ≡ through table shares.now }
     ensures past { result.1.now ≡ past table shares.now }
@@ -140,7 +140,7 @@ fn split(shares: &[Share], table: u64) -> (&[Share], &[Share])
     (shares, &shares[shares.len()..])
 }
 
-/// The id of the next table from which a batch may be copied, after the one asked last.
+/// Returns the id of the next table from which a batch may be copied, searching round from the one after `asked`.
 pub(crate) fn next_table(shares: &[Share], asked: Option<u64>, teaching: bool) -> Option<u64>
     ensures { result ≡ next_table teaching asked shares.now }
 {

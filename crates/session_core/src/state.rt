@@ -1,15 +1,15 @@
-//! Where a session stands.
+//! The states of a session.
 
-/// Where a session stands.
+/// The state of a session.
 #[derive(Clone, Copy, Debug, PartialEq, Eq)]
 pub enum State {
-    /// The connection doesn't stand yet.
+    /// The connection isn't established yet.
     New,
-    /// The hello and its status are being exchanged.
+    /// The two sides exchange the hello and its status.
     Hello,
-    /// Both sides send messages. This one teaches its own rows as they change.
+    /// Both sides send messages. This node teaches its own rows as they change.
     Ready,
-    /// The remote peer asked for a resync, and is being taught all rows.
+    /// The remote peer requested a resync. This node teaches it every row.
     Teaching,
     /// The session is over.
     Ended,

@@ -1,4 +1,4 @@
--- What is copied of a sound table is a batch of it.
+-- What a copy takes from a sound table is a batch of that table.
 use Rattle.std.proofs.Common.{◌≡◌, ℕ, zero, suc, ◌+◌, ◌-◌, ◌*◌, ◌^◌, ◌<◌, ◌≤◌, true, false, not, ◌&&◌, List, [], ◌∷◌, length, Option, Some, None, refl, sym, ap, subst, ◌∙◌, arith, inl, inr, true≢false}
 use Rattle.std.specs.Prelude.{filter, map, take, nat_lt, nat_le, nat_eq, cond}
 use Rattle.std.specs.List.{AllByRecursion, zip, list_all}

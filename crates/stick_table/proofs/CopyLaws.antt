@@ -1,4 +1,4 @@
--- What a copy answers, and what it leaves.
+-- What a copy returns, and the state that it leaves.
 use Rattle.std.proofs.Common.{◌≡◌, ℕ, zero, suc, Bool, true, false, List, [], ◌∷◌, length, Option, Some, None, refl, sym, ap, subst, ◌∙◌, true≢false}
 use Rattle.std.specs.Prelude.{filter, is_some, map, option_map, slice_get, take, nat_eq, nat_lt, if◌then◌else◌, ◌==◌}
 use Rattle.table_types.specs.declared.key.Key.{Key}
@@ -32,7 +32,7 @@ teaches_last s session now us some =
     (with_same session (teaching (last_number 0 us)) (λ (p : Progress). record p { taught = last_number p.taught us }) s.sessions
     (λ p. ap (λ (n : ℕ). record p { taught = n }) (last_of_some 0 p.taught us some)))
 
--- a copy that isn't refused has room in the history
+-- if a copy isn't refused, the history has room
 pub copy_free : (full : Bool) (s : TableState) (session : ℕ) (kind : CopyKind) (limit now : ℕ) → copy_refusal full s session kind limit now ≡ None → (full ≡ false) × (copy_refusal false s session kind limit now ≡ None)
 copy_free full s session kind limit now granted =
     let free = by (progress_of session s) refl in

@@ -1,4 +1,4 @@
--- Runs of learned rows: how they are found and joined, what a push makes of them, and that they stay.
+-- Runs of learned rows: how they are found and joined, how a push uses them, and why they stay valid.
 use Rattle.std.proofs.Common.{◌≡◌, ℕ, ◌+◌, ◌-◌, ◌<◌, ◌≤◌, Bool, true, false, cond, not, ◌&&◌, List, [], ◌∷◌, ◌++◌, refl, sym, ap, ◌∙◌, subst, arith, inl, inr}
 use Rattle.std.specs.Prelude.{MatchBool, filter, nat_lt}
 use Rattle.std.specs.List.{AllByRecursion}
@@ -15,9 +15,9 @@ use Rattle.stick_table.specs.LearnedRuns.{IsLearnedRun, IsLearnedWithin, last_le
 use Rattle.stick_table.proofs.RowsLaws.{all_end, all_filter, all_so, rise_bound, rise_each}
 use Rattle.stick_table.proofs.UnackedLaws.{is_above}
 
--- ---- how a run is found
+-- ---- finding a run
 
--- the rows above a number are learned up to there
+-- the rows above a number are learned up to the number found
 found_learned : (number least next : ℕ) (rows : List (Key × StoredRow)) → NumbersRise least next rows → AllByRecursion (IsLearnedWithin number (last_learned next (filter (is_above number) rows))) rows
 found_learned number least next [] rise = tt
 found_learned number least next (e ∷ es) (first, rest) = elim (cases_Bool (is_above number e)) [
@@ -43,7 +43,7 @@ found_learned number least next (e ∷ es) (first, rest) = elim (cases_Bool (is_
       subst (λ (n : ℕ). AllByRecursion (IsLearnedWithin number n) (e ∷ es)) (sym is) ((λ over under. absurd (omega (arith, over, least_number))), found_learned number (e.1.number + 1) next es rest)
 ]
 
--- and that number was given
+-- and the number found was assigned
 found_given : (p : Key × StoredRow → Bool) (least next : ℕ) (rows : List (Key × StoredRow)) → 1 ≤ least → NumbersRise least next rows → last_learned next (filter p rows) < next
 found_given p least next [] some rise = omega (arith, some, rise)
 found_given p least next (e ∷ es) some (first, rest) =
@@ -59,7 +59,7 @@ run_found number next rows rise = record {
   learned = found_learned number 1 next rows rise;
 }
 
--- a run, and the one after it
+-- a run joined with the run that follows it
 pub run_joined : (after last further next : ℕ) (rows : List (Key × StoredRow)) → IsLearnedRun after last next rows → IsLearnedRun last further next rows → IsLearnedRun after further next rows
 run_joined after last further next rows near far = record { given = far.given; learned = joined rows near.learned far.learned }
   where
@@ -73,7 +73,7 @@ run_joined after last further next rows near far = record { given = far.given; l
       joined es lows highs,
     )
 
--- ---- what a push makes of a run
+-- ---- how a push uses a run
 
 one_passed : (after last number now : ℕ) (e : Key × StoredRow) → after ≤ number → number < last → IsLearnedWithin after last e → is_unacked kinds.Push number now e ≡ is_unacked kinds.Push last now e
 one_passed after last number now e from below learned = elim (cases_Bool (nat_lt last e.1.number)) [
@@ -91,7 +91,7 @@ one_passed after last number now e from below learned = elim (cases_Bool (nat_lt
       | inr under ↦ ap (λ b. b && is_copied kinds.Push e.1 && is_live now e.1) under
     ]
 
--- a push begins as well at the end of the run
+-- a push may as well begin at the end of the run
 pub run_passed : (after last number now next : ℕ) (rows : List (Key × StoredRow)) → after ≤ number → number < last → IsLearnedRun after last next rows
     → filter (is_unacked kinds.Push number now) rows ≡ filter (is_unacked kinds.Push last now) rows
 run_passed after last number now next rows from below run = passed rows run.learned
@@ -101,7 +101,7 @@ run_passed after last number now next rows from below run = passed rows run.lear
     passed (e ∷ es) (learned, rest) =
         rw (one_passed after last number now e from below learned) (ap (λ (l : List (Key × StoredRow)). cond (is_unacked kinds.Push last now e) (e ∷ l) l) (passed es rest))
 
--- ---- it stays
+-- ---- a run stays valid
 
 pub run_kept : (p : Key × StoredRow → Bool) (after last next : ℕ) (rows : List (Key × StoredRow)) → IsLearnedRun after last next rows → IsLearnedRun after last next (filter p rows)
 run_kept p after last next rows run = record { given = run.given; learned = all_filter (IsLearnedWithin after last) p rows run.learned }

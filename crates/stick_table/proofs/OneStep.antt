@@ -1,4 +1,4 @@
--- From a state an event has one answer, and leads to one state.
+-- In a given state, an event has one reply and leads to one state.
 use Rattle.std.proofs.Common.{◌≡◌, ℕ, Bool, true, false, List, [], ◌∷◌, Option, Some, None, refl, sym, ap, subst, ◌∙◌, inl, inr, true≢false}
 use Rattle.std.specs.Prelude.{MatchBool}
 use Rattle.std.specs.List.{AllByRecursion}
@@ -55,7 +55,7 @@ last_tied Greater b is = absurd (greater_equal is)
 same_row : (a b : StoredRow) → ◌≡◌ {A = Option StoredRow} (Some a) (Some b) → a ≡ b
 same_row a b is = cc
 
--- what holds of all holds of the row of a key
+-- what holds of all rows holds of the row of a key
 holds_at : (P : Key × StoredRow → Type 0) (key : Key) (row : StoredRow) (rows : List (Key × StoredRow)) → AllByRecursion P rows → row_at key rows ≡ Some row → P (key, row)
 holds_at P key row [] all at = absurd (some_none row (sym at))
 holds_at P key row (e ∷ es) (first, rest) at = elim (cases_Bool (is_eq (key_cmp key e.0))) [
@@ -93,7 +93,7 @@ one_step s e f (events.Open session) a b (granted, answer, is) (again, answer_to
 one_step s e f (events.Close session) a b (granted, answer, is) (again, answer_too, is_too) = (answer ∙ sym answer_too, is ∙ sym is_too)
 one_step s e f (events.Purge now) a b (granted, answer, is) (again, answer_too, is_too) = (answer ∙ sym answer_too, is ∙ sym is_too)
 
--- and so does a whole run
+-- the same for a whole run
 pub one_run : (s e f : TableState) (hs : List (CellEvent × CellReply)) → Replays s hs e → Replays s hs f → e ≡ f
 one_run s e f [] one other = one ∙ sym other
 one_run s e f (h ∷ hs) (mid, step, rest) (next, again, later) =

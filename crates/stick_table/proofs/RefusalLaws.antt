@@ -1,4 +1,4 @@
--- What isn't refused, and what no refusal is.
+-- Events that aren't refused, and errors that no refusal returns.
 use Rattle.std.proofs.Common.{◌≡◌, ℕ, Bool, false, not, Option, Some, None, refl, sym, ap, subst, ◌∙◌, inl, inr}
 use Rattle.std.specs.Prelude.{if◌then◌else◌, cond, nat_lt, nat_le, is_some, is_none, length}
 use Rattle.std.proofs.lemmas.Bool.{cases_Bool, cond-true, cond-false}
@@ -69,7 +69,7 @@ ack_free full s session number granted =
         let c = passes (nat_lt progress.taught number) unacknowledged.AckAhead _ (sym (ap of_session at) ∙ granted) in
         (passes full unacknowledged.HistoryFull _ c.1).0
 
--- ---- want of memory is no refusal
+-- ---- running out of memory is no refusal
 
 same_error : {E : Type 0} (p q : E) → ◌≡◌ {A = Option E} (Some p) (Some q) → p ≡ q
 same_error p q is = cc

@@ -1,4 +1,4 @@
--- Lists of rows: what stays of them, and one put at their end.
+-- Lists of rows: what remains of them, and a row appended to them.
 use Rattle.std.proofs.Common.{◌≡◌, ℕ, suc, ◌+◌, ◌<◌, ◌≤◌, Bool, true, false, not, List, [], ◌∷◌, ◌++◌, length, Option, Some, None, refl, sym, ap, ◌∙◌, arith, inl, inr, true≢false}
 use Rattle.std.specs.Prelude.{filter}
 use Rattle.std.specs.List.{AllByRecursion}
@@ -67,7 +67,7 @@ pub rise_bound : (a next : ℕ) (es : List (Key × StoredRow)) → NumbersRise a
 rise_bound a next [] rise = rise
 rise_bound a next (e ∷ es) (first, rest) = let more = rise_bound (e.1.number + 1) next es rest in omega arith
 
--- each number lies between
+-- each number lies between the bounds
 pub rise_each : (a next : ℕ) (es : List (Key × StoredRow)) → NumbersRise a next es → AllByRecursion (λ (e : Key × StoredRow). (a ≤ e.1.number) × (e.1.number < next)) es
 rise_each a next [] rise = tt
 rise_each a next (e ∷ es) (first, rest) =
@@ -119,7 +119,7 @@ differ_end key row (e ∷ es) (first, rest) none =
     let apart : is_eq (key_cmp e.0 key) ≡ false = (eq_by_cmp_equiv key_cmp_total).symm e.0 key ∙ parts.0 in
     (none_end e.0 key row es first apart, differ_end key row es rest parts.1)
 
--- where there is a row of the key, there is one row less without it
+-- if there is a row of the key, the list without it has one row less
 pub without_shorter : (key : Key) (row : StoredRow) (es : List (Key × StoredRow)) → row_at key es ≡ Some row → length (without key es) + 1 ≤ length es
 without_shorter key row [] at = absurd (some_none row (sym at))
 without_shorter key row (e ∷ es) at = elim (cases_Bool (is_eq (key_cmp key e.0))) [

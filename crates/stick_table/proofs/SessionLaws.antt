@@ -1,4 +1,4 @@
--- Sessions of a table: none stands twice.
+-- Sessions of a table: no session occurs twice.
 use Rattle.std.proofs.Common.{◌≡◌, ℕ, suc, ◌+◌, ◌<◌, Bool, false, List, [], ◌∷◌, ◌++◌, Option, Some, None, refl, sym, ap, subst, ◌∙◌, inl, inr, true≢false, arith, length, slice_index_or, slice_set}
 use Rattle.std.specs.Prelude.{filter, nat_eq, nat_le, ◌==◌, option_map}
 use Rattle.std.specs.Map.{lookup}
@@ -66,7 +66,7 @@ sessions_differ_end added progress (e ∷ es) (first, rest) none =
     let parts = absent_parts added e es none in
     (absent_end e.0 added progress es first (apart e.0 added parts.0), sessions_differ_end added progress es rest parts.1)
 
--- ---- where a session stands
+-- ---- the index of a session
 
 next_index : (o : Option ℕ) (index : ℕ) → option_map (λ i. i + 1) o ≡ Some index → (k : ℕ) × (o ≡ Some k) × (suc k ≡ index)
 next_index None index at = absurd (some_none index (sym at))

@@ -1,4 +1,4 @@
--- What a sound table doesn't refuse it answers.
+-- A sound table replies to every event that it doesn't refuse.
 use Rattle.std.proofs.Common.{◌≡◌, ℕ, ◌+◌, ◌<◌, ◌≤◌, Bool, true, false, ◌||◌, List, [], ◌∷◌, length, Option, Some, None, refl, sym, ap, subst, ◌∙◌, arith, inl, inr, true≢false}
 use Rattle.std.specs.Prelude.{MatchBool, nat_lt}
 use Rattle.std.specs.List.{AllByRecursion}
@@ -46,7 +46,7 @@ no_later_than a b order = no_later a b Equal (by (nat_cmp a b) order)
     by Equal is = refl
     by Greater is = is
 
--- no later than one that is no later than a third
+-- the order of ends is transitive
 ends_then : (a b c : Option ℕ) → is_gt (ends_cmp a b) ≡ false → is_gt (ends_cmp b c) ≡ false → is_gt (ends_cmp a c) ≡ false
 ends_then None None None one other = refl
 ends_then None None (Some c) one other = absurd (true≢false other)
@@ -64,7 +64,7 @@ ends_same (Some a) = ap is_gt (same_is a)
 
 -- ---- rows
 
--- a row that ends no later, and has a lesser number, comes first
+-- a row that ends no later and has a smaller number comes first
 comes_first : (a b : Key × StoredRow) → is_gt (ends_cmp a.1.ends b.1.ends) ≡ false → a.1.number < b.1.number → is_gt (end_cmp a b) ≡ false
 comes_first a b order less = by (ends_cmp a.1.ends b.1.ends) order
   where
@@ -73,7 +73,7 @@ comes_first a b order less = by (ends_cmp a.1.ends b.1.ends) order
     by Equal is = ap (λ n. is_gt (ordering_then n (key_cmp a.0 b.0))) (less_is a.1.number b.1.number less)
     by Greater is = is
 
--- and so does one that ends sooner
+-- and so does a row that ends sooner
 comes_sooner : (a b : Key × StoredRow) → is_gt (ends_cmp b.1.ends a.1.ends) ≡ true → is_gt (end_cmp a b) ≡ false
 comes_sooner a b later = by (ends_cmp b.1.ends a.1.ends) (ends_flip a.1.ends b.1.ends) later
   where
@@ -93,7 +93,7 @@ comes_itself a = by (ends_cmp a.1.ends a.1.ends) (ends_same a.1.ends)
     by Equal is = ap (λ n. is_gt (ordering_then n (key_cmp a.0 a.0))) (same_is a.1.number) ∙ ap is_gt (key_cmp-same a.0)
     by Greater is = is
 
--- the first of two orders isn't later where both together aren't
+-- a row that doesn't come after another doesn't end later either
 ends_part : (a b : Key × StoredRow) → is_gt (end_cmp a b) ≡ false → is_gt (ends_cmp a.1.ends b.1.ends) ≡ false
 ends_part a b order = by (ends_cmp a.1.ends b.1.ends) order
   where
@@ -102,7 +102,7 @@ ends_part a b order = by (ends_cmp a.1.ends b.1.ends) order
     by Equal is = refl
     by Greater is = is
 
--- the rows have a first to end, unless there are none
+-- unless there are no rows, one of them is the first to end
 pub some_first : (a next : ℕ) (e : Key × StoredRow) (es : List (Key × StoredRow)) → NumbersRise a next (e ∷ es) → KeysDiffer (e ∷ es) → (first : Key) × IsFirstToEnd (e ∷ es) first
 some_first a next e [] rise differ = (e.0, (e.1, cond-true (is_eq (key_cmp e.0 e.0)) (Some e.1) None (ap is_eq (key_cmp-same e.0)), (comes_itself e, tt)))
 some_first a next e (x ∷ xs) (least, rise) (apart, differ) = choose (some_first (e.1.number + 1) next x xs rise differ)

@@ -1,4 +1,4 @@
--- A table stays sound, and a run goes on.
+-- A table stays sound, and a run continues.
 use Rattle.std.proofs.Common.{◌≡◌, ℕ, zero, suc, ◌+◌, ◌^◌, ◌<◌, ◌≤◌, Bool, true, false, not, ◌&&◌, ◌||◌, List, [], ◌∷◌, ◌++◌, length, Option, Some, None, refl, sym, ap, subst, ◌∙◌, arith, inl, inr, true≢false}
 use Rattle.std.specs.Prelude.{filter, map, take, nat_lt, nat_le, nat_eq, cond, is_some, is_none, MatchBool, option_and_then, ◌==◌, if◌then◌else◌}
 use Rattle.std.specs.List.{AllByRecursion}
@@ -35,7 +35,7 @@ use Rattle.stick_table.proofs.CellLaws.{cells_later, end_later, changed_cells_fi
 
 -- ---- refusals
 
--- what isn't refused by the first of its refusals
+-- if a chain of refusals refuses nothing, its first test fails and the rest refuses nothing
 pub passes : {E : Type 0} (b : Bool) (x : E) (rest : Option E) → cond b (Some x) rest ≡ None → (b ≡ false) × (rest ≡ None)
 passes true x rest none = absurd (some_none x none)
 passes false x rest none = (refl, none)
@@ -44,12 +44,12 @@ is_absent : {A : Type 0} (o : Option A) → is_some o ≡ false → o ≡ None
 is_absent None no_one = refl
 is_absent (Some x) no_one = absurd (true≢false no_one)
 
--- ---- rows that stay
+-- ---- rows that remain
 
 entry_later : (d : Definition) (latest now : ℕ) → latest ≤ now → (e : Key × StoredRow) → EntryFits d latest e → EntryFits d now e
 entry_later d latest now later e (key, values, name, end) = (key, cells_later latest now (cell_types d.types) e.1.cells later values, name, end_later latest now d.expire e.1.ends later end)
 
--- what is left of the rows where one of the key is to be stored, and has room there
+-- the rows that remain when a row of the key is to be stored, which leave room for it
 pub record IsLeft (s : TableState) (key : Key) (rest : List (Key × StoredRow)) : Type 0 where
   pub numbers : NumbersRise 1 s.next rest
   pub keys : KeysDiffer rest
@@ -122,7 +122,7 @@ stored_sound s key row now rest sound leaves fits number later timely unspent =
 
 -- ---- the row that is stored
 
--- the row that a table has at a key is one of its own
+-- the row that a table has at a key is one of its entries
 entry_at : (d : Definition) (latest : ℕ) (key : Key) (row : StoredRow) (es : List (Key × StoredRow)) → AllByRecursion (EntryFits d latest) es → row_at key es ≡ Some row
     → CellsFit latest (cell_types d.types) row.cells × (may_be_named d row.name ≡ true)
 entry_at d latest key row [] entries at = absurd (some_none row (sym at))
@@ -177,7 +177,7 @@ learned_fits s u now own =
 
 -- ---- sessions
 
--- what is changed at a session's progress is sound where the progress of it is
+-- changing a session's progress keeps the sessions sound if the new progress is
 pub progress_below : (next session : ℕ) (f : Progress → Progress) (sessions : List (ℕ × Progress)) (progress : Progress) → AllByRecursion (IsProgressBelow next) sessions
     → lookup (λ id. id == session) sessions ≡ Some progress → ((progress.acknowledged ≤ progress.taught) → (progress.taught < next) → IsProgressBelow next (session, f progress)) → AllByRecursion (IsProgressBelow next) (with_progress session f sessions)
 progress_below next session f [] progress all at so = absurd (some_none progress (sym at))

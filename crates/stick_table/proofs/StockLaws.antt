@@ -1,4 +1,4 @@
--- Rows by key with their numbers beside them, and what is put, taken out and looked up there.
+-- Rows by key with their numbers beside them, and what is put, removed and looked up there.
 use Rattle.std.proofs.Common.{◌≡◌, ℕ, suc, ◌+◌, ◌<◌, ◌^◌, Bool, true, false, cond, not, List, [], ◌∷◌, ◌++◌, length, Option, Some, None, refl, sym, ap, ◌∙◌, subst, arith}
 use Rattle.std.specs.Prelude.{filter, map, nat_lt}
 use Rattle.std.specs.List.{AllByRecursion}
@@ -35,7 +35,7 @@ same_row a b e = cc
 
 -- ---- what is looked up
 
--- what holds of each key and row that are found holds of each entry
+-- what holds of each key and row that is found holds of each entry
 pub all_found : (es : List (Key × StoredRow)) → KeysDiffer es → (T : Key × StoredRow → Type 0) → ((k : Key) (row : StoredRow) → row_at k es ≡ Some row → T (k, row)) → AllByRecursion T es
 all_found [] differ T h = tt
 all_found (e ∷ es) (none, differ) T h = (h e.0 e.1 (rw (key-same e.0) refl), all_found es differ T (λ k row at. h k row (further k row at)))
@@ -47,7 +47,7 @@ all_found (e ∷ es) (none, differ) T h = (h e.0 e.1 (rw (key-same e.0) refl), a
         by true same = absurd (some_none row (sym at ∙ ap (λ (q : Key). row_at q es) (one_key k e.0 same) ∙ none))
         by false other = rw other at
 
--- what holds of each entry holds of each that is found
+-- what holds of each entry holds of each row that is found
 pub found_in : (es : List (Key × StoredRow)) (T : Key × StoredRow → Type 0) → AllByRecursion T es → (k : Key) (row : StoredRow) → row_at k es ≡ Some row → T (k, row)
 found_in [] T all k row at = absurd cc
 found_in (e ∷ es) T (first, rest) k row at = by (is_eq (key_cmp k e.0)) refl (λ there. found_in es T rest k row there)
@@ -106,7 +106,7 @@ rows-taken (e ∷ es) key rising k = by (is_eq (key_cmp key e.0)) refl (is_eq (k
     by false there true tied false other rest = rw (there, tied, other) refl
     by false there false apart c is rest = rw (there, apart) rest
 
--- a row put at the end in place of the key's
+-- a row is appended in place of the key's
 pub rows-put : (es : List (Key × StoredRow)) (key : Key) (row : StoredRow) (k : Key) → row_at k (without key es ++ (key, row) ∷ []) ≡ cond (is_eq (key_cmp key k)) (Some row) (row_at k es)
 rows-put [] key row k = ap (λ (b : Bool). cond b (Some row) None) (one_turned k key)
 rows-put (e ∷ es) key row k = by (is_eq (key_cmp key e.0)) refl (is_eq (key_cmp k e.0)) refl (is_eq (key_cmp key k)) refl (rows-put es key row k)
@@ -141,7 +141,7 @@ rows-without (e ∷ es) key k = by (is_eq (key_cmp key e.0)) refl (is_eq (key_cm
     by false there true tied false other rest = rw (there, tied, other) refl
     by false there false apart c is rest = rw (there, apart) rest
 
--- ---- keys stay in rising order
+-- ---- keys stay in ascending order
 
 above_insert : (least key : Key) (row : StoredRow) (es : List (Key × StoredRow)) → key_cmp least key ≡ Less → AllByRecursion (λ q. key_cmp least q ≡ Less) (keys_of es) → AllByRecursion (λ q. key_cmp least q ≡ Less) (keys_of (insert_entry key_cmp es key row))
 above_insert least key row [] less above = (less, tt)
@@ -209,7 +209,7 @@ pub as_many : (es : List (Key × StoredRow)) → length (map numbered es) ≡ le
 as_many [] = refl
 as_many (e ∷ es) = ap suc (as_many es)
 
--- ---- what a stock is seen as
+-- ---- the view of a stock
 
 pub rows_again : (content : List (Key × StoredRow)) (es : List (Key × StoredRow)) → AllByRecursion (λ e. row_at e.0 content ≡ Some e.1) es → rows_of content (map numbered es) ≡ es
 rows_again content [] found = refl
@@ -225,7 +225,7 @@ module _ (content : List (Key × StoredRow)) (pairs : List (ℕ × Key)) (rows :
   pub seen_stock : (next : ℕ) → stocked next (rows_of content pairs) ≡ stocked next rows
   seen_stock next = ap (stocked next) seen
 
-  -- what holds of each row by key holds of each
+  -- what holds of each row by key holds of each row by number
   pub all_rows : (T : Key × StoredRow → Type 0) → AllByRecursion T content → AllByRecursion T rows
   all_rows T all = all_found rows differ T (λ k row at. found_in content T all k row (tied.same k ∙ at))
 
@@ -241,7 +241,7 @@ no_rows content pairs (e ∷ es) tied none =
     let there : row_at e.0 (e ∷ es) ≡ Some e.1 = rw (key-same e.0) refl in
     absurd (some_none e.1 (sym there ∙ sym (tied.same e.0) ∙ ap (row_at e.0) none))
 
--- ---- what is put and taken out
+-- ---- what is put and removed
 
 module _ (content : List (Key × StoredRow)) (pairs : List (ℕ × Key)) (rows : List (Key × StoredRow)) (tied : AreTied content pairs rows) (key : Key) where
   pub put_tied : (row : StoredRow) (next : ℕ) → row.number ≡ next → (content_after : List (Key × StoredRow)) (pairs_after : List (ℕ × Key)) → content_after ≡ insert_entry key_cmp content key row → pairs_after ≡ numbers_without key pairs ++ (next, key) ∷ []

@@ -1,4 +1,4 @@
--- What the calls of a stock leave of the rows by key and of their numbers.
+-- What the calls of a stock do to the rows by key and to their numbers.
 use Rattle.std.proofs.Common.{◌≡◌, ℕ, ◌+◌, ◌<◌, ◌≤◌, ◌^◌, Bool, true, false, not, List, [], ◌∷◌, ◌++◌, length, Option, Some, None, IfSome, IfNone, refl, sym, ap, ◌∙◌, subst, append-nil, arith}
 use Rattle.std.specs.Prelude.{cond, filter, is_some, map, nat_lt}
 use Rattle.std.specs.List.{AllByRecursion}
@@ -22,7 +22,7 @@ use Rattle.stick_table.specs.Stock.{AreKept, AreTied, HaveRows, IsStock, Stocked
 use Rattle.stick_table.proofs.RowsLaws.{all_filter, none_parts, rise_each, some_none}
 use Rattle.stick_table.proofs.StockLaws.{all_found, are_kept, as_many, found_in, live_rows, numbered-above, numbered-without, put_sound, put_tied, rows_again, same_row, seen_stock, taken_sound, taken_tied}
 
--- ---- answers
+-- ---- results
 
 pub if_some : {A : Type 0} (P Q : A → Type 0) → ((a : A) → P a → Q a) → (o : Option A) → IfSome o P → IfSome o Q
 if_some P Q f (Some a) p = f a p
@@ -50,7 +50,7 @@ without_absent key (e ∷ es) none =
     let parts = none_parts key e es none in
     rw parts.0 (ap (λ (fs : List (Key × StoredRow)). e ∷ fs) (without_absent key es parts.1))
 
--- the pair of the number that a key's row has is the key's, also in front of others
+-- removing the number of a key's row removes the pair of that key, whatever pairs follow
 removed_rows : (least next : ℕ) (es : List (Key × StoredRow)) → NumbersRise least next es → KeysDiffer es → (key : Key) (row : StoredRow) (others : List (ℕ × Key)) → row_at key es ≡ Some row → pairs_without (Some row.number) (map numbered es ++ others) ≡ map numbered (without key es) ++ others
 removed_rows least next [] rise differ key row others at = absurd cc
 removed_rows least next (e ∷ es) (first, rest) (none, differ) key row others at = by (is_eq (key_cmp key e.0)) refl (λ there. removed_rows (e.1.number + 1) next es rest differ key row others there)
@@ -104,7 +104,7 @@ both_parts p (e ∷ es) = by (p e) refl (both_parts p es)
     by true is rest = rw is (omega (arith, rest))
     by false is rest = rw is (omega (arith, rest))
 
--- a row put at the end, and another key's taken out
+-- a row is appended, and the row of another key is removed
 left_last : (rows : List (Key × StoredRow)) (key leaving : Key) (row : StoredRow) → (leaving ≡ key → ⊥) → without leaving (without key rows ++ (key, row) ∷ []) ≡ without key (without leaving rows) ++ (key, row) ∷ []
 left_last [] key leaving row other = by (is_eq (key_cmp leaving key)) refl
   where
@@ -205,7 +205,7 @@ module _ (content : List (Key × StoredRow)) (numbers : Numbering) (kept : AreKe
   pub count : length numbers.pairs ≡ length rows
   count = ap (λ (ps : List (ℕ × Key)). length ps) kept.tied.numbers ∙ as_many rows
 
-  -- the numbers without that of a key's row
+  -- the numbers without the number of a key's row
   pair_gone : (key : Key) (row : StoredRow) (others : List (ℕ × Key)) → row_at key content ≡ Some row → pairs_without (Some row.number) (numbers.pairs ++ others) ≡ numbers_without key numbers.pairs ++ others
   pair_gone key row others at =
       ap (λ (ps : List (ℕ × Key)). pairs_without (Some row.number) (ps ++ others)) kept.tied.numbers
@@ -224,7 +224,7 @@ module _ (content : List (Key × StoredRow)) (numbers : Numbering) (kept : AreKe
       is ∙ ap (numbering numbers.next) (ap (pairs_without (Some row.number)) (sym (append-nil numbers.pairs)) ∙ pair_gone key row [] (sym at) ∙ append-nil (numbers_without key numbers.pairs))
   pair_dropped key None none after is = is ∙ ap (numbering numbers.next) (sym (no_pair key (sym none)))
 
-  -- the next number was pushed for a key, whose older one, if it has one, goes
+  -- the next number was assigned to a key, and its older number, if any, is removed
   module _ (key : Key) (mid : Numbering) (is : mid ≡ pushed key numbers) where
     pub given_so : (older : Option StoredRow) → older ≡ row_at key content → (after : Numbering) → after ≡ numbering mid.next (pairs_without (number_of older) mid.pairs) → after ≡ given key numbers
     given_so (Some row) at after gone =
@@ -237,7 +237,7 @@ module _ (content : List (Key × StoredRow)) (numbers : Numbering) (kept : AreKe
   pub all_live : (now : ℕ) → AreLive now content → filter (λ e. is_live now e.1) rows ≡ rows
   all_live now live = filter_live now rows (live_rows content numbers.pairs rows kept.tied kept.sound.keys now live)
 
-  -- the row of a key was put
+  -- the row of a key was stored
   module _ (key : Key) (row : StoredRow) (is : row.number ≡ numbers.next) (left : numbers.next < 2 ^ 32) (content_after : List (Key × StoredRow)) (numbers_after : Numbering) (numbered_so : numbers_after ≡ given key numbers) (put : content_after ≡ insert_entry key_cmp content key row) where
     tied_put : AreTied content_after numbers_after.pairs (without key rows ++ (key, row) ∷ [])
     tied_put = put_tied content numbers.pairs rows kept.tied key row numbers.next is content_after numbers_after.pairs put (ap (λ (ns : Numbering). ns.pairs) numbered_so)
@@ -253,7 +253,7 @@ module _ (content : List (Key × StoredRow)) (numbers : Numbering) (kept : AreKe
         seen_stock content_after numbers_after.pairs (without key rows ++ (key, row) ∷ []) tied_put sound_put.keys numbers_after.next
         ∙ ap (λ (ns : Numbering). stocked ns.next (without key rows ++ (key, row) ∷ [])) numbered_so
 
-  -- the row of a key was taken out
+  -- the row of a key was removed
   module _ (key : Key) (content_after : List (Key × StoredRow)) (numbers_after : Numbering) (taken : content_after ≡ rows_without key content) (gone : numbers_after ≡ dropped key numbers) where
     tied_taken : AreTied content_after numbers_after.pairs (without key rows)
     tied_taken = taken_tied content numbers.pairs rows kept.tied key content_after numbers_after.pairs taken (ap (λ (ns : Numbering). ns.pairs) gone)

@@ -1,4 +1,4 @@
--- The rows that a session has not acknowledged, one after the other.
+-- The rows that a session has not acknowledged, one after another.
 use Rattle.std.proofs.Common.{◌≡◌, ℕ, suc, ◌+◌, ◌-◌, ◌<◌, Bool, true, false, ◌&&◌, List, [], ◌∷◌, ◌++◌, length, refl, sym, ap, ◌∙◌, arith, inl, inr, append_assoc}
 use Rattle.std.specs.Prelude.{filter, map, take, nat_lt}
 use Rattle.std.proofs.lemmas.List.{length-append}
@@ -9,7 +9,7 @@ use Rattle.table_types.specs.declared.copies.CopyKind.{CopyKind}
 use Rattle.table_rows.specs.Rows.{is_live}
 use Rattle.stick_table.specs.Machine.{is_copied, is_unacked}
 
--- a copy of that kind at that moment has the row
+-- a copy of `kind` at `now` includes the row
 abbrev pub is_due : CopyKind → ℕ → Key × StoredRow → Bool
 is_due kind now e = is_copied kind e.1 && is_live now e.1
 
@@ -22,7 +22,7 @@ above_is kind n now e above = ap (λ b. b && is_copied kind e.1 && is_live now e
 below_is : (kind : CopyKind) (n now : ℕ) (e : Key × StoredRow) → nat_lt n e.1.number ≡ false → is_unacked kind n now e ≡ false
 below_is kind n now e below = ap (λ b. b && is_copied kind e.1 && is_live now e.1) below
 
--- what is copied of the rows above a number
+-- the rows above a number that a copy includes
 pub due_above : (kind : CopyKind) (n now : ℕ) (rows : List (Key × StoredRow)) → filter (is_due kind now) (filter (is_above n) rows) ≡ filter (is_unacked kind n now) rows
 due_above kind n now [] = refl
 due_above kind n now (x ∷ xs) = elim (cases_Bool (nat_lt n x.1.number)) [
@@ -44,7 +44,7 @@ due_above kind n now (x ∷ xs) = elim (cases_Bool (nat_lt n x.1.number)) [
       ∙ sym (cond-false (is_unacked kind n now x) (x ∷ filter (is_unacked kind n now) xs) (filter (is_unacked kind n now) xs) (below_is kind n now x below))
 ]
 
--- the next row, where it is copied and where it isn't
+-- the next row, if it is copied and if it isn't
 pub next_due : (kind : CopyKind) (now : ℕ) (e : Key × StoredRow) (all rest : List (Key × StoredRow)) → all ≡ e ∷ rest → is_due kind now e ≡ true → filter (is_due kind now) all ≡ e ∷ filter (is_due kind now) rest
 next_due kind now e all rest is due = ap (filter (is_due kind now)) is ∙ cond-true (is_due kind now e) (e ∷ filter (is_due kind now) rest) (filter (is_due kind now) rest) due
 

@@ -1,5 +1,5 @@
--- A row as an update (HAProxy, doc/peers-v2.0.txt, "Update Messages"; that a row that lives for ever has a life of 0, and
--- that the periods of a rate turn in the update alone, are the profile's choices).
+-- A row as an update (HAProxy, doc/peers-v2.0.txt, "Update Messages"; that a row that never expires has a life of 0,
+-- and that the periods of a rate rotate only in the update, are the profile's choices).
 use Rattle.std.specs.Prelude.{ℕ, ◌-◌, List, map, Option, Some, None}
 use Rattle.std.specs.List.{zip}
 use Rattle.table_types.specs.declared.key.Key.{Key}
@@ -19,11 +19,11 @@ abbrev pub value_of : ℕ → Cell → Value
 value_of now (cells.Count count) = values.Count count
 value_of now (cells.Rate start current previous) = values.Rate (now - start) current previous
 
--- the values of a row's cells, the periods of its rates turned
+-- the values of a row's cells, with the periods of its rates rotated
 abbrev pub values_of : ℕ → List (DataType × Option ℕ) → List Cell → List Value
 values_of now types row = map (λ e. value_of now (turned now e.0.1 e.1)) (zip (cell_types types) row)
 
--- how long a row still lives, and 0 of one that lives for ever
+-- the remaining life of a row, and 0 if it never expires
 abbrev pub life_left : ℕ → Option ℕ → ℕ
 life_left now None = 0
 life_left now (Some end) = end - now

@@ -1,4 +1,4 @@
--- A stick table as a machine: what a table is as it stands, and what each event makes of it (HAProxy Configuration Manual,
+-- A stick table as a state machine: the state of a table, and what each event does to it (HAProxy Configuration Manual,
 -- stick-table `size`, `expire` and `nopurge`, and doc/peers-v2.0.txt, "Update Messages" and "Acknowledgement Messages";
 -- the order of refusals, and that each change takes the next number, are the profile's choices).
 use Rattle.std.specs.Prelude.{◌≡◌, ℕ, ◌+◌, ◌^◌, Bool, true, false, not, ◌&&◌, ◌||◌, ◌==◌, nat_lt, nat_le, MatchBool, is_some, is_none, List, [], ◌∷◌, ◌++◌, length, map, filter, take, fold, Option, Some, None, option_and_then, if◌then◌else◌}
@@ -39,9 +39,8 @@ use Rattle.stick_table.specs.declared.errors.CloseError.TheVariants as unclosed
 use Rattle.stick_table.specs.declared.errors.PurgeError.{PurgeError}
 use Rattle.stick_table.specs.declared.errors.PurgeError.TheVariants as unpurged
 
--- What a table is as it stands: what it was made with; its rows by their keys, in rising number; the number that is given
--- next; the latest moment of an event; and the sessions that are open, each with the number acknowledged and the number
--- taught last.
+-- The state of a table: its parameters; its rows by key, in ascending order of number; the next number to assign; the
+-- latest moment of an event; and the open sessions, each with the number acknowledged and the last number taught.
 pub record TableState : Type 0 where
   pub definition : Definition
   pub size : ℕ
@@ -53,7 +52,7 @@ pub record TableState : Type 0 where
 
 -- ---- rows
 
--- the rows without that of a key
+-- the rows without the row of a key
 abbrev pub without : Key → List (Key × StoredRow) → List (Key × StoredRow)
 without key rows = filter (λ e. not (is_eq (key_cmp key e.0))) rows
 
@@ -63,7 +62,7 @@ has_row key s = is_some (row_at key s.rows)
 abbrev pub if_live : ℕ → StoredRow → Option StoredRow
 if_live now row = if is_live now row then Some row else None
 
--- the row of a key, where it is live
+-- the row of a key, if it is live
 abbrev pub live_row : Key → ℕ → TableState → Option StoredRow
 live_row key now s = option_and_then (if_live now) (row_at key s.rows)
 
@@ -71,30 +70,30 @@ live_row key now s = option_and_then (if_live now) (row_at key s.rows)
 abbrev pub tracked : TableState → Key → Change → ℕ → StoredRow
 tracked s key change now = tracked_row s.definition now s.next change (live_row key now s)
 
--- and so does an update that is learned, whatever number it had with the peer
+-- and so does a learned update, whatever number the peer gave it
 abbrev pub learned : TableState → Update → ℕ → StoredRow
 learned s u now = row_of now s.definition.expire (record u { number = s.next })
 
--- a row for that key takes no other's place: the key has one, or there is room for one more
+-- a row of that key displaces no other: the key has a row, or there is room for one more
 abbrev pub has_room : TableState → Key → Bool
 has_room s key = has_row key s || nat_lt (length s.rows) s.size
 
--- another's place would have to be taken, and all rows are live in a table that purges none of them
+-- a row of that key would displace another, all rows are live, and the table has `nopurge`
 abbrev pub is_full : TableState → Key → ℕ → Bool
 is_full s key now = s.nopurge && not (has_room s key) && list_all (λ e. is_live now e.1) s.rows
 
--- what stays of the rows where one of that key is to be stored: all of them, or all but the first to end
+-- the rows that remain when a row of that key is to be stored: all of them, or all but the first to end
 abbrev pub Leaves : TableState → Key → List (Key × StoredRow) → Type 0
 Leaves s key rest =
     MatchBool (has_room s key) (rest ≡ s.rows) ((first : Key) × IsFirstToEnd s.rows first × (rest ≡ without first s.rows))
 
--- the row is stored as the latest of all
+-- the row is stored after all others, under the next number
 abbrev pub stored : TableState → Key → StoredRow → ℕ → List (Key × StoredRow) → TableState
 stored s key row now rest = record s { rows = without key rest ++ (key, row) ∷ []; next = s.next + 1; latest = now }
 
 -- ---- sessions
 
--- how far a session is where it begins
+-- the progress of a new session
 abbrev pub no_progress : Progress
 no_progress = record { acknowledged = 0; taught = 0 }
 
@@ -108,23 +107,23 @@ abbrev pub acknowledged_by : Option Progress → ℕ
 acknowledged_by None = 0
 acknowledged_by (Some progress) = progress.acknowledged
 
--- the sessions with that one's progress changed
+-- the sessions with the progress of `session` changed
 abbrev pub with_progress : ℕ → (Progress → Progress) → List (ℕ × Progress) → List (ℕ × Progress)
 with_progress session f [] = []
 with_progress session f (e ∷ es) = if e.0 == session then (e.0, f e.1) ∷ es else e ∷ with_progress session f es
 
 -- ---- copies
 
--- a push copies the rows that aren't learned, and a resync all
+-- a push copies the rows that aren't learned, a resync copies all rows
 abbrev pub is_copied : CopyKind → StoredRow → Bool
 is_copied kinds.Push row = not row.learned
 is_copied kinds.Resync row = true
 
--- what a session has not acknowledged of that kind
+-- a copy of that kind includes the row: the session has not acknowledged it, and it is live
 abbrev pub is_unacked : CopyKind → ℕ → ℕ → Key × StoredRow → Bool
 is_unacked kind number now e = nat_lt number e.1.number && is_copied kind e.1 && is_live now e.1
 
--- the rows that a session has not acknowledged, in rising number, as updates, and no more than the limit
+-- the rows that a session has not acknowledged, in ascending order of number, as updates, at most `limit` of them
 abbrev pub unacked : TableState → ℕ → CopyKind → ℕ → ℕ → List Update
 unacked s session kind now limit =
     take limit (map (update_of s.definition now) (filter (is_unacked kind (acknowledged_by (progress_of session s)) now) s.rows))
@@ -135,7 +134,7 @@ last_number least us = fold (λ number u. u.number) least us
 abbrev pub teaching : ℕ → Progress → Progress
 teaching number progress = record progress { taught = number }
 
--- the number taught becomes that of the last update
+-- the number taught becomes the number of the last update
 abbrev pub copied : TableState → ℕ → List Update → ℕ → TableState
 copied s session us now = record s { sessions = with_progress session (λ progress. record progress { taught = last_number progress.taught us }) s.sessions; latest = now }
 
@@ -150,7 +149,7 @@ settled_by (Some progress) number =
 abbrev pub acknowledging : ℕ → Progress → Progress
 acknowledging number progress = if nat_le number progress.acknowledged then progress else record progress { acknowledged = number }
 
--- ---- refusals, each in its order; full says that the history has no room for one more event
+-- ---- refusals, each in its order; `full` says that the history has no room for another event
 
 abbrev pub track_refusal : Bool → TableState → Key → Change → ℕ → Option TrackError
 track_refusal full s key change now =
@@ -162,7 +161,7 @@ track_refusal full s key change now =
     else (if is_full s key now then Some untracked.TableFull
     else None)))))
 
--- the update is one of this table, whatever its life is
+-- the update belongs to this table, whatever its life
 abbrev pub is_of_table : Definition → Update → Bool
 is_of_table d u = u.table == d.id && row_fits d u.key u.values && may_be_named d u.name
 
@@ -219,7 +218,7 @@ purge_refusal full s now =
 
 -- ---- steps
 
--- from s the machine answers the event so, and is e afterwards
+-- in state `s` the machine replies to the event with `reply`, and its state is `e` afterwards
 abbrev pub Step : TableState → CellEvent → CellReply → TableState → Type 0
 Step s (events.Track seat key change now) reply e =
     (track_refusal false s key change now ≡ None)
@@ -264,13 +263,13 @@ IsGranted s (events.Purge now) = purge_refusal false s now ≡ None
 
 -- ---- runs
 
--- the machine goes through these events with these replies, from s to e
+-- the machine goes through these events with these replies, from state `s` to state `e`
 abbrev pub Replays : TableState → List (CellEvent × CellReply) → TableState → Type 0
 Replays s [] e = e ≡ s
 Replays s (h ∷ hs) e = (mid : TableState) × Step s h.0 h.1 mid × Replays mid hs e
 
 -- ---- a new table
 
--- a table without rows and sessions, which gives that number next
+-- a table without rows or sessions, whose next number is `first`
 abbrev pub new_table : Definition → ℕ → Bool → ℕ → TableState
 new_table d size nopurge first = record { definition = d; size = size; nopurge = nopurge; rows = []; next = first; latest = 2 ^ 32; sessions = [] }

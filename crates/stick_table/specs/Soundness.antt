@@ -1,4 +1,4 @@
--- What holds of a table at all times (profile).
+-- The invariant of a table (profile).
 use Rattle.std.specs.Prelude.{◌≡◌, ◌≢◌, ◌≤◌, ◌<◌, ℕ, ◌+◌, ◌^◌, ◌==◌, true, List, [], ◌∷◌, length, Option, Some, None}
 use Rattle.std.specs.List.{AllByRecursion}
 use Rattle.std.specs.Map.{lookup}
@@ -21,20 +21,20 @@ use Rattle.stick_table.specs.declared.events.CellEvent.TheVariants as events
 use Rattle.stick_table.specs.declared.events.CellReply.{CellReply}
 use Rattle.stick_table.specs.Machine.{TableState}
 
--- a cell of each shape; no rate's period begins after the latest moment
+-- a cell fits its shape, and no rate's period begins after the latest moment
 abbrev pub CellFits : ℕ → Shape → Cell → Type 0
 CellFits latest shapes.Count (cells.Count count) = count < 2 ^ 32
 CellFits latest shapes.LongCount (cells.Count count) = count < 2 ^ 64
 CellFits latest shapes.Rate (cells.Rate start current previous) = (start ≤ latest) × (current < 2 ^ 32) × (previous < 2 ^ 32)
 CellFits latest shape cell = ⊥
 
--- a cell for each of these types
+-- one cell for each of these types
 abbrev pub CellsFit : ℕ → List (DataType × Option ℕ) → List Cell → Type 0
 CellsFit latest [] [] = Unit {0}
 CellsFit latest (t ∷ ts) (c ∷ cs) = CellFits latest (shape_of t.0) c × CellsFit latest ts cs
 CellsFit latest ts cs = ⊥
 
--- no row ends later than one that is changed at the latest moment, and each ends but where rows live for ever
+-- a row ends no later than a row changed at the latest moment would, and has no end only if rows never expire
 abbrev pub EndFits : ℕ → ℕ → Option ℕ → Type 0
 EndFits latest expire None = expire ≡ 0
 EndFits latest expire (Some end) = (expire ≢ 0) × (end ≤ latest + expire)
@@ -47,22 +47,22 @@ EntryFits d latest e =
     × (may_be_named d e.1.name ≡ true)
     × EndFits latest d.expire e.1.ends
 
--- the numbers rise from a number on, and lie below the one that is given next
+-- the numbers ascend from `least`, below `next`
 abbrev pub NumbersRise : ℕ → ℕ → List (Key × StoredRow) → Type 0
 NumbersRise least next [] = least ≤ next
 NumbersRise least next (e ∷ es) = (least ≤ e.1.number) × NumbersRise (e.1.number + 1) next es
 
--- no two rows have one key
+-- no two rows have the same key
 abbrev pub KeysDiffer : List (Key × StoredRow) → Type 0
 KeysDiffer [] = Unit {0}
 KeysDiffer (e ∷ es) = (row_at e.0 es ≡ None) × KeysDiffer es
 
--- no session stands twice
+-- no session occurs twice
 abbrev pub SessionsDiffer : List (ℕ × Progress) → Type 0
 SessionsDiffer [] = Unit {0}
 SessionsDiffer (e ∷ es) = (lookup (λ id. id == e.0) es ≡ None) × SessionsDiffer es
 
--- a session has acknowledged no more than it was taught, and was taught no number that isn't given yet
+-- a session has acknowledged no more than it was taught, and the number that it was taught was already assigned
 abbrev pub IsProgressBelow : ℕ → ℕ × Progress → Type 0
 IsProgressBelow next entry = (entry.1.acknowledged ≤ entry.1.taught) × (entry.1.taught < next)
 
@@ -80,7 +80,7 @@ pub record IsSound (s : TableState) : Type 0 where
   pub sessions : SessionsDiffer s.sessions
   pub few : length s.sessions ≤ 16
 
--- the event has no moment, or one below 2^63, as each moment of the program is
+-- the event has no moment, or one below 2^63, as every moment of the program is
 abbrev pub IsTimely : CellEvent → Type 0
 IsTimely (events.Track seat key change now) = now < 2 ^ 63
 IsTimely (events.Learn session u now) = now < 2 ^ 63

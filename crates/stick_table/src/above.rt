@@ -1,4 +1,4 @@
-//! Rows with their keys, one after another, in rising number.
+//! Iteration over rows with their keys, in ascending order of number.
 
 ghost use Rattle.std.specs.Prelude.{◌≡◌, length};
 ghost use Rattle.std.specs.Iterator.{at_most};
@@ -10,7 +10,7 @@ use table_rows::Rows;
 use table_types::{Key, Row};
 use update_numbers::Rising;
 
-/// The rows that are left to go over, with their keys, in rising number. Doesn't allocate.
+/// An iterator over the remaining rows with their keys, in ascending order of number. It doesn't allocate.
 #[derive(Drop)]
 pub(crate) struct Above<'a, R: Rows> {
     pairs: Rising<'a>,
@@ -31,7 +31,7 @@ impl<'a, R: Rows> Model for Above<'a, R> {
 }
 
 impl<'a, R: Rows> Above<'a, R> {
-    /// The rows of these keys.
+    /// Iterates over the rows of the keys of `pairs`.
     pub(crate) fn new(pairs: Rising<'a>, rows: &'a R) -> Above<'a, R>
         requires { HaveRows (R.content rows.now) pairs }
         ensures { result ≡ rows_of (R.content rows.now) pairs.entry }

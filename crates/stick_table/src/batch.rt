@@ -1,4 +1,4 @@
-//! The batch that a copy gives.
+//! The batch that a copy returns.
 
 ghost use Rattle.std.specs.Prelude.{◌≡◌, ◌≤◌, ◌∷◌, [], IfOk};
 ghost use Rattle.stick_table.specs.Machine.{unacked};
@@ -9,7 +9,7 @@ use crate::table::Table;
 use std::alloc::Global;
 use table_types::{Batch, BatchError, CopyKind, Memory, Moment, TableDef, Update};
 
-/// The batch of these updates, which are one for that table: only memory can be wanted for it.
+/// Makes a batch of `updates`, which fit the table, so that only memory can run out.
 fn batch_of(alloc: Global, definition: &TableDef, updates: Vec<Update>) -> Result<Batch, Memory>
     requires { IsBatchFor (definition.now ∷ []) updates.items }
     ensures { IfOk result (λ batch. batch ≡ updates.items) }
@@ -24,8 +24,8 @@ fn batch_of(alloc: Global, definition: &TableDef, updates: Vec<Update>) -> Resul
 }
 
 impl Table {
-    /// The batch that a copy gives: what the session hasn't acknowledged, no more than `limit` rows, which is at most 512, at a
-    /// moment that isn't before the latest one.
+    /// Returns the batch of a copy: the rows that the session hasn't acknowledged, at most `limit` of them. `limit` is
+    /// at most 512, and `now` isn't before the latest moment.
     pub fn batch(
         &self,
         session: u32,

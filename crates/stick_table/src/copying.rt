@@ -1,4 +1,4 @@
-//! Rows copied for a session.
+//! Copying rows for a session.
 
 ghost use Rattle.std.specs.Prelude.{◌≡◌, ◌≤◌, ◌&&◌, IfOk, filter, map, option_map, slice_get, take, true};
 ghost use Rattle.std.specs.List.{list_all};
@@ -20,7 +20,7 @@ use table_types::{
     rotate,
 };
 
-/// Whether a copy of that kind has a row.
+/// Returns whether a copy of `kind` includes the row.
 fn is_copied(kind: CopyKind, row: &Row) -> bool
     ensures { result ≡ is_copied kind row.now }
 {
@@ -30,14 +30,14 @@ fn is_copied(kind: CopyKind, row: &Row) -> bool
     }
 }
 
-/// Whether a copy of that kind at a moment has a row.
+/// Returns whether a copy of `kind` at `now` includes the row.
 fn is_copied_at(kind: CopyKind, row: &Row, now: Moment) -> bool
     ensures { result ≡ (is_copied kind row.now && is_live now row.now) }
 {
     is_copied(kind, row) && is_live(row, now)
 }
 
-/// The cell at a moment, if it is a rate that has a period.
+/// Returns the cell as of `now`: rotated, if it is a rate with a period.
 fn turned(cell: Cell, period: Option<u32>, now: Moment) -> Cell
     ensures { result ≡ turned now period cell }
 {
@@ -47,7 +47,7 @@ fn turned(cell: Cell, period: Option<u32>, now: Moment) -> Cell
     }
 }
 
-/// The value of a cell, in an update at a moment; its period began no longer ago than a value can say.
+/// Returns the value of a cell in an update at `now`. The age of a rate's period must fit the value.
 fn value_of(cell: Cell, now: Moment) -> Value
     requires { (shape : Shape) × (value_fits shape (value_of now cell) ≡ true) }
     ensures { result ≡ value_of now cell }
@@ -91,7 +91,7 @@ fn values_of(
     Ok(values)
 }
 
-/// How long a row still lives, and 0 of one that lives for ever.
+/// Returns the remaining life of a row in milliseconds, and 0 if it never expires.
 fn life_left(row: &Row, expire: u32, now: Moment) -> u32
     requires { EndFits now expire row.now.ends }
     ensures { result ≡ life_left now row.now.ends }
@@ -102,7 +102,7 @@ fn life_left(row: &Row, expire: u32, now: Moment) -> u32
     }
 }
 
-/// The update of a row at a moment.
+/// Returns the row as an update at `now`.
 fn update_of(
     alloc: Global,
     definition: &TableDef,
@@ -130,7 +130,8 @@ fn update_of(
 }
 
 impl Table {
-    /// The first row above that number that a copy of that kind would have, in rising number. Doesn't allocate.
+    /// Returns the first row above `number`, in ascending order of number, that a copy of `kind` includes. Doesn't
+    /// allocate.
     pub(crate) fn first_unacked(
         &self,
         number: u32,
@@ -147,7 +148,8 @@ impl Table {
         None
     }
 
-    /// The updates of the rows above that number that a copy of that kind has, in rising number, and no more than `limit`.
+    /// Returns the updates of the rows above `number` that a copy of `kind` includes, in ascending order of number, at
+    /// most `limit` of them.
     pub(crate) fn unacked(
         &self,
         number: u32,
@@ -172,7 +174,7 @@ impl Table {
     }
 }
 
-/// The number of the last update, or `least` where there is none.
+/// Returns the number of the last update, or `least` if there are no updates.
 pub fn last_number(updates: &[Update], least: u32) -> u32
     ensures { result ≡ last_number least updates.now }
 {

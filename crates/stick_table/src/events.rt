@@ -1,4 +1,4 @@
-//! What happens to a table, and what it answers.
+//! The events of a table, and its replies.
 
 ghost use Rattle.std.specs.Prelude.{◌≡◌, IfOk};
 ghost use Rattle.stick_table.specs.Parts.{reply_of};
@@ -6,17 +6,17 @@ ghost use Rattle.stick_table.specs.Parts.{reply_of};
 use std::alloc::Global;
 use table_types::{Batch, Change, CopyKind, Key, Memory, Moment, Row, Settled, Update};
 
-/// What a row has become.
+/// The reply to a change of a row.
 #[derive(Debug, Drop)]
 pub struct Reply {
-    /// The number that it was given.
+    /// The number assigned to the row.
     pub number: u32,
     /// The row after the change.
     pub row: Row,
 }
 
 impl Reply {
-    /// The reply to a change that made a row.
+    /// Returns the reply to a change that made `row`.
     pub fn of(alloc: Global, row: &Row) -> Result<Reply, Memory>
         ensures { IfOk result (λ reply. reply ≡ reply_of row.now) }
     {
@@ -30,7 +30,7 @@ impl Reply {
 /// An event of a table: a call that changed it, with its arguments.
 #[derive(Debug, Drop)]
 pub enum CellEvent {
-    /// A change of a row of this node's own.
+    /// A change of a row by this node.
     Track {
         /// The seat that made it.
         seat: u32,
@@ -45,7 +45,7 @@ pub enum CellEvent {
     Learn {
         /// The session with the peer.
         session: u32,
-        /// What the peer sent.
+        /// The update that the peer sent.
         update: Update,
         /// When it was learned.
         moment: Moment,
@@ -54,9 +54,9 @@ pub enum CellEvent {
     Copy {
         /// The session.
         session: u32,
-        /// Which rows it has.
+        /// Which rows the batch includes.
         kind: CopyKind,
-        /// How many of them at most.
+        /// The most rows that the batch may have.
         limit: usize,
         /// When they were copied.
         moment: Moment,
@@ -78,28 +78,28 @@ pub enum CellEvent {
         /// The session.
         session: u32,
     },
-    /// Rows that had ended were taken out.
+    /// Rows that were no longer live were removed.
     Purge {
-        /// At which moment.
+        /// The moment of the purge.
         moment: Moment,
     },
 }
 
-/// What a table answered to an event.
+/// What a table replied to an event.
 #[derive(Debug, Drop)]
 pub enum CellReply {
     /// The row that was changed.
     Track(Reply),
     /// The row that was learned.
     Learn(Reply),
-    /// The batch, which is kept here.
+    /// The batch, as the history keeps it.
     Copy(Batch),
-    /// What was settled.
+    /// What the acknowledgement settled.
     Ack(Settled),
     /// The session is open.
     Open,
     /// The session is closed.
     Close,
-    /// How many rows were taken out.
+    /// The number of rows that were removed.
     Purge(usize),
 }

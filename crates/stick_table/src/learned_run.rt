@@ -1,4 +1,4 @@
-//! Learned rows that a push need not go over again.
+//! Runs of learned rows, which later pushes skip.
 
 ghost use Rattle.std.specs.Prelude.{◌≡◌, ℕ, filter};
 ghost use Rattle.stick_table.specs.LearnedRuns.{IsLearnedRun};
@@ -10,7 +10,7 @@ use crate::table::Table;
 use table_rows::Rows;
 use table_types::CopyKind;
 
-/// A run of numbers, above `after` and up to `last`: whatever row has one of them is learned.
+/// A run of numbers, above `after` and up to `last`, in which every row is learned.
 #[derive(Clone, Copy, Debug)]
 pub(crate) struct LearnedRun {
     pub(crate) after: u32,
@@ -18,8 +18,8 @@ pub(crate) struct LearnedRun {
 }
 
 impl<R: Rows> Stock<R> {
-    /// Up to which number all rows above that one are learned: to the one before the first row that isn't, or to the last
-    /// that was given. Doesn't allocate.
+    /// Returns the number up to which all rows above `number` are learned: the one before the first row that isn't, or
+    /// the last number assigned. Doesn't allocate.
     fn last_learned(&self, number: u32) -> u32
         ensures { IsLearnedRun number result self.now.next self.now.rows }
     {
@@ -34,8 +34,8 @@ impl<R: Rows> Stock<R> {
 }
 
 impl Table {
-    /// The run of learned rows that is kept where a push from that number finds nothing: the one that is known, as far as it
-    /// goes now, if the number lies in it; and else that which begins at the number, unless the known one ends higher.
+    /// Returns the run to remember when a push from `number` finds nothing: the known run, extended to its present end,
+    /// if `number` lies in it; otherwise the run that begins at `number`, unless the known run ends higher.
     #[tactic(auto, using(crate::proofs::LearnedLaws::run_joined))]
     fn learned_from(&self, number: u32) -> LearnedRun
         ensures { IsLearnedRun result.after result.last self.now.next self.now.rows }
@@ -60,8 +60,8 @@ impl Table {
         }
     }
 
-    /// Where a push is refused because it finds nothing, notes the learned rows above what the session has acknowledged,
-    /// so that later pushes skip them. The table stays as it is. Doesn't allocate.
+    /// If a push is refused because it finds nothing, remembers the learned rows above what the session has
+    /// acknowledged, so that later pushes skip them. The state of the table stays as it is. Doesn't allocate.
     pub fn pass_learned(&mut self, session: u32, kind: CopyKind, error: CopyError)
         ensures { self.new ≡ self.old }
     {
@@ -73,7 +73,8 @@ impl Table {
         }
     }
 
-    /// The number above which a copy of that kind has to look where `number` is acknowledged: it has no row between them.
+    /// Returns the number above which a copy of `kind` has to look if `number` is acknowledged: it includes no row in
+    /// between.
     pub(crate) fn copy_start(&self, kind: CopyKind, number: u32) -> u32
         ensures { (now : ℕ) → filter (is_unacked kind number now) self.now.rows ≡ filter (is_unacked kind result now) self.now.rows }
     {

@@ -1,4 +1,4 @@
-//! A stick table as it stands: its rows and their numbers, the sessions that are open, and what each event makes of it.
+//! A stick table: its rows and their numbers, its open sessions, and what each event does to it.
 #![tactic(auto)]
 
 mod above;

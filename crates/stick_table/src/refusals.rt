@@ -1,5 +1,5 @@
-//! Why a table refuses an event: the first cause that applies, in the order of each kind of event. `full` says that the
-//! history has no room for one more event.
+//! Why a table refuses an event: the first reason that applies, in the order of each kind of event. `full` says that
+//! the history has no room for another event.
 
 ghost use Rattle.std.specs.Prelude.{◌≡◌, ◌≤◌, ◌<◌, ◌^◌, IfNone, nat_le};
 ghost use Rattle.stick_table.specs.Machine.{ack_refusal, close_refusal, copy_refusal, is_of_table, learn_refusal, open_refusal, purge_refusal, track_refusal};
@@ -10,7 +10,7 @@ use crate::errors::{
 use crate::table::Table;
 use table_types::{Change, CopyKind, Key, Moment, TableDef, Update};
 
-/// Whether an update is one of that table, whatever its life is.
+/// Returns whether the update belongs to the table, whatever its life.
 fn is_of_table(definition: &TableDef, update: &Update) -> bool
     ensures { result ≡ is_of_table definition.now update.now }
 {
@@ -20,14 +20,14 @@ fn is_of_table(definition: &TableDef, update: &Update) -> bool
 }
 
 impl Table {
-    /// Whether all numbers are spent.
+    /// Returns whether all numbers are assigned.
     fn is_spent(&self) -> bool
         ensures { result ≡ nat_le (2 ^ 32) self.now.next }
     {
         self.stock.next() >= 1 << 32
     }
 
-    /// Why a change of the row of that key isn't made at that moment.
+    /// Returns why a change of the row of `key` at `now` is refused, or `None` if it isn't.
     pub fn track_refusal(
         &self,
         full: bool,
@@ -55,7 +55,7 @@ impl Table {
         }
     }
 
-    /// Why an update isn't learned in that session at that moment.
+    /// Returns why `update` isn't learned in `session` at `now`, or `None` if it is.
     pub fn learn_refusal(
         &self,
         full: bool,
@@ -83,7 +83,7 @@ impl Table {
         }
     }
 
-    /// Why there is no batch of that kind for that session at that moment.
+    /// Returns why a copy of `kind` for `session` at `now` is refused, or `None` if it isn't.
     pub fn copy_refusal(
         &self,
         full: bool,
@@ -115,7 +115,7 @@ impl Table {
         }
     }
 
-    /// Why an acknowledgement of that number isn't taken.
+    /// Returns why an acknowledgement of `number` is refused, or `None` if it isn't.
     pub fn ack_refusal(&self, full: bool, session: u32, number: u32) -> Option<AckError>
         ensures { result ≡ ack_refusal full self.now session number }
     {
@@ -131,7 +131,7 @@ impl Table {
         }
     }
 
-    /// Why a session isn't opened.
+    /// Returns why `session` isn't opened, or `None` if it is.
     pub fn open_refusal(&self, full: bool, session: u32) -> Option<OpenError>
         ensures { result ≡ open_refusal full self.now session }
     {
@@ -146,7 +146,7 @@ impl Table {
         }
     }
 
-    /// Why a session isn't closed.
+    /// Returns why `session` isn't closed, or `None` if it is.
     pub fn close_refusal(&self, full: bool, session: u32) -> Option<CloseError>
         ensures { result ≡ close_refusal full self.now session }
     {
@@ -159,7 +159,7 @@ impl Table {
         }
     }
 
-    /// Why rows aren't purged at that moment.
+    /// Returns why rows aren't purged at `now`, or `None` if they are.
     pub fn purge_refusal(&self, full: bool, now: Moment) -> Option<PurgeError>
         ensures refusal { result ≡ purge_refusal full self.now now }
         ensures timely { IfNone result (now < 2 ^ 63) }

@@ -9,7 +9,7 @@ use crate::progress::Progress;
 use crate::table::Table;
 use table_types::{Memory, Moment, Settled};
 
-/// How far a session is, if it is open.
+/// Returns the progress of `session`, or `None` if it isn't open.
 fn progress_in(sessions: &[(u32, Progress)], session: u32) -> Option<Progress>
     ensures { result ≡ lookup (λ id. id == session) sessions.now }
 {
@@ -21,7 +21,7 @@ fn progress_in(sessions: &[(u32, Progress)], session: u32) -> Option<Progress>
     None
 }
 
-/// Where a session stands.
+/// Returns the index of `session`, or `None` if it isn't open.
 fn index_of(sessions: &[(u32, Progress)], session: u32) -> Option<usize>
     ensures { result ≡ index_of session sessions.now }
 {
@@ -58,14 +58,14 @@ fn remove(sessions: &mut Vec<(u32, Progress)>, session: u32)
 }
 
 impl Table {
-    /// How far a session is, if it is open.
+    /// Returns the progress of `session`, or `None` if it isn't open.
     pub(crate) fn progress(&self, session: u32) -> Option<Progress>
         ensures { result ≡ progress_of session self.now }
     {
         progress_in(self.sessions.as_slice(), session)
     }
 
-    /// Up to which number a session has acknowledged; 0 where it isn't open.
+    /// Returns the number up to which `session` has acknowledged, or 0 if it isn't open.
     pub(crate) fn acknowledged(&self, session: u32) -> u32
         ensures { result ≡ acknowledged_by (progress_of session self.now) }
     {
@@ -75,8 +75,8 @@ impl Table {
         }
     }
 
-    /// Opens a session, which isn't open: it has acknowledged nothing, and was taught nothing. After `Memory` nothing has
-    /// changed.
+    /// Opens `session`, which isn't open: it has acknowledged nothing and was taught nothing. If memory runs out,
+    /// nothing has changed.
     pub fn open(&mut self, session: u32) -> Result<(), Memory>
         ensures open { OnOk result (self.new ≡ record self.old { sessions = self.old.sessions ++ (session, no_progress) ∷ [] }) }
         ensures stays { OnErr result (self.new ≡ self.old) }
@@ -89,14 +89,14 @@ impl Table {
         Ok(())
     }
 
-    /// Closes a session.
+    /// Closes `session`.
     pub fn close(&mut self, session: u32)
         ensures { self.new ≡ record self.old { sessions = filter (λ entry. not (entry.0 == session)) self.old.sessions } }
     {
         remove(&mut self.sessions, session);
     }
 
-    /// What an acknowledgement of that number settles.
+    /// Returns what an acknowledgement of `number` settles.
     pub fn settled_by(&self, session: u32, number: u32) -> Settled
         ensures { result ≡ settled_by (progress_of session self.now) number }
     {
@@ -112,14 +112,14 @@ impl Table {
         }
     }
 
-    /// Takes an acknowledgement of that number.
+    /// Records that `session` acknowledged `number`, if that is above the number already acknowledged.
     pub fn acknowledge(&mut self, session: u32, number: u32)
         ensures { self.new ≡ record self.old { sessions = with_progress session (acknowledging number) self.old.sessions } }
     {
         acknowledge(&mut self.sessions, session, number);
     }
 
-    /// Notes that a session was taught a batch whose last number is that.
+    /// Records that `session` was taught a batch whose last number is `last`. `now` becomes the latest moment.
     pub fn teach(&mut self, session: u32, last: u32, now: Moment)
         ensures { self.new ≡ record self.old { sessions = with_progress session (teaching last) self.old.sessions; latest = now } }
     {

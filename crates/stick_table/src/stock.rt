@@ -19,7 +19,7 @@ use table_rows::Rows;
 use table_types::{Key, Memory, Moment, Row};
 use update_numbers::NumberedKeys;
 
-/// The rows of a table by their keys, with the numbers that they were given, and the number that is given next.
+/// The rows of a table by key, with the numbers assigned to them, and the next number to assign.
 #[derive(Drop)]
 pub(crate) struct Stock<R: Rows> {
     alloc: Global,
@@ -37,7 +37,7 @@ impl<R: Rows> Model for Stock<R> {
     ghost invariant = { λ a. AreKept (R.content a.rows) a.numbers.pairs a.numbers.next };
 }
 
-/// Takes out the number of a row, if there is one. Doesn't allocate.
+/// Removes the number of `row`, if there is one. Doesn't allocate.
 fn drop_number(numbers: &mut NumberedKeys, row: Option<Row>)
     ensures { numbers.new ≡ record { pairs = pairs_without (number_of row) numbers.old.pairs; next = numbers.old.next } }
 {
@@ -46,7 +46,7 @@ fn drop_number(numbers: &mut NumberedKeys, row: Option<Row>)
     }
 }
 
-/// Takes back the number that was given last. Doesn't allocate.
+/// Takes back the last number assigned. Doesn't allocate.
 fn take_back(numbers: &mut NumberedKeys)
     ensures { (before : Numbering) (key : Key) → numbers.old ≡ pushed key before → numbers.new ≡ before }
 {
@@ -54,7 +54,7 @@ fn take_back(numbers: &mut NumberedKeys)
 }
 
 impl<R: Rows> Stock<R> {
-    /// No rows, and `first` given next. Doesn't allocate.
+    /// Makes a stock without rows, whose next number is `first`. Doesn't allocate.
     pub(crate) fn new(alloc: Global, rows: R, first: u32) -> Stock<R>
         requires none { R.content rows ≡ [] }
         requires first { 1 ≤ first }
@@ -67,7 +67,7 @@ impl<R: Rows> Stock<R> {
         }
     }
 
-    /// The number that is given next, or 2^32 where all are spent.
+    /// Returns the next number to assign, or 2^32 if all are assigned.
     pub(crate) fn next(&self) -> u64
         ensures next { result ≡ self.now.next }
         ensures sound { IsStock self.now }
@@ -75,21 +75,21 @@ impl<R: Rows> Stock<R> {
         self.numbers.next()
     }
 
-    /// How many rows there are.
+    /// Returns the number of rows.
     pub(crate) fn len(&self) -> usize
         ensures { result ≡ length self.now.rows }
     {
         self.numbers.len()
     }
 
-    /// The row of a key.
+    /// Returns the row of `key`.
     pub(crate) fn row(&self, key: &Key) -> Option<&Row>
         ensures { option_copied result ≡ row_at key.now self.now.rows }
     {
         self.rows.get(key)
     }
 
-    /// The key of the row that is the first to end; `None` where there are no rows.
+    /// Returns the key of the first row to end, or `None` if there are no rows.
     pub(crate) fn first_to_end(&self) -> Option<&Key>
         ensures first { IfSome result (λ key. IsFirstToEnd self.now.rows key.now) }
         ensures none { IfNone result (self.now.rows ≡ []) }
@@ -97,7 +97,7 @@ impl<R: Rows> Stock<R> {
         self.rows.first_to_end()
     }
 
-    /// Stores a row, which has the next number, in place of the key's. After `Memory` nothing has changed.
+    /// Stores `row`, which has the next number, in place of the key's. If memory runs out, nothing has changed.
     fn store(&mut self, key: Key, row: Row) -> Result<(), Memory>
         requires number { row.number ≡ self.old.next }
         requires left { self.old.next < 2 ^ 32 }
@@ -113,7 +113,7 @@ impl<R: Rows> Stock<R> {
         Ok(())
     }
 
-    /// Takes out the row of a key. Doesn't allocate.
+    /// Removes the row of `key`. Doesn't allocate.
     fn take(&mut self, key: &Key)
         ensures { self.new ≡ record { rows = without key.now self.old.rows; next = self.old.next } }
     {
@@ -121,8 +121,8 @@ impl<R: Rows> Stock<R> {
         drop_number(&mut self.numbers, row);
     }
 
-    /// Stores a row, which has the next number, in place of the key's. Where the key had none, the row of `leaving` is
-    /// taken out to make room. After `Memory` nothing has changed.
+    /// Stores `row`, which has the next number, in place of the key's. If the key had none, removes the row of
+    /// `leaving`, if there is one, to make room. If memory runs out, nothing has changed.
     pub(crate) fn put(&mut self, key: Key, row: Row, leaving: Option<Key>) -> Result<(), Memory>
         requires number { row.number ≡ self.old.next }
         requires left { self.old.next < 2 ^ 32 }
@@ -141,7 +141,7 @@ impl<R: Rows> Stock<R> {
         Ok(())
     }
 
-    /// Takes out one row that isn't live at that moment, and answers whether there was one. Doesn't allocate.
+    /// Removes one row that isn't live at `now`, and returns whether there was one. Doesn't allocate.
     fn take_one_ended(&mut self, now: Moment) -> bool
         ensures live { filter (λ e. is_live now e.1) self.new.rows ≡ filter (λ e. is_live now e.1) self.old.rows }
         ensures next { self.new.next ≡ self.old.next }
@@ -155,7 +155,7 @@ impl<R: Rows> Stock<R> {
         true
     }
 
-    /// Takes out what isn't live at that moment. Doesn't allocate.
+    /// Removes the rows that aren't live at `now`. Doesn't allocate.
     fn drop_ended(&mut self, now: Moment)
         ensures { self.new ≡ record { rows = filter (λ e. is_live now e.1) self.old.rows; next = self.old.next } }
     {
@@ -167,7 +167,7 @@ impl<R: Rows> Stock<R> {
         }
     }
 
-    /// Takes out what isn't live at that moment, and says how many rows that was. Doesn't allocate.
+    /// Removes the rows that aren't live at `now`, and returns their number. Doesn't allocate.
     pub(crate) fn take_ended(&mut self, now: Moment) -> usize
         ensures live { self.new ≡ record { rows = filter (λ e. is_live now e.1) self.old.rows; next = self.old.next } }
         ensures count { result ≡ length (filter (λ e. not (is_live now e.1)) self.old.rows) }
@@ -177,14 +177,14 @@ impl<R: Rows> Stock<R> {
         before - self.len()
     }
 
-    /// The rows above that number with their keys, in rising number. Doesn't allocate.
+    /// Returns the rows above `number` with their keys, in ascending order of number. Doesn't allocate.
     pub(crate) fn above(&self, number: u32) -> Above<'_, R>
         ensures { result ≡ filter (λ e. nat_lt number e.1.number) self.now.rows }
     {
         Above::new(self.numbers.above(number), &self.rows)
     }
 
-    /// Equal rows with their keys, in rising key.
+    /// Returns copies of the rows with their keys, in ascending order of key.
     pub(crate) fn list(&self) -> Result<Vec<(Key, Row)>, Memory>
         ensures rising { IfOk result (λ list. IsStrictlySortedBy key_cmp (keys_of list.items)) }
         ensures each { IfOk result (λ list. (key : Key) → row_at key list.items ≡ row_at key self.now.rows) }

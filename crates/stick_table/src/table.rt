@@ -1,4 +1,4 @@
-//! A stick table as it stands.
+//! The state of a stick table.
 
 ghost use Rattle.std.specs.Prelude.{◌≡◌, ◌≤◌, ◌<◌, ◌^◌, IfOk, IfSome, List, nat_lt, OnErr, OnOk, filter, length, not, option_copied};
 ghost use Rattle.std.specs.List.{list_all};
@@ -17,7 +17,7 @@ use std::marker::Model;
 use table_rows::{MapRows, is_live};
 use table_types::{Change, Key, Memory, Moment, Row, TableDef, Update};
 
-/// A stick table as it stands: what it was made with, its rows, the latest moment, and the sessions that are open.
+/// A stick table: its parameters, its rows, the latest moment, and its open sessions.
 #[derive(Drop)]
 pub struct Table {
     pub(crate) alloc: Global,
@@ -42,7 +42,7 @@ impl Model for Table {
 }
 
 impl Table {
-    /// A table without rows and sessions, which gives that number next. Doesn't allocate.
+    /// Makes a table without rows or sessions, whose next number is `first`. Doesn't allocate.
     pub fn new(alloc: Global, definition: TableDef, size: usize, nopurge: bool, first: u32) -> Table
         requires { 1 ≤ first }
         ensures { result ≡ new_table definition size nopurge first }
@@ -59,26 +59,26 @@ impl Table {
         }
     }
 
-    /// Where the table's memory comes from.
+    /// Returns the table's allocator.
     pub fn alloc(&self) -> Global {
         self.alloc
     }
 
-    /// The table's definition.
+    /// Returns the table's definition.
     pub fn definition(&self) -> &TableDef
         ensures { result.now ≡ self.now.definition }
     {
         &self.definition
     }
 
-    /// Copies of the rows with their keys, in rising key.
+    /// Returns copies of the rows with their keys, in ascending order of key.
     pub fn rows(&self) -> Result<Vec<(Key, Row)>, Memory>
         ensures { IfOk result (λ list. AreInRisingKey self.now.rows list.items) }
     {
         self.stock.list()
     }
 
-    /// Whether the moment is before that of an event.
+    /// Returns whether `now` is before the latest moment of an event.
     pub(crate) fn is_past(&self, now: Moment) -> bool
         ensures past { result ≡ nat_lt now self.now.latest }
         ensures timely { now < 2 ^ 63 }
@@ -86,7 +86,7 @@ impl Table {
         now.milliseconds() < self.latest.milliseconds()
     }
 
-    /// Whether a row of that key takes no other's place.
+    /// Returns whether a row of `key` displaces no other: the key has a row, or there is room for one more.
     pub(crate) fn has_room(&self, key: &Key) -> bool
         ensures { result ≡ has_room self.now key.now }
     {
@@ -105,14 +105,14 @@ impl Table {
         }
     }
 
-    /// Whether a row of that key would have to take another's place, and all rows are live in a table that purges none.
+    /// Returns whether a row of `key` would displace another, all rows are live, and the table has `nopurge`.
     pub(crate) fn is_full(&self, key: &Key, now: Moment) -> bool
         ensures { result ≡ is_full self.now key.now now }
     {
         self.nopurge && !self.has_room(key) && self.are_live(now)
     }
 
-    /// The row of a key, where it is live.
+    /// Returns the row of `key`, if it is live.
     fn live_row(&self, key: &Key, now: Moment) -> Option<&Row>
         ensures { option_copied result ≡ live_row key.now now self.now }
     {
@@ -122,7 +122,7 @@ impl Table {
         }
     }
 
-    /// The number that is given next, where not all are spent.
+    /// Returns the next number to assign. There must be one left.
     pub(crate) fn next(&self) -> u32
         requires { self.now.next < 2 ^ 32 }
         ensures { result ≡ self.now.next }
@@ -130,7 +130,7 @@ impl Table {
         self.stock.next() as u32
     }
 
-    /// The row that a change makes, under the next number, where not all are spent.
+    /// Returns the row that `change` makes, under the next number. There must be a number left.
     pub fn tracked(&self, key: &Key, change: &Change, now: Moment) -> Result<Row, Memory>
         requires { self.now.next < 2 ^ 32 }
         ensures { IfOk result (λ row. row ≡ tracked self.now key.now change.now now) }
@@ -139,7 +139,7 @@ impl Table {
         Row::tracked(self.alloc, &self.definition, live, change, self.next(), now)
     }
 
-    /// The row that an update teaches, under the next number, where not all are spent.
+    /// Returns the row that `update` makes, under the next number. There must be a number left.
     pub fn learned(&self, update: &Update, now: Moment) -> Result<Row, Memory>
         requires { self.now.next < 2 ^ 32 }
         ensures { IfOk result (λ row. row ≡ learned self.now update.now now) }
@@ -153,7 +153,7 @@ impl Table {
         )
     }
 
-    /// The key of the row that leaves where one of a new key is to be stored, if one does.
+    /// Returns the key of the row that has to be removed to store a row of a new key, or `None` if there is room.
     fn leaving(&self) -> Result<Option<Key>, Memory>
         requires { 1 ≤ self.now.size }
         ensures leaves { IfOk result (λ leaving. (key : Key) → Leaves self.now key (left_for key leaving self.now.rows)) }
@@ -168,8 +168,8 @@ impl Table {
         }
     }
 
-    /// Stores a row, which has the next number, in place of the key's, and takes out the first to end where there is no
-    /// room for it. After `Memory` nothing has changed.
+    /// Stores `row`, which has the next number, in place of the key's, and removes the first row to end if there is no
+    /// room for it. `now` becomes the latest moment. If memory runs out, nothing has changed.
     pub fn store(&mut self, key: Key, row: Row, now: Moment) -> Result<(), Memory>
         requires some { 1 ≤ self.old.size }
         requires number { row.number ≡ self.old.next }
@@ -183,7 +183,7 @@ impl Table {
         Ok(())
     }
 
-    /// Takes out what isn't live at that moment, and says how many rows that was. Doesn't allocate.
+    /// Removes the rows that aren't live at `now`, and returns their number. Doesn't allocate.
     pub fn purge(&mut self, now: Moment) -> usize
         ensures live { self.new ≡ record self.old { rows = filter (λ row. is_live now row.1) self.old.rows; latest = now } }
         ensures count { result ≡ length (filter (λ row. not (is_live now row.1)) self.old.rows) }

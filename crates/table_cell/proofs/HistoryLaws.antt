@@ -1,4 +1,4 @@
--- A table with its history goes on by an event.
+-- An event extends a table with its history.
 use Rattle.std.proofs.Common.{◌≡◌, ℕ, zero, suc, true, false, List, [], ◌∷◌, ◌++◌, length, Option, Some, None, refl, sym, ap, subst, ◌∙◌, inl, inr, true≢false}
 use Rattle.std.specs.Prelude.{Err, slice_get, option_and_then, cond, nat_eq}
 use Rattle.std.specs.Ordering.{is_eq, nat_cmp}
@@ -25,7 +25,7 @@ use Rattle.stick_table.proofs.RefusalLaws.{memory_is_no_learn_refusal}
 use Rattle.stick_table.proofs.RowsLaws.{some_none}
 use Rattle.table_cell.proofs.RunLaws.{made_sound}
 
--- ---- what the table was made with stays
+-- ---- the parameters of the table stay
 
 same_base : (first : ℕ) (s e : TableState) (event : CellEvent) (reply : CellReply) → Step s event reply e → new_table e.definition e.size e.nopurge first ≡ new_table s.definition s.size s.nopurge first
 same_base first s e (events.Track seat key change now) reply (granted, rest, leaves, answer, is) = ap (λ (x : TableState). new_table x.definition x.size x.nopurge first) is
@@ -102,7 +102,7 @@ pub latest_stay : (x : CellEvent × CellReply) (hs later : List (CellEvent × Ce
 latest_stay x hs later copies none longer latest =
     λ session. subst (λ (l : List (CellEvent × CellReply)). IsLatestCopy l session (lookup (is_at (nat_cmp session)) copies)) (sym longer) (still_latest session x hs (lookup (is_at (nat_cmp session)) copies) (none session) (latest session))
 
--- the entry of another session stays, and that of the session is the index of its new batch
+-- the entries of other sessions stay, and that of the session is the index of its new batch
 pub latest_copied : (session limit now : ℕ) (kind : CopyKind) (us : List Update) (hs later : List (CellEvent × CellReply)) (old new : List (ℕ × ℕ))
     → later ≡ hs ++ (events.Copy session kind limit now, replies.Copy us) ∷ []
     → ((k : ℕ) → lookup (is_at (nat_cmp k)) new ≡ cond (is_eq (nat_cmp session k)) (Some (length hs)) (lookup (is_at (nat_cmp k)) old))
@@ -146,7 +146,7 @@ cell_goes_on first s e history later copies event reply timely none room step lo
       latest = latest_stay (event, reply) history later copies none longer cell.latest;
     }
 
--- the batch of the entry that the index of the latest batch leads to
+-- the batch in the history that the index of the latest batch leads to
 of_copy : (session : ℕ) (h : CellEvent × CellReply) (us : List Update) → batch_of session h ≡ Some us → batch_in h.1 ≡ Some us
 of_copy session h us is = elim (cases_Bool (is_copy_of session h.0)) [
   | inl own ↦ sym (cond-true (is_copy_of session h.0) (batch_in h.1) None own) ∙ is

@@ -19,7 +19,7 @@ pub made_longer : (c e : CellState) (event : CellEvent) (reply : CellReply) → 
 made_longer c e event reply run (step, is) =
     subst (λ (x : CellState). Replays x.base x.history e.state) (sym is) (run_longer c.base c.state e.state c.history event reply run step)
 
--- the batch of a copy in a run
+-- the batch of a copy within a run
 copied_at : (s e : TableState) (hs : List (CellEvent × CellReply)) (index session limit now : ℕ) (kind : CopyKind) (us : List Update) → Replays s hs e
     → slice_get hs index ≡ Some (events.Copy session kind limit now, replies.Copy us)
     → (mid : TableState) × Replays s (take index hs) mid × (us ≡ unacked mid session kind now limit)

@@ -9,21 +9,21 @@ use Rattle.stick_table.specs.declared.events.CellReply.{CellReply}
 use Rattle.stick_table.specs.Machine.{TableState, new_table}
 use Rattle.table_cell.specs.Histories.{CellState, IsSoundCell, batch_of, latest_batch}
 
--- a table with its history, which dropped no event since the table was new and gave that number first
+-- a table with its history, which has dropped no event since the table was new with `first` as its next number
 abbrev pub cell_of : ℕ → TableState → List (CellEvent × CellReply) → CellState
 cell_of first s history = record { base = new_table s.definition s.size s.nopurge first; dropped = 0; history = history; state = s }
 
--- the index, if there is one, is that of the latest batch of the session
+-- `index`, if there is one, is the index of the session's latest batch
 abbrev pub IsLatestCopy : List (CellEvent × CellReply) → ℕ → Option ℕ → Type 0
 IsLatestCopy history session None = latest_batch session history ≡ None
 IsLatestCopy history session (Some index) =
     (us : List Update) × (latest_batch session history ≡ Some us) × (option_and_then (batch_of session) (slice_get history index) ≡ Some us)
 
--- where in the history the latest batch of each session stands
+-- the index in the history of each session's latest batch
 abbrev pub AreLatestCopies : List (ℕ × ℕ) → List (CellEvent × CellReply) → Type 0
 AreLatestCopies copies history = (session : ℕ) → IsLatestCopy history session (lookup (is_at (nat_cmp session)) copies)
 
--- what holds of the parts at all times
+-- the invariant of the parts
 pub record IsCell (first : ℕ) (s : TableState) (history : List (CellEvent × CellReply)) (copies : List (ℕ × ℕ)) : Type 0 where
   pub sound : IsSoundCell (cell_of first s history)
   pub latest : AreLatestCopies copies history

@@ -1,4 +1,4 @@
--- A table with its history: each event and its reply, from a state at which the history begins (profile).
+-- A table with its history: each event and its reply, from the state at which the history begins (profile).
 use Rattle.std.specs.Prelude.{◌≡◌, ℕ, ◌+◌, ◌-◌, ◌≤◌, ◌^◌, Bool, false, nat_lt, ◌==◌, min, List, [], ◌∷◌, ◌++◌, length, take, slice_get, Option, Some, None, Result, Ok, Err, if◌then◌else◌}
 use Rattle.table_types.specs.declared.key.Key.{Key}
 use Rattle.table_types.specs.declared.update.Update.{Update}
@@ -30,8 +30,8 @@ use Rattle.stick_table.specs.declared.errors.PurgeError.TheVariants as unpurged
 
 -- ---- replay
 
--- A table with its history: where the history begins, how many events were dropped before that, the events with their
--- replies, and the state after them.
+-- A table with its history: the state at which the history begins, the number of events dropped before it, the events
+-- with their replies, and the state after them.
 pub record CellState : Type 0 where
   pub base : TableState
   pub dropped : ℕ
@@ -43,8 +43,7 @@ abbrev pub IsReplayed : CellState → Type 0
 IsReplayed c = Replays c.base c.history c.state
 
 -- each kept batch is what its session had not acknowledged after the events before it; the index counts from 0 within
--- the history, so that the place of the batch's event, which counts all events from 1, is the dropped ones, the index
--- and 1
+-- the history, and places count all events from 1, so the place of the batch's event is `dropped + index + 1`
 abbrev pub Kept : CellState → Type 0
 Kept c =
     (index session limit now : ℕ) (kind : CopyKind) (us : List Update) →
@@ -53,7 +52,7 @@ Kept c =
 
 -- ---- room
 
--- how many events there were, and for how many more there is room
+-- the number of events so far, and how many more there is room for
 abbrev pub events_of : CellState → ℕ
 events_of c = c.dropped + length c.history
 
@@ -63,19 +62,19 @@ room_of c = min (1000000 - length c.history) (2 ^ 63 - events_of c)
 abbrev pub is_history_full : CellState → Bool
 is_history_full c = room_of c == 0
 
--- the event at a place, with its reply: places count all events from 1, those that were dropped among them
+-- the event at a place, with its reply; places count all events from 1, dropped ones included
 abbrev pub event_in : CellState → ℕ → Option (CellEvent × CellReply)
 event_in c place = if nat_lt c.dropped place then slice_get c.history (place - (c.dropped + 1)) else None
 
 -- ---- what the calls do
 
--- there is one event more, with its reply, and the state goes on
+-- the history has one more event, with its reply, and the state is the one after it
 abbrev pub Made : CellState → CellEvent → CellReply → CellState → Type 0
 Made c event reply e =
     Step c.state event reply e.state
     × (e ≡ record c { history = c.history ++ (event, reply) ∷ []; state = e.state })
 
--- what a call answers that gives its reply twice
+-- the result of a call that returns its reply twice, with the reply once
 abbrev pub first_of : {A E : Type 0} → Result (A × A) E → Result A E
 first_of (Ok pair) = Ok pair.0
 first_of (Err error) = Err error
@@ -115,46 +114,46 @@ Purges c now (Ok count) e = (is_history_full c ≡ false) × Made c (events.Purg
 Purges c now (Err unpurged.Memory) e = (purge_refusal (is_history_full c) c.state now ≡ None) × (e ≡ c)
 Purges c now (Err error) e = (purge_refusal (is_history_full c) c.state now ≡ Some error) × (e ≡ c)
 
--- ---- what the readers answer
+-- ---- what the readers return
 
--- whether an event is a Copy of a session
+-- whether an event is a copy for `session`
 abbrev pub is_copy_of : ℕ → CellEvent → Bool
 is_copy_of session (events.Copy id kind limit now) = id == session
 is_copy_of session event = false
 
--- the batch that a reply gives
+-- the batch in a reply
 abbrev pub batch_in : CellReply → Option (List Update)
 batch_in (replies.Copy us) = Some us
 batch_in reply = None
 
--- the batch that a Copy of a session gave
+-- the batch of a copy for `session`
 abbrev pub batch_of : ℕ → CellEvent × CellReply → Option (List Update)
 batch_of session h = if is_copy_of session h.0 then batch_in h.1 else None
 
--- the latter of two, if there is one
+-- the latter if there is one, and otherwise the former
 abbrev pub or_former : Option (List Update) → Option (List Update) → Option (List Update)
 or_former former (Some us) = Some us
 or_former former None = former
 
--- the batch that the latest Copy of a session in the history gave
+-- the batch of the latest copy for `session` in the history
 abbrev pub latest_batch : ℕ → List (CellEvent × CellReply) → Option (List Update)
 latest_batch session [] = None
 latest_batch session (h ∷ hs) = or_former (batch_of session h) (latest_batch session hs)
 
--- the batch is the one that the session was given last
+-- the batch is the latest one of the session
 abbrev pub IsLatestBatch : CellState → ℕ → List Update → Type 0
 IsLatestBatch c session us = latest_batch session c.history ≡ Some us
 
 -- ---- a new table with its history
 
--- a new table, no event of which happened yet
+-- a new table, without events
 abbrev pub new_cell : Definition → ℕ → Bool → ℕ → CellState
 new_cell d size nopurge first = record { base = new_table d size nopurge first; dropped = 0; history = []; state = new_table d size nopurge first }
 
 -- ---- soundness
 
--- What holds of a table with its history at all times: the state is the replay of the history, it is sound, and the
--- history keeps to its bounds.
+-- The invariant of a table with its history: the state is the replay of the history, it is sound, and the history keeps
+-- to its bounds.
 pub record IsSoundCell (c : CellState) : Type 0 where
   pub replayed : IsReplayed c
   pub sound : IsSound c.state

@@ -1,4 +1,4 @@
-//! Batches that are handed out, and kept.
+//! Batches: copied for sessions, kept in the history, and settled.
 
 ghost use Rattle.std.specs.Prelude.{◌≡◌, ◌↔◌, ◌≤◌, ◌∷◌, ◌++◌, [], IfOk, IsOk, None, OnErr, OnOk, false, option_and_then, option_copied, slice_get};
 ghost use Rattle.table_cell.specs.Cells.{AreLatestCopies};
@@ -14,7 +14,8 @@ use std::collections::BTreeMap;
 use stick_table::{CellEvent, CellReply, CopyError, Table, last_number};
 use table_types::{Batch, CopyKind, Memory, Moment};
 
-/// Keeps a batch that the session is taught: its event is in the history. After `Memory` nothing has changed.
+/// Records that the session is taught `batch`, and adds the event to the history. If memory runs out, nothing has
+/// changed.
 fn keep(
     table: &mut Table,
     history: &mut Vec<(CellEvent, CellReply)>,
@@ -48,7 +49,8 @@ fn keep(
     Ok(())
 }
 
-/// Copies: the batch is taught, the event is in the history, and the batch is given twice. After `Memory` nothing has changed.
+/// Copies: teaches the batch, adds the event to the history, and returns the batch twice. If memory runs out, nothing
+/// has changed.
 fn copy_pair(
     table: &mut Table,
     history: &mut Vec<(CellEvent, CellReply)>,
@@ -84,7 +86,7 @@ fn copy_pair(
     Ok((batch, second))
 }
 
-/// The batch of the reply at that index.
+/// Returns the batch of the reply at `index`.
 fn batch_at(history: &[(CellEvent, CellReply)], index: usize) -> Option<&Batch>
     ensures { option_copied result ≡ option_and_then (λ h. batch_in h.1) (slice_get history.now index) }
 {
@@ -96,8 +98,9 @@ fn batch_at(history: &[(CellEvent, CellReply)], index: usize) -> Option<&Batch>
 }
 
 impl TableCell {
-    /// Copies for a session the rows of that kind that it hasn't acknowledged, in rising number, at most `limit` of them,
-    /// as updates at that moment. The batch is then out until its last number is acknowledged, and is kept in the history.
+    /// Copies for `session` the rows of `kind` that it hasn't acknowledged, in ascending order of number, at most
+    /// `limit` of them, as updates at `now`. The batch is out until its last number is acknowledged, and the history
+    /// keeps it. If the copy is refused, nothing has changed.
     pub fn copy(
         &mut self,
         session: u32,
@@ -112,7 +115,7 @@ impl TableCell {
         Ok(batch)
     }
 
-    /// Copies, and gives the batch twice; both copies are made before anything changes.
+    /// Copies like `copy`, and returns the batch twice. Both copies are made before anything changes.
     pub fn copy_pair(
         &mut self,
         session: u32,
@@ -143,7 +146,7 @@ impl TableCell {
         Ok(pair)
     }
 
-    /// The batch that the session was given last.
+    /// Returns the latest batch of `session`.
     fn latest_batch(&self, session: u32) -> Option<&Batch>
         ensures { option_copied result ≡ latest_batch session self.now.history }
     {
@@ -153,7 +156,8 @@ impl TableCell {
         }
     }
 
-    /// Whether the batch is the one that the session was given last, open or closed since. Doesn't allocate.
+    /// Returns `Ok` if `batch` is the latest one of `session`, which may have been closed since, and otherwise
+    /// `StrangeBatch`. Doesn't allocate.
     pub fn settle(&self, session: u32, batch: &Batch) -> Result<(), StrangeBatch>
         ensures { IsOk result ↔ IsLatestBatch self.now session batch.now }
     {

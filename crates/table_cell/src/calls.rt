@@ -1,4 +1,4 @@
-//! The events of a table.
+//! Acknowledging, opening and closing sessions, and purging rows.
 
 ghost use Rattle.std.specs.Prelude.{◌≡◌, ◌∷◌, ◌++◌, [], IfOk, None, OnErr, false};
 ghost use Rattle.stick_table.specs.declared.events.CellEvent.TheVariants as events;
@@ -10,7 +10,7 @@ use crate::cell::TableCell;
 use stick_table::{AckError, CellEvent, CellReply, CloseError, OpenError, PurgeError, Table};
 use table_types::{Memory, Moment, Settled};
 
-/// Opens: the session is there, and the event is in the history. After `Memory` nothing has changed.
+/// Opens `session`, and adds the event to the history. If memory runs out, nothing has changed.
 fn open(
     table: &mut Table,
     history: &mut Vec<(CellEvent, CellReply)>,
@@ -29,8 +29,9 @@ fn open(
 }
 
 impl TableCell {
-    /// Takes a session's acknowledgement of that number, and answers what it settled: `Older` where the number isn't above
-    /// the one acknowledged, which changes nothing.
+    /// Records that `session` acknowledged `number`, and returns what this settled: `Older` if the number isn't above
+    /// the one already acknowledged, which doesn't change the session's progress. If the call is refused, nothing has
+    /// changed.
     pub fn ack(&mut self, session: u32, number: u32) -> Result<Settled, AckError>
         ensures { Acknowledges self.old session number result self.new }
     {
@@ -47,7 +48,8 @@ impl TableCell {
         Ok(settled)
     }
 
-    /// Opens a session, which has acknowledged nothing and was taught nothing.
+    /// Opens `session`, which has acknowledged nothing and was taught nothing. If the call is refused, nothing has
+    /// changed.
     pub fn open_session(&mut self, session: u32) -> Result<(), OpenError>
         ensures { Opens self.old session result self.new }
     {
@@ -61,7 +63,7 @@ impl TableCell {
         Ok(())
     }
 
-    /// Closes a session: what it acknowledged and was taught is forgotten.
+    /// Closes `session`, and forgets what it acknowledged and was taught. If the call is refused, nothing has changed.
     pub fn close_session(&mut self, session: u32) -> Result<(), CloseError>
         ensures { Closes self.old session result self.new }
     {
@@ -78,7 +80,8 @@ impl TableCell {
         Ok(())
     }
 
-    /// Takes out the rows that aren't live at that moment, and answers how many they were.
+    /// Removes the rows that aren't live at `now`, and returns their number. If the call is refused, nothing has
+    /// changed.
     pub fn purge(&mut self, now: Moment) -> Result<usize, PurgeError>
         ensures { Purges self.old now result self.new }
     {

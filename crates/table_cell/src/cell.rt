@@ -10,18 +10,18 @@ use std::marker::Model;
 use stick_table::{CellEvent, CellReply, Table};
 use table_types::{Key, Memory, Row, TableDef};
 
-/// A stick table that keeps its history: each event with its reply, the batches that it handed out among them.
+/// A stick table that keeps its history: each event with its reply, including the batches that were copied.
 ///
-/// Its state is at all times what replaying the history leads to (`IsSoundCell`), so that each kept batch is what its
-/// session had not acknowledged where the batch stands in the history (`batches_are_kept`). A refused call changes
-/// nothing, and leaves no event.
+/// Its state is always what replaying the history leads to (`IsSoundCell`), so each kept batch is what its session had
+/// not acknowledged at that point of the history (`batches_are_kept`). A refused call changes nothing, and adds no
+/// event.
 #[derive(Drop)]
 pub struct TableCell {
-    /// The number that the table gave first.
+    /// The first number that the table assigned, or will assign.
     pub(crate) first: u32,
     pub(crate) table: Table,
     pub(crate) history: Vec<(CellEvent, CellReply)>,
-    /// Where in the history the latest copy of each session stands; closing a session leaves it.
+    /// The index in the history of each session's latest copy. Closing a session keeps it.
     pub(crate) latest_copies: BTreeMap<u32, usize>,
 }
 
@@ -37,14 +37,15 @@ impl Model for TableCell {
 }
 
 impl TableCell {
-    /// The most rows of a table.
+    /// The most rows that a table may have.
     pub const MOST_ROWS: usize = 1_000_000;
 
-    /// The most events of a history.
+    /// The most events that a history may have.
     pub const MOST_EVENTS: usize = 1_000_000;
 
-    /// A table without rows and sessions, which gives the number `first` next. It has at most `size` rows, up to
-    /// `MOST_ROWS`; one that purges none refuses a row of a new key where it is full of live ones. Doesn't allocate.
+    /// Makes a table without rows or sessions, whose next number is `first`. It has at most `size` rows, up to
+    /// `MOST_ROWS`; with `nopurge`, it refuses a row of a new key while it is full of live rows. Always succeeds, and
+    /// doesn't allocate.
     pub fn new(
         alloc: Global,
         definition: TableDef,
@@ -65,14 +66,14 @@ impl TableCell {
         })
     }
 
-    /// The table's definition.
+    /// Returns the table's definition.
     pub fn definition(&self) -> &TableDef
         ensures { result.now ≡ self.now.state.definition }
     {
         self.table.definition()
     }
 
-    /// How many events there were ever.
+    /// Returns the number of all events so far.
     pub fn events(&self) -> u64
         ensures events { result ≡ events_of self.now }
         ensures sound { IsSoundCell self.now }
@@ -81,7 +82,7 @@ impl TableCell {
         self.history.len() as u64
     }
 
-    /// How many more events there is room for.
+    /// Returns how many more events there is room for.
     pub fn room(&self) -> u64
         ensures { result ≡ room_of self.now }
     {
@@ -94,7 +95,7 @@ impl TableCell {
         self.room() == 0
     }
 
-    /// The event at a place, with its reply; `None` where no event stands there. Places count all events ever, from 1.
+    /// Returns the event at `place` with its reply, or `None` if there is none. Places count all events from 1.
     pub fn event_at(&self, place: u64) -> Option<(&CellEvent, &CellReply)>
         ensures { option_map (λ e. (e.0.now, e.1.now)) result ≡ event_in self.now place }
     {
@@ -103,7 +104,7 @@ impl TableCell {
         Some((event, reply))
     }
 
-    /// Copies of the rows with their keys, in rising key.
+    /// Returns copies of the rows with their keys, in ascending order of key.
     pub fn rows(&self) -> Result<Vec<(Key, Row)>, Memory>
         ensures { IfOk result (λ list. AreInRisingKey self.now.state.rows list.items) }
     {

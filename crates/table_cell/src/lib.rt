@@ -1,4 +1,4 @@
-//! A stick table that keeps its history, and each batch that it handed out.
+//! A stick table that keeps its history, including each batch that was copied.
 #![tactic(auto)]
 
 mod batches;

@@ -1,4 +1,4 @@
-//! Rows that are changed, and rows that are learned.
+//! Changing rows, and learning rows.
 
 ghost use Rattle.std.specs.Prelude.{◌≡◌, ◌≤◌, ◌<◌, ◌^◌, ◌∷◌, ◌++◌, [], IfOk, List, None, OnErr, OnOk, false};
 ghost use Rattle.table_types.specs.declared.key.Key.{Key};
@@ -14,7 +14,7 @@ use std::alloc::Global;
 use stick_table::{CellEvent, CellReply, LearnError, Reply, Table, TrackError};
 use table_types::{Change, Key, Memory, Moment, Row, Update};
 
-/// The reply to a change that made a row: the one that the history keeps, and the two that are given.
+/// Returns the reply to a change that made `row`: one copy for the history, and two for the caller.
 fn replies_of(alloc: Global, row: &Row) -> Result<(Reply, (Reply, Reply)), Memory>
     ensures kept { IfOk result (λ replies. replies.0 ≡ reply_of row.now) }
     ensures given { IfOk result (λ replies. (replies.1.0 ≡ reply_of row.now) × (replies.1.1 ≡ reply_of row.now)) }
@@ -23,8 +23,8 @@ fn replies_of(alloc: Global, row: &Row) -> Result<(Reply, (Reply, Reply)), Memor
     Ok((Reply::of(alloc, row)?, given))
 }
 
-/// Stores a row under the next number in place of the key's, and answers the reply that the history keeps with the two
-/// that are given. After `Memory` nothing has changed.
+/// Stores `row` under the next number in place of the key's. Returns one copy of the reply for the history, and two for
+/// the caller. If memory runs out, nothing has changed.
 fn store_row(
     table: &mut Table,
     key: &Key,
@@ -45,8 +45,8 @@ fn store_row(
     Ok(replies)
 }
 
-/// Tracks with the row that the change makes: the row is stored, the event is in the history, and the reply is given
-/// twice. After `Memory` nothing has changed.
+/// Tracks with the row that the change makes: stores the row, adds the event to the history, and returns the reply
+/// twice. If memory runs out, nothing has changed.
 fn track_row(
     table: &mut Table,
     history: &mut Vec<(CellEvent, CellReply)>,
@@ -77,8 +77,8 @@ fn track_row(
     Ok(given)
 }
 
-/// Learns with the row that the update teaches: the row is stored, the event is in the history, and the reply is given
-/// twice. After `Memory` nothing has changed.
+/// Learns with the row that the update makes: stores the row, adds the event to the history, and returns the reply
+/// twice. If memory runs out, nothing has changed.
 fn learn_row(
     table: &mut Table,
     history: &mut Vec<(CellEvent, CellReply)>,
@@ -107,7 +107,8 @@ fn learn_row(
     Ok(given)
 }
 
-/// Tracks: the row is stored, the event is in the history, and the reply is given twice. After `Memory` nothing has changed.
+/// Tracks: stores the row, adds the event to the history, and returns the reply twice. If memory runs out, nothing has
+/// changed.
 fn track_pair(
     table: &mut Table,
     history: &mut Vec<(CellEvent, CellReply)>,
@@ -128,7 +129,8 @@ fn track_pair(
     track_row(table, history, seat, key, change, now, row)
 }
 
-/// Learns: the row is stored, the event is in the history, and the reply is given twice. After `Memory` nothing has changed.
+/// Learns: stores the row, adds the event to the history, and returns the reply twice. If memory runs out, nothing has
+/// changed.
 fn learn_pair(
     table: &mut Table,
     history: &mut Vec<(CellEvent, CellReply)>,
@@ -149,9 +151,9 @@ fn learn_pair(
 }
 
 impl TableCell {
-    /// Makes a change of this node's own, at a seat, of the row that lives at the key or of a new one, and answers the row
-    /// after it. The row takes the next number, and its life begins again. Where there is no room for a new row, the first
-    /// to end leaves.
+    /// Makes a change by this node, at `seat`, to the live row of `key` or to a new one, and returns the row after it.
+    /// The row takes the next number, and its life begins again. If there is no room for a new row, the first row to
+    /// end is removed. If the change is refused, nothing has changed.
     pub fn track(
         &mut self,
         seat: u32,
@@ -165,8 +167,9 @@ impl TableCell {
         Ok(reply)
     }
 
-    /// Learns what a peer taught in a session: the update's row replaces the key's, under the next number of this table's
-    /// own, and is answered. Where there is no room for a new row, the first to end leaves.
+    /// Learns what a peer taught in `session`: the update's row replaces the key's, under this table's own next number.
+    /// Returns the row. If there is no room for a new row, the first row to end is removed. If the update is refused,
+    /// nothing has changed.
     pub fn learn(&mut self, session: u32, update: Update, now: Moment) -> Result<Reply, LearnError>
         ensures { Learns self.old session update now result self.new }
     {
@@ -174,7 +177,7 @@ impl TableCell {
         Ok(reply)
     }
 
-    /// Tracks, and gives the reply twice; both copies are made before anything changes.
+    /// Tracks like `track`, and returns the reply twice. Both copies are made before anything changes.
     pub fn track_pair(
         &mut self,
         seat: u32,
@@ -195,7 +198,7 @@ impl TableCell {
         Ok(pair)
     }
 
-    /// Learns, and gives the reply twice; both copies are made before anything changes.
+    /// Learns like `learn`, and returns the reply twice. Both copies are made before anything changes.
     pub fn learn_pair(
         &mut self,
         session: u32,

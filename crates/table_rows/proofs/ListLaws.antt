@@ -1,4 +1,5 @@
--- Rows in a list in rising key: what is found, put and taken out at a place, and which of them is the first to end.
+-- Rows in a list in ascending order of key: what is found, put and removed at an index, and which row is the first to
+-- end.
 use Rattle.std.proofs.Common.{◌≡◌, ℕ, zero, suc, ◌+◌, ◌<◌, ◌≤◌, Bool, true, false, List, [], ◌∷◌, ◌++◌, length, take, drop, get_or, set, slice_get, Option, Some, None, IfSome, refl, sym, ap, ◌∙◌, subst, arith, inl, inr}
 use Rattle.std.specs.List.{AllByRecursion, insert, remove}
 use Rattle.std.specs.List.Sorted.{IsStrictlySortedBy}
@@ -31,7 +32,7 @@ all_end : {A : Type 0} (P : A → Type 0) (x : A) (xs : List A) → AllByRecursi
 all_end P x [] all last = (last, tt)
 all_end P x (y ∷ ys) (first, rest) last = (first, all_end P x ys rest last)
 
--- ---- the place of a key
+-- ---- the index of a key
 
 pub past_more : (key : Key) (es : List (Key × StoredRow)) (i : ℕ) (e : Key × StoredRow) → i < length es → Greater ≡ key_cmp key (get_or es i e).0 → IsPast key (take i es) → IsPast key (take (i + 1) es)
 past_more key es i e within above past = rw (take_more es i e within) (all_end (λ f. key_cmp key f.0 ≡ Greater) (get_or es i e) (take i es) past (sym above))
@@ -39,7 +40,7 @@ past_more key es i e within above past = rw (take_more es i e within) (all_end (
 pub read : (es : List (Key × StoredRow)) (i : ℕ) (e : Key × StoredRow) → i < length es → e ≡ get_or es i e → slice_get es i ≡ Some e
 read es i e within is = slice_get_read es (length es) i e refl within is
 
--- the entry that stands there
+-- the entry at that index
 pub there_same : (key : Key) (es : List (Key × StoredRow)) (i : ℕ) (e : Key × StoredRow) → IsThere key es i → slice_get es i ≡ Some e → key_cmp key e.0 ≡ Equal
 there_same key es i e there at = subst (λ (o : Option (Key × StoredRow)). IfSome o (λ f. key_cmp key f.0 ≡ Equal)) at there.2
 
@@ -92,7 +93,7 @@ module _ (key : Key) where
       by true same rest = absurd (some_none e.1 (sym (rw same refl) ∙ none))
       by false other rest = rw other (ap (λ (gs : List (Key × StoredRow)). e ∷ gs) (rest (sym (rw other refl) ∙ none)))
 
--- ---- keys stay in rising order
+-- ---- keys stay in ascending order
 
 pub rising_none : (es : List (Key × StoredRow)) → es ≡ [] → IsStrictlySortedBy key_cmp (keys_of es)
 unfolding IsStrictlySortedBy
@@ -134,7 +135,7 @@ rising_taken (e ∷ es) key rising = by (is_eq (key_cmp key e.0)) refl (rising_t
     by true is rest = rw is rising.1
     by false is rest = rw is (above_taken e.0 key es rising.0, rest)
 
--- ---- an entry at its place
+-- ---- an entry at its index
 
 all_at : (P : Key → Type 0) (es : List (Key × StoredRow)) (i : ℕ) (e : Key × StoredRow) → AllByRecursion P (keys_of es) → slice_get es i ≡ Some e → P e.0
 all_at P [] i e all at = absurd cc
@@ -155,7 +156,7 @@ own_removed es i e rising at = removed_there e.0 es i e at (key_cmp-same e.0) (p
 
 -- ---- the order in which rows end
 
--- rows without an end are of a later kind
+-- rows without an end come after those with one
 abbrev kind : Option ℕ → ℕ
 kind (Some end) = 0
 kind None = 1
@@ -213,7 +214,7 @@ module _ (es : List (Key × StoredRow)) (first index : ℕ) (e x : Key × Stored
   more : (y : Key × StoredRow) → IsAfterNone (take index es) y → is_gt (end_cmp y x) ≡ false → IsAfterNone (take (index + 1) es) y
   more y after last = rw (take_more es index x within) (all_end (λ f. is_gt (end_cmp y f) ≡ false) (get_or es index x) (take index es) after (rw (← x_is) last))
 
-  -- the next one is sooner
+  -- the next row ends sooner
   pub sooner : is_lt (end_cmp x e) ≡ true → (index < length es) × IfSome (slice_get es index) (IsAfterNone (take (index + 1) es))
   sooner before = (
     within,
@@ -221,7 +222,7 @@ module _ (es : List (Key × StoredRow)) (first index : ℕ) (e x : Key × Stored
         (more x (after_all x e (take index es) (not_over (end_cmp x e) before) after_e) (own_tie (end_cmp x x) (end_total.antisymm x x))),
   )
 
-  -- or not
+  -- or it doesn't
   pub not_sooner : is_lt (end_cmp x e) ≡ false → (first < length es) × IfSome (slice_get es first) (IsAfterNone (take (index + 1) es))
   not_sooner after = (
     first_within,

@@ -1,4 +1,4 @@
--- Rows in rising key, and which of them is the first to end.
+-- Rows in ascending order of key, and which of them is the first to end.
 use Rattle.std.proofs.Common.{◌≡◌, ℕ, ◌-◌, ◌<◌, ◌≤◌, ◌^◌, Bool, true, false, List, [], ◌∷◌, ◌++◌, length, Option, Some, None, IfSome, refl, sym, ap, ◌∙◌, subst, arith, inl, inr}
 use mathlib.Core.Bool.{false≢true}
 use Rattle.std.specs.List.{AllByRecursion}
@@ -17,7 +17,7 @@ use Rattle.table_types.specs.Keys.{key_cmp}
 use Rattle.table_types.specs.KeyOrder.{key_cmp_total}
 use Rattle.table_types.specs.Rows.{StoredRow}
 use Rattle.table_types.proofs.EqualKeysAreOne.{exact_keys}
-use Rattle.table_rows.specs.declared.ending.Ending.{Ending}
+use Rattle.table_rows.specs.declared.row_end.RowEnd.{RowEnd}
 use Rattle.table_rows.specs.EndingOrder.{ending_cmp_total}
 use Rattle.table_rows.specs.Endings.{AreIndexed, end_or_last, ending_cmp, ending_of, is_among, later_cmp}
 use Rattle.table_rows.specs.Rows.{AreLive, IsFirstToEnd, end_cmp, ends_cmp, goes_past, is_live, row_at}
@@ -37,13 +37,13 @@ found_above (e ∷ es) least k row above at = by (key_cmp k e.0) refl (λ there.
 above_apart : (least k : Key) → key_cmp least k ≡ Less → is_eq (key_cmp k least) ≡ false
 above_apart least k less = ap is_eq (key_cmp_total.antisymm k least ∙ ap ordering_reverse less)
 
--- what holds of each key and row that are found holds of each row
+-- what holds of each key and row that is found holds of each row
 pub all_found : (es : List (Key × StoredRow)) → IsStrictlySortedBy key_cmp (keys_of es) → (T : Key × StoredRow → Type 0) → ((k : Key) (row : StoredRow) → row_at k es ≡ Some row → T (k, row)) → AllByRecursion T es
 unfolding IsStrictlySortedBy
 all_found [] rising T h = tt
 all_found (e ∷ es) rising T h = (h e.0 e.1 (rw (key-same e.0) refl), all_found es rising.1 T (λ k row at. h k row (rw (above_apart e.0 k (found_above es e.0 k row rising.0 at)) at)))
 
--- ---- the order of ends
+-- ---- the order of row ends
 
 ends_are : (a b : Option ℕ) → IfSome a (λ end. end < 2 ^ 63) → IfSome b (λ end. end < 2 ^ 63) → ends_cmp a b ≡ nat_cmp (end_or_last a) (end_or_last b)
 ends_are (Some a) (Some b) short_a short_b = refl
@@ -60,8 +60,8 @@ not_after a b o first = elim (cases_lt b a) [
   | inr at_most ↦ at_most
 ]
 
--- what nothing comes before isn't after anything
-pub not_before : (f e : Ending) → is_lt (later_cmp f e) ≡ false → is_gt (ending_cmp f e) ≡ false
+-- if the one doesn't come before the other in one order, it doesn't come after it in the reverse
+pub not_before : (f e : RowEnd) → is_lt (later_cmp f e) ≡ false → is_gt (ending_cmp f e) ≡ false
 not_before f e first = ap is_gt (ending_cmp_total.antisymm f e) ∙ turned (ending_cmp e f) ∙ first
   where
     turned : (o : Ordering) → is_gt (ordering_reverse o) ≡ is_lt o
@@ -83,12 +83,12 @@ has_ended now row short ended = by row.ends ended
     by None ended = absurd (omega (arith, short, ended))
     by (Some end) ended = grind (arith, nat_tests, ended)
 
-pub no_endings : (endings : List Ending) → (0 < length endings → ◌≡◌ {A = Bool} false true) → endings ≡ []
+pub no_endings : (endings : List RowEnd) → (0 < length endings → ◌≡◌ {A = Bool} false true) → endings ≡ []
 no_endings [] none = refl
 no_endings (e ∷ es) none = absurd (false≢true (none (omega arith)))
 
-module _ (rows : List (Key × StoredRow)) (endings : List Ending) (index : AreIndexed rows endings) where
-  -- without endings there are no rows
+module _ (rows : List (Key × StoredRow)) (endings : List RowEnd) (index : AreIndexed rows endings) where
+  -- if there are no row ends, there are no rows
   pub no_rows : endings ≡ [] → rows ≡ []
   no_rows none = by rows index.rising (λ k row at. index.agree.each k row at)
     where
@@ -96,15 +96,15 @@ module _ (rows : List (Key × StoredRow)) (endings : List Ending) (index : AreIn
       by [] rising each = refl
       by (e ∷ es) rising each =
           let stands : is_among endings (ending_of e.0 e.1) ≡ true = each e.0 e.1 (rw (key-same e.0) refl) in
-          let gone : is_among endings (ending_of e.0 e.1) ≡ false = ap (λ (ks : List Ending). is_among ks (ending_of e.0 e.1)) none in
+          let gone : is_among endings (ending_of e.0 e.1) ≡ false = ap (λ (ks : List RowEnd). is_among ks (ending_of e.0 e.1)) none in
           absurd (true_or_false (is_among endings (ending_of e.0 e.1)) stands gone)
 
-  module _ (first : Ending) (member : is_among endings first ≡ true) where
+  module _ (first : RowEnd) (member : is_among endings first ≡ true) where
     pub first_row : (stored : StoredRow) × (row_at first.key rows ≡ Some stored) × (first ≡ ending_of first.key stored)
     first_row = index.agree.only first member
 
-    module _ (greatest : (e : Ending) → is_among endings e ≡ true → is_lt (later_cmp first e) ≡ false) where
-      pub least : (e : Ending) → is_among endings e ≡ true → is_gt (ending_cmp first e) ≡ false
+    module _ (greatest : (e : RowEnd) → is_among endings e ≡ true → is_lt (later_cmp first e) ≡ false) where
+      pub least : (e : RowEnd) → is_among endings e ≡ true → is_gt (ending_cmp first e) ≡ false
       least e among = not_before first e (greatest e among)
 
       pub is_first : IsFirstToEnd rows first.key
@@ -116,7 +116,7 @@ module _ (rows : List (Key × StoredRow)) (endings : List Ending) (index : AreIn
             at,
             all_found rows index.rising (λ e. is_gt (end_cmp (first.key, stored) e) ≡ false) (λ k row there.
                 ap is_gt (end_is first.key stored k row (index.agree.within first.key stored at) (index.agree.within k row there))
-                ∙ ap (λ (e : Ending). is_gt (ending_cmp e (ending_of k row))) (sym is)
+                ∙ ap (λ (e : RowEnd). is_gt (ending_cmp e (ending_of k row))) (sym is)
                 ∙ least (ending_of k row) (index.agree.each k row there)),
           )
 
@@ -125,7 +125,7 @@ module _ (rows : List (Key × StoredRow)) (endings : List Ending) (index : AreIn
           let at_most : first.end ≤ end_or_last row.ends = not_after first.end (end_or_last row.ends) _ (least (ending_of k row) (index.agree.each k row there)) in
           lives now row (omega (arith, at_most, later)))
 
--- ---- a key above all
+-- ---- a key above all others
 
 pub insert_last : (es fs : List (Key × StoredRow)) (key : Key) (row : StoredRow) → IsStrictlySortedBy key_cmp (keys_of (es ++ (key, row) ∷ fs)) → insert_entry key_cmp es key row ≡ es ++ (key, row) ∷ []
 unfolding IsStrictlySortedBy

@@ -1,5 +1,5 @@
--- The rows of a table by their keys, and which of them are the first to end (HAProxy Configuration Manual, stick-table
--- `size` and `expire`; that rows which end together go by number is the profile's choice).
+-- The rows of a table by key, and which of them is the first to end (HAProxy Configuration Manual, stick-table `size`
+-- and `expire`; that rows that end together are ordered by number is the profile's choice).
 use Rattle.std.specs.Prelude.{◌≡◌, ℕ, Bool, true, false, nat_lt, List, Option, Some, None}
 use Rattle.std.specs.List.{AllByRecursion}
 use Rattle.std.specs.declared.cmp.Ordering.{Ordering}
@@ -15,34 +15,35 @@ use Rattle.table_types.specs.Rows.{StoredRow}
 abbrev pub row_at : Key → List (Key × StoredRow) → Option StoredRow
 row_at key rows = lookup (is_at (key_cmp key)) rows
 
--- the rows without that of a key
+-- the rows without the row of a key
 abbrev pub rows_without : Key → List (Key × StoredRow) → List (Key × StoredRow)
 rows_without key rows = remove_entry (is_at (key_cmp key)) rows
 
--- what has no end, or an end above the moment, goes on past it
+-- an end is after `now`, and so is no end
 abbrev pub goes_past : ℕ → Option ℕ → Bool
 goes_past now None = true
 goes_past now (Some end) = nat_lt now end
 
--- a row is live at a moment where it has no end, or its end is above the moment
+-- a row is live at `now` if it never expires, or ends after `now`
 abbrev pub is_live : ℕ → StoredRow → Bool
 is_live now row = goes_past now row.ends
 
--- what ends sooner comes first, and what never ends comes last
+-- a sooner end comes first, and no end comes last
 abbrev pub ends_cmp : Option ℕ → Option ℕ → Ordering
 ends_cmp (Some a) (Some b) = nat_cmp a b
 ends_cmp (Some a) None = Less
 ends_cmp None (Some b) = Greater
 ends_cmp None None = Equal
 
--- the row that ends sooner comes first; of rows that end together that of the lesser number, and then of the lesser key
+-- the row that ends sooner comes first; of rows that end together, the one with the smaller number, and then the one
+-- with the smaller key
 abbrev pub end_cmp : Key × StoredRow → Key × StoredRow → Ordering
 end_cmp a b = ordering_then (ends_cmp a.1.ends b.1.ends) (ordering_then (nat_cmp a.1.number b.1.number) (key_cmp a.0 b.0))
 
--- the key's row is the first to end: no other comes before it
+-- the row of `key` is the first to end: no other comes before it
 abbrev pub IsFirstToEnd : List (Key × StoredRow) → Key → Type 0
 IsFirstToEnd rows key = (row : StoredRow) × (row_at key rows ≡ Some row) × AllByRecursion (λ e. is_gt (end_cmp (key, row) e) ≡ false) rows
 
--- each row is live at that moment
+-- each row is live at `now`
 abbrev pub AreLive : ℕ → List (Key × StoredRow) → Type 0
 AreLive now rows = AllByRecursion (λ e. is_live now e.1 ≡ true) rows

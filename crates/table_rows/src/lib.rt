@@ -1,9 +1,9 @@
-//! The rows of a stick table by their keys, which of them is the first to end, and what holds them.
+//! The rows of a stick table by key, which of them is the first to end, and the collections that hold them.
 #![tactic(auto)]
 
-mod ending;
 mod list_rows;
 mod map_rows;
+mod row_end;
 mod rows;
 
 pub use list_rows::ListRows;

@@ -11,7 +11,7 @@ use std::marker::Model;
 use std::mem;
 use table_types::{Key, Memory, Moment, Row};
 
-/// The rows of a table in a list, in rising key. Each call but `len` may go over the whole list.
+/// The rows of a table in a list, in ascending order of key. Each call but `len` may go over the whole list.
 #[derive(Drop)]
 pub struct ListRows {
     alloc: Global,
@@ -33,7 +33,8 @@ impl Model for ListRows {
     ghost invariant = { λ a. IsStrictlySortedBy key_cmp (keys_of a.rows.items) };
 }
 
-/// Where a key stands among rows in rising key, or else where it would.
+/// Returns the index at which `key` stands among rows in ascending order of key, or as the error the index at which it
+/// would.
 fn place(rows: &[(Key, Row)], key: &Key) -> Result<usize, usize>
     ensures there { IfOk result (IsThere key.now rows.now) }
     ensures gap { IfErr result (IsGap key.now rows.now) }
@@ -48,7 +49,7 @@ fn place(rows: &[(Key, Row)], key: &Key) -> Result<usize, usize>
     Err(rows.len())
 }
 
-/// How the ends of two rows compare: a row without an end comes last.
+/// Compares the ends of two rows: a row without an end comes last.
 fn compare_ends(a: &Row, b: &Row) -> Ordering
     ensures { result ≡ ends_cmp a.now.ends b.now.ends }
 {
@@ -60,7 +61,7 @@ fn compare_ends(a: &Row, b: &Row) -> Ordering
     }
 }
 
-/// How two rows compare in the order in which rows end, as `Rows::first_to_end` says.
+/// Compares two rows in the order in which rows end, as in `Rows::first_to_end`.
 fn compare(a: &(Key, Row), b: &(Key, Row)) -> Ordering
     ensures { result ≡ end_cmp a.now b.now }
 {
@@ -68,7 +69,7 @@ fn compare(a: &(Key, Row), b: &(Key, Row)) -> Ordering
     compare_ends(&a.1, &b.1).then(numbers.then(a.0.cmp(&b.0)))
 }
 
-/// Where the first row to end stands, if there are rows.
+/// Returns the index of the first row to end, or `None` if there are no rows.
 fn first_place(rows: &[(Key, Row)]) -> Option<usize>
     ensures first { IfSome result (IsFirstAt rows.now) }
     ensures none { IfNone result (rows.now ≡ []) }
@@ -86,7 +87,7 @@ fn first_place(rows: &[(Key, Row)]) -> Option<usize>
 }
 
 impl ListRows {
-    /// No rows. Doesn't allocate.
+    /// Makes a collection without rows. Doesn't allocate.
     pub fn new(alloc: Global) -> ListRows
         ensures { result ≡ [] }
     {
@@ -97,7 +98,7 @@ impl ListRows {
     }
 }
 
-/// Equal rows with equal keys, one after another.
+/// Returns copies of the rows and their keys, in the same order.
 fn copy_of(alloc: Global, rows: &[(Key, Row)]) -> Result<Vec<(Key, Row)>, Memory>
     ensures { IfOk result (λ copy. copy.items ≡ rows.now) }
 {

@@ -5,24 +5,24 @@ ghost use Rattle.std.specs.BTreeMap.{insert_entry};
 ghost use Rattle.std.specs.Ordering.{is_eq};
 ghost use Rattle.table_types.specs.Keys.{key_cmp};
 ghost use Rattle.table_types.specs.Rows.{StoredRow};
-ghost use Rattle.table_rows.specs.declared.ending.Ending.{Ending};
+ghost use Rattle.table_rows.specs.declared.row_end.RowEnd.{RowEnd};
 ghost use Rattle.table_rows.specs.Endings.{AreIndexed, IsOlder, is_among, is_among_without};
 ghost use Rattle.table_rows.specs.Rows.{row_at};
 
-use crate::ending::{Ending, end_of};
+use crate::row_end::{RowEnd, end_of};
 use crate::rows::Rows;
 use std::alloc::Global;
 use std::collections::{BTreeMap, BTreeSet};
 use std::marker::Model;
 use table_types::{Key, Memory, Moment, Row};
 
-/// The rows of a table in an ordered map by key, with a set of where they stand in the order in which they end. Each
-/// call but `list` and `copy` takes a time that grows as the logarithm of the number of rows.
+/// The rows of a table in an ordered map by key, with the set of their row ends. Each call but `list` and `copy` takes
+/// time logarithmic in the number of rows.
 #[derive(Drop)]
 pub struct MapRows {
     alloc: Global,
     rows: BTreeMap<Key, Row>,
-    endings: BTreeSet<Ending>,
+    endings: BTreeSet<RowEnd>,
 }
 
 impl Model for MapRows {
@@ -38,8 +38,8 @@ impl Model for MapRows {
     ghost invariant = { λ a. AreIndexed a.rows.entries a.endings.keys };
 }
 
-/// Where a key's older row stands, if it had one; `None` too where the one that replaces it stands there.
-fn older_ending(older: &Option<Row>, new: Ending) -> Option<Ending>
+/// Returns the row end of a key's older row; `None` if there was no older row, or if the new row has the same row end.
+fn older_ending(older: &Option<Row>, new: RowEnd) -> Option<RowEnd>
     ensures { IsOlder older.now new result }
 {
     let Some(older) = older else {
@@ -48,22 +48,22 @@ fn older_ending(older: &Option<Row>, new: Ending) -> Option<Ending>
     if end_of(older) == new.end && older.number() == new.number {
         return None;
     }
-    Some(Ending::of(new.key, older))
+    Some(RowEnd::of(new.key, older))
 }
 
-fn drop_older(endings: &mut BTreeSet<Ending>, older: Option<Ending>)
-    ensures { (ending : Ending) → is_among endings.new.keys ending ≡ is_among_without older (is_among endings.old.keys) ending }
+fn drop_older(endings: &mut BTreeSet<RowEnd>, older: Option<RowEnd>)
+    ensures { (ending : RowEnd) → is_among endings.new.keys ending ≡ is_among_without older (is_among endings.old.keys) ending }
 {
     if let Some(older) = older {
         endings.remove(&older);
     }
 }
 
-/// Puts a row in place of the key's. After `Memory` the rows are as before.
+/// Puts `row` in place of the key's. If memory runs out, the rows are as before.
 fn put(
     alloc: Global,
     rows: &mut BTreeMap<Key, Row>,
-    endings: &mut BTreeSet<Ending>,
+    endings: &mut BTreeSet<RowEnd>,
     key: Key,
     row: Row,
 ) -> Result<Option<Row>, Memory>
@@ -73,8 +73,8 @@ fn put(
     ensures stays { OnErr result (rows.new.entries ≡ rows.old.entries) }
     ensures indexed { AreIndexed rows.new.entries endings.new.keys }
 {
-    let new = Ending::of(key.copy(alloc)?, &row);
-    let ending = Ending::of(key.copy(alloc)?, &row);
+    let new = RowEnd::of(key.copy(alloc)?, &row);
+    let ending = RowEnd::of(key.copy(alloc)?, &row);
     endings.insert(ending)?;
     match rows.insert(key, row) {
         Ok(before) => {
@@ -83,16 +83,16 @@ fn put(
             Ok(before)
         }
         Err(refused) => {
-            // Only a new key is refused, so the ending is a new one too.
+            // Only a new key is refused, so the row end is new too.
             let (key, row) = refused.value;
-            endings.remove(&Ending::of(key, &row));
+            endings.remove(&RowEnd::of(key, &row));
             Err(Memory)
         }
     }
 }
 
 impl MapRows {
-    /// No rows. Doesn't allocate.
+    /// Makes a collection without rows. Doesn't allocate.
     pub fn new(alloc: Global) -> MapRows
         ensures { result ≡ [] }
     {
@@ -104,7 +104,7 @@ impl MapRows {
     }
 }
 
-/// Puts an equal row under an equal key.
+/// Puts a copy of `row` under a copy of `key`.
 fn put_copy(rows: &mut MapRows, key: &Key, row: &Row) -> Result<(), Memory>
     ensures { OnOk result (rows.new ≡ insert_entry key_cmp rows.old key.now row.now) }
 {
@@ -127,7 +127,7 @@ impl Rows for MapRows {
 
     fn take(&mut self, key: &Key) -> Option<Row> {
         let (key, row) = self.rows.remove_entry(key)?;
-        self.endings.remove(&Ending::of(key, &row));
+        self.endings.remove(&RowEnd::of(key, &row));
         Some(row)
     }
 
@@ -148,7 +148,7 @@ impl Rows for MapRows {
         }
         let ending = self.endings.pop_last()?;
         let row = self.rows.remove(&ending.key)?;
-        let Ending { key, .. } = ending;
+        let RowEnd { key, .. } = ending;
         Some((key, row))
     }
 

@@ -1,4 +1,4 @@
-//! What holds the rows of a table.
+//! Collections of a table's rows.
 
 ghost use Rattle.std.specs.Prelude.{◌≡◌, [], false, IfOk, IfNone, IfSome, List, OnErr, OnOk, length, option_copied};
 ghost use Rattle.std.specs.BTreeMap.{insert_entry};
@@ -11,7 +11,7 @@ ghost use Rattle.table_rows.specs.Rows.{AreLive, IsFirstToEnd, is_live, row_at, 
 
 use table_types::{Key, Memory, Moment, Row};
 
-/// Whether a row is live at a moment: whether it ends after it, or lives for ever.
+/// Returns whether a row is live at `now`: it ends after `now`, or never expires.
 pub fn is_live(row: &Row, now: Moment) -> bool
     ensures { result ≡ is_live now row.now }
 {
@@ -21,34 +21,34 @@ pub fn is_live(row: &Row, now: Moment) -> bool
     }
 }
 
-/// Holds the rows of a table by their keys.
+/// A collection of a table's rows by key.
 pub trait Rows: Drop {
-    /// The keys with their rows, in rising key.
+    /// The keys with their rows, in ascending order of key.
     ghost content: { Self → List (Key × StoredRow) };
 
-    /// The row of a key.
+    /// Returns the row of `key`.
     fn get(&self, key: &Key) -> Option<&Row>
         ensures { option_copied result ≡ row_at key.now (content self.now) };
 
-    /// Puts a row in place of the key's, and answers the one that stood there. After `Memory` nothing has changed.
+    /// Puts `row` in place of the key's, and returns the row that was there. If memory runs out, nothing has changed.
     fn put(&mut self, key: Key, row: Row) -> Result<Option<Row>, Memory>
         ensures before { IfOk result (λ before. before ≡ row_at key (content self.old)) }
         ensures put { OnOk result (content self.new ≡ insert_entry key_cmp (content self.old) key row) }
         ensures stays { OnErr result (content self.new ≡ content self.old) };
 
-    /// Takes out the row of a key. Doesn't allocate.
+    /// Removes the row of `key`, and returns it. Doesn't allocate.
     fn take(&mut self, key: &Key) -> Option<Row>
         ensures taken { result ≡ row_at key.now (content self.old) }
         ensures others { content self.new ≡ rows_without key.now (content self.old) };
 
-    /// The key of the row that is the first to end: a row without an end comes last, and of those that end together
-    /// the one of the least number comes first, and then the one of the least key. `None` where there are no rows.
+    /// Returns the key of the first row to end, or `None` if there are no rows. A row without an end comes last. Of
+    /// rows that end together, the one with the least number comes first, and then the one with the least key.
     fn first_to_end(&self) -> Option<&Key>
         ensures first { IfSome result (λ key. IsFirstToEnd (content self.now) key.now) }
         ensures none { IfNone result (content self.now ≡ []) };
 
-    /// Takes out the first row to end, with its key, if it isn't live at that moment; `None` where all rows are.
-    /// Doesn't allocate.
+    /// Removes the first row to end, and returns it with its key, if it isn't live at `now`; `None` if all rows are
+    /// live. Doesn't allocate.
     fn take_ended(&mut self, now: Moment) -> Option<(Key, Row)>
         ensures first { IfSome result (λ ended. IsFirstToEnd (content self.old) ended.0) }
         ensures taken { IfSome result (λ ended. row_at ended.0 (content self.old) ≡ Some ended.1) }
@@ -57,16 +57,16 @@ pub trait Rows: Drop {
         ensures live { IfNone result (AreLive now (content self.old)) }
         ensures stays { IfNone result (content self.new ≡ content self.old) };
 
-    /// How many rows there are.
+    /// Returns the number of rows.
     fn len(&self) -> usize
         ensures len { result ≡ length (content self.now) }
         ensures rising { IsStrictlySortedBy key_cmp (keys_of (content self.now)) };
 
-    /// Equal rows with their keys, in rising key.
+    /// Returns copies of the rows with their keys, in ascending order of key.
     fn list(&self) -> Result<Vec<(Key, Row)>, Memory>
         ensures { IfOk result (λ list. list.items ≡ content self.now) };
 
-    /// Equal rows under equal keys.
+    /// Returns a copy of the collection: equal rows under equal keys.
     fn copy(&self) -> Result<Self, Memory>
     where
         Self: Sized,

@@ -1,4 +1,4 @@
--- Receipts that agree with a table are as many as its events.
+-- If receipts agree with a table, there are as many of them as events.
 use Rattle.std.proofs.Common.{◌≡◌, ℕ, zero, suc, ◌+◌, ◌<◌, ◌≤◌, ◌==◌, true, false, not, List, [], ◌∷◌, length, filter, Some, None, slice_get, nat_lt, ◌-◌, refl, sym, ap, ◌∙◌, subst, arith, inl, inr, eq-eqb, ne_eqb, true≢false}
 use Rattle.std.specs.List.{AllByRecursion}
 use Rattle.std.proofs.lemmas.Bool.{cases_Bool, cases_eq}
@@ -34,7 +34,7 @@ parted place (r ∷ rs) = elim (cases_Bool (r.place == place)) [
       omega (arith, parted place rs, longer, times_other place r rs other)
 ]
 
--- other places stand there as often
+-- the counts of other places stay
 still : (place other : ℕ) (rs : List Receipt) → (place ≡ other → ⊥) → times other (elsewhere place rs) ≡ times other rs
 still place other [] apart = refl
 still place other (r ∷ rs) apart = elim (cases_Bool (r.place == place)) [
@@ -63,7 +63,7 @@ fewer low n (r ∷ rs) (first, rest) = elim (cases_Bool (r.place == low + suc n)
       subst (AllByRecursion (Within low n)) (sym (elsewhere_other (low + suc n) r rs other)) ((first.0, below), fewer low n rs rest)
 ]
 
--- receipts of these places, of each place one, are as many as the places
+-- if each of these places has one receipt, there are as many receipts as places
 pub as_many : (n low : ℕ) (rs : List Receipt) → AllByRecursion (Within low n) rs → ((place : ℕ) → low < place → place ≤ low + n → times place rs ≡ 1) → length rs ≡ n
 as_many zero low [] all once = refl
 as_many zero low (r ∷ rs) (first, rest) once = absurd (omega (arith, first.0, first.1))
@@ -73,7 +73,7 @@ as_many (suc n) low rs all once =
     as_many n low (elsewhere last rs) (fewer low n rs all) (λ place above within. still last place rs (λ is. absurd (omega arith)) ∙ once place above (omega arith)) in
     omega (arith, parted last rs, shorter, once last (omega arith) (omega arith))
 
--- what stands at a place is one of the events so far
+-- the place of an event is at most the number of events
 entry_within : (c : CellState) (place : ℕ) (e : CellEvent × CellReply) → event_in c place ≡ Some e → place ≤ events_of c
 entry_within c place e is = elim (cases_Bool (nat_lt c.dropped place)) [
   | inl kept ↦
@@ -85,7 +85,7 @@ entry_within c place e is = elim (cases_Bool (nat_lt c.dropped place)) [
       absurd (some_none e (sym none))
 ]
 
--- where there are no more than the first `began`, no receipt is left: each would be of a later place that has an event
+-- if there are no more events than `began`, there is no receipt: each would be of a later place that has an event
 pub receipts_count : (c : CellState) (began : ℕ) (seats : List SeatState) → Agree c began seats → length (all_receipts (id_of c) seats) ≡ events_of c - began
 receipts_count c began seats agree =
     let rs = all_receipts (id_of c) seats in

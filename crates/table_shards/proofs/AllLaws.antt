@@ -23,7 +23,7 @@ pub all_so : {A : Type 0} (P Q : A → Type 0) (so : (x : A) → P x → Q x) (x
 all_so P Q so [] all = all
 all_so P Q so (x ∷ xs) (first, rest) = (so x first, all_so P Q so xs rest)
 
--- one more of them
+-- one more element
 pub all_more : {A : Type 0} (P : A → Type 0) (xs : List A) (i : ℕ) (x : A) → i < length xs → x ≡ get_or xs i x → P x → AllByRecursion P (take i xs) → AllByRecursion P (take (i + 1) xs)
 all_more P xs i x lt is one all =
     subst (AllByRecursion P) (sym (take_more xs i x lt)) (all_end P (get_or xs i x) (take i xs) all (subst P is one))

@@ -34,13 +34,13 @@ lesser_left least number = cond_both (nat_lt least number) least number (λ x. x
 lesser_right : (least number : ℕ) → lesser (Some least) number ≤ number
 lesser_right least number = cond_both (nat_lt least number) least number (λ x. x ≤ number) (λ less. let bound = ltb-true least number less in omega arith) (λ _. omega arith)
 
--- one seat more, whose receipts are the table's events
+-- one more seat, whose receipts are the table's events
 pub stays : (c : CellState) (ss : List SeatState) (s : SeatState) (least : Option ℕ) → Strays c ss least → AreEntries c s → Strays c (ss ++ s ∷ []) least
 stays c ss s None all own = all_end (AreEntries c) s ss all own
 stays c ss s (Some number) (one, all) own =
     (one_left (λ x. (x.number ≡ number) × (AreEntries c x → ⊥)) ss (s ∷ []) one, all_end (λ x. (AreEntries c x → ⊥) → number ≤ x.number) s ss all (λ not_so. absurd (not_so own)))
 
--- and one with another receipt
+-- one more seat, with another receipt
 grows : (c : CellState) (ss : List SeatState) (s : SeatState) (least : Option ℕ) → Strays c ss least → (AreEntries c s → ⊥) → Strays c (ss ++ s ∷ []) (Some (lesser least s.number))
 grows c ss s None all other = (
   one_last (λ x. (x.number ≡ s.number) × (AreEntries c x → ⊥)) ss s (refl, other),
@@ -77,7 +77,7 @@ apart : (P : Receipt → Type 0) (t : ℕ) (ss : List SeatState) → AllByRecurs
 apart P t [] all = tt
 apart P t (s ∷ ss) all = (all_left P (receipts_of t s) (all_receipts t ss) all, apart P t ss (all_right P (receipts_of t s) (all_receipts t ss) all))
 
--- the receipts are the events, and the places of each seat rise
+-- the receipts are the events, and the places of each seat ascend
 pub agrees : (c : CellState) (began : ℕ) (ss : List SeatState) → AllByRecursion (AreEntries c) ss → AllByRecursion (λ r. began < r.place) (all_receipts (id_of c) ss)
     → ((place : ℕ) → began < place → place ≤ events_of c → times place (all_receipts (id_of c) ss) ≡ 1)
     → AllByRecursion (λ s. PlacesRise 0 (receipts_of (id_of c) s) (seen_of (id_of c) s)) ss → Agree c began ss
@@ -93,12 +93,12 @@ agrees_after c began ss agree = all_so (λ r. (began < r.place) × IsEntry c r) 
 pub agrees_entries : (c : CellState) (began : ℕ) (ss : List SeatState) → Agree c began ss → AllByRecursion (AreEntries c) ss
 agrees_entries c began ss agree = apart (IsEntry c) (id_of c) ss (all_so (λ r. (began < r.place) × IsEntry c r) (IsEntry c) (λ r own. own.1) (all_receipts (id_of c) ss) agree.own)
 
--- a stray belies agreement
+-- a stray rules out agreement
 pub stray_belies : (c : CellState) (began number : ℕ) (ss : List SeatState) → IsLeastStray c ss number → Agree c began ss → ⊥
 stray_belies c began number ss stray agree =
     none_of_all (AreEntries c) (λ s. (s.number ≡ number) × (AreEntries c s → ⊥)) ss (λ s own not_so. not_so.1 own) (agrees_entries c began ss agree) stray.0
 
--- ---- what a comparison answers
+-- ---- what a comparison returns
 
 pub strays_none : (c : CellState) (ss : List SeatState) (o : Option ℕ) → is_some o ≡ false → Strays c ss o → AllByRecursion (AreEntries c) ss
 strays_none c ss None not_so strays = strays
@@ -111,7 +111,7 @@ compares_stray c began ss (Some number) is strays = (stray_belies c began number
 pub compares_else : (c : CellState) (began : ℕ) (ss : List SeatState) → AllByRecursion (AreEntries c) ss → (Agree c began ss → ⊥) → Compares c began ss (Some 0)
 compares_else c began ss own not_so = (not_so, inr (own, refl))
 
--- whether each of the events is a receipt once, where all receipts are of later places
+-- whether each of the events is a receipt once, if all receipts are of later places
 pub agree_where : (b : Bool) (c : CellState) (began : ℕ) (ss : List SeatState) → AllByRecursion (AreEntries c) ss → AllByRecursion (λ r. began < r.place) (all_receipts (id_of c) ss)
     → AllByRecursion (λ s. PlacesRise 0 (receipts_of (id_of c) s) (seen_of (id_of c) s)) ss
     → MatchBool b ((place : ℕ) → began < place → place ≤ events_of c → times place (all_receipts (id_of c) ss) ≡ 1) (((place : ℕ) → began < place → place ≤ events_of c → times place (all_receipts (id_of c) ss) ≡ 1) → ⊥)
@@ -119,7 +119,7 @@ pub agree_where : (b : Bool) (c : CellState) (began : ℕ) (ss : List SeatState)
 agree_where true c began ss own after rise once = agrees c began ss own after once rise
 agree_where false c began ss own after rise not_so = λ agree. not_so agree.once
 
--- where they aren't
+-- if they aren't
 pub agree_not : (b : Bool) (c : CellState) (began : ℕ) (ss : List SeatState) → b ≡ false
     → MatchBool b (AllByRecursion (λ r. began < r.place) (all_receipts (id_of c) ss)) (AllByRecursion (λ r. began < r.place) (all_receipts (id_of c) ss) → ⊥)
     → MatchBool b (Agree c began ss) (Agree c began ss → ⊥)
@@ -129,7 +129,7 @@ agree_not false c began ss not_so before = λ agree. before (agrees_after c bega
 abbrev Once : ℕ → ℕ → List SeatState → ℕ → Type 0
 Once t began ss last = (place : ℕ) → began < place → place ≤ last → times place (all_receipts t ss) ≡ 1
 
--- the same, at the table's id and its count of events as they were read
+-- the same, with the table's id and its count of events as they were read
 pub agree_at : (b : Bool) (c : CellState) (began : ℕ) (ss : List SeatState) (t last : ℕ) → t ≡ id_of c → last ≡ events_of c → AllByRecursion (AreEntries c) ss
     → AllByRecursion (λ r. began < r.place) (all_receipts t ss) → AllByRecursion (λ s. PlacesRise 0 (receipts_of t s) (seen_of t s)) ss
     → MatchBool b (Once t began ss last) (Once t began ss last → ⊥) → MatchBool b (Agree c began ss) (Agree c began ss → ⊥)

@@ -1,4 +1,4 @@
--- The receipt that a call leaves is of the table's new event.
+-- The receipt that a call leaves is the table's new event.
 use Rattle.std.proofs.Common.{◌≡◌, ℕ, List, ◌+◌, ◌<◌, ◌≤◌, ◌-◌, ◌∷◌, ◌++◌, [], length, Some, slice_get, nat_lt, true, refl, sym, ap, ◌∙◌, subst, arith, inl, inr}
 use Rattle.std.proofs.lemmas.Bool.{cases_eq, lt-ltb}
 use Rattle.std.proofs.lemmas.List.{length-append}

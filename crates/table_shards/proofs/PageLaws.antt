@@ -1,4 +1,4 @@
--- A seat's pages: where one is found, and what they are after one receipt more.
+-- A seat's pages: how one is found, and how one more receipt changes them.
 use Rattle.std.proofs.Common.{◌≡◌, ℕ, ◌+◌, ◌-◌, ◌<◌, ◌==◌, Bool, true, false, List, [], ◌∷◌, ◌++◌, length, get_or, set, take, drop, Option, Some, None, refl, sym, ap, ◌∙◌, subst, arith, true≢false, append-nil, length-append, length-set, take-append-drop, get_or-set_same, eq-eqb, ne_eqb, inl, inr}
 use Rattle.std.specs.List.{AllByRecursion}
 use Rattle.std.proofs.lemmas.List.{take-set, drop-set, drop_more, get_or_default, take_more}
@@ -43,7 +43,7 @@ put_here t r p ps same = rw same refl
 put_there : (t : ℕ) (r : Receipt) (p : PageState) (ps : List PageState) → (p.table == t) ≡ false → pages_with t r (p ∷ ps) ≡ p ∷ pages_with t r ps
 put_there t r p ps other = rw other refl
 
--- where no page is of the table, one at the end is looked for there
+-- if no page is of the table, the search reaches the page at the end
 pub page_end : (t : ℕ) (p : PageState) (ps : List PageState) → page_at t ps ≡ None → page_at t (ps ++ p ∷ []) ≡ page_at t (p ∷ [])
 page_end t p [] none = refl
 page_end t p (q ∷ ps) none = elim (cases_Bool (q.table == t)) [
@@ -60,7 +60,7 @@ none_more t ps i x lt is apart none =
     ∙ page_end t (page_state x) (page_states (take i ps)) none
     ∙ page_there t (page_state x) [] (ne_eqb x.table t apart)
 
--- and a receipt is put there
+-- and the receipt goes there
 pub put_end : (t : ℕ) (r : Receipt) (ps rest : List PageState) → page_at t ps ≡ None → pages_with t r (ps ++ rest) ≡ ps ++ pages_with t r rest
 put_end t r [] rest none = refl
 put_end t r (q ∷ ps) rest none = elim (cases_Bool (q.table == t)) [
@@ -85,11 +85,11 @@ written t r q ps i here so =
     ap (λ (s : List PageState). pages_with t r s) states ∙ put_end t r before (page_state p ∷ behind) here.first ∙ ap (λ (s : List PageState). before ++ s) (put_here t r (page_state p) behind same) in
     states_after ∙ ap (λ (s : PageState). before ++ s ∷ behind) so ∙ sym put
 
--- a page that was lent and is as it was
+-- a page that was borrowed and is unchanged
 pub lent_stays : (ps : List Page) (i : ℕ) (old new : Page) → i < length ps → old ≡ get_or ps i old → page_state new ≡ page_state old → page_state new ≡ page_state (get_or ps i new)
 lent_stays ps i old new lt is so = so ∙ ap page_state (is ∙ get_or_default ps i old new lt)
 
--- a page that is put back as it was
+-- a page that is put back unchanged
 pub page_stays : (t : ℕ) (q : Page) (ps : List Page) (i : ℕ) → IsPageAt t ps i → page_state q ≡ page_state (get_or ps i q) → IsPageAt t (set ps i q) i
 page_stays t q ps i here so = record {
   below = omega (arith, length-set ps i q, here.below);
@@ -121,7 +121,7 @@ new_page t p ps is none = record {
   first = ap (λ (qs : List Page). page_at t (page_states qs)) (take_left ps (p ∷ [])) ∙ none;
 }
 
--- ---- rising places
+-- ---- ascending places
 
 abbrev seen_at : ℕ → List PageState → ℕ
 seen_at t ps = seen_on (page_at t ps)
@@ -130,7 +130,7 @@ pub rise_more : (before seen : ℕ) (r : Receipt) (rs : List Receipt) → Places
 rise_more before seen r [] rise less = (omega arith, omega arith)
 rise_more before seen r (q ∷ rs) (first, rest) less = (first, rise_more q.place seen r rs rest less)
 
--- what other tables have stays
+-- what a seat has of other tables stays
 put_apart : (t u : ℕ) (r : Receipt) (ps : List PageState) → (t ≡ u → ⊥) → page_at u ps ≡ None → page_at u (pages_with t r ps) ≡ None
 put_apart t u r [] apart none = page_there u (page_with (empty_page t) r) [] (ne_eqb t u apart)
 put_apart t u r (p ∷ ps) apart none = elim (cases_Bool (p.table == u)) [
@@ -185,7 +185,7 @@ rise_of t s pages = by (page_at t s.pages) refl
     by None is = omega arith
     by (Some p) is = rise_at t p s.pages pages.rise is
 
--- ---- what a receipt more changes
+-- ---- what one more receipt changes
 
 abbrev or_empty : ℕ → Option PageState → PageState
 or_empty t None = empty_page t

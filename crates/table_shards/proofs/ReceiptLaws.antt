@@ -1,4 +1,4 @@
--- How often a place stands among receipts.
+-- How often a place occurs among receipts.
 use Rattle.std.proofs.Common.{◌≡◌, ℕ, zero, suc, ◌+◌, ◌<◌, ◌≤◌, ◌==◌, true, false, cond, List, [], ◌∷◌, ◌++◌, length, get_or, take, drop, Result, Ok, Err, is_ok, refl, sym, ap, ◌∙◌, subst, arith, inl, inr, nat_cmp, Less, Equal, Greater, eq-eqb, ne_eqb, append-nil, append_assoc}
 use Rattle.std.specs.List.{AllByRecursion}
 use Rattle.std.specs.List.Sorted.{IsSearchInRange, IsBinarySearchResult, IsNonDecreasingBy}
@@ -12,7 +12,7 @@ use Rattle.table_shards.specs.declared.receipt.Receipt.{Receipt}
 use Rattle.table_shards.specs.Receipts.{SeatState, PlacesRise, all_receipts, receipts_of, times}
 use Rattle.table_shards.proofs.AllLaws.{all_left, all_right, all_both}
 
--- ---- rising places
+-- ---- ascending places
 
 pub rise_low : (before seen : ℕ) (rs : List Receipt) (i : ℕ) (d : Receipt) → PlacesRise before rs seen → i < length rs → before < (get_or rs i d).place
 rise_low before seen [] i d rise lt = absurd (omega arith)
@@ -68,7 +68,7 @@ found_never place (r ∷ rs) none =
     let rest : times place rs ≡ 0 = found_never place rs (λ i d lt. none (suc i) d (omega arith)) in
     omega (arith, other, rest)
 
--- what a binary search for the place finds
+-- what a binary search for a place finds
 pub searched : (place seen : ℕ) (rs : List Receipt) → PlacesRise 0 rs seen → (r : Result ℕ ℕ) → IsSearchInRange r (length rs) → IsBinarySearchResult (λ q. nat_cmp q.place place) rs r → cond (is_ok r) 1 0 ≡ times place rs
 searched place seen [] rise (Ok i) within equal = absurd (omega arith)
 searched place seen (q ∷ rs) rise (Ok i) within equal = sym (found_once place 0 seen (q ∷ rs) i q rise within (ranked _ place Equal (sym (equal q))))
@@ -83,7 +83,7 @@ searched place seen rs rise (Err i) within parted =
 
 -- ---- seats
 
--- the count goes on with the next seat
+-- the count continues with the next seat
 pub times_next : (place t : ℕ) (ss : List SeatState) (i : ℕ) (s : SeatState) → i < length ss → s ≡ get_or ss i s
     → times place (all_receipts t (drop i ss)) ≡ times place (receipts_of t s) + times place (all_receipts t (drop (i + 1) ss))
 times_next place t ss i s lt is =
@@ -95,7 +95,7 @@ all_append : (t : ℕ) (ss : List SeatState) (s : SeatState) → all_receipts t 
 all_append t [] s = append-nil (receipts_of t s)
 all_append t (x ∷ ss) s = ap (λ rest. receipts_of t x ++ rest) (all_append t ss s) ∙ sym (append_assoc (receipts_of t x) (all_receipts t ss) (receipts_of t s))
 
--- what holds of all receipts of some seats, and of those of the next
+-- what holds of all receipts of some seats and of those of the next seat
 pub receipts_more : (P : Receipt → Type 0) (t : ℕ) (ss : List SeatState) (i : ℕ) (s : SeatState) → i < length ss → s ≡ get_or ss i s
     → AllByRecursion P (receipts_of t s) → AllByRecursion P (all_receipts t (take i ss)) → AllByRecursion P (all_receipts t (take (i + 1) ss))
 receipts_more P t ss i s lt is one all =
@@ -103,7 +103,7 @@ receipts_more P t ss i s lt is one all =
     ap (λ (xs : List SeatState). all_receipts t xs) (take_more ss i s lt) ∙ all_append t (take i ss) (get_or ss i s) ∙ ap (λ (x : SeatState). all_receipts t (take i ss) ++ receipts_of t x) (sym is) in
     subst (AllByRecursion P) (sym whole) (all_both P (all_receipts t (take i ss)) (receipts_of t s) all one)
 
--- and of one of them
+-- and of the receipts of one seat
 pub receipts_of_one : (P : Receipt → Type 0) (t : ℕ) (ss : List SeatState) (i : ℕ) (d : SeatState) → i < length ss → AllByRecursion P (all_receipts t ss) → AllByRecursion P (receipts_of t (get_or ss i d))
 receipts_of_one P t [] i d lt all = absurd (omega arith)
 receipts_of_one P t (s ∷ ss) zero d lt all = all_left P (receipts_of t s) (all_receipts t ss) all

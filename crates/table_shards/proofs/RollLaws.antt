@@ -11,7 +11,7 @@ use Rattle.table_shards.specs.Roll.{AreSeats, IsSeatOf, has_number}
 count_cons : (n : ℕ) (s : SeatState) (ss : List SeatState) → count_by (has_number n) (s ∷ ss) ≡ cond (s.number == n) 1 0 + count_by (has_number n) ss
 count_cons n s ss = sum_by-cons (λ (x : SeatState). cond (has_number n x) 1 0) s ss
 
--- no seat has a number that isn't theirs
+-- no seat has a number out of range
 count_none : (most n : ℕ) (ss : List SeatState) → AllByRecursion (IsSeatOf most) ss → (n < 1) ⊎ (most < n) → count_by (has_number n) ss ≡ 0
 count_none most n [] all out = refl
 count_none most n (s ∷ ss) (first, rest) out =
@@ -53,14 +53,14 @@ within_counts most (s ∷ ss) none =
 pub seats_within : (most : ℕ) (ss : List SeatState) → AreSeats most ss → AllByRecursion (IsSeatOf most) ss
 seats_within most ss are = within_counts most ss (λ n out. are n ∙ elim out [ inl low ↦ grind (arith, nat_tests) | inr high ↦ grind (arith, nat_tests) ])
 
--- where each seat has one of the numbers
+-- if each seat has one of the numbers
 pub are_seats_where : (b : Bool) (most : ℕ) (ss : List SeatState) → AllByRecursion (IsSeatOf most) ss
     → MatchBool b ((n : ℕ) → 1 ≤ n → n ≤ most → count_by (has_number n) ss ≡ 1) (((n : ℕ) → 1 ≤ n → n ≤ most → count_by (has_number n) ss ≡ 1) → ⊥)
     → MatchBool b (AreSeats most ss) (AreSeats most ss → ⊥)
 are_seats_where true most ss within each = all_seats most ss within each
 are_seats_where false most ss within lacks = λ are. lacks (seats_each most ss are)
 
--- where one hasn't
+-- if one hasn't
 pub are_not_seats : (b : Bool) (most : ℕ) (ss : List SeatState) → b ≡ false
     → MatchBool b (AllByRecursion (IsSeatOf most) ss) (AllByRecursion (IsSeatOf most) ss → ⊥) → MatchBool b (AreSeats most ss) (AreSeats most ss → ⊥)
 are_not_seats true most ss not_so within = absurd (true≢false not_so)

@@ -55,7 +55,7 @@ round_dropped c began less is = elim (cases_Bool (nat_lt c.dropped (began + 1)))
   | inr gone ↦ let below = ltb-false c.dropped (began + 1) gone in grind (arith, nat_tests)
 ]
 
--- ---- tables that are moved one by one
+-- ---- tables moved one by one
 
 rounds_append : {A B : Type 0} (f : A → B) (xs ys : List A) → map f (xs ++ ys) ≡ map f xs ++ map f ys
 rounds_append f [] ys = refl

@@ -10,18 +10,18 @@ use Rattle.table_shards.specs.Roll.{AreSeats}
 use Rattle.table_shards.specs.Rounds.{ShardsState}
 use Rattle.table_shards.specs.Agreement.{Agree, Compares, OneOf, id_of}
 
--- tables taken out of their locks, how many seats were made with them, and for each of them its id and how many events it
--- had when the round began
+-- tables taken out of their locks: how many seats were made with them, and for each table its id, how many events it
+-- had when the round began, and its cell
 pub record UnlockedState : Type 0 where
   pub seats : ℕ
   pub tables : List UnlockedTable
 
--- tables and seats that were audited
+-- audited tables and seats
 pub record AuditState : Type 0 where
   pub unlocked : UnlockedState
   pub seats : List SeatState
 
--- the cell that was handed back is that table's, and has all events of the round
+-- the cell is that table's, and still has all events of the round
 abbrev pub is_its_own : UnlockedTable → Bool
 is_its_own t = id_of t.cell == t.table && nat_le t.cell.dropped t.began
 
@@ -33,13 +33,13 @@ IsLegal c = IsSoundCell c × Kept c
 abbrev pub IsRight : List SeatState → UnlockedTable → Type 0
 IsRight seats t = (is_its_own t ≡ true) × IsLegal t.cell × Agree t.cell t.began seats
 
--- what is wrong with a table: nothing; or a seat, which is 0 where the cell isn't the table's or has dropped events of the
--- round, and otherwise what a comparison answers
+-- what is wrong with a table: nothing; or a seat, which is 0 if the cell isn't the table's or has dropped events of the
+-- round, and otherwise what the comparison returns
 abbrev pub Finds : List SeatState → UnlockedTable → Option ℕ → Type 0
 Finds seats t None = IsRight seats t
 Finds seats t (Some seat) = ((is_its_own t ≡ false) × (seat ≡ 0)) ⊎ ((is_its_own t ≡ true) × Compares t.cell t.began seats (Some seat))
 
--- what an audit answers; of the tables with a fault it names the one with the least id
+-- what an audit returns; of the tables with a fault it names the one with the least id
 abbrev pub Audits : UnlockedState → List SeatState → Option AuditError → Type 0
 Audits u seats None = AreSeats u.seats seats × AllByRecursion (IsRight seats) u.tables
 Audits u seats (Some errors.MissingSeat) = AreSeats u.seats seats → ⊥
@@ -62,7 +62,7 @@ table_rounds ts = map (λ t. (t.table, t.began)) ts
 abbrev pub rounds_of : UnlockedState → ShardsState
 rounds_of u = record { seats = u.seats; tables = table_rounds u.tables }
 
--- the one of two faults with the lesser table id
+-- of two faults, the one with the lesser table id, or the former if the ids are equal
 abbrev pub lesser_fault : Option (ℕ × ℕ) → ℕ × ℕ → Option (ℕ × ℕ)
 lesser_fault None fault = Some fault
 lesser_fault (Some least) fault = if nat_le least.0 fault.0 then Some least else Some fault

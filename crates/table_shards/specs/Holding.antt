@@ -14,14 +14,14 @@ use Rattle.table_shards.specs.Agreement.{id_of}
 abbrev pub MayCall : ℕ → CellState → SeatState → Type 0
 MayCall table c s = (id_of c ≡ table) × (seen_of table s ≤ events_of c)
 
--- the seat with a receipt of the next event: this table, the event, its place and its reply
+-- the seat with a receipt of the next event: the table, the event, its place and its reply
 abbrev pub receipted : ℕ → CellState → SeatState → CellEvent → CellReply → SeatState
 receipted table c s event reply = with_receipt s table (record { place = events_of c + 1; event = event; reply = reply })
 
--- What a call of `held` does, over what the cell's own call does (`call`: from which cell, with which answer, to which
--- cell). Where that answers, the answer and the cell are those of the cell's call, and the seat is as `left` says.
--- The call isn't made, and nothing has changed, where the cell is another table's, where the seat has seen more events
--- than the cell has, or where there is no memory for the receipt. Where the cell refuses the call, the seat stays.
+-- What a call of `held` does, given what the cell's own call does (`call`: from which cell, with which result, to which
+-- cell). If the cell's call succeeds, the result and the cell are those of that call, and the seat is as `left` says.
+-- The call isn't made, and nothing has changed, if the cell is another table's, if the seat has seen more events than
+-- the cell has, or if memory for the receipt runs out. If the cell refuses the call, the seat stays as it was.
 abbrev pub Holds : {A E : Type 0} → (CellState → Result A E → CellState → Type 0) → (A → SeatState) → ℕ → CellState → SeatState → Result A (ShardError E) → CellState → SeatState → Type 0
 Holds call left table c s (Ok a) c' s' = MayCall table c s × call c (Ok a) c' × (s' ≡ left a)
 Holds call left table c s (Err errors.NoTable) c' s' = (id_of c ≢ table) × (c' ≡ c) × (s' ≡ s)
@@ -30,26 +30,26 @@ Holds call left table c s (Err (errors.SeatAhead seen found)) c' s' =
 Holds call left table c s (Err errors.Memory) c' s' = MayCall table c s × (c' ≡ c) × (s' ≡ s)
 Holds call left table c s (Err (errors.Cell error)) c' s' = MayCall table c s × call c (Err error) c' × (s' ≡ s)
 
--- The same of a call that makes no event: it takes no memory, and the seat stays.
+-- The same for a call that makes no event: it needs no memory, and the seat stays as it was.
 abbrev pub Looks : {A E : Type 0} → (CellState → Result A E → CellState → Type 0) → ℕ → CellState → SeatState → Result A (ShardError E) → CellState → SeatState → Type 0
 Looks call table c s (Err errors.Memory) c' s' = ⊥
 Looks call table c s r c' s' = Holds call (λ done. s) table c s r c' s'
 
--- why the call isn't made, though there is memory: None where it may be made
+-- why the call isn't made, apart from memory: `None` if it may be made
 abbrev pub MayNot : {E : Type 0} → ℕ → CellState → SeatState → Option (ShardError E) → Type 0
 MayNot table c s None = MayCall table c s
 MayNot table c s (Some errors.NoTable) = id_of c ≢ table
 MayNot table c s (Some (errors.SeatAhead seen found)) = (id_of c ≡ table) × (ahead_of s table (events_of c) ≡ Some (seen, found))
 MayNot table c s (Some error) = ⊥
 
--- the same, or there is no memory
+-- the same, or memory ran out
 abbrev pub Refuses : {E : Type 0} → ℕ → CellState → SeatState → ShardError E → Type 0
 Refuses table c s errors.Memory = MayCall table c s
 Refuses table c s errors.NoTable = id_of c ≢ table
 Refuses table c s (errors.SeatAhead seen found) = (id_of c ≡ table) × (ahead_of s table (events_of c) ≡ Some (seen, found))
 Refuses table c s (errors.Cell error) = ⊥
 
--- whether the batch is the one that the session was given last; nothing changes
+-- whether the batch is the latest one of the session; nothing changes
 abbrev pub Settles : CellState → ℕ → List Update → Result (Unit {0}) StrangeBatch → CellState → Type 0
 Settles c session us (Ok done) e = IsLatestBatch c session us × (e ≡ c)
 Settles c session us (Err strange) e = (IsLatestBatch c session us → ⊥) × (e ≡ c)

@@ -1,4 +1,4 @@
--- Tables under their locks (profile): what stands beside each lock.
+-- Tables under their locks (profile): what is beside each lock.
 use Rattle.std.specs.Prelude.{ℕ, List, map}
 use Rattle.table_shards.specs.declared.shards.Shard.{Shard}
 

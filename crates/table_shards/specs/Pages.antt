@@ -11,7 +11,7 @@ page_state p = record { table = p.table; seen = p.seen; receipts = p.receipts.it
 abbrev pub page_states : List Page → List PageState
 page_states ps = map page_state ps
 
--- no two pages are of one table
+-- no two pages are of the same table
 abbrev pub TablesDiffer : List PageState → Type 0
 TablesDiffer [] = Unit {0}
 TablesDiffer (p ∷ ps) = (page_at p.table ps ≡ None) × TablesDiffer ps
@@ -21,28 +21,28 @@ pub record ArePages (ps : List PageState) : Type 0 where
   pub differ : TablesDiffer ps
   pub rise : AllByRecursion (λ p. PlacesRise 0 p.receipts p.seen) ps
 
--- the first page of the table stands there
+-- the first page of the table stands at `index`
 pub record IsPageAt (table : ℕ) (ps : List Page) (index : ℕ) : Type 0 where
   pub below : index < length ps
   pub table_is : HoldsAt (λ p. p.table ≡ table) ps index
   pub first : page_at table (page_states (take index ps)) ≡ None
 
--- a page has room for one receipt more
+-- a page has room for one more receipt
 abbrev pub HasRoom : Page → Type 0
 HasRoom p = vec_len p.receipts < vec_capacity p.receipts
 
 abbrev pub empty_page : ℕ → PageState
 empty_page table = record { table = table; seen = 0; receipts = [] }
 
--- the pages with a new one at the end, where there is a new one; and those without it
+-- the pages with a new one at the end if `is_new`, and the pages without it
 abbrev pub opened : Bool → ℕ → List PageState → List PageState
 opened is_new table ps = if is_new then ps ++ empty_page table ∷ [] else ps
 
 abbrev pub closed : Bool → List PageState → List PageState
 closed is_new ps = if is_new then take (length ps - 1) ps else ps
 
--- the pages have room for one receipt more of the table: on the page that stands there, which is new where the pages had
--- none of the table
+-- the pages have room for one more receipt of the table: on the page at `index`, which is new if the pages had none of
+-- the table
 pub record HasSpace (table : ℕ) (before : List PageState) (ps : List Page) (index : ℕ) (is_new : Bool) : Type 0 where
   pub here : IsPageAt table ps index
   pub room : HoldsAt HasRoom ps index

@@ -1,15 +1,15 @@
--- Receipts (profile): what a thread keeps of each event that it made of a table, at its seat.
+-- Receipts (profile): what a seat keeps of each event that its thread made.
 use Rattle.std.specs.Prelude.{ℕ, ◌<◌, ◌≤◌, ◌==◌, List, [], ◌∷◌, ◌++◌, Option, Some, None, if◌then◌else◌, nat_lt}
 use Rattle.std.specs.List.{count_by, flat_map}
 use Rattle.table_shards.specs.declared.receipt.Receipt.{Receipt}
 
--- what a seat has of one table: up to which place it has seen the table's events, and its receipts of them
+-- what a seat has of one table: the place up to which it has seen the table's events, and its receipts of them
 pub record PageState : Type 0 where
   pub table : ℕ
   pub seen : ℕ
   pub receipts : List Receipt
 
--- a seat's number, and what it has of each table of which it has made an event
+-- a seat's number, and what it has of each table for which it made an event
 pub record SeatState : Type 0 where
   pub number : ℕ
   pub pages : List PageState
@@ -30,20 +30,20 @@ abbrev pub receipts_on : Option PageState → List Receipt
 receipts_on None = []
 receipts_on (Some p) = p.receipts
 
--- up to which place the seat has seen the table's events: 0 where it has seen none
+-- the place up to which the seat has seen the table's events, and 0 if it has seen none
 abbrev pub seen_of : ℕ → SeatState → ℕ
 seen_of table s = seen_on (page_at table s.pages)
 
--- the receipts of the table that the seat has, in the order in which it got them
+-- the seat's receipts of the table, in the order in which they were added
 abbrev pub receipts_of : ℕ → SeatState → List Receipt
 receipts_of table s = receipts_on (page_at table s.pages)
 
--- each receipt is of a later place than the one before, and none of a place beyond what the seat has seen
+-- each receipt is of a later place than the one before, and none is of a place beyond what the seat has seen
 abbrev pub PlacesRise : ℕ → List Receipt → ℕ → Type 0
 PlacesRise before [] seen = before ≤ seen
 PlacesRise before (r ∷ rs) seen = (before < r.place) × PlacesRise r.place rs seen
 
--- one receipt more of the table, and its place is then seen
+-- one more receipt of the table, whose place is then seen
 abbrev pub page_with : PageState → Receipt → PageState
 page_with p r = record { table = p.table; seen = r.place; receipts = p.receipts ++ r ∷ [] }
 
@@ -54,14 +54,14 @@ pages_with table r (p ∷ ps) = if p.table == table then page_with p r ∷ ps el
 abbrev pub with_receipt : SeatState → ℕ → Receipt → SeatState
 with_receipt s table r = record { number = s.number; pages = pages_with table r s.pages }
 
--- a seat has seen more events than the table has: how many it has seen, and how many there are
+-- if a seat has seen more events than the table has: how many it has seen, and how many there are
 abbrev pub ahead_of : SeatState → ℕ → ℕ → Option (ℕ × ℕ)
 ahead_of s table events = if nat_lt events (seen_of table s) then Some (seen_of table s, events) else None
 
--- the receipts of a table that the seats have, seat by seat
+-- the seats' receipts of a table, seat by seat
 abbrev pub all_receipts : ℕ → List SeatState → List Receipt
 all_receipts table seats = flat_map (receipts_of table) seats
 
--- how many of the receipts are of that place
+-- how many of the receipts are of `place`
 abbrev pub times : ℕ → List Receipt → ℕ
 times place rs = count_by (λ r. r.place == place) rs

@@ -1,4 +1,4 @@
--- Whether all seats of a round are there (profile).
+-- Whether all seats of a round are present (profile).
 use Rattle.std.specs.Prelude.{◌≡◌, ℕ, ◌≤◌, ◌==◌, ◌&&◌, Bool, List, nat_le, if◌then◌else◌}
 use Rattle.std.specs.List.{count_by}
 use Rattle.table_shards.specs.Receipts.{SeatState}

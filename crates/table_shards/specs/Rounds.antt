@@ -4,16 +4,16 @@ use Rattle.table_cell.specs.Histories.{CellState, events_of}
 use Rattle.table_shards.specs.Receipts.{SeatState, fresh_seat}
 use Rattle.table_shards.specs.Agreement.{id_of}
 
--- how many seats were made with the tables, and the id of each table with how many events it had when the round began
+-- how many seats were made with the tables, and for each table its id and how many events it had when the round began
 pub record ShardsState : Type 0 where
   pub seats : ℕ
   pub tables : List (ℕ × ℕ)
 
--- a table where a round begins
+-- a table when a round begins
 abbrev pub begun : CellState → ℕ × ℕ
 begun c = (id_of c, events_of c)
 
--- so many seats that have seen nothing yet, numbered from there
+-- `count` seats that have seen nothing yet, numbered from `first`
 abbrev pub fresh_from : ℕ → ℕ → List SeatState
 fresh_from first zero = []
 fresh_from first (suc count) = fresh_seat first ∷ fresh_from (first + 1) count

@@ -1,4 +1,4 @@
-//! Whether receipts agree with a table's history.
+//! Comparing receipts with a table's history.
 
 ghost use Rattle.std.specs.Prelude.{◌≡◌, ◌↔◌, ◌∷◌, ◌++◌, [], List, IsTrue};
 ghost use Rattle.std.specs.Bool.{MatchBool};
@@ -11,7 +11,7 @@ use crate::receipt::{Receipt, are_same_events, are_same_replies};
 use crate::seat::Seat;
 use table_cell::TableCell;
 
-/// Whether the receipt is the table's event at its place, with its reply.
+/// Returns whether the receipt is the table's event at its place, with its reply.
 fn is_entry(cell: &TableCell, receipt: &Receipt) -> bool
     ensures { IsTrue result ↔ IsEntry cell.now receipt.now }
 {
@@ -23,7 +23,7 @@ fn is_entry(cell: &TableCell, receipt: &Receipt) -> bool
     }
 }
 
-/// Whether all the receipts are the table's events.
+/// Returns whether all the receipts are the table's events.
 fn are_entries(cell: &TableCell, receipts: &[Receipt]) -> bool
     ensures { MatchBool result (AllByRecursion (IsEntry cell.now) receipts.now) (AllByRecursion (IsEntry cell.now) receipts.now → ⊥) }
 {
@@ -35,7 +35,7 @@ fn are_entries(cell: &TableCell, receipts: &[Receipt]) -> bool
     true
 }
 
-/// Whether the seat's receipts of the table are its events.
+/// Returns whether the seat's receipts of the table are the table's events.
 fn has_entries(cell: &TableCell, seat: &Seat) -> bool
     ensures { MatchBool result (AreEntries cell.now seat.now) (AreEntries cell.now seat.now → ⊥) }
 {
@@ -51,7 +51,8 @@ fn lesser(least: Option<u32>, number: u32) -> u32
     }
 }
 
-/// The least stray so far, after one seat more.
+/// Returns the least number of a stray seat so far, after one more seat. A seat is a stray if it has a receipt that isn't
+/// the table's event at its place.
 fn with_seat(cell: &TableCell, least: Option<u32>, seat: &Seat) -> Option<u32>
     ensures { (before : List SeatState) → Strays cell.now before least → Strays cell.now (before ++ seat.now ∷ []) result }
 {
@@ -62,7 +63,7 @@ fn with_seat(cell: &TableCell, least: Option<u32>, seat: &Seat) -> Option<u32>
     }
 }
 
-/// The least number of a seat with a receipt that isn't the table's event at its place.
+/// Returns the least number of a stray seat, or `None` if there is none.
 fn least_stray(cell: &TableCell, seats: &[Seat]) -> Option<u32>
     ensures { Strays cell.now seats.now result }
 {
@@ -73,7 +74,8 @@ fn least_stray(cell: &TableCell, seats: &[Seat]) -> Option<u32>
     least
 }
 
-/// Whether the receipts, all of which are the table's events, are its events after the first `from`, one for one.
+/// Returns whether the receipts, all of which are the table's events, are its events after the first `from`, one for
+/// one.
 fn are_one_for_one(cell: &TableCell, from: u64, seats: &[Seat]) -> bool
     requires { AllByRecursion (AreEntries cell.now) seats.now }
     ensures { MatchBool result (Agree cell.now from seats.now) (Agree cell.now from seats.now → ⊥) }
@@ -83,9 +85,10 @@ fn are_one_for_one(cell: &TableCell, from: u64, seats: &[Seat]) -> bool
     are_of_round(table, from, seats) && are_once(table, from, last, seats)
 }
 
-/// Compares the seats' receipts of the table with its events after the first `from`: `None` where each of these events is
-/// the receipt of exactly one seat, exactly once, and the seats have no other receipts of the table. Otherwise the least
-/// seat with a receipt that isn't the table's event at its place, and 0 where there is none. Doesn't allocate.
+/// Compares the seats' receipts of the table with its events after the first `from`. Returns `None` if each of these
+/// events is the receipt of exactly one seat, exactly once, and the seats have no other receipts of the table.
+/// Otherwise returns the least seat with a receipt that isn't the table's event at its place, or 0 if there is none.
+/// Doesn't allocate.
 pub fn compare(cell: &TableCell, from: u64, seats: &[Seat]) -> Option<u32>
     ensures { Compares cell.now from seats.now result }
 {

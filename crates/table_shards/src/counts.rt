@@ -1,4 +1,4 @@
-//! How often an event is a receipt.
+//! Counting the receipts of events.
 
 ghost use Rattle.std.specs.Prelude.{◌≡◌, ◌<◌, ◌≤◌, ℕ, IsTrue};
 ghost use Rattle.std.specs.Bool.{MatchBool};
@@ -9,7 +9,7 @@ use crate::pages::has_place;
 use crate::receipt::Receipt;
 use crate::seat::Seat;
 
-/// How many receipts of that place of the table a seat has.
+/// Returns how many receipts of `place` of `table` the seat has.
 fn held_by(seat: &Seat, table: u64, place: u64) -> usize
     ensures times { result ≡ times place (receipts_of table seat.now) }
     ensures most { result ≤ 1 }
@@ -21,7 +21,7 @@ fn held_by(seat: &Seat, table: u64, place: u64) -> usize
     }
 }
 
-/// How many receipts of that place of the table the seats have.
+/// Returns how many receipts of `place` of `table` the seats have.
 #[tactic(auto, using(crate::proofs::ReceiptLaws::times_next))]
 fn holders(table: u64, place: u64, seats: &[Seat]) -> usize
     ensures { result ≡ times place (all_receipts table seats.now) }
@@ -33,7 +33,7 @@ fn holders(table: u64, place: u64, seats: &[Seat]) -> usize
     count
 }
 
-/// Whether each event after the first `from`, up to the last one, is a receipt exactly once.
+/// Returns whether each event after the first `from`, up to place `last`, is a receipt exactly once.
 pub fn are_once(table: u64, from: u64, last: u64, seats: &[Seat]) -> bool
     ensures { MatchBool result
         ((place : ℕ) → from < place → place ≤ last → times place (all_receipts table seats.now) ≡ 1)
@@ -47,7 +47,7 @@ pub fn are_once(table: u64, from: u64, last: u64, seats: &[Seat]) -> bool
     true
 }
 
-/// Whether all the receipts are of later places.
+/// Returns whether all the receipts are of places after `from`.
 fn are_after(from: u64, receipts: &[Receipt]) -> bool
     ensures { MatchBool result (AllByRecursion (λ r. from < r.place) receipts.now) (AllByRecursion (λ r. from < r.place) receipts.now → ⊥) }
 {
@@ -59,7 +59,7 @@ fn are_after(from: u64, receipts: &[Receipt]) -> bool
     true
 }
 
-/// Whether all receipts of the table that a seat has are of later places.
+/// Returns whether all the seat's receipts of `table` are of places after `from`.
 fn is_of_round(seat: &Seat, table: u64, from: u64) -> bool
     ensures rising { PlacesRise 0 (receipts_of table seat.now) (seen_of table seat.now) }
     ensures after { MatchBool result
@@ -69,7 +69,7 @@ fn is_of_round(seat: &Seat, table: u64, from: u64) -> bool
     are_after(from, seat.receipts(table))
 }
 
-/// Whether all receipts of the table are of events after the first `from`.
+/// Returns whether all receipts of `table` are of places after `from`.
 pub fn are_of_round(table: u64, from: u64, seats: &[Seat]) -> bool
     ensures rising { IsTrue result → AllByRecursion (λ s. PlacesRise 0 (receipts_of table s) (seen_of table s)) seats.now }
     ensures after { MatchBool result

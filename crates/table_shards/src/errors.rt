@@ -1,8 +1,8 @@
-//! Why a call under a table's lock, or an audit, is refused.
+//! Why a call under a table's lock, or an audit, fails.
 
 use thiserror::Error;
 
-/// Why a call under a table's lock isn't answered: the first of these that applies. Nothing has changed, and there is no
+/// Why a call under a table's lock fails: the first of these that applies. Nothing has changed, and there is no
 /// receipt.
 #[derive(Clone, Copy, Debug, PartialEq, Eq, Error)]
 pub enum ShardError<E> {
@@ -12,12 +12,12 @@ pub enum ShardError<E> {
     /// The seat has seen more events of the table than the cell has.
     #[error("the seat has seen {seen} events, and the table has {found}")]
     SeatAhead {
-        /// How many the seat has seen.
+        /// The number of events that the seat has seen.
         seen: u64,
-        /// How many the cell has.
+        /// The number of events that the cell has.
         found: u64,
     },
-    /// A growth of the receipt was refused.
+    /// Memory ran out, before the cell was called.
     #[error("memory")]
     Memory,
     /// The cell refused the call.
@@ -34,9 +34,9 @@ pub enum AuditError {
     /// The receipts aren't the events of that table.
     #[error("table {table} and seat {seat} do not agree")]
     Mismatch {
-        /// The least table id where something is wrong.
+        /// The least id of a table with a fault.
         table: u64,
-        /// The least seat with a receipt that isn't the table's event at its place. It is 0 where there is none, and where
+        /// The least seat with a receipt that isn't the table's event at its place. It is 0 if there is none, and if
         /// the cell isn't the table's or has dropped events of the round.
         seat: u32,
     },

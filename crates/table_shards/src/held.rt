@@ -1,5 +1,6 @@
-//! The calls that change a table, each under the table's lock and for a seat. A call that makes an event leaves a receipt of
-//! it at the seat, in the same hold of the lock. The seat is handed over and comes back with the answer.
+//! The calls that change a table, each under the table's lock and for a seat. A call that makes an event adds a receipt
+//! of it to the seat while the lock is still held. Each call takes the seat, and returns it with the result. If a call
+//! fails, nothing has changed, and there is no receipt.
 
 ghost use Rattle.std.specs.Prelude.{◌≡◌, ◌≤◌, ◌<◌, IfErr, IfOk};
 ghost use Rattle.table_cell.specs.Histories.{Acknowledges, Closes, Copies, Learns, Opens, Purges, Tracks, events_of};
@@ -19,7 +20,8 @@ use table_cell::{
 };
 use table_types::{Batch, Change, CopyKind, Key, Memory, Moment, Settled, Update};
 
-/// Why the call may not be made, if so: the cell is another table's, or the seat has seen more events than it has.
+/// Returns why the call may not be made, or `None` if it may: the cell is another table's, or the seat has seen more
+/// events than the cell has.
 fn refusal<E>(locked: &Locked, seat: &Seat, table: u64) -> Option<ShardError<E>>
     ensures { MayNot table locked.now seat.now result }
 {
@@ -32,7 +34,7 @@ fn refusal<E>(locked: &Locked, seat: &Seat, table: u64) -> Option<ShardError<E>>
     }
 }
 
-/// Makes room for the receipt of a call that may be made.
+/// Makes room for the receipt of a call, if the call may be made. Otherwise returns the seat as it was.
 fn begin<E>(locked: &Locked, seat: Seat, table: u64) -> Result<Prepared, (Seat, ShardError<E>)>
     ensures begun { IfOk result (λ prepared. MayCall table locked.now seat × (prepared ≡ record { seat = seat; table = table })) }
     ensures refused { IfErr result (λ back. Refuses table locked.now seat back.1 × (back.0 ≡ seat)) }
@@ -46,7 +48,7 @@ fn begin<E>(locked: &Locked, seat: Seat, table: u64) -> Result<Prepared, (Seat, 
     }
 }
 
-/// The seat with a receipt of the event that was just made.
+/// Returns the seat with a receipt of the event that was just made.
 fn finish(locked: &Locked, prepared: Prepared, event: CellEvent, reply: CellReply) -> Seat
     requires { seen_of prepared.table prepared.seat < events_of locked.now }
     ensures { result ≡ with_receipt prepared.seat prepared.table (record { place = events_of locked.now; event = event; reply = reply }) }
@@ -75,7 +77,7 @@ fn track_event(
     })
 }
 
-/// Adds the receipt of a track that was just made. Returns the seat, and one of the table's two copies of the reply.
+/// Adds the receipt of a change that was just made. Returns the seat, and one of the table's two copies of the reply.
 fn with_track_receipt(
     locked: &Locked,
     prepared: Prepared,
@@ -91,7 +93,7 @@ fn with_track_receipt(
     (seat, reply)
 }
 
-/// `TableCell::track` by the seat.
+/// Calls `TableCell::track` for the seat, and adds a receipt.
 pub fn track(
     locked: &mut Locked,
     seat: Seat,
@@ -121,7 +123,7 @@ pub fn track(
     }
 }
 
-/// `TableCell::learn`.
+/// Calls `TableCell::learn`, and adds a receipt.
 pub fn learn(
     locked: &mut Locked,
     seat: Seat,
@@ -155,7 +157,7 @@ pub fn learn(
     }
 }
 
-/// `TableCell::copy`.
+/// Calls `TableCell::copy`, and adds a receipt.
 pub fn copy(
     locked: &mut Locked,
     seat: Seat,
@@ -189,7 +191,7 @@ pub fn copy(
     }
 }
 
-/// `TableCell::ack`.
+/// Calls `TableCell::ack`, and adds a receipt.
 pub fn ack(
     locked: &mut Locked,
     seat: Seat,
@@ -217,7 +219,7 @@ pub fn ack(
     }
 }
 
-/// `TableCell::settle`. It makes no event, doesn't allocate, and the seat comes back as it was.
+/// Calls `TableCell::settle`. Makes no event, doesn't allocate, and returns the seat as it was.
 pub fn settle(
     locked: &mut Locked,
     seat: Seat,
@@ -236,7 +238,7 @@ pub fn settle(
     }
 }
 
-/// `TableCell::open_session`.
+/// Calls `TableCell::open_session`, and adds a receipt.
 pub fn open_session(
     locked: &mut Locked,
     seat: Seat,
@@ -259,7 +261,7 @@ pub fn open_session(
     }
 }
 
-/// `TableCell::close_session`.
+/// Calls `TableCell::close_session`, and adds a receipt.
 pub fn close_session(
     locked: &mut Locked,
     seat: Seat,
@@ -282,7 +284,7 @@ pub fn close_session(
     }
 }
 
-/// `TableCell::purge`.
+/// Calls `TableCell::purge`, and adds a receipt.
 pub fn purge(
     locked: &mut Locked,
     seat: Seat,

@@ -1,4 +1,4 @@
-//! What holds of the definitions, whatever the program does.
+//! Laws of the definitions, whatever the program does.
 
 ghost use Rattle.std.specs.Prelude.{◌≡◌, ◌≤◌, ◌<◌, ◌+◌, ◌-◌, ◌∷◌, ◌++◌, [], ℕ, List, length};
 ghost use Rattle.table_cell.specs.Histories.{CellState, Made, events_of};
@@ -9,8 +9,8 @@ ghost use Rattle.table_shards.specs.Receipts.{SeatState, all_receipts, receipts_
 ghost use Rattle.table_shards.specs.Agreement.{Agree, IsEntry, id_of};
 ghost use Rattle.table_shards.specs.Holding.{MayCall, receipted};
 
-/// A seat with one receipt more of a table has that one at the end of its receipts of the table, and its place is what the
-/// seat has seen. Of other tables nothing has changed.
+/// Adding a receipt of a table to a seat appends it to the seat's receipts of the table, and the seat has then seen its
+/// place. For other tables nothing changes.
 pub fn one_receipt_more()
     ensures seen { (s : SeatState) (table : ℕ) (r : Receipt) → seen_of table (with_receipt s table r) ≡ r.place }
     ensures last { (s : SeatState) (table : ℕ) (r : Receipt) → receipts_of table (with_receipt s table r) ≡ receipts_of table s ++ r ∷ [] }
@@ -18,7 +18,7 @@ pub fn one_receipt_more()
         (seen_of other (with_receipt s table r) ≡ seen_of other s) × (receipts_of other (with_receipt s table r) ≡ receipts_of other s) }
 {}
 
-/// The receipt that a call of `held` leaves is the table's new event at its place, and that place is the number of events
+/// The receipt that a call of `held` adds is the table's new event at its place, and that place is the number of events
 /// that the table then has. It is above what the seat had seen of the table, and no call lowers what a seat has seen.
 pub fn a_receipt_is_of_the_new_event()
     ensures entry { (c e : CellState) (event : CellEvent) (reply : CellReply) → Made c event reply e →
@@ -30,8 +30,8 @@ pub fn a_receipt_is_of_the_new_event()
         seen_of other s ≤ seen_of other (receipted table c s event reply) }
 {}
 
-/// Receipts that agree with a table are as many as its events after the first `began`, and none where it has no more events
-/// than that.
+/// If receipts agree with a table, there are as many of them as events after the first `began`, and none if there are
+/// no more events than that.
 pub fn as_many_receipts_as_events()
     ensures { (c : CellState) (began : ℕ) (seats : List SeatState) → Agree c began seats →
         length (all_receipts (id_of c) seats) ≡ events_of c - began }

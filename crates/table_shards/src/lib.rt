@@ -1,4 +1,4 @@
-//! Tables that many threads change, each under its own lock. Each change leaves a receipt at the seat of the thread that
+//! Tables that many threads change, each under its own lock. Each change adds a receipt to the seat of the thread that
 //! made it, and an audit shows that the receipts are the tables' histories.
 #![tactic(auto)]
 

@@ -5,8 +5,9 @@ ghost use Rattle.std.specs.Prelude.{◌≡◌};
 use std::marker::Model;
 use table_cell::TableCell;
 
-/// A table under its lock. Only the calls of the module `held` change the table. Who holds two locks may swap what is under
-/// them; where it is still swapped, the audit finds a table that isn't the lock's own.
+/// A table under its lock. Only the calls of the module `held` change the table. A thread that holds two locks may swap
+/// their contents; if they are still swapped when the round is audited, the audit finds a table that isn't the lock's
+/// own.
 #[derive(Drop)]
 pub struct Locked {
     pub(crate) cell: TableCell,
@@ -21,7 +22,7 @@ impl Model for Locked {
 }
 
 impl Locked {
-    /// The table, lent.
+    /// Returns the table.
     pub fn cell(&self) -> &TableCell
         ensures { result.now ≡ self.now }
     {

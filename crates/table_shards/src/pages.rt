@@ -8,7 +8,8 @@ use crate::receipt::Receipt;
 use std::alloc::Global;
 use table_types::Memory;
 
-/// A seat's receipts of one table, by place, and up to which place it has seen the table's events.
+/// A seat's receipts of one table, in the order of their places, and the place up to which it has seen the table's
+/// events.
 #[derive(Debug, Drop)]
 pub struct Page {
     pub table: u64,
@@ -16,14 +17,14 @@ pub struct Page {
     pub receipts: Vec<Receipt>,
 }
 
-/// Where there is room for one receipt more: the page's index, and whether the page is a new one at the end.
+/// Where there is room for one more receipt: the index of the page, and whether the page is a new one at the end.
 #[derive(Clone, Copy, Debug)]
 pub struct Space {
     pub index: usize,
     pub is_new: bool,
 }
 
-/// The page of a table.
+/// Returns the page of `table`.
 pub fn page_of(pages: &[Page], table: u64) -> Option<&Page>
     ensures { option_map (λ page. page_state page.now) result ≡ page_at table (page_states pages.now) }
 {
@@ -35,7 +36,7 @@ pub fn page_of(pages: &[Page], table: u64) -> Option<&Page>
     None
 }
 
-/// Where the page of a table is.
+/// Returns the index of the page of `table`.
 pub fn index_of(pages: &[Page], table: u64) -> Option<usize>
     ensures found { IfSome result (IsPageAt table pages.now) }
     ensures none { IfNone result (page_at table (page_states pages.now) ≡ None) }
@@ -48,7 +49,7 @@ pub fn index_of(pages: &[Page], table: u64) -> Option<usize>
     None
 }
 
-/// Makes room for one receipt more.
+/// Makes room for one more receipt.
 pub fn make_room(page: &mut Page) -> Result<(), Memory>
     ensures room { OnOk result (HasRoom page.new) }
     ensures stays { page_state page.new ≡ page_state page.old }
@@ -66,7 +67,7 @@ pub fn write(page: &mut Page, receipt: Receipt)
     page.receipts.push_reserved(receipt);
 }
 
-/// Finds the page of a table, or adds an empty one.
+/// Finds the page of `table`, or adds an empty one at the end.
 fn open_page(alloc: Global, pages: &mut Vec<Page>, table: u64) -> Result<Space, Memory>
     ensures here { IfOk result (λ space. IsPageAt table pages.new.items space.index) }
     ensures after { IfOk result (λ space. page_states pages.new.items ≡ opened space.is_new table (page_states pages.old.items)) }
@@ -91,7 +92,7 @@ fn open_page(alloc: Global, pages: &mut Vec<Page>, table: u64) -> Result<Space, 
     })
 }
 
-/// Takes the last page away again, if it is a new one.
+/// Removes the last page, if it is new.
 pub fn close_page(pages: &mut Vec<Page>, is_new: bool)
     ensures { page_states pages.new.items ≡ closed is_new (page_states pages.old.items) }
 {
@@ -100,7 +101,7 @@ pub fn close_page(pages: &mut Vec<Page>, is_new: bool)
     }
 }
 
-/// Makes room for one receipt more on the page that stands there.
+/// Makes room for one more receipt on the page at `index`.
 fn make_room_at(pages: &mut Vec<Page>, index: usize, table: u64) -> Result<(), Memory>
     requires { IsPageAt table pages.old.items index }
     ensures here { IsPageAt table pages.new.items index }
@@ -110,7 +111,7 @@ fn make_room_at(pages: &mut Vec<Page>, index: usize, table: u64) -> Result<(), M
     make_room(&mut pages[index])
 }
 
-/// Makes room for one receipt more of a table. After `Memory` nothing has changed.
+/// Makes room for one more receipt of `table`. If memory runs out, nothing has changed.
 #[tactic(auto, using(crate::proofs::PageLaws::closed_opened))]
 pub fn prepare(alloc: Global, pages: &mut Vec<Page>, table: u64) -> Result<Space, Memory>
     ensures space { IfOk result (λ space. HasSpace table (page_states pages.old.items) pages.new.items space.index space.is_new) }
@@ -124,7 +125,7 @@ pub fn prepare(alloc: Global, pages: &mut Vec<Page>, table: u64) -> Result<Space
     Ok(space)
 }
 
-/// Adds a receipt to the page that stands there.
+/// Adds a receipt to the page at `index`.
 pub fn write_at(pages: &mut Vec<Page>, index: usize, table: u64, receipt: Receipt)
     requires here { IsPageAt table pages.old.items index }
     requires room { HoldsAt HasRoom pages.old.items index }
@@ -133,7 +134,7 @@ pub fn write_at(pages: &mut Vec<Page>, index: usize, table: u64, receipt: Receip
     write(&mut pages[index], receipt);
 }
 
-/// Whether one of the receipts is of that place.
+/// Returns whether one of the receipts is of `place`.
 pub fn has_place(receipts: &[Receipt], seen: u64, place: u64) -> bool
     requires { PlacesRise 0 receipts.now seen }
     ensures { cond result 1 0 ≡ times place receipts.now }

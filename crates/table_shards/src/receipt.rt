@@ -6,7 +6,7 @@ use std::alloc::Global;
 use table_cell::{CellEvent, CellReply, Reply};
 use table_types::Memory;
 
-/// What a seat keeps of an event that it made of a table. Only the calls of the module `held` make one.
+/// What a seat keeps of an event that its thread made. Only the calls of the module `held` make receipts.
 #[derive(Debug, Drop)]
 pub struct Receipt {
     pub(crate) place: u64,
@@ -15,21 +15,21 @@ pub struct Receipt {
 }
 
 impl Receipt {
-    /// The event's place among all events of the table, from 1.
+    /// Returns the event's place among all events of the table, from 1.
     pub fn place(&self) -> u64
         ensures { result ≡ self.now.place }
     {
         self.place
     }
 
-    /// The event.
+    /// Returns the event.
     pub fn event(&self) -> &CellEvent
         ensures { result.now ≡ self.now.event }
     {
         &self.event
     }
 
-    /// What the table answered.
+    /// Returns the table's reply.
     pub fn reply(&self) -> &CellReply
         ensures { result.now ≡ self.now.reply }
     {
@@ -37,14 +37,14 @@ impl Receipt {
     }
 }
 
-/// Whether both are the same reply, part for part.
+/// Returns whether both are the same reply, field by field.
 fn are_same_rows(one: &Reply, other: &Reply) -> bool
     ensures { IsTrue result ↔ (one.now ≡ other.now) }
 {
     one.number == other.number && one.row.is_same(&other.row)
 }
 
-/// Whether both are the same event, part for part.
+/// Returns whether both are the same event, field by field.
 pub fn are_same_events(one: &CellEvent, other: &CellEvent) -> bool
     ensures { IsTrue result ↔ (one.now ≡ other.now) }
 {
@@ -115,7 +115,7 @@ pub fn are_same_events(one: &CellEvent, other: &CellEvent) -> bool
     }
 }
 
-/// Whether both are the same answer, part for part.
+/// Returns whether both are the same reply, field by field.
 pub fn are_same_replies(one: &CellReply, other: &CellReply) -> bool
     ensures { IsTrue result ↔ (one.now ≡ other.now) }
 {

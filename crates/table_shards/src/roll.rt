@@ -1,4 +1,4 @@
-//! Whether all seats are there.
+//! Whether all seats are present.
 
 ghost use Rattle.std.specs.Prelude.{◌≡◌, ◌≤◌, ℕ};
 ghost use Rattle.std.specs.Bool.{MatchBool};
@@ -7,14 +7,14 @@ ghost use Rattle.table_shards.specs.Roll.{AreSeats, IsSeatOf, has_number};
 
 use crate::seat::Seat;
 
-/// How many of the seats have that number.
+/// Returns how many of the seats have `number`.
 fn count(number: u32, seats: &[Seat]) -> usize
     ensures { result ≡ count_by (has_number number) seats.now }
 {
     seats.iter().filter(|seat| seat.number() == number).count()
 }
 
-/// Whether each seat is one of the seats 1 to `most`.
+/// Returns whether each seat is one of the seats 1 to `most`.
 fn are_seats_of(most: u32, seats: &[Seat]) -> bool
     ensures { MatchBool result (AllByRecursion (IsSeatOf most) seats.now) (AllByRecursion (IsSeatOf most) seats.now → ⊥) }
 {
@@ -27,7 +27,7 @@ fn are_seats_of(most: u32, seats: &[Seat]) -> bool
     true
 }
 
-/// Whether each of the seats 1 to `most` is there once.
+/// Returns whether each of the seats 1 to `most` is present once.
 fn are_all_there(most: u32, seats: &[Seat]) -> bool
     ensures { MatchBool result
         ((number : ℕ) → 1 ≤ number → number ≤ most → count_by (has_number number) seats.now ≡ 1)
@@ -41,7 +41,7 @@ fn are_all_there(most: u32, seats: &[Seat]) -> bool
     true
 }
 
-/// Whether the seats are the seats 1 to `most`, each once.
+/// Returns whether the seats are the seats 1 to `most`, each once.
 pub fn are_seats(most: u32, seats: &[Seat]) -> bool
     ensures { MatchBool result (AreSeats most seats.now) (AreSeats most seats.now → ⊥) }
 {

@@ -9,8 +9,8 @@ use crate::receipt::Receipt;
 use std::alloc::Global;
 use std::marker::Model;
 
-/// A thread's seat at some tables: its number, its receipts of the events that it made, and up to which place it has seen
-/// the events of each table. The places of its receipts of one table rise, up to what it has seen.
+/// A thread's seat at the tables: its number, its receipts of the events that it made, and the place up to which it has
+/// seen the events of each table. The places of its receipts of one table ascend, up to what it has seen.
 #[derive(Debug, Drop)]
 pub struct Seat {
     alloc: Global,
@@ -29,7 +29,7 @@ impl Model for Seat {
     ghost invariant = { λ a. ArePages (page_states a.pages.items) };
 }
 
-/// A seat that takes one receipt more of a table, without memory.
+/// A seat with room for one more receipt of a table, so that adding it doesn't allocate.
 #[derive(Debug, Drop)]
 pub struct Prepared {
     alloc: Global,
@@ -52,7 +52,7 @@ impl Model for Prepared {
 }
 
 impl Seat {
-    /// A seat that has seen nothing yet. Doesn't allocate.
+    /// Makes a seat that has seen nothing yet. Doesn't allocate.
     pub(crate) fn fresh(alloc: Global, number: u32) -> Seat
         ensures { result ≡ fresh_seat number }
     {
@@ -63,14 +63,14 @@ impl Seat {
         }
     }
 
-    /// The seat's number, from 1 among the seats that were made with it.
+    /// Returns the seat's number, from 1 among the seats that were made together.
     pub fn number(&self) -> u32
         ensures { result ≡ self.now.number }
     {
         self.number
     }
 
-    /// Up to which place the seat has seen the table's events, and 0 where it has seen none.
+    /// Returns the place up to which the seat has seen the table's events, or 0 if it has seen none.
     pub fn seen(&self, table: u64) -> u64
         ensures { result ≡ seen_of table self.now }
     {
@@ -80,7 +80,7 @@ impl Seat {
         }
     }
 
-    /// The seat's receipts of the table, in the order of their places.
+    /// Returns the seat's receipts of the table, in the order of their places.
     pub fn receipts(&self, table: u64) -> &[Receipt]
         ensures receipts { result.now ≡ receipts_of table self.now }
         ensures rising { PlacesRise 0 (receipts_of table self.now) (seen_of table self.now) }
@@ -91,7 +91,7 @@ impl Seat {
         }
     }
 
-    /// How many events of the table the seat has seen, and how many there are: where it has seen more than `events`.
+    /// Returns how many events of the table the seat has seen, and `events`, if it has seen more than `events`.
     pub fn ahead(&self, table: u64, events: u64) -> Option<(u64, u64)>
         ensures { result ≡ ahead_of self.now table events }
     {
@@ -103,7 +103,7 @@ impl Seat {
         }
     }
 
-    /// Makes room for one receipt of the table. Where a growth was refused, the seat comes back as it was.
+    /// Makes room for one receipt of the table. If memory runs out, returns the seat as it was.
     pub(crate) fn prepare(self, table: u64) -> Result<Prepared, Seat>
         ensures prepared { IfOk result (λ prepared. prepared ≡ record { seat = self; table = table }) }
         ensures refused { IfErr result (λ seat. seat ≡ self) }
@@ -131,12 +131,12 @@ impl Seat {
 }
 
 impl Prepared {
-    /// What the seat allocates with.
+    /// Returns the seat's allocator.
     pub(crate) fn alloc(&self) -> Global {
         self.alloc
     }
 
-    /// The seat with a receipt more. Doesn't allocate.
+    /// Returns the seat with the receipt added. Doesn't allocate.
     pub(crate) fn add(self, receipt: Receipt) -> Seat
         requires { seen_of self.table self.seat < receipt.place }
         ensures { result ≡ with_receipt self.seat self.table receipt }
@@ -156,7 +156,7 @@ impl Prepared {
         }
     }
 
-    /// The seat as it was. Doesn't allocate.
+    /// Returns the seat as it was before `prepare`. Doesn't allocate.
     pub(crate) fn leave(self) -> Seat
         ensures { result ≡ self.seat }
     {

@@ -16,7 +16,7 @@ use std::sync::Mutex;
 use table_cell::TableCell;
 use table_types::Memory;
 
-/// A table under its lock: its id, and how many events it had when the round began.
+/// A table under its lock, with its id and how many events it had when the round began.
 #[derive(Drop)]
 pub(crate) struct Shard {
     pub(crate) table: u64,
@@ -40,7 +40,7 @@ impl Model for Shards {
     ghost view = { λ a. record { seats = a.seats; tables = shard_rounds a.shards.items } };
 }
 
-/// The lock of a table.
+/// Returns the lock of `table`.
 fn lock_of(shards: &[Shard], table: u64) -> Option<&Mutex<Locked>>
     ensures { is_some result ≡ list_any (λ t. t.0 == table) (shard_rounds shards.now) }
 {
@@ -75,7 +75,7 @@ fn lock_all(alloc: Global, cells: Vec<TableCell>) -> Result<Vec<Shard>, Memory>
     Ok(shards)
 }
 
-/// The seats 1 to `seats`.
+/// Makes the seats 1 to `seats`.
 #[tactic(auto, using(crate::proofs::RoundLaws::one_seat_more))]
 fn seat_all(alloc: Global, seats: u32) -> Result<Vec<Seat>, Memory>
     ensures { IfOk result (λ made. made.items ≡ fresh_seats seats) }
@@ -113,8 +113,8 @@ fn unlock_all(shards: Vec<Shard>, tables: Vec<UnlockedTable>) -> Vec<UnlockedTab
 }
 
 impl Shards {
-    /// Puts each table under a lock, and makes the seats 1 to `seats`, in this order. The tables have distinct ids; there are
-    /// 1 to 64 of them, and as many seats.
+    /// Puts each table under a lock, and makes the seats 1 to `seats`, in this order. The tables have distinct ids;
+    /// there are 1 to 64 tables, and 1 to 64 seats. If memory runs out, the tables are dropped.
     pub fn new(
         alloc: Global,
         cells: Vec<TableCell>,
@@ -128,14 +128,14 @@ impl Shards {
         Ok((Shards { seats, shards }, made))
     }
 
-    /// The lock of a table. Doesn't allocate, and waits for nobody.
+    /// Returns the lock of `table`, or `None` if there is no such table. Doesn't allocate or wait.
     pub fn cell(&self, table: u64) -> Option<&Mutex<Locked>>
         ensures { is_some result ≡ list_any (λ t. t.0 == table) self.now.tables }
     {
         lock_of(self.shards.as_slice(), table)
     }
 
-    /// Takes the tables out of their locks. After `Memory` they are handed back, as they were.
+    /// Takes the tables out of their locks. If memory runs out, returns them as they were.
     pub fn unlock(self, alloc: Global) -> Result<Unlocked, (Memory, Shards)>
         ensures unlocked { IfOk result (λ unlocked. rounds_of unlocked ≡ self) }
         ensures refused { IfErr result (λ back. back.1 ≡ self) }

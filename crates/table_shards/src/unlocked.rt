@@ -11,15 +11,15 @@ use crate::seat::Seat;
 use std::marker::Model;
 use table_cell::TableCell;
 
-/// A table that was taken out of its lock. The cells of two locks may have been swapped under them, so the cell may be
-/// another table's.
+/// A table that was taken out of its lock. The contents of two locks may have been swapped, so the cell may be another
+/// table's.
 #[derive(Drop)]
 pub struct UnlockedTable {
     /// The table's id.
     pub table: u64,
     /// How many events it had when the round began.
     pub began: u64,
-    /// What was under its lock.
+    /// The contents of its lock.
     pub cell: TableCell,
 }
 
@@ -38,7 +38,7 @@ impl Model for Unlocked {
     ghost view = { λ a. record { seats = a.seats; tables = a.tables.items } };
 }
 
-/// Tables and seats of which an audit showed that the seats' receipts are the tables' histories.
+/// Tables and seats for which an audit showed that the seats' receipts are the tables' histories.
 #[derive(Drop)]
 pub struct Audit {
     unlocked: Unlocked,
@@ -56,7 +56,7 @@ impl Model for Audit {
     ghost invariant = { λ a. Audits a.unlocked a.seats.items None };
 }
 
-/// Whether the cell has all its events after the first `began`.
+/// Returns whether the cell still has all its events after the first `began`.
 #[tactic(auto, using(crate::proofs::RoundLaws::past_round, crate::proofs::RoundLaws::round_kept, crate::proofs::RoundLaws::round_dropped))]
 fn has_round(cell: &TableCell, began: u64) -> bool
     ensures round { result ≡ nat_le cell.now.dropped began }
@@ -71,7 +71,7 @@ fn has_round(cell: &TableCell, began: u64) -> bool
     }
 }
 
-/// Whether the cell is that table's, and has all events of the round.
+/// Returns whether the cell is that table's, and still has all events of the round.
 fn is_its_own(table: &UnlockedTable) -> bool
     ensures own { result ≡ is_its_own table.now }
     ensures legal { IsTrue result → IsLegal table.now.cell }
@@ -79,7 +79,7 @@ fn is_its_own(table: &UnlockedTable) -> bool
     table.cell.definition().id() == table.table && has_round(&table.cell, table.began)
 }
 
-/// What is wrong with a table: the seat that `AuditError::Mismatch` names.
+/// Returns what is wrong with a table, or `None`: the seat that `AuditError::Mismatch` names.
 fn fault_of(table: &UnlockedTable, seats: &[Seat]) -> Option<u32>
     ensures { Finds seats.now table.now result }
 {
@@ -90,7 +90,7 @@ fn fault_of(table: &UnlockedTable, seats: &[Seat]) -> Option<u32>
     }
 }
 
-/// The one of two faults with the lesser table id, and the former where they have one.
+/// Returns the fault with the lesser table id, and `least` if the ids are equal.
 fn lesser_fault(least: Option<(u64, u32)>, table: u64, seat: u32) -> Option<(u64, u32)>
     ensures { result ≡ lesser_fault least (table, seat) }
 {
@@ -100,7 +100,7 @@ fn lesser_fault(least: Option<(u64, u32)>, table: u64, seat: u32) -> Option<(u64
     }
 }
 
-/// The fault with the least table id so far, after one table more.
+/// Returns the fault with the least table id so far, after one more table.
 fn with_table(
     least: Option<(u64, u32)>,
     table: &UnlockedTable,
@@ -114,7 +114,7 @@ fn with_table(
     }
 }
 
-/// The fault with the least table id.
+/// Returns the fault with the least table id.
 fn first_fault(tables: &[UnlockedTable], seats: &[Seat]) -> Option<(u64, u32)>
     ensures { Faults seats.now tables.now result }
 {
@@ -125,7 +125,7 @@ fn first_fault(tables: &[UnlockedTable], seats: &[Seat]) -> Option<(u64, u32)>
     least
 }
 
-/// What an audit finds wrong with so many seats and these tables.
+/// Returns what an audit finds wrong with these tables and seats, if `most` seats were made with the tables.
 fn audit_error(most: u32, tables: &[UnlockedTable], seats: &[Seat]) -> Option<AuditError>
     ensures { Audits (record { seats = most; tables = tables.now }) seats.now result }
 {
@@ -139,29 +139,30 @@ fn audit_error(most: u32, tables: &[UnlockedTable], seats: &[Seat]) -> Option<Au
 }
 
 impl Unlocked {
-    /// The tables with these ids.
+    /// Joins `tables` with the number of seats that were made with them.
     pub(crate) fn of(seats: u32, tables: Vec<UnlockedTable>) -> Unlocked
         ensures { result ≡ record { seats = seats; tables = tables.items } }
     {
         Unlocked { seats, tables }
     }
 
-    /// The tables.
+    /// Returns the tables.
     pub fn tables(&self) -> &[UnlockedTable]
         ensures { result.now ≡ self.now.tables }
     {
         self.tables.as_slice()
     }
 
-    /// What an audit finds wrong.
+    /// Returns what an audit finds wrong, or `None`.
     fn error(&self, seats: &[Seat]) -> Option<AuditError>
         ensures { Audits self.now seats.now result }
     {
         audit_error(self.seats, self.tables.as_slice(), seats)
     }
 
-    /// Audits the round: the seats are those that were made with the tables, each once, and each event of each table in the
-    /// round is the receipt of exactly one seat. A refusal hands back the tables and the seats. Doesn't allocate.
+    /// Audits the round: the seats must be those that were made with the tables, each once, and each event of each
+    /// table in the round must be the receipt of exactly one seat. If the audit fails, returns the tables and the seats
+    /// with the error. Doesn't allocate.
     pub fn audit(self, seats: Vec<Seat>) -> Result<Audit, (AuditError, Unlocked, Vec<Seat>)>
         ensures audited { IfOk result (λ audit. (audit ≡ record { unlocked = self; seats = seats.items }) × Audits self seats.items None) }
         ensures refused { IfErr result (λ back. Audits self seats.items (Some back.0) × (back.1 ≡ self) × (back.2 ≡ seats)) }
@@ -177,7 +178,7 @@ impl Unlocked {
 }
 
 impl Audit {
-    /// The tables.
+    /// Returns the tables.
     pub fn tables(&self) -> &[UnlockedTable]
         ensures tables { result.now ≡ self.now.unlocked.tables }
         ensures audited { Audits self.now.unlocked self.now.seats None }
@@ -185,7 +186,7 @@ impl Audit {
         self.unlocked.tables()
     }
 
-    /// The seats, which were handed in.
+    /// Returns the audited seats.
     pub fn seats(&self) -> &[Seat]
         ensures seats { result.now ≡ self.now.seats }
         ensures audited { Audits self.now.unlocked self.now.seats None }

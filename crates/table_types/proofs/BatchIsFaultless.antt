@@ -1,4 +1,4 @@
--- Updates are a batch exactly where nothing is wrong with them.
+-- Updates are a batch if and only if they have no fault.
 use Rattle.std.proofs.Common.{◌≡◌, ℕ, ◌+◌, ◌≤◌, Bool, true, false, List, [], ◌∷◌, length, Option, Some, None, refl, sym, ap, ◌∙◌, arith, inl, inr}
 use Rattle.std.proofs.lemmas.Bool.{cases_eq, eq-eqb, ne_eqb}
 use Rattle.std.specs.Prelude.{nat_lt, is_none}
@@ -41,7 +41,7 @@ all_faultless index roster [] h = tt
 all_faultless index roster (u ∷ us) h =
     (faultless index roster u (first-none (fault_in index (table_at roster u.table) u) (faults_from (index + 1) roster us) h), all_faultless (index + 1) roster us (second-none (fault_in index (table_at roster u.table) u) (faults_from (index + 1) roster us) h))
 
--- and one for the roster has none
+-- and an update for the roster has no fault
 no_fault : (index : ℕ) (roster : List Definition) (u : Update) → IsUpdateFor roster u → fault_in index (table_at roster u.table) u ≡ None
 no_fault index roster u (d, listed, fit, (life, timed)) = rw (listed, fit, timed) refl
 
@@ -49,7 +49,7 @@ no_faults : (index : ℕ) (roster : List Definition) (us : List Update) → AllB
 no_faults index roster [] all = refl
 no_faults index roster (u ∷ us) all = rw (no_fault index roster u all.0) (no_faults (index + 1) roster us all.1)
 
--- at most so many, and no fault from the first on
+-- at most 512 updates without a fault are a batch
 pub batch_of_parts : (roster : List Definition) (us : List Update) → length us ≤ 512 → faults_from 0 roster us ≡ None → IsBatchFor roster us
 batch_of_parts roster us few none = (few, all_faultless 0 roster us none)
 
@@ -65,7 +65,7 @@ batch_has_no_fault roster us (few, all) =
     let small : nat_lt 512 (length us) ≡ false = grind (arith, nat_tests) in
     rw small (no_faults 0 roster us all)
 
--- an update for a table alone is one for a roster that has the table at its id
+-- an update for a single table is one for every roster that has the table at its id
 update_of_one : (d : Definition) (roster : List Definition) (u : Update) → table_at roster d.id ≡ Some d → IsUpdateFor (d ∷ []) u → IsUpdateFor roster u
 update_of_one d roster u listed (e, found, fit, timed) = elim (cases_eq d.id u.table) [
   | inl same ↦
@@ -82,7 +82,7 @@ updates_of_one d roster (u ∷ us) listed all = (update_of_one d roster u listed
 pub batch_of_one : (d : Definition) (roster : List Definition) (us : List Update) → table_at roster d.id ≡ Some d → IsBatchFor (d ∷ []) us → IsBatchFor roster us
 batch_of_one d roster us listed (few, all) = (few, updates_of_one d roster us listed all)
 
--- at most so many updates are a batch for a roster exactly where there is no fault from the first on
+-- at most 512 updates are a batch for a roster if and only if they have no fault
 pub is_for : (roster : List Definition) (us : List Update) (r : Bool) → length us ≤ 512 → r ≡ is_none (faults_from 0 roster us) → (r ≡ true → IsBatchFor roster us) × (IsBatchFor roster us → r ≡ true)
 is_for roster us r few is = (
   (λ yes. batch_of_parts roster us few (absent (faults_from 0 roster us) (sym is ∙ yes))),

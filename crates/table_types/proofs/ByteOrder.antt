@@ -1,4 +1,4 @@
--- Bytes that are compared eight at a time, as numbers.
+-- Bytes compared eight at a time, as numbers.
 use Rattle.std.proofs.Common.{◌≡◌, ◌+◌, ◌*◌, ◌≤◌, ◌<◌, drop, length, ℕ, zero, suc, List, [], ◌∷◌, slice_index_or, Fits, w8, refl, sym, ap, subst, ◌∙◌, arith}
 use Rattle.std.proofs.lemmas.List.{drop-drop, get_or-drop, length-drop}
 use Rattle.std.specs.declared.cmp.Ordering.{Ordering}
@@ -14,7 +14,7 @@ AreBytes xs = (i : ℕ) → Fits w8 (slice_index_or xs i 0)
 abbrev compared : List ℕ → List ℕ → Ordering
 compared us vs = slice_cmp nat_cmp us vs
 
--- the number whose digits in base 256 are those of a and then the first n bytes
+-- the number whose base-256 digits are those of a followed by the first n bytes
 abbrev value : ℕ → ℕ → List ℕ → ℕ
 value zero a us = a
 value (suc n) a [] = a
@@ -25,7 +25,7 @@ record ReadFrom (n : ℕ) (us vs : List ℕ) (x y : ℕ) : Type 0 where
   pub apart : (x ≡ y → ⊥) → compared us vs ≡ nat_cmp x y
   pub alike : x ≡ y → compared us vs ≡ compared (drop n us) (drop n vs)
 
--- ---- `nat_cmp`, by how its arguments lie
+-- ---- `nat_cmp`, by the order of its arguments
 less : (x y : ℕ) → x < y → nat_cmp x y ≡ Less
 less x y l = by (nat_cmp x y) (ranks x y)
   where
@@ -88,7 +88,7 @@ module _ (us vs : List ℕ) (g : AreBytes us) (h : AreBytes vs) (at : ℕ) where
   rest : (xs : List ℕ) → AreBytes xs → AreBytes (drop at xs)
   rest xs b i = subst (Fits w8) (sym (get_or-drop at xs i 0)) (b (at + i))
 
-  -- the eight bytes from `at` on, where those before are alike
+  -- the eight bytes from `at` on, if those before are alike
   pub by_words : at + 8 ≤ length us → at + 8 ≤ length vs → compared us vs ≡ compared (drop at us) (drop at vs)
       → ((from_be_bytes w64 (drop at us) ≡ from_be_bytes w64 (drop at vs) → ⊥) → nat_cmp (from_be_bytes w64 (drop at us)) (from_be_bytes w64 (drop at vs)) ≡ compared us vs)
       × (from_be_bytes w64 (drop at us) ≡ from_be_bytes w64 (drop at vs) → compared us vs ≡ compared (drop (at + 8) us) (drop (at + 8) vs))

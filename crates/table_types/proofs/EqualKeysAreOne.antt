@@ -1,4 +1,4 @@
--- Keys that compare as equal are one, and a key compares as equal to itself.
+-- Keys that compare as equal are the same, and a key compares as equal to itself.
 use Rattle.std.proofs.Common.{◌≡◌, ℕ, true, false, List, [], ◌∷◌, refl, sym, ap}
 use Rattle.std.specs.declared.cmp.Ordering.{Ordering}
 use Rattle.std.specs.declared.cmp.Ordering.TheVariants.{Less, Equal, Greater}

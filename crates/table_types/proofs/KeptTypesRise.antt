@@ -1,4 +1,4 @@
--- What is kept of the types given: each is one of them, and their ids rise.
+-- The entries that a definition keeps of those given: each is one of them, and their ids ascend.
 use Rattle.std.proofs.Common.{◌≡◌, ℕ, ◌+◌, ◌≤◌, ◌<◌, ◌^◌, Bool, true, List, [], ◌∷◌, Option, Some, None, arith, refl}
 use Rattle.std.specs.List.{list_all, filter_map}
 use Rattle.std.proofs.lemmas.Bool.{le-leb, lt-ltb}
@@ -10,17 +10,17 @@ use Rattle.table_types.specs.Names.{is_name}
 use Rattle.table_types.specs.Keys.{fits_length}
 use Rattle.table_types.specs.Tables.{is_definition, is_id, has_its_period, entry_of, rise_from, in_rising_id}
 
--- the entry found is of the type asked for
+-- the entry found has the type asked for
 pub entry_of-same : (es : List (DataType × Option ℕ)) (t : DataType) (e : DataType × Option ℕ) → entry_of es t ≡ Some e → id_of t ≡ id_of e.0
 entry_of-same [] t e h = cc
 entry_of-same (x ∷ es) t e h = grind (arith, nat_tests, entry_of-same es t e)
 
--- what all the entries given pass, the entry found passes
+-- a test that all the given entries pass is passed by the entry found
 pub entry_of-passes : (p : DataType × Option ℕ → Bool) (es : List (DataType × Option ℕ)) (t : DataType) (e : DataType × Option ℕ) → list_all p es ≡ true → entry_of es t ≡ Some e → p e ≡ true
 entry_of-passes p [] t e all h = cc
 entry_of-passes p (x ∷ es) t e all h = grind (arith, nat_tests, entry_of-passes p es t e)
 
--- what each thing made passes, all things made pass
+-- a test that each result passes is passed by all the results
 pub filter_map-passes : {X Y : Type 0} (p : Y → Bool) (f : X → Option Y) → ((x : X) (y : Y) → f x ≡ Some y → p y ≡ true) → (xs : List X) → list_all p (filter_map f xs) ≡ true
 filter_map-passes p f each [] = refl
 filter_map-passes {X} {Y} p f each (x ∷ xs) =
@@ -31,12 +31,12 @@ filter_map-passes {X} {Y} p f each (x ∷ xs) =
     ] in
     by (f x) refl
 
--- the types stand one after another, from id k on
+-- the types have consecutive ids, from k on
 abbrev pub AreFrom : ℕ → List DataType → Type 0
 AreFrom k [] = Unit {0}
 AreFrom k (t ∷ ts) = (id_of t ≡ k) × AreFrom (k + 1) ts
 
--- the ids of the entries of such types rise
+-- the ids of the entries of such types ascend
 pub entries_rise : (es : List (DataType × Option ℕ)) (least k : ℕ) (ts : List DataType) → least ≤ k → AreFrom k ts → rise_from least (filter_map (entry_of es) ts) ≡ true
 entries_rise es least k [] le are = refl
 entries_rise es least k (t ∷ ts) le are =
@@ -59,7 +59,7 @@ in_rising_id-rises es = entries_rise es 0 0 all_types (omega arith) all_are
 pub in_rising_id-passes : (p : DataType × Option ℕ → Bool) (es : List (DataType × Option ℕ)) → list_all p es ≡ true → list_all p (in_rising_id es) ≡ true
 in_rising_id-passes p es all = filter_map-passes p (entry_of es) (λ t e h. entry_of-passes p es t e all h) all_types
 
--- parts in which there is no fault make a definition
+-- parts without a fault make a definition
 pub made_is_definition : (id : ℕ) (name called : List ℕ) (kind : KeyKind) (l expire : ℕ) (types kept : List (DataType × Option ℕ)) → is_id id ≡ true → is_name name ≡ true → called ≡ name → fits_length kind l ≡ true → expire < 2 ^ 32 → list_all has_its_period types ≡ true → kept ≡ in_rising_id types → is_definition (record { id = id; name = called; kind = kind; key_length = l; expire = expire; types = kept }) ≡ true
 made_is_definition id name called kind l expire types kept a b same c d e are =
     rw (same, are, a, b, c, lt-ltb expire (2 ^ 32) d, in_rising_id-passes has_its_period types e, in_rising_id-rises types) refl

@@ -1,11 +1,11 @@
--- The kind that has a number has that number.
+-- The kind found for a number has that number.
 use Rattle.std.proofs.Common.{◌≡◌, ℕ, Bool, true, false, if◌then◌else◌, eqb, Option, Some, None, refl, sym, ap, ◌∙◌, inl, inr, ◌⊎◌}
 use Rattle.std.proofs.lemmas.Bool.{cases_eq, ne_eqb, eq-eqb}
 use Rattle.table_types.specs.declared.key.KeyKind.{KeyKind}
 use Rattle.table_types.specs.declared.key.KeyKind.TheVariants as kinds
 use Rattle.table_types.specs.Keys.{number_of, kind_at}
 
--- at each number either its kind stands there, or the search goes on
+-- at each number either its kind is found, or the search goes on
 step : (n number : ℕ) (there kind : KeyKind) (rest : Option KeyKind) → number ≡ number_of there → (if eqb n number then Some there else rest) ≡ Some kind → (rest ≡ Some kind → n ≡ number_of kind) → n ≡ number_of kind
 step n number there kind rest is e later = elim (cases_eq n number) [
   | inl same ↦ same ∙ is ∙ ap number_of (one there kind (sym (ap (λ (b : Bool). if b then Some there else rest) (eq-eqb n number same)) ∙ e))

@@ -1,4 +1,4 @@
--- Tables of one shape are one but for id and expire.
+-- Tables of the same shape are equal except for id and expire.
 use Rattle.std.proofs.Common.{◌≡◌, ℕ, ◌<◌, length, length-drop, drop, Bool, true, false, IsTrue, ◌&&◌, eqb, List, [], ◌∷◌, get_or, Option, Some, None, refl, sym, ap, ◌∙◌, subst, arith, inl, inr}
 use Rattle.std.proofs.lemmas.Bool.{cases_eq, eq-eqb, ne_eqb}
 use Rattle.table_types.specs.declared.key.KeyKind.{KeyKind}
@@ -131,7 +131,7 @@ means_shape own received is =
     (subst (λ (ts : List (DataType × Option ℕ)). (is_same_name received.name received.name && eqb (number_of received.kind) (number_of received.kind) && eqb received.key_length received.key_length && are_same_types ts received.types) ≡ true) (sym types)
     (rw (same_name received.name, eq-eqb (number_of received.kind) (number_of received.kind) refl, eq-eqb received.key_length received.key_length refl, same_types received.types) refl))))
 
--- the same definition is one
+-- definitions that test as the same are equal
 pub same_definition : (own received : Definition) → is_same_definition own received ≡ true → own ≡ received
 same_definition own received h =
     let ids : Bool = eqb own.id received.id && eqb own.expire received.expire in
@@ -144,7 +144,7 @@ same_definition own received h =
     grouped : (a b c : Bool) → (a && b && c) ≡ true → ((a && b) && c) ≡ true
     grouped a b c h = h
 
--- and a definition is the same as itself
+-- and equal definitions test as the same
 pub definition_same : (own received : Definition) → own ≡ received → is_same_definition own received ≡ true
 definition_same own received is =
     let shape : is_shape_of own received ≡ true = means_shape own received (is ∙ ap (λ (d : Definition). record received { id = d.id; expire = d.expire }) (sym is)) in
@@ -154,11 +154,11 @@ first_differs : (xs : List (DataType × Option ℕ)) → 0 < length xs → are_s
 first_differs [] lt = absurd (omega arith)
 first_differs (x ∷ xs) lt = refl
 
--- types of which some are left differ from none
+-- a list with types left differs from the empty list
 pub some_left : (ts hs : List (DataType × Option ℕ)) (i : ℕ) (r : Bool) → i < length ts → length hs ≡ 0 → are_same_types (drop i ts) hs ≡ r → false ≡ r
 some_left ts [] i r lt none e = sym (first_differs (drop i ts) (omega (arith, length-drop i ts))) ∙ e
 some_left ts (h ∷ hs) i r lt none e = absurd (omega arith)
 
--- what a test that decides a definition says of it, both ways
+-- what a decision procedure for a definition says about it, in both directions
 pub said_so : {P : Type 0} → (b test : Bool) → b ≡ test → (test ≡ true → P) → (P → test ≡ true) → (IsTrue b → P) × (P → IsTrue b)
 said_so b test is only if = ((λ t. only (sym is ∙ t)), (λ p. is ∙ if p))

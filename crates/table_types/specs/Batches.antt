@@ -8,20 +8,20 @@ use Rattle.table_types.specs.Tables.{Definition}
 use Rattle.table_types.specs.Updates.{fits}
 use Rattle.table_types.specs.Rosters.{table_at}
 
--- the update is one for a roster: its table is there, it fits that table, and it has a life
+-- the update is one for a roster: the roster has its table, the update fits it, and it has a life
 abbrev pub IsUpdateFor : List Definition → Update → Type 0
 IsUpdateFor roster u =
     (d : Definition) × (table_at roster u.table ≡ Some d)
     × (fits d u ≡ true)
     × ((life : ℕ) × (u.life ≡ Some life))
 
--- the updates are a batch for a roster: at most 512, and each is one for the roster
+-- the updates are a batch for a roster: at most 512, each of them one for the roster
 abbrev pub IsBatchFor : List Definition → List Update → Type 0
 IsBatchFor roster us = (length us ≤ 512) × AllByRecursion (IsUpdateFor roster) us
 
--- ---- what is first wrong
+-- ---- the first fault
 
--- what is wrong with the update at an index, given the table of the roster that its id stands for
+-- what is wrong with the update at an index, given the roster's table for its id
 abbrev pub fault_in : ℕ → Option Definition → Update → Option BatchError
 fault_in index None u = Some (errors.NoTable index)
 fault_in index (Some d) u =
@@ -33,12 +33,12 @@ abbrev pub or_else : Option BatchError → Option BatchError → Option BatchErr
 or_else (Some e) next = Some e
 or_else None next = next
 
--- the first fault of updates of which the first has that index; those of a batch count from 0
+-- the first fault of the updates, the first of which has this index; a batch counts from 0
 abbrev pub faults_from : ℕ → List Definition → List Update → Option BatchError
 faults_from index roster [] = None
 faults_from index roster (u ∷ us) = or_else (fault_in index (table_at roster u.table) u) (faults_from (index + 1) roster us)
 
--- what is first wrong with updates that are to be a batch for a roster: they are at most 512,
--- and each has a table in the roster, fits it, and has a life
+-- the first thing that keeps updates from being a batch for a roster: there are more than 512, or one of them has no
+-- table in the roster, doesn't fit it, or has no life
 abbrev pub batch_fault : List Definition → List Update → Option BatchError
 batch_fault roster us = if nat_lt 512 (length us) then Some errors.TooMany else faults_from 0 roster us

@@ -52,13 +52,13 @@ name_of Gpc1 = codes "gpc1"
 name_of Gpc1Rate = codes "gpc1_rate"
 name_of ServerKey = codes "server_key"
 
--- each data type, in rising id
+-- all data types, in ascending order of id
 abbrev pub all_types : List DataType
 all_types =
     ServerId ∷ Gpt0 ∷ Gpc0 ∷ Gpc0Rate ∷ ConnCnt ∷ ConnRate ∷ ConnCur ∷ SessCnt ∷ SessRate ∷ HttpReqCnt ∷ HttpReqRate ∷ HttpErrCnt ∷ HttpErrRate ∷ BytesInCnt ∷ BytesInRate ∷ BytesOutCnt ∷ BytesOutRate ∷ Gpc1 ∷ Gpc1Rate ∷ ServerKey ∷ []
 
--- how a data type's value is sent: what ends in "rate" has a period and two counts, bytes are counted in 64 bits,
--- a server's name goes by the dictionary, and all else is a count of 32 bits
+-- how the value of a data type is sent: types whose name ends in "rate" have a period and two counts, bytes are counted
+-- in 64 bits, the server's name goes through the dictionary, and all others are counts of 32 bits
 abbrev pub shape_of : DataType → Shape
 shape_of ServerId = Count
 shape_of Gpt0 = Count

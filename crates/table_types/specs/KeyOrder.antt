@@ -10,7 +10,7 @@ use Rattle.table_types.specs.declared.key.Key.TheVariants as keys
 use Rattle.table_types.specs.contracts.key.KeyPartialEq.TheImpl as key_eq
 use Rattle.table_types.specs.Keys.{kind_rank, key_cmp}
 
--- a number as a list of one, and any other key as its bytes
+-- a number as a list of one, any other key as its bytes
 abbrev content : Key → List ℕ
 content (keys.Int n) = n ∷ []
 content (keys.Ip4 bytes) = bytes
@@ -18,7 +18,7 @@ content (keys.Ip6 bytes) = bytes
 content (keys.Str bytes) = bytes
 content (keys.Bin bytes) = bytes
 
--- by kind, and then by content
+-- first by kind, then by content
 abbrev kind_then_content : Key → Key → Ordering
 kind_then_content = then_cmp (on kind_rank nat_cmp) (on content (slice_cmp nat_cmp))
 
@@ -72,6 +72,6 @@ key_cmp_total = record {
   congr = λ x y z tied. by_kind x z ∙ kind_then_content_total.congr x y z (sym (by_kind x y) ∙ tied) ∙ sym (by_kind y z);
 }
 
--- keys are equal exactly where they compare as equal
+-- keys are equal if and only if they compare as equal
 pub key_cmp_ties : (a b : Key) → are_equal a b ≡ eq_by_cmp key_cmp a b
 key_cmp_ties a b = (compared a b).1

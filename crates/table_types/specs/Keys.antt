@@ -1,5 +1,5 @@
--- Kinds of keys, and the keys of each (HAProxy, doc/peers-v2.0.txt, "Table Definition Message", and the
--- Configuration Manual, stick-table `type` and `len`; the bound 8192 and "below L" for a text are the profile's choices).
+-- Kinds of keys, and the keys of each (HAProxy, doc/peers-v2.0.txt, "Table Definition Message", and the Configuration
+-- Manual, stick-table `type` and `len`; the bound 8192 and "below L" for a string are the profile's choices).
 use Rattle.std.specs.Prelude.{ℕ, ◌^◌, Bool, false, ◌&&◌, ◌==◌, nat_lt, nat_le, List, length, codes, Option, Some, None, if◌then◌else◌}
 use Rattle.std.specs.declared.cmp.Ordering.{Ordering}
 use Rattle.std.specs.Ordering.{nat_cmp}
@@ -17,7 +17,7 @@ number_of kinds.Ip6 = 5
 number_of kinds.String = 6
 number_of kinds.Binary = 7
 
--- and the kind that has a number
+-- the kind with a number
 abbrev pub kind_at : ℕ → Option KeyKind
 kind_at n =
     if n == 2 then Some kinds.Integer
@@ -43,8 +43,8 @@ fits_length kinds.Ip6 l = l == 16
 fits_length kinds.String l = nat_le 1 l && nat_le l 8192
 fits_length kinds.Binary l = nat_le 1 l && nat_le l 8192
 
--- the keys of a table of a kind and a key length: a number of 32 bits, an address of 4 or 16 bytes,
--- a text shorter than the key length, bytes of exactly the key length
+-- the keys of a table of a kind and a key length: a number of 32 bits, an address of 4 or 16 bytes, a string shorter
+-- than the key length, or bytes of exactly the key length
 abbrev pub key_fits : KeyKind → ℕ → Key → Bool
 key_fits kinds.Integer l (keys.Int n) = nat_lt n (2 ^ 32)
 key_fits kinds.Ip4 l (keys.Ip4 bytes) = length bytes == 4
@@ -53,7 +53,7 @@ key_fits kinds.String l (keys.Str bytes) = nat_lt (length bytes) l
 key_fits kinds.Binary l (keys.Bin bytes) = length bytes == l
 key_fits kind l key = false
 
--- the kinds of keys in their order
+-- the position of a key's kind in the order of kinds
 abbrev pub kind_rank : Key → ℕ
 kind_rank (keys.Int n) = 0
 kind_rank (keys.Ip4 bytes) = 1
@@ -61,7 +61,7 @@ kind_rank (keys.Ip6 bytes) = 2
 kind_rank (keys.Str bytes) = 3
 kind_rank (keys.Bin bytes) = 4
 
--- the order of keys: numbers by number, others byte by byte, and keys of two kinds by their kinds
+-- the order of keys: numbers by number, other keys byte by byte, and keys of different kinds by kind
 abbrev pub key_cmp : Key → Key → Ordering
 key_cmp (keys.Int a) (keys.Int b) = nat_cmp a b
 key_cmp (keys.Ip4 a) (keys.Ip4 b) = slice_cmp nat_cmp a b

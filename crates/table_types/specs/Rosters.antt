@@ -15,17 +15,17 @@ has_id id ds = list_any (λ d. d.id == id) ds
 abbrev pub has_name : List ℕ → List Definition → Bool
 has_name name ds = list_any (λ d. is_same_name d.name name) ds
 
--- some id stands for two tables
+-- two tables have the same id
 abbrev pub repeats_id : List Definition → Bool
 repeats_id [] = false
 repeats_id (d ∷ ds) = has_id d.id ds || repeats_id ds
 
--- two tables have one name
+-- two tables have the same name
 abbrev pub repeats_name : List Definition → Bool
 repeats_name [] = false
 repeats_name (d ∷ ds) = has_name d.name ds || repeats_name ds
 
--- what is first wrong with a roster: it has 1 to 64 tables, each with an id and a name of its own
+-- the first thing wrong with a roster: it has no tables or more than 64, or two with the same id or name
 abbrev pub roster_fault : List Definition → Option RosterError
 roster_fault ds =
     if not (nat_le 1 (length ds) && nat_le (length ds) 64) then Some errors.Count
@@ -33,7 +33,7 @@ roster_fault ds =
     else (if repeats_name ds then Some errors.RepeatedName
     else None))
 
--- the table that an id stands for
+-- the table with an id
 abbrev pub table_at : List Definition → ℕ → Option Definition
 table_at [] id = None
 table_at (d ∷ ds) id = if d.id == id then Some d else table_at ds id

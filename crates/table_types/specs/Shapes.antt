@@ -1,4 +1,4 @@
--- When two definitions are the same, and when they have one shape (profile).
+-- When two definitions are the same, and when they have the same shape (profile).
 use Rattle.std.specs.Prelude.{ℕ, Bool, true, false, ◌&&◌, ◌==◌, List, [], ◌∷◌, Option, Some, None}
 use Rattle.table_types.specs.declared.data_type.DataType.{DataType}
 use Rattle.table_types.specs.Keys.{number_of}
@@ -17,7 +17,7 @@ are_same_types [] [] = true
 are_same_types (t ∷ ts) (h ∷ hs) = is_same_type t.0 h.0 && is_same_period t.1 h.1 && are_same_types ts hs
 are_same_types ts hs = false
 
--- a table of another's shape: it has its name, and the same kind of keys, key length, data types and periods; id and
+-- two tables of the same shape: they have the same name, kind of keys, key length, data types and periods; id and
 -- expire may differ
 abbrev pub is_shape_of : Definition → Definition → Bool
 is_shape_of own received =
@@ -26,6 +26,6 @@ is_shape_of own received =
     && own.key_length == received.key_length
     && are_same_types own.types received.types
 
--- the very definition
+-- the same definition, part for part
 abbrev pub is_same_definition : Definition → Definition → Bool
 is_same_definition own received = own.id == received.id && own.expire == received.expire && is_shape_of own received

@@ -1,4 +1,4 @@
--- The elements of a list, wherever they lie.
+-- The elements of a list, wherever they are stored.
 use Rattle.std.specs.Prelude.{List, []}
 use Rattle.table_types.specs.declared.short_list.Place.{Place}
 use Rattle.table_types.specs.declared.short_list.Place.TheVariants as places

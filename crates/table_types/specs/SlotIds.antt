@@ -2,10 +2,10 @@
 -- are 1 to 128 is the profile's choice).
 use Rattle.std.specs.Prelude.{ℕ, Bool, ◌&&◌, nat_le}
 
--- how many slots the dictionary has
+-- the number of slots in the dictionary
 abbrev pub slot_count : ℕ
 slot_count = 128
 
--- the slots of the dictionary are 1 to 128
+-- the ids of the dictionary's slots: 1 to 128
 abbrev pub is_slot : ℕ → Bool
 is_slot slot = nat_le 1 slot && nat_le slot slot_count

@@ -10,8 +10,8 @@ use Rattle.table_types.specs.Names.{is_name}
 use Rattle.table_types.specs.Keys.{fits_length}
 use Rattle.table_types.specs.DataTypes.{id_of, all_types, is_rate, is_same_type}
 
--- what a table is: its id with the one who defines it, its name, its keys, how long a row lives after its last
--- update in ms (0 is for ever), and what it stores, each rate with its period in ms
+-- the definition of a table: the id that its definer gives it, its name, its keys, how long a row lives after its last
+-- update in ms (0 means forever), and what it stores, each rate with its period in ms
 pub record Definition : Type 0 where
   pub id : ℕ
   pub name : List ℕ
@@ -36,24 +36,24 @@ is_absent None = true
 abbrev pub has_its_period : DataType × Option ℕ → Bool
 has_its_period t = if is_rate t.0 then is_period t.1 else is_absent t.1
 
--- the ids rise, and none is below the least
+-- the ids ascend, and none is below `least`
 abbrev pub rise_from : ℕ → List (DataType × Option ℕ) → Bool
 rise_from least [] = true
 rise_from least (t ∷ ts) = nat_le least (id_of t.0) && rise_from (id_of t.0 + 1) ts
 
--- what a definition has to be
+-- what makes a record a definition
 abbrev pub is_definition : Definition → Bool
 is_definition d = is_id d.id && is_name d.name && fits_length d.kind d.key_length && nat_lt d.expire (2 ^ 32) && list_all has_its_period d.types && rise_from 0 d.types
 
 abbrev pub stores : DataType → List (DataType × Option ℕ) → Bool
 stores t ts = list_any (λ entry. is_same_type t entry.0) ts
 
--- some data type is given twice
+-- some data type occurs twice
 abbrev pub repeats : List (DataType × Option ℕ) → Bool
 repeats [] = false
 repeats (t ∷ ts) = stores t.0 ts || repeats ts
 
--- what is first wrong with the parts that a definition is to be made of
+-- the first thing wrong with the parts of a definition
 abbrev pub fault_of : ℕ → List ℕ → KeyKind → ℕ → List (DataType × Option ℕ) → Option DefError
 fault_of id name kind key_length types =
     if not (is_id id) then Some errors.Id
@@ -63,11 +63,11 @@ fault_of id name kind key_length types =
     else (if repeats types then Some errors.RepeatedType
     else None))))
 
--- the entry of a data type among those given
+-- the entry for a data type among those given
 abbrev pub entry_of : List (DataType × Option ℕ) → DataType → Option (DataType × Option ℕ)
 entry_of [] t = None
 entry_of (e ∷ es) t = if is_same_type t e.0 then Some e else entry_of es t
 
--- the entries in rising id
+-- the entries in ascending order of id
 abbrev pub in_rising_id : List (DataType × Option ℕ) → List (DataType × Option ℕ)
 in_rising_id types = filter_map (entry_of types) all_types

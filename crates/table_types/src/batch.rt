@@ -1,4 +1,4 @@
-//! Updates that are taught together.
+//! Batches: updates that are taught together.
 
 ghost use Rattle.std.specs.Prelude.{◌≡◌, ◌≢◌, ◌↔◌, ◌+◌, ◌≤◌, ◌∷◌, [], None, Err, IfOk, IfErr, IsTrue, Some, length, option_copied};
 ghost use Rattle.table_types.specs.declared.batch.BatchError.{BatchError};
@@ -16,28 +16,29 @@ use std::marker::Model;
 use std::sync::Arc;
 use thiserror::Error;
 
-/// What a batch was refused for. After `TooMany` the least index with a fault counts, and at one index
-/// the first of `NoTable`, `Misfit` and `Untimed`. Indexes count from 0.
+/// Why a batch was refused. `TooMany` comes first. Otherwise the error names the least index with a fault, counted from
+/// 0, and the first of `NoTable`, `Misfit` and `Untimed` that applies there.
 #[derive(Clone, Copy, Debug, PartialEq, Eq, Error)]
 pub enum BatchError {
     /// There are more than 512 updates.
     #[error("a batch has at most 512 updates")]
     TooMany,
-    /// The table of the update at that index isn't in the roster.
+    /// The roster has no table with the id of the update at this index.
     #[error("update {0} is of a table that the roster lacks")]
     NoTable(usize),
-    /// The update at that index doesn't fit its table: key, values, name or life.
+    /// The key, values, name or life of the update at this index doesn't fit its table.
     #[error("update {0} doesn't fit its table")]
     Misfit(usize),
-    /// The update at that index has no life.
+    /// The update at this index has no life.
     #[error("update {0} has no life")]
     Untimed(usize),
-    /// Memory was wanted, and the growth was refused.
+    /// Memory ran out.
     #[error("memory")]
     Memory,
 }
 
-/// At most 512 updates that fit the tables of the roster for which the batch was made. Copies of a batch share its updates.
+/// At most 512 updates that fit the tables of the roster for which the batch was made. Copies of a batch share its
+/// updates.
 #[derive(Debug, Drop)]
 pub struct Batch {
     updates: Arc<Items<Update>, Global>,
@@ -78,7 +79,7 @@ fn fault_of(roster: &Roster, updates: &[Update]) -> Option<BatchError>
     None
 }
 
-/// The table itself, where that is its id.
+/// Returns the table if its id is `id`.
 fn only_table(table: &TableDef, id: u64) -> Option<&TableDef>
     ensures { option_copied result ≡ table_at (table.now ∷ []) id }
 {
@@ -97,7 +98,7 @@ fn fault_of_table(table: &TableDef, updates: &[Update]) -> Option<BatchError>
     None
 }
 
-/// The batch of these updates.
+/// Makes a batch of the updates.
 fn shared(alloc: Global, updates: Vec<Update>) -> Result<Batch, BatchError>
     requires { length updates.items ≤ 512 }
     ensures made { IfOk result (λ batch. batch ≡ updates.items) }
@@ -110,10 +111,11 @@ fn shared(alloc: Global, updates: Vec<Update>) -> Result<Batch, BatchError>
 }
 
 impl Batch {
-    /// The most updates of a batch.
+    /// The most updates that a batch can have.
     pub const MOST: usize = 512;
 
-    /// The batch of these updates, in this order, for that roster.
+    /// Makes a batch of the updates, in this order, for `roster`. Refuses updates that don't fit the roster, as
+    /// `BatchError` says.
     pub fn new(alloc: Global, roster: &Roster, updates: Vec<Update>) -> Result<Batch, BatchError>
         ensures made { IfOk result (λ batch. (batch ≡ updates.items) × IsBatchFor roster.now updates.items) }
         ensures refused { IfErr result (λ e. e ≢ errors.Memory → batch_fault roster.now updates.items ≡ Some e) }
@@ -128,8 +130,8 @@ impl Batch {
         shared(alloc, updates)
     }
 
-    /// The batch of these updates, in this order, all of that table. It is one for each roster in which the table's id
-    /// stands for that table (`a_batch_of_one_table`).
+    /// Makes a batch of the updates, in this order, all of them of one table. It is a batch for every roster that has
+    /// this table at its id (`a_batch_of_one_table`).
     pub fn of_table(
         alloc: Global,
         table: &TableDef,
@@ -148,21 +150,21 @@ impl Batch {
         shared(alloc, updates)
     }
 
-    /// Whether the batch is one for that roster, for whatever roster or table it was made.
+    /// Returns whether the batch is one for `roster`, whatever roster or table it was made for.
     pub fn is_for(&self, roster: &Roster) -> bool
         ensures { IsTrue result ↔ IsBatchFor roster.now self.now }
     {
         fault_of(roster, self.updates()).is_none()
     }
 
-    /// Whether both are the same updates in the same order.
+    /// Returns whether both have the same updates in the same order.
     pub fn is_same(&self, other: &Batch) -> bool
         ensures { IsTrue result ↔ (self.now ≡ other.now) }
     {
         are_same_updates(self.updates(), other.updates())
     }
 
-    /// The updates in order.
+    /// Returns the updates in order.
     pub fn updates(&self) -> &[Update]
         ensures updates { result.now ≡ self.now }
         ensures most { length self.now ≤ 512 }
@@ -170,7 +172,8 @@ impl Batch {
         self.updates.as_slice()
     }
 
-    /// An equal batch, which shares the updates. No growth is made for it; it is refused where 2^63 - 1 batches share them.
+    /// Returns an equal batch that shares the updates. Doesn't allocate; fails only if 2^63 - 1 batches share them
+    /// already.
     pub fn copy(&self) -> Result<Batch, Memory>
         ensures { IfOk result (λ copy. copy ≡ self.now) }
     {

@@ -7,9 +7,9 @@ ghost use Rattle.std.specs.Int.{w64, from_be_bytes};
 
 use std::cmp::Ordering;
 
-/// How bytes compare: by the first that differs, or by how many there are.
+/// Compares bytes by the first that differs, or by their count if one is a prefix of the other.
 ///
-/// Eight at a time are compared as one number.
+/// Compares eight bytes at a time, as one number.
 pub(crate) fn compare_bytes(left: &[u8], right: &[u8]) -> Ordering
     ensures { result ≡ slice_cmp nat_cmp left.now right.now }
 {
@@ -23,7 +23,7 @@ pub(crate) fn compare_bytes(left: &[u8], right: &[u8]) -> Ordering
     left[8 * words..].cmp(&right[8 * words..])
 }
 
-/// The eight bytes of that index as a number, the first the highest.
+/// Returns the eight bytes from `8 * word` on as a number, the first byte the most significant.
 fn word_at(bytes: &[u8], word: usize) -> u64
     requires { 8 * word + 8 ≤ length bytes.now }
     ensures { result ≡ from_be_bytes w64 (drop (8 * word) bytes.now) }

@@ -9,23 +9,23 @@ use crate::name::Name;
 use crate::table_def::{TableDef, stores};
 use std::alloc::Global;
 
-/// What this node changes of a row.
+/// A change of a row by this node.
 #[derive(Debug, Drop)]
 pub enum Change {
-    /// Adds to a count, which stops at the most that its data type can be.
+    /// Adds to a count, which stops at the greatest value of its data type.
     Add(DataType, u64),
-    /// Takes from a count, which stops at 0.
+    /// Subtracts from a count, which stops at 0.
     Take(DataType, u64),
-    /// Sets a count, to the most that its data type can be where the number is above that.
+    /// Sets a count, or the greatest value of its data type if the number is above that.
     Put(DataType, u64),
-    /// Adds to the current count of a rate, once its periods have turned; it stops at 2^32 - 1.
+    /// Adds to the current count of a rate, after rotating its periods. The count stops at 2^32 - 1.
     AddRate(DataType, u32),
-    /// Sets the server's name, or takes it away.
+    /// Sets the server's name, or removes it.
     SetName(Option<Name>),
 }
 
 impl Change {
-    /// Whether both are the same change.
+    /// Returns whether both are the same change.
     pub fn is_same(&self, other: &Change) -> bool
         ensures { IsTrue result ↔ (self.now ≡ other.now) }
     {
@@ -47,7 +47,7 @@ impl Change {
         }
     }
 
-    /// An equal change.
+    /// Returns an equal copy. Fails if memory runs out.
     pub fn copy(&self, alloc: Global) -> Result<Change, Memory>
         ensures { IfOk result (λ copy. copy ≡ self.now) }
     {
@@ -68,8 +68,8 @@ fn is_count(data_type: DataType) -> bool
 }
 
 impl TableDef {
-    /// Whether rows of this table can be changed so: a count or a rate has to be one that the table stores, and a name is
-    /// set only where it stores the server's name.
+    /// Returns whether rows of this table can be changed this way: the table stores the count or rate, or, for a change
+    /// of the name, the server's name.
     pub fn change_fits(&self, change: &Change) -> bool
         ensures { result ≡ change_fits self.now change.now }
     {

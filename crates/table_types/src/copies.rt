@@ -1,21 +1,21 @@
 //! What a table copies for a peer, and what a peer's acknowledgement settles.
 
-/// Which rows a batch is to teach.
+/// Which rows a batch teaches.
 #[derive(Clone, Copy, Debug, PartialEq, Eq)]
 pub enum CopyKind {
     /// This node's own rows.
     Push,
-    /// Learned rows too.
+    /// This node's own rows and learned rows.
     Resync,
 }
 
-/// What an acknowledgement settled.
+/// How much of a batch an acknowledgement settled.
 #[derive(Clone, Copy, Debug, PartialEq, Eq)]
 pub enum Settled {
-    /// The whole batch: none is out any more.
+    /// The whole batch: nothing of it is unacknowledged.
     All,
-    /// A part of the batch that is out.
+    /// Part of the batch: the rest is still unacknowledged.
     Some,
-    /// Nothing: the number isn't above the one acknowledged.
+    /// Nothing: the number isn't above the last one acknowledged.
     Older,
 }

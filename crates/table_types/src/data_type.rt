@@ -1,23 +1,23 @@
-//! What a stick table can store beside a key.
+//! The data types that a stick table can store beside a key.
 
 ghost use Rattle.std.specs.Prelude.{◌≡◌, ◌↔◌, IfSome, IsTrue, Some};
 ghost use Rattle.table_types.specs.DataTypes.{id_of, name_of, shape_of, is_rate, is_same_type};
 
-/// How a data type's value is sent.
+/// How the value of a data type is sent.
 #[derive(Clone, Copy, Debug, PartialEq, Eq)]
 pub enum Shape {
     /// A count below 2^32.
     Count,
     /// A count below 2^64.
     LongCount,
-    /// Milliseconds since the current period began, the current count, and the previous one, each below 2^32.
+    /// Milliseconds since the current period began, the current count, and the previous count, each below 2^32.
     Rate,
-    /// A name, sent by the dictionary. It is no value: an update has it in a field of its own.
+    /// A name, sent through the dictionary. It is not among the values: an update has a field of its own for it.
     Name,
 }
 
-/// The data types of stick tables (HAProxy Configuration Manual, stick-table `store`). The numbers are the
-/// bits of doc/peers-v2.0.txt, "Table Definition Message", data types; from 20 up they are outside this profile.
+/// The data types of stick tables (HAProxy Configuration Manual, stick-table `store`). The numbers are the bits of
+/// doc/peers-v2.0.txt, "Table Definition Message", data types; those from 20 up are outside this profile.
 #[derive(Clone, Copy, Debug, PartialEq, Eq)]
 pub enum DataType {
     /// Numeric id of the server that the key was sent to. Bit 0.
@@ -28,29 +28,29 @@ pub enum DataType {
     Gpc0,
     /// Rate of the first general purpose counter. Bit 3.
     Gpc0Rate,
-    /// Connections seen in all. Bit 4.
+    /// Connections in total. Bit 4.
     ConnCnt,
     /// Rate of connections. Bit 5.
     ConnRate,
-    /// Connections open now. Bit 6.
+    /// Connections currently open. Bit 6.
     ConnCur,
-    /// Sessions seen in all. Bit 7.
+    /// Sessions in total. Bit 7.
     SessCnt,
     /// Rate of sessions. Bit 8.
     SessRate,
-    /// HTTP requests in all. Bit 9.
+    /// HTTP requests in total. Bit 9.
     HttpReqCnt,
     /// Rate of HTTP requests. Bit 10.
     HttpReqRate,
-    /// HTTP errors in all. Bit 11.
+    /// HTTP errors in total. Bit 11.
     HttpErrCnt,
     /// Rate of HTTP errors. Bit 12.
     HttpErrRate,
-    /// Bytes received from clients, in all. Bit 13.
+    /// Bytes received from clients in total. Bit 13.
     BytesInCnt,
     /// Rate of bytes received from clients. Bit 14.
     BytesInRate,
-    /// Bytes sent to clients, in all. Bit 15.
+    /// Bytes sent to clients in total. Bit 15.
     BytesOutCnt,
     /// Rate of bytes sent to clients. Bit 16.
     BytesOutRate,
@@ -58,12 +58,12 @@ pub enum DataType {
     Gpc1,
     /// Rate of the second general purpose counter. Bit 18.
     Gpc1Rate,
-    /// Name of the server that the key was sent to, by the dictionary. Bit 19.
+    /// Name of the server that the key was sent to, sent through the dictionary. Bit 19.
     ServerKey,
 }
 
 impl DataType {
-    /// Each data type, in rising id.
+    /// All data types, in ascending order of id.
     pub const ALL: [DataType; 20] = [
         DataType::ServerId,
         DataType::Gpt0,
@@ -87,14 +87,14 @@ impl DataType {
         DataType::ServerKey,
     ];
 
-    /// The data type's id, its bit in a definition: 0 to 19.
+    /// Returns the data type's id, which is its bit in a definition: 0 to 19.
     pub fn id(self) -> u8
         ensures { result ≡ id_of self }
     {
         self as u8
     }
 
-    /// The data type of that id, and `None` where none has it.
+    /// Returns the data type with this id, or `None` if there is none.
     pub fn from_id(id: u64) -> Option<DataType>
         ensures id { IfSome result (λ data_type. id_of data_type ≡ id) }
         ensures exactly { (data_type : DataType) → id_of data_type ≡ id → result ≡ Some data_type }
@@ -124,7 +124,7 @@ impl DataType {
         })
     }
 
-    /// Whether both are the same data type.
+    /// Returns whether both are the same data type.
     pub fn is_same(self, other: DataType) -> bool
         ensures same { result ≡ is_same_type self other }
         ensures equal { IsTrue result ↔ (self ≡ other) }
@@ -132,7 +132,7 @@ impl DataType {
         self.id() == other.id()
     }
 
-    /// The name of the data type in HAProxy's configuration.
+    /// Returns the name of the data type in HAProxy's configuration.
     pub fn name(self) -> &'static str
         ensures { result.now ≡ name_of self }
     {
@@ -160,7 +160,7 @@ impl DataType {
         }
     }
 
-    /// The data type of that name, and `None` where none has it.
+    /// Returns the data type with this name, or `None` if there is none.
     pub fn from_name(name: &str) -> Option<DataType>
         ensures name { IfSome result (λ data_type. name_of data_type ≡ name.now) }
         ensures exactly { (data_type : DataType) → name_of data_type ≡ name.now → result ≡ Some data_type }
@@ -190,7 +190,7 @@ impl DataType {
         })
     }
 
-    /// How its value is sent.
+    /// Returns how the data type's value is sent.
     pub fn shape(self) -> Shape
         ensures { result ≡ shape_of self }
     {
@@ -209,7 +209,7 @@ impl DataType {
         }
     }
 
-    /// Whether it is a rate, which has a period.
+    /// Returns whether the data type is a rate, which has a period.
     pub fn is_rate(self) -> bool
         ensures { result ≡ is_rate self }
     {

@@ -1,4 +1,4 @@
-//! A list that contracts see as a list.
+//! A list of which contracts see only the elements.
 
 ghost use Rattle.std.specs.Prelude.{◌≡◌, ◌==◌, IfOk, length};
 ghost use Rattle.std.specs.Cmp.Lexicographic.{pointwise, lists_per, lists_equiv, slice_partial_cmp, lists_po, slice_cmp, lists_total, lists_agrees, lists_ties};
@@ -8,8 +8,8 @@ use std::alloc::Global;
 use std::cmp::Ordering;
 use std::marker::Model;
 
-/// A list of things in order. It is a `Vec` of which contracts see the elements alone, not where they
-/// lie in memory: made from a `Vec`, and giving it back, without taking memory.
+/// A list of elements in order. It is a `Vec` of which contracts see only the elements, not where they lie in memory.
+/// Converting from and to a `Vec` doesn't allocate.
 #[derive(Debug, Drop)]
 pub struct Items<T> {
     items: Vec<T>,
@@ -24,35 +24,35 @@ impl<T> Model for Items<T> {
 }
 
 impl<T> Items<T> {
-    /// The list of a `Vec`'s elements.
+    /// Makes a list of the elements of a `Vec`.
     pub fn new(items: Vec<T>) -> Items<T>
         ensures { result ≡ items.items }
     {
         Items { items }
     }
 
-    /// The elements, lent.
+    /// Borrows the elements.
     pub fn as_slice(&self) -> &[T]
         ensures { result.now ≡ self.now }
     {
         self.items.as_slice()
     }
 
-    /// How many there are.
+    /// Returns the number of elements.
     pub fn len(&self) -> usize
         ensures { result ≡ length self.now }
     {
         self.items.len()
     }
 
-    /// Whether there is none.
+    /// Returns whether the list is empty.
     pub fn is_empty(&self) -> bool
         ensures { result ≡ (length self.now == 0) }
     {
         self.items.is_empty()
     }
 
-    /// The `Vec` again.
+    /// Returns the `Vec` of the elements.
     pub fn into_vec(self) -> Vec<T>
         ensures { result.items ≡ self }
     {
@@ -61,7 +61,7 @@ impl<T> Items<T> {
 }
 
 impl<T: Copy> Items<T> {
-    /// An equal list.
+    /// Returns an equal copy. Fails if memory runs out.
     pub fn copy(&self, alloc: Global) -> Result<Items<T>, Memory>
         ensures { IfOk result (λ copy. copy ≡ self.now) }
     {

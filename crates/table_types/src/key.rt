@@ -12,24 +12,24 @@ use crate::memory::Memory;
 use std::alloc::Global;
 use std::cmp::Ordering;
 
-/// What a table's keys are (HAProxy Configuration Manual, stick-table `type`; the numbers are those of
+/// The kind of a table's keys (HAProxy Configuration Manual, stick-table `type`; the numbers are those of
 /// doc/peers-v2.0.txt, "Table Definition Message", key type).
 #[derive(Clone, Copy, Debug, PartialEq, Eq)]
 pub enum KeyKind {
-    /// A number of 32 bits; key type 2.
+    /// A 32-bit number; key type 2.
     Integer,
     /// An IPv4 address; key type 4.
     Ip4,
     /// An IPv6 address; key type 5.
     Ip6,
-    /// A text; key type 6.
+    /// A string; key type 6.
     String,
-    /// Bytes of one length; key type 7.
+    /// Bytes of a fixed length; key type 7.
     Binary,
 }
 
 impl KeyKind {
-    /// Each kind, in rising number.
+    /// All kinds, in ascending order of number.
     pub const ALL: [KeyKind; 5] = [
         KeyKind::Integer,
         KeyKind::Ip4,
@@ -38,7 +38,7 @@ impl KeyKind {
         KeyKind::Binary,
     ];
 
-    /// The number that stands for the kind in a definition.
+    /// Returns the number of the kind in a definition.
     pub fn number(self) -> u8
         ensures { result ≡ number_of self }
     {
@@ -51,7 +51,7 @@ impl KeyKind {
         }
     }
 
-    /// The kind of that number, and `None` where no kind has it.
+    /// Returns the kind with this number, or `None` if there is none.
     pub fn from_number(number: u64) -> Option<KeyKind>
         ensures kind { result ≡ kind_at number }
         ensures number { IfSome result (λ kind. number_of kind ≡ number) }
@@ -67,7 +67,7 @@ impl KeyKind {
         }
     }
 
-    /// The word for the kind (profile): `integer`, `ipv4`, `ipv6`, `string` or `binary`.
+    /// Returns the word for the kind (profile): `integer`, `ipv4`, `ipv6`, `string` or `binary`.
     pub fn name(self) -> &'static str
         ensures { result.now ≡ kind_name self }
     {
@@ -80,7 +80,7 @@ impl KeyKind {
         }
     }
 
-    /// The kind that a word stands for, and `None` where it stands for none.
+    /// Returns the kind that a word stands for, or `None` if it stands for none.
     pub fn from_name(name: &str) -> Option<KeyKind>
         ensures name { IfSome result (λ kind. kind_name kind ≡ name.now) }
         ensures exactly { (kind : KeyKind) → kind_name kind ≡ name.now → result ≡ Some kind }
@@ -95,8 +95,8 @@ impl KeyKind {
         })
     }
 
-    /// Whether a table of this kind may have that key length: 4 for integers and IPv4, 16 for IPv6,
-    /// 1 to 8,192 for texts and bytes (the greatest is the profile's choice).
+    /// Returns whether a table of this kind may have this key length: 4 for integers and IPv4, 16 for IPv6, 1 to 8,192
+    /// for strings and bytes (the limit is the profile's choice).
     pub fn fits_length(self, key_length: u64) -> bool
         ensures { result ≡ fits_length self key_length }
     {
@@ -110,7 +110,8 @@ impl KeyKind {
 
 /// A key of one of the five kinds.
 ///
-/// Keys of one kind are in order of their number or byte by byte; a key of an earlier kind comes first.
+/// Keys of one kind are ordered by number or byte by byte. Keys of different kinds are ordered as the kinds are listed
+/// here.
 #[derive(Debug, Drop, PartialEq, Eq)]
 pub enum Key {
     /// A number.
@@ -119,18 +120,18 @@ pub enum Key {
     Ip4([u8; 4]),
     /// The sixteen bytes of an IPv6 address, in network order.
     Ip6([u8; 16]),
-    /// A text's bytes; in a table of key length L, fewer than L.
+    /// The bytes of a string: fewer than L in a table of key length L.
     Str(Items<u8>),
-    /// Bytes; in a table of key length L, exactly L.
+    /// Bytes: exactly L in a table of key length L.
     Bin(Items<u8>),
 }
 
 impl Key {
-    /// Whether the key is one of a table of that kind and key length.
+    /// Returns whether the key fits a table of this kind and key length.
     pub fn fits(&self, kind: KeyKind, key_length: u64) -> bool
         ensures { result ≡ key_fits kind key_length self.now }
     {
-        // What the type of a number or an address says already is tested for the contract to see.
+        // The types of numbers and addresses imply their ranges; the tests only show them to the contract.
         match (kind, self) {
             (KeyKind::Integer, Key::Int(number)) => u64::from(*number) < 1 << 32,
             (KeyKind::Ip4, Key::Ip4(address)) => address.as_slice().len() == 4,
@@ -141,15 +142,15 @@ impl Key {
         }
     }
 
-    /// Whether both are the same key.
+    /// Returns whether both are the same key.
     pub fn is_same(&self, other: &Key) -> bool
         ensures { IsTrue result ↔ (self.now ≡ other.now) }
     {
         self == other
     }
 
-    /// An equal key.
-    // What holds rows copies keys at each change, so the arm for integers is inlined there.
+    /// Returns an equal copy. Fails if memory runs out.
+    // Tables copy keys at each change, so the arm for integers is inlined.
     #[inline(always)]
     pub fn copy(&self, alloc: Global) -> Result<Key, Memory>
         ensures { IfOk result (λ copy. copy ≡ self.now) }
@@ -161,7 +162,7 @@ impl Key {
     }
 }
 
-/// A key that is equal to any. It isn't inlined, so that integers are told apart by one test before it.
+/// Copies a key of any kind. Not inlined, so that a single test before the call handles integers.
 #[inline(never)]
 fn copy_of(alloc: Global, key: &Key) -> Result<Key, Memory>
     ensures { IfOk result (λ copy. copy ≡ key.now) }
@@ -194,7 +195,7 @@ impl Ord for Key {
 
     ghost matches_eq = { key_cmp_ties };
 
-    // A map of rows compares keys at each step of a search, so the arm for integers is inlined there.
+    // Maps of rows compare keys at each step of a search, so the arm for integers is inlined.
     #[inline(always)]
     fn cmp(&self, other: &Self) -> Ordering {
         match (self, other) {
@@ -204,7 +205,7 @@ impl Ord for Key {
     }
 }
 
-/// How any two keys compare. It isn't inlined, so that integers are compared by one test before it.
+/// Compares two keys of any kinds. Not inlined, so that a single test before the call handles integers.
 #[inline(never)]
 fn compare(left: &Key, right: &Key) -> Ordering
     ensures { result ≡ key_cmp left.now right.now }
@@ -221,7 +222,7 @@ fn compare(left: &Key, right: &Key) -> Ordering
     }
 }
 
-/// The place of a key's kind in the order of kinds.
+/// Returns the position of the key's kind in the order of kinds.
 fn rank(key: &Key) -> u8
     ensures { result ≡ kind_rank key.now }
 {

@@ -1,5 +1,4 @@
-//! What stick tables are made of: keys, data types, values, definitions, updates, rosters, batches, rows and their
-//! changes.
+//! The parts of stick tables: keys, data types, values, definitions, updates, rosters, batches, rows and their changes.
 #![tactic(auto)]
 
 mod batch;

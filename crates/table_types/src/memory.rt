@@ -1,4 +1,4 @@
-//! The refusal of a call that wanted memory and was given none.
+//! The error of a call that ran out of memory.
 
 ghost use Rattle.std.specs.Prelude.{◌≡◌};
 ghost use Rattle.table_types.specs.declared.memory.Memory.{Memory};
@@ -6,8 +6,7 @@ ghost use Rattle.table_types.specs.declared.memory.Memory.{Memory};
 use std::alloc::{AllocError, AllocFailed};
 use thiserror::Error;
 
-/// Memory was wanted, and the growth was refused. A call that answers this has changed nothing,
-/// unless its own words say otherwise.
+/// Memory ran out. A call that returns this error has changed nothing, unless its own documentation says otherwise.
 #[derive(Clone, Copy, Debug, PartialEq, Eq, Error)]
 #[error("memory")]
 pub struct Memory;

@@ -5,8 +5,8 @@ ghost use Rattle.table_types.specs.Rows.{later_by};
 
 use std::marker::Model;
 
-/// A point in time in milliseconds, from 2^32 to 2^63 - 1 (profile): so a rate's period that began up to 2^32 - 1 ms
-/// ago has a start of 0 or more, and an end in 2^32 - 1 ms is still a number of 64 bits.
+/// A point in time in milliseconds, from 2^32 to 2^63 - 1 (profile). With these bounds a period that began up to 2^32 -
+/// 1 ms ago starts at 0 or later, and an end up to 2^32 - 1 ms ahead fits in 64 bits.
 #[derive(Clone, Copy, Debug, PartialEq, Eq, PartialOrd, Ord)]
 pub struct Moment {
     milliseconds: u64,
@@ -25,7 +25,7 @@ impl Model for Moment {
 }
 
 impl Moment {
-    /// The moment so many milliseconds from the clock's beginning, and `None` below 2^32 or from 2^63 on.
+    /// Makes the moment `milliseconds` after the clock's zero. Returns `None` below 2^32 and from 2^63 on.
     pub fn new(milliseconds: u64) -> Option<Moment>
         ensures moment { IfSome result (λ moment. moment ≡ milliseconds) }
         ensures exactly { IsSome result ↔ ((2 ^ 32 ≤ milliseconds) × (milliseconds < 2 ^ 63)) }
@@ -37,7 +37,7 @@ impl Moment {
         }
     }
 
-    /// The least moment.
+    /// Returns the least moment.
     pub fn least() -> Moment
         ensures { result ≡ 2 ^ 32 }
     {
@@ -46,7 +46,7 @@ impl Moment {
         }
     }
 
-    /// Its milliseconds.
+    /// Returns the moment in milliseconds.
     pub fn milliseconds(self) -> u64
         ensures value { result ≡ self }
         ensures least { 2 ^ 32 ≤ self }
@@ -55,7 +55,7 @@ impl Moment {
         self.milliseconds
     }
 
-    /// So many milliseconds later; past the greatest moment it is that one.
+    /// Returns the moment `milliseconds` later, or the greatest moment if that is past it.
     pub fn later_by(self, milliseconds: u32) -> Moment
         ensures { result ≡ later_by milliseconds self }
     {

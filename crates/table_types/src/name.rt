@@ -1,4 +1,4 @@
-//! Names of tables, of servers and of peers.
+//! Names of tables, servers and peers.
 
 ghost use Rattle.std.specs.Prelude.{◌≡◌, true, ◌↔◌, IsSome, IfSome, IfOk, IsTrue};
 ghost use Rattle.table_types.specs.Names.{is_name};
@@ -27,7 +27,7 @@ impl Model for Name {
     ghost inverse = { λ bytes. record { bytes = bytes } };
 }
 
-/// Whether bytes are a name: 1 to 255 of them, none NUL.
+/// Returns whether the bytes are a name: 1 to 255 of them, none NUL.
 pub fn is_name(bytes: &[u8]) -> bool
     ensures { result ≡ is_name bytes.now }
 {
@@ -35,7 +35,7 @@ pub fn is_name(bytes: &[u8]) -> bool
 }
 
 impl Name {
-    /// The name of these bytes, and `None` where they are none.
+    /// Makes a name of the bytes, or returns `None` if they aren't one.
     pub fn new(bytes: Vec<u8>) -> Option<Name>
         ensures named { IfSome result (λ name. name ≡ bytes.items) }
         ensures exactly { IsSome result ↔ (is_name bytes.items ≡ true) }
@@ -49,7 +49,7 @@ impl Name {
         }
     }
 
-    /// The name of these bytes, which are one.
+    /// Makes a name of bytes that are one. Fails if memory runs out.
     pub fn from_slice(alloc: Global, bytes: &[u8]) -> Result<Name, Memory>
         requires { is_name bytes.now ≡ true }
         ensures { IfOk result (λ name. name ≡ bytes.now) }
@@ -60,7 +60,7 @@ impl Name {
         }
     }
 
-    /// The name's bytes.
+    /// Returns the name's bytes.
     pub fn as_slice(&self) -> &[u8]
         ensures bytes { result.now ≡ self.now }
         ensures named { is_name self.now ≡ true }
@@ -68,14 +68,14 @@ impl Name {
         self.bytes.as_slice()
     }
 
-    /// Whether both are the same name.
+    /// Returns whether both are the same name.
     pub fn is_same(&self, other: &Name) -> bool
         ensures { IsTrue result ↔ (self.now ≡ other.now) }
     {
         self == other
     }
 
-    /// Whether both are the same name, or there is none in either place.
+    /// Returns whether both are the same name, or both are `None`.
     pub fn are_same(one: &Option<Name>, other: &Option<Name>) -> bool
         ensures { IsTrue result ↔ (one.now ≡ other.now) }
     {
@@ -86,7 +86,7 @@ impl Name {
         }
     }
 
-    /// An equal name.
+    /// Returns an equal copy. Fails if memory runs out.
     pub fn copy(&self, alloc: Global) -> Result<Name, Memory>
         ensures { IfOk result (λ copy. copy ≡ self.now) }
     {
@@ -95,7 +95,7 @@ impl Name {
         })
     }
 
-    /// An equal name, or none where there is none.
+    /// Returns an equal copy of the name, if there is one. Fails if memory runs out.
     pub fn copy_of(alloc: Global, name: &Option<Name>) -> Result<Option<Name>, Memory>
         ensures { IfOk result (λ copy. copy ≡ name.now) }
     {

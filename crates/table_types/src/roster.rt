@@ -1,4 +1,4 @@
-//! The tables that a node keeps.
+//! Rosters: the tables that a node keeps.
 
 ghost use Rattle.std.specs.Prelude.{◌≡◌, None, IfOk, IfErr, MatchResult, Some, length, nat_eq, option_copied};
 ghost use Rattle.table_types.specs.Rosters.{is_same_name, has_id, has_name, repeats_id, repeats_name, roster_fault, table_at};
@@ -10,24 +10,24 @@ use std::alloc::Global;
 use std::marker::Model;
 use thiserror::Error;
 
-/// What a roster was refused for: the first that applies, in this order.
+/// Why a roster was refused: the first of these that applies, in this order.
 #[derive(Clone, Copy, Debug, PartialEq, Eq, Error)]
 pub enum RosterError {
-    /// There is no table, or there are more than 64.
+    /// There are no tables, or more than 64.
     #[error("a roster has 1 to 64 tables")]
     Count,
-    /// Two tables have one id.
+    /// Two tables have the same id.
     #[error("two tables have one id")]
     RepeatedId,
-    /// Two tables have one name.
+    /// Two tables have the same name.
     #[error("two tables have one name")]
     RepeatedName,
-    /// Memory was wanted. It is never answered, since a roster keeps the list that it is made of.
+    /// Memory ran out. Never returned, since a roster keeps the `Vec` that it is made of.
     #[error("memory")]
     Memory,
 }
 
-/// The tables that a node keeps: 1 to 64 in the order given, each with an id and a name of its own.
+/// The tables that a node keeps: 1 to 64, in the order given, with distinct ids and distinct names.
 #[derive(Debug, Drop)]
 pub struct Roster {
     tables: Items<TableDef>,
@@ -45,14 +45,14 @@ impl Model for Roster {
     ghost invariant = { λ a. roster_fault a.tables ≡ None };
 }
 
-/// Whether two names are the same, byte for byte.
+/// Returns whether two names are the same, byte for byte.
 pub fn is_same_name(one: &[u8], other: &[u8]) -> bool
     ensures { result ≡ is_same_name one.now other.now }
 {
     one == other
 }
 
-/// Whether one of the tables has that id.
+/// Returns whether one of the tables has this id.
 pub fn has_id(tables: &[TableDef], id: u64) -> bool
     ensures { result ≡ has_id id tables.now }
 {
@@ -97,7 +97,7 @@ fn repeats_name(tables: &[TableDef]) -> bool
     false
 }
 
-/// The first of the tables that has that id.
+/// Returns the first of the tables that has this id.
 pub fn table_at(tables: &[TableDef], id: u64) -> Option<&TableDef>
     ensures { option_copied result ≡ table_at tables.now id }
 {
@@ -110,10 +110,10 @@ pub fn table_at(tables: &[TableDef], id: u64) -> Option<&TableDef>
 }
 
 impl Roster {
-    /// The most tables of a roster.
+    /// The most tables that a roster can have.
     pub const MOST: usize = 64;
 
-    /// The roster of these tables, in this order.
+    /// Makes a roster of the tables, in this order.
     pub fn new(tables: Vec<TableDef>) -> Result<Roster, RosterError>
         ensures made { IfOk result (λ roster. (roster ≡ tables.items) × (roster_fault tables.items ≡ None)) }
         ensures refused { IfErr result (λ e. roster_fault tables.items ≡ Some e) }
@@ -132,7 +132,7 @@ impl Roster {
         })
     }
 
-    /// The tables, in the order given.
+    /// Returns the tables, in the order given.
     pub fn tables(&self) -> &[TableDef]
         ensures tables { result.now ≡ self.now }
         ensures sound { roster_fault self.now ≡ None }
@@ -140,7 +140,7 @@ impl Roster {
         self.tables.as_slice()
     }
 
-    /// The table that an id stands for.
+    /// Returns the table with this id.
     pub fn table(&self, id: u64) -> Option<&TableDef>
         ensures found { option_copied result ≡ table_at self.now id }
         ensures sound { roster_fault self.now ≡ None }
@@ -148,7 +148,7 @@ impl Roster {
         table_at(self.tables.as_slice(), id)
     }
 
-    /// An equal roster.
+    /// Returns an equal copy. Fails if memory runs out.
     pub fn copy(&self, alloc: Global) -> Result<Roster, Memory>
         ensures { IfOk result (λ copy. copy ≡ self.now) }
     {

@@ -1,4 +1,4 @@
-//! How the periods of a rate turn.
+//! How the periods of a rate rotate.
 
 ghost use Rattle.std.specs.Prelude.{◌≡◌, ◌≤◌};
 ghost use Rattle.table_types.specs.Rotation.{rotated, rate_at, counted};
@@ -6,9 +6,9 @@ ghost use Rattle.table_types.specs.Rotation.{rotated, rate_at, counted};
 use crate::moment::Moment;
 use crate::row::Cell;
 
-/// The rate at a moment, where its periods have that many milliseconds: within its current period it is as it was; in
-/// the period after that, its current count is the previous one; later both counts are 0, and a period begins at the
-/// moment. A rate that starts after the moment, or a count, is as it was.
+/// Returns the rate as of `moment`, with a period of `period` milliseconds. Within the current period it is unchanged.
+/// In the period after that, the current count becomes the previous one. Later both counts are 0, and a period begins
+/// at `moment`. A count, or a rate that starts after `moment`, is unchanged.
 pub fn rotate(cell: Cell, period: u32, moment: Moment) -> Cell
     ensures { result ≡ rotated period moment cell }
 {
@@ -34,7 +34,7 @@ pub fn rotate(cell: Cell, period: u32, moment: Moment) -> Cell
     }
 }
 
-/// What is counted of a rate whose periods turned before the moment.
+/// Returns the value of a rate that was rotated to `moment`.
 fn counted(cell: Cell, period: u32, moment: Moment) -> u64
     requires { 1 ≤ period }
     ensures { result ≡ counted period moment cell }
@@ -53,9 +53,9 @@ fn counted(cell: Cell, period: u32, moment: Moment) -> u64
     }
 }
 
-/// What is read of a rate at a moment, where its periods have that many milliseconds: its current count, and so much of
-/// the previous one as the current period has still to run, rounded down, once the periods have turned. Of a count it
-/// is the count.
+/// Returns the value of a rate at `moment`, with a period of `period` milliseconds: after the rotation, the current
+/// count plus the share of the previous count for which the current period has still to run, rounded down. The value of
+/// a count is the count.
 pub fn read_rate(cell: Cell, period: u32, moment: Moment) -> u64
     requires { 1 ≤ period }
     ensures { result ≡ rate_at period moment cell }

@@ -12,27 +12,27 @@ use crate::update::{Update, Value};
 use std::alloc::Global;
 use std::marker::Model;
 
-/// What a row holds of a data type (HAProxy Configuration Manual, stick-table `store`).
+/// What a row stores for one data type (HAProxy Configuration Manual, stick-table `store`).
 #[derive(Clone, Copy, Debug, PartialEq, Eq)]
 pub enum Cell {
     /// A count.
     Count(u64),
     /// A rate.
     Rate {
-        /// The milliseconds of the moment at which its current period began; it may lie below the least `Moment`.
+        /// The moment at which the current period began, in milliseconds; it may be below the least `Moment`.
         start: u64,
         /// The count of the current period.
         current: u32,
-        /// The count of the period before.
+        /// The count of the previous period.
         previous: u32,
     },
 }
 
-/// What a table holds at a key.
+/// What a table stores at a key.
 #[derive(Debug, Drop)]
 pub struct Row {
     number: u32,
-    // Beside the number, where it takes no room of its own: fields lie in this order.
+    // Fields are laid out in this order, and here the flag fits into padding.
     learned: bool,
     ends: Option<Moment>,
     cells: ShortList<Cell>,
@@ -48,8 +48,8 @@ impl Model for Row {
 }
 
 impl Cell {
-    /// What a row holds of a value that an update has, which came at that moment: a count as given, and of a rate the
-    /// moment at which its current period began.
+    /// Makes the cell of a value that an update brought at `moment`: a count as it is, and a rate with the moment at
+    /// which its current period began.
     pub fn of(value: Value, moment: Moment) -> Cell
         ensures { result ≡ cell_of moment value }
     {
@@ -78,7 +78,7 @@ fn cells_of(alloc: Global, values: &[Value], moment: Moment) -> Result<ShortList
     Ok(cells)
 }
 
-/// Whether both are the same cells, one for one.
+/// Returns whether both are the same cells, one for one.
 pub fn are_same_cells(one: &[Cell], other: &[Cell]) -> bool
     ensures { IsTrue result ↔ (one.now ≡ other.now) }
 {
@@ -86,12 +86,12 @@ pub fn are_same_cells(one: &[Cell], other: &[Cell]) -> bool
 }
 
 impl Row {
-    /// The row that an update teaches at a moment, with its key, in a table whose rows expire after `expire`
-    /// milliseconds, or never where that is 0.
+    /// Makes the row that an update teaches at `moment`, and returns it with its key. Rows of the table expire after
+    /// `expire` milliseconds, or never if that is 0.
     ///
-    /// The row is a learned one. It ends after the smaller of the update's life and the table's expire, and after the
-    /// expire where the update has no life; an end past the greatest moment is that moment. A rate's current period
-    /// began so long ago as the update says.
+    /// The row is marked as learned. It ends after the smaller of the update's life and `expire`, or after `expire` if
+    /// the update has no life; it ends at the greatest moment at the latest. A rate's current period began as long ago
+    /// as the update says. Fails if memory runs out.
     pub fn learned(
         alloc: Global,
         update: Update,
@@ -112,7 +112,7 @@ impl Row {
         Ok((key, Row::learned_with(number, ends, cells, name)))
     }
 
-    /// The row that an update teaches at a moment, as `Row::learned` makes it, under a number of this node's own.
+    /// Makes the row that an update teaches at `moment`, as `Row::learned` does, but with a number of this node's own.
     pub fn learned_as(
         alloc: Global,
         update: &Update,
@@ -128,8 +128,8 @@ impl Row {
         Ok(Row::learned_with(number, ends, cells, name))
     }
 
-    /// When a row ends that an update of that life, in milliseconds, teaches at a moment, in a table whose rows expire
-    /// after `expire` milliseconds: never where that is 0.
+    /// Returns when a row ends that an update with this life, in milliseconds, teaches at `moment`, in a table whose
+    /// rows expire after `expire` milliseconds. `None` if `expire` is 0: the row never ends.
     pub fn end(life: Option<u32>, expire: u32, moment: Moment) -> Option<Moment>
         ensures { result ≡ end_of moment expire life }
     {
@@ -142,7 +142,7 @@ impl Row {
         }
     }
 
-    /// A learned row of these parts.
+    /// Makes a learned row of its parts.
     pub fn learned_with(
         number: u32,
         ends: Option<Moment>,
@@ -160,7 +160,7 @@ impl Row {
         }
     }
 
-    /// A row of this node's own, of these parts.
+    /// Makes a row of this node's own of its parts.
     pub(crate) fn local_with(
         number: u32,
         ends: Option<Moment>,
@@ -178,42 +178,42 @@ impl Row {
         }
     }
 
-    /// The number of the row's last update.
+    /// Returns the number of the row's last update.
     pub fn number(&self) -> u32
         ensures { result ≡ self.now.number }
     {
         self.number
     }
 
-    /// The moment at which the row ends; `None` where it lives for ever.
+    /// Returns the moment at which the row ends, or `None` if it lives forever.
     pub fn ends(&self) -> Option<Moment>
         ensures { result ≡ self.now.ends }
     {
         self.ends
     }
 
-    /// What the row holds of each data type of its table but the server's name, in rising id.
+    /// Returns the cell of each data type of the table except the server's name, in ascending order of id.
     pub fn cells(&self) -> &[Cell]
         ensures { result.now ≡ self.now.cells }
     {
         self.cells.as_slice()
     }
 
-    /// The server's name, where the table stores one and the row has one.
+    /// Returns the server's name, if the table stores one and the row has one.
     pub fn name(&self) -> Option<&Name>
         ensures { option_copied result ≡ self.now.name }
     {
         self.name.as_ref()
     }
 
-    /// Whether the row was learned from a peer, and isn't this node's own.
+    /// Returns whether the row was learned from a peer, and so isn't this node's own.
     pub fn is_learned(&self) -> bool
         ensures { result ≡ self.now.learned }
     {
         self.learned
     }
 
-    /// Whether both are the same row, part for part.
+    /// Returns whether both are the same row, part for part.
     pub fn is_same(&self, other: &Row) -> bool
         ensures { IsTrue result ↔ (self.now ≡ other.now) }
     {
@@ -224,7 +224,7 @@ impl Row {
             && Name::are_same(&self.name, &other.name)
     }
 
-    /// An equal row.
+    /// Returns an equal copy. Fails if memory runs out.
     pub fn copy(&self, alloc: Global) -> Result<Row, Memory>
         ensures { IfOk result (λ copy. copy ≡ self.now) }
     {

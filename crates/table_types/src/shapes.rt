@@ -1,4 +1,4 @@
-//! When two definitions are the same, and when they have one shape.
+//! When two definitions are the same, and when they have the same shape.
 
 ghost use Rattle.std.specs.Prelude.{◌≡◌, ◌&&◌, ◌↔◌, IsTrue};
 ghost use Rattle.table_types.specs.DataTypes.{is_same_type};
@@ -56,8 +56,8 @@ fn is_same_definition(one: &TableDef, other: &TableDef) -> bool
 }
 
 impl TableDef {
-    /// Whether both have one shape: the same name, kind of keys, key length, data types and periods. Id and expire may
-    /// differ.
+    /// Returns whether both have the same shape: name, kind of keys, key length, data types and periods. Id and expire
+    /// may differ.
     pub fn is_shape_of(&self, other: &TableDef) -> bool
         ensures shape { result ≡ is_shape_of self.now other.now }
         ensures equal { IsTrue result ↔ (self.now ≡ record other.now { id = self.now.id; expire = self.now.expire }) }
@@ -65,7 +65,7 @@ impl TableDef {
         is_shape_of(self, other)
     }
 
-    /// Whether both are the same definition, part for part.
+    /// Returns whether both are the same definition, part for part.
     pub fn is_same(&self, other: &TableDef) -> bool
         ensures same { result ≡ is_same_definition self.now other.now }
         ensures equal { IsTrue result ↔ (self.now ≡ other.now) }

@@ -1,4 +1,4 @@
-//! A list that mostly has a single element.
+//! A list that usually has a single element.
 
 ghost use Rattle.std.specs.Prelude.{◌≡◌, [], ◌∷◌, ◌++◌, ◌≤◌, IfOk, IsOk, length};
 
@@ -6,20 +6,20 @@ use crate::memory::Memory;
 use std::alloc::Global;
 use std::marker::Model;
 
-/// Where the elements of a list lie.
+/// Where the elements of a list are stored.
 #[derive(Debug, Drop)]
 enum Place<T> {
     /// There are none.
     Nowhere,
-    /// A single one, in the list itself.
+    /// A single one, inline in the list.
     Inline([T; 1]),
-    /// In memory of their own.
+    /// In a heap allocation.
     Heap(Vec<T>),
 }
 
-/// A list of things in order, of which contracts see the elements alone. A single one, as a row has of a table that stores
-/// one count or rate, lies in the list itself and takes no memory of its own, unless the list was made of a `Vec` or
-/// with room for more.
+/// A list of elements in order, of which contracts see only the elements. A single element is stored inline and takes
+/// no heap memory, unless the list was made of a `Vec` or with room for more. Rows of tables that store one count or
+/// rate profit from this.
 #[derive(Debug, Drop)]
 pub struct ShortList<T> {
     place: Place<T>,
@@ -35,7 +35,7 @@ impl<T> Model for ShortList<T> {
 }
 
 impl<T> ShortList<T> {
-    /// A list without elements.
+    /// Makes an empty list.
     pub fn new() -> ShortList<T>
         ensures { result ≡ [] }
     {
@@ -44,7 +44,7 @@ impl<T> ShortList<T> {
         }
     }
 
-    /// The list of a `Vec`'s elements, which stay where they lie.
+    /// Makes a list of the elements of a `Vec`, which keeps its allocation.
     pub fn from_vec(items: Vec<T>) -> ShortList<T>
         ensures { result ≡ items.items }
     {
@@ -53,7 +53,7 @@ impl<T> ShortList<T> {
         }
     }
 
-    /// The elements, lent.
+    /// Borrows the elements.
     pub fn as_slice(&self) -> &[T]
         ensures { result.now ≡ self.now }
     {
@@ -66,7 +66,7 @@ impl<T> ShortList<T> {
 }
 
 impl<T: Copy> ShortList<T> {
-    /// A list of these elements. A single one, or none, wants no memory.
+    /// Makes a list of these elements. Allocates only for two or more. Fails if memory runs out.
     pub fn from_slice(alloc: Global, items: &[T]) -> Result<ShortList<T>, Memory>
         ensures list { IfOk result (λ list. list ≡ items.now) }
         ensures in_place { length items.now ≤ 1 → IsOk result }
@@ -79,8 +79,8 @@ impl<T: Copy> ShortList<T> {
         Ok(ShortList { place })
     }
 
-    /// The elements in a `Vec`: the one from which the list was made, if it was. Memory is wanted only for a single element
-    /// that lies in the list itself.
+    /// Returns the elements in a `Vec`: the one that the list was made of, if it was. Allocates only for a single
+    /// element that is stored inline. Fails if memory runs out.
     pub fn into_vec(self, alloc: Global) -> Result<Vec<T>, Memory>
         ensures { IfOk result (λ items. items.items ≡ self) }
     {
@@ -91,7 +91,7 @@ impl<T: Copy> ShortList<T> {
         }
     }
 
-    /// No elements, with room for so many. Room for a single one wants no memory.
+    /// Makes an empty list with room for `count` elements. Allocates only for two or more. Fails if memory runs out.
     pub fn with_capacity(alloc: Global, count: usize) -> Result<ShortList<T>, Memory>
         ensures empty { IfOk result (λ list. list ≡ []) }
         ensures in_place { count ≤ 1 → IsOk result }
@@ -104,7 +104,7 @@ impl<T: Copy> ShortList<T> {
         Ok(ShortList { place })
     }
 
-    /// These elements, and one more after them.
+    /// Returns the list with one more element at its end. Fails if memory runs out.
     pub fn with(self, alloc: Global, item: T) -> Result<ShortList<T>, Memory>
         ensures { IfOk result (λ items. items ≡ self ++ item ∷ []) }
     {
@@ -123,7 +123,7 @@ impl<T: Copy> ShortList<T> {
         Ok(ShortList { place })
     }
 
-    /// An equal list. One of a single element, or of none, wants no memory.
+    /// Returns an equal copy. Allocates only for two or more elements. Fails if memory runs out.
     pub fn copy(&self, alloc: Global) -> Result<ShortList<T>, Memory>
         ensures copy { IfOk result (λ copy. copy ≡ self.now) }
         ensures in_place { length self.now ≤ 1 → IsOk result }

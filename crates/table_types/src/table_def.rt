@@ -15,25 +15,25 @@ use std::alloc::Global;
 use std::marker::Model;
 use thiserror::Error;
 
-/// What a definition was refused for: the first that applies, in this order.
+/// Why a definition was refused: the first of these that applies, in this order.
 #[derive(Clone, Copy, Debug, PartialEq, Eq, Error)]
 pub enum DefError {
     /// The id is 0 or above 2^32 - 1.
     #[error("a table's id is 1 to 4294967295")]
     Id,
-    /// The name is empty, longer than 255 bytes, or has a NUL.
+    /// The name is empty, longer than 255 bytes, or contains a NUL.
     #[error("a table's name has 1 to 255 bytes and no NUL")]
     Name,
-    /// The kind of keys can't have that length.
+    /// Keys of this kind can't have this length.
     #[error("keys of this kind can't have that length")]
     KeyLength,
-    /// A rate's period is 0 or absent, or another type has one.
+    /// A rate's period is 0 or absent, or another type has a period.
     #[error("a rate needs a period above 0, and no other type has one")]
     Period,
-    /// A data type is given twice.
+    /// A data type occurs twice.
     #[error("a data type is given twice")]
     RepeatedType,
-    /// Memory was wanted, and the growth was refused.
+    /// Memory ran out.
     #[error("memory")]
     Memory,
 }
@@ -46,8 +46,8 @@ impl From<Memory> for DefError {
     }
 }
 
-/// A stick table's definition: what a definition message carries
-/// (HAProxy, doc/peers-v2.0.txt, "Table Definition Message").
+/// The definition of a stick table: what a definition message carries (HAProxy, doc/peers-v2.0.txt, "Table Definition
+/// Message").
 #[derive(Debug, Drop)]
 pub struct TableDef {
     id: u64,
@@ -106,7 +106,8 @@ pub(crate) fn stores(types: &[(DataType, Option<u32>)], wanted: DataType) -> boo
     false
 }
 
-/// Whether a data type is given twice. Of 21 types one is, so this looks at 20 of them at most.
+/// Returns whether a data type occurs twice. Stops after 20 entries, since 21 entries always repeat one of the 20
+/// types.
 fn repeats(types: &[(DataType, Option<u32>)]) -> bool
     ensures { result ≡ repeats types.now }
 {
@@ -142,13 +143,13 @@ fn in_rising_id(
 }
 
 impl TableDef {
-    /// The definition of these parts. The types may come in any order, each rate with its period in
-    /// milliseconds, and are kept in rising id.
+    /// Makes a definition of its parts, or returns the first thing that is wrong with them. The types may come in any
+    /// order, each rate with its period in milliseconds; the definition has them in ascending order of id.
     ///
-    /// * `id`: 1 to 2^32 - 1, the number that its messages give the table;
+    /// * `id`: 1 to 2^32 - 1, the table's id in messages;
     /// * `name`: 1 to 255 bytes without NUL;
-    /// * `key_length`: in bytes, as `KeyKind::fits_length` says;
-    /// * `expire`: how long a row lives after its last update, in milliseconds; 0 is for ever.
+    /// * `key_length`: in bytes, within the bounds of `KeyKind::fits_length`;
+    /// * `expire`: how long a row lives after its last update, in milliseconds; 0 means forever.
     pub fn new(
         alloc: Global,
         id: u64,
@@ -188,7 +189,7 @@ impl TableDef {
         })
     }
 
-    /// The id that messages give the table: 1 to 2^32 - 1.
+    /// Returns the table's id in messages: 1 to 2^32 - 1.
     pub fn id(&self) -> u64
         ensures value { result ≡ self.now.id }
         ensures defined { is_definition self.now ≡ true }
@@ -196,42 +197,43 @@ impl TableDef {
         self.id
     }
 
-    /// The table's name.
+    /// Returns the table's name.
     pub fn name(&self) -> &[u8]
         ensures { result.now ≡ self.now.name }
     {
         self.name.as_slice()
     }
 
-    /// What its keys are.
+    /// Returns the kind of the table's keys.
     pub fn kind(&self) -> KeyKind
         ensures { result ≡ self.now.kind }
     {
         self.kind
     }
 
-    /// The key length in bytes.
+    /// Returns the key length in bytes.
     pub fn key_length(&self) -> u64
         ensures { result ≡ self.now.key_length }
     {
         self.key_length
     }
 
-    /// How long a row lives after its last update, in milliseconds; 0 is for ever.
+    /// Returns how long a row lives after its last update, in milliseconds; 0 means forever.
     pub fn expire(&self) -> u32
         ensures { result ≡ self.now.expire }
     {
         self.expire
     }
 
-    /// What it stores, in rising id, each rate with its period in milliseconds.
+    /// Returns the data types that the table stores, in ascending order of id, each rate with its period in
+    /// milliseconds.
     pub fn types(&self) -> &[(DataType, Option<u32>)]
         ensures { result.now ≡ self.now.types }
     {
         self.types.as_slice()
     }
 
-    /// An equal definition.
+    /// Returns an equal copy. Fails if memory runs out.
     pub fn copy(&self, alloc: Global) -> Result<TableDef, Memory>
         ensures { IfOk result (λ copy. copy ≡ self.now) }
     {

@@ -1,4 +1,4 @@
-//! What a change makes of a row.
+//! The row that a change makes.
 
 ghost use Rattle.std.specs.Prelude.{◌≡◌, ◌+◌, IfOk, option_copied};
 ghost use Rattle.table_types.specs.DataTypes.{shape_of};
@@ -17,7 +17,7 @@ use crate::short_list::ShortList;
 use crate::table_def::TableDef;
 use std::alloc::Global;
 
-/// The most that a count of a shape can be.
+/// Returns the greatest count of a shape.
 fn most(shape: Shape) -> u64
     ensures { result ≡ most shape }
 {
@@ -27,7 +27,7 @@ fn most(shape: Shape) -> u64
     }
 }
 
-/// A sum that stops at the most that it can be.
+/// Returns the sum, or `most` if the sum is greater.
 fn sum_within(count: u64, more: u64, most: u64) -> u64
     ensures { result ≡ smaller (count + more) most }
 {
@@ -68,7 +68,7 @@ fn raised(rate: Cell, more: u32) -> Cell
     }
 }
 
-/// The cell at a moment, if it is a rate that has a period.
+/// Returns the cell as of `moment`: rotated if it has a period.
 fn turned(cell: Cell, period: Option<u32>, moment: Moment) -> Cell
     ensures { result ≡ turned moment period cell }
 {
@@ -208,10 +208,12 @@ fn name_after(alloc: Global, live: Option<&Row>, change: &Change) -> Result<Opti
 }
 
 impl Row {
-    /// The row that a change at a moment makes under a number, in that table: of the row that lives at the key then, or
-    /// of a new one, whose counts are 0 and whose rates begin at the moment.
+    /// Makes the row that a change produces at `moment`, with `number` as its update's number. The change applies to
+    /// the row that lives at the key, `live`, or else to a new one, whose counts are 0 and whose rates begin at
+    /// `moment`.
     ///
-    /// The row is this node's own. It ends after the table's expire; an end past the greatest moment is that moment.
+    /// The row is this node's own. It ends after the table's expire, at the greatest moment at the latest. Fails if
+    /// memory runs out.
     pub fn tracked(
         alloc: Global,
         table: &TableDef,

@@ -1,4 +1,4 @@
-//! Updates of rows, and what they carry.
+//! Updates of rows, and the values that they carry.
 
 ghost use Rattle.std.specs.Prelude.{◌≡◌, ◌↔◌, IfOk, IsTrue};
 ghost use Rattle.std.specs.List.{list_any};
@@ -19,17 +19,17 @@ pub enum Value {
     Count(u64),
     /// A rate.
     Rate {
-        /// Milliseconds since its current period began.
+        /// Milliseconds since the current period began.
         elapsed: u32,
         /// The count of the current period.
         current: u32,
-        /// The count of the period before.
+        /// The count of the previous period.
         previous: u32,
     },
 }
 
 impl Value {
-    /// Whether the value is one of that shape; a name is no value.
+    /// Returns whether the value is one of this shape. A name is not a value.
     pub fn fits(self, shape: Shape) -> bool
         ensures { result ≡ value_fits shape self }
     {
@@ -42,31 +42,31 @@ impl Value {
     }
 }
 
-/// One row of a table as it is taught: a table's id, the number of the update, and what the row holds.
+/// One row of a table as it is taught: the table's id, the update's number, and the row's contents.
 #[derive(Debug, Drop)]
 pub struct Update {
     /// The id of the row's table.
     pub table: u64,
     /// The number that the sender gave the update.
     pub number: u32,
-    /// Milliseconds that the row still lives, 0 in a table whose rows live for ever; `None` leaves it not given.
+    /// The row's remaining life in milliseconds, 0 in a table whose rows live forever; `None` if not given.
     pub life: Option<u32>,
     /// The row's key.
     pub key: Key,
-    /// The values in rising id, without the server's name.
+    /// The values in ascending order of id, without the server's name.
     pub values: ShortList<Value>,
     /// The server's name, in a table that stores one.
     pub name: Option<Name>,
 }
 
-/// Whether both are the same values, one for one.
+/// Returns whether both are the same values, one for one.
 pub fn are_same_values(one: &[Value], other: &[Value]) -> bool
     ensures { IsTrue result ↔ (one.now ≡ other.now) }
 {
     one == other
 }
 
-/// Whether both are the same updates, one for one.
+/// Returns whether both are the same updates, one for one.
 pub fn are_same_updates(one: &[Update], other: &[Update]) -> bool
     ensures { IsTrue result ↔ (one.now ≡ other.now) }
 {
@@ -84,7 +84,7 @@ pub fn are_same_updates(one: &[Update], other: &[Update]) -> bool
 }
 
 impl Update {
-    /// Whether both are the same update, part for part.
+    /// Returns whether both are the same update, part for part.
     pub fn is_same(&self, other: &Update) -> bool
         ensures { IsTrue result ↔ (self.now ≡ other.now) }
     {
@@ -96,7 +96,7 @@ impl Update {
             && Name::are_same(&self.name, &other.name)
     }
 
-    /// An equal update.
+    /// Returns an equal copy. Fails if memory runs out.
     pub fn copy(&self, alloc: Global) -> Result<Update, Memory>
         ensures { IfOk result (λ copy. copy ≡ self.now) }
     {
@@ -112,7 +112,7 @@ impl Update {
     }
 }
 
-/// One value for each type but the server's name, in the order of the types.
+/// Returns whether there is one value in its range for each type except the server's name, in the order of the types.
 fn values_fit(types: &[(DataType, Option<u32>)], values: &[Value]) -> bool
     ensures { result ≡ values_fit types.now values.now }
 {
@@ -142,39 +142,40 @@ fn store_name(types: &[(DataType, Option<u32>)]) -> bool
 }
 
 impl TableDef {
-    /// Whether the values are this table's: one for each type but the server's name, in rising id, in its range.
+    /// Returns whether the values fit this table: one in its range for each type except the server's name, in ascending
+    /// order of id.
     pub fn values_fit(&self, values: &[Value]) -> bool
         ensures { result ≡ values_fit self.now.types values.now }
     {
         values_fit(self.types(), values)
     }
 
-    /// Whether rows of this table hold a server's name.
+    /// Returns whether this table stores the server's name.
     pub fn stores_name(&self) -> bool
         ensures { result ≡ stores_name self.now }
     {
         store_name(self.types())
     }
 
-    /// Whether key and values are of this table's shape and ranges.
+    /// Returns whether key and values have the table's shape and ranges.
     pub fn row_fits(&self, key: &Key, values: &[Value]) -> bool
         ensures { result ≡ row_fits self.now key.now values.now }
     {
         key.fits(self.kind(), self.key_length()) && self.values_fit(values)
     }
 
-    /// Whether a row of this table may be named so.
+    /// Returns whether a row of this table may have this name.
     pub fn may_be_named(&self, name: &Option<Name>) -> bool
         ensures { result ≡ may_be_named self.now name.now }
     {
         match name {
-            // A name is never empty: the contract sees that it is one where its bytes are read.
+            // A name is never empty: reading its bytes only shows the contract that it is a name.
             Some(name) => self.stores_name() && !name.as_slice().is_empty(),
             None => true,
         }
     }
 
-    /// Whether a row of this table may have that remaining life.
+    /// Returns whether a row of this table may have this remaining life.
     pub fn life_fits(&self, life: Option<u32>) -> bool
         ensures { result ≡ life_fits self.now life }
     {
@@ -185,7 +186,7 @@ impl TableDef {
         }
     }
 
-    /// Whether an update is one of this table: its key, values, name and life are of the table's shape and ranges.
+    /// Returns whether an update fits this table: its key, values, name and life have the table's shape and ranges.
     pub fn fits(&self, update: &Update) -> bool
         ensures { result ≡ fits self.now update.now }
     {

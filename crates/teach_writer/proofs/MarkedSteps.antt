@@ -32,14 +32,14 @@ use Rattle.teach_writer.proofs.MarksAreReads.{AreMarked, places_apart, in_range,
 
 -- ---- one update
 
--- whether a mark is set only where a link begins for the name
+-- whether a mark is set only if a link begins for the name
 abbrev IsLinkedMark : (List ℕ → Option ℕ) → List ℕ → Bool → Type 0
 IsLinkedMark starts name mark = mark ≡ true → is_some (starts name) ≡ true
 
 abbrev pub AreSlots : (List ℕ → Option ℕ) → Type 0
 AreSlots starts = (name : List ℕ) (slot : ℕ) → starts name ≡ Some slot → is_slot slot ≡ true
 
--- after an update whose name went through a slot, which retained no other name and is now retained for that name alone
+-- after an update whose name used a slot that retained no other name and is now retained for that name alone
 marked_after : (retained : List Bool) (starts : List ℕ → Option ℕ) (slots after : List (Option (List ℕ))) (u : Update) (us : List Update) (name : List ℕ) (slot : ℕ) (mark : Bool) (marks : List Bool) → u.name ≡ Some name → is_slot slot ≡ true → length retained ≡ 128 → AreMarked retained starts slots (u ∷ us) (mark ∷ marks) → slot_at after slot ≡ Some name
     → ((other : ℕ) → is_slot other ≡ true → (other ≡ slot → ⊥) → slot_at after other ≡ slot_at slots other)
     → ((other : ℕ) (n : List ℕ) → (other ≡ slot → ⊥) → starts n ≡ Some other → keeps_next_update n (u ∷ us) (mark ∷ marks) ≡ true → is_same_name name n ≡ false)
@@ -90,11 +90,11 @@ marked_after retained starts slots after u us name slot mark marks is slotted lo
               | inr apart ↦ (flag_stays retained next flag slot other refl slotted is_other apart ∙ was.0, (is_other, stays other is_other apart ∙ was.1.1))
             ]
 
--- What an update's mark says of it, and what the marks after it say of the slots after it.
+-- What an update's mark says of it, and what the later marks say of the slots after it.
 abbrev pub IsMarkedStep : List Bool → (List ℕ → Option ℕ) → List (Option (List ℕ)) → Update → List Update → List Bool → Bool → Option (List ℕ) → NameField → List Bool → Type 0
 IsMarkedStep next starts after u us marks stored name field left = IsNamed starts (u ∷ us) marks stored name field × AreMarked next (starts_after starts name (slot_of field)) after us left
 
--- one that is kept
+-- a request that is kept
 held_marked : (retained : List Bool) (starts : List ℕ → Option ℕ) (slots after : List (Option (List ℕ))) (u : Update) (us : List Update) (stored : Bool) (name : List ℕ) (slot : ℕ) (mark : Bool) (marks : List Bool) → u.name ≡ Some name → length retained ≡ 128 → AreMarked retained starts slots (u ∷ us) (mark ∷ marks) → Retains retained slots slot name → after ≡ slots
     → IsMarkedStep (slice_set retained (slot - 1) (keeps_next_update name us marks)) starts after u us (mark ∷ marks) stored (Some name) (names.Held slot) marks
 held_marked retained starts slots after u us stored name slot mark marks is long are retains stay = (
@@ -122,7 +122,7 @@ held_marked retained starts slots after u us stored name slot mark marks is long
         let bad : true ≡ false = sym (name_itself name) ∙ subst (λ (x : List ℕ). is_same_name name x ≡ false) same differs in
         cc
 
--- where no slot retains the name, its request isn't kept
+-- if no slot retains the name, its request isn't kept
 unmarked : (retained : List Bool) (starts : List ℕ → Option ℕ) (slots : List (Option (List ℕ))) (u : Update) (us : List Update) (name : List ℕ) (mark : Bool) (marks : List Bool) → u.name ≡ Some name → AreMarked retained starts slots (u ∷ us) (mark ∷ marks) → AreSlots starts → IsLinkedMark starts name mark → ((other : ℕ) → Retains retained slots other name → ⊥) → mark ≡ false
 unmarked retained starts slots u us name false marks is are slotted linked none = refl
 unmarked retained starts slots u us name true marks is are slotted linked none = by (starts name) refl (linked refl)
@@ -131,7 +131,7 @@ unmarked retained starts slots u us name true marks is are slotted linked none =
     by None e some = cc
     by (Some slot) e some = absurd (none slot (are.1 name slot (slotted name slot e) e (retains_same u us true marks name name is (name_itself name))))
 
--- one that isn't
+-- a request that isn't kept
 written_marked : (retained : List Bool) (starts : List ℕ → Option ℕ) (slots after : List (Option (List ℕ))) (u : Update) (us : List Update) (stored : Bool) (name written : List ℕ) (slot : ℕ) (marks : List Bool) → u.name ≡ Some name → length retained ≡ 128 → length slots ≡ 128 → AreMarked retained starts slots (u ∷ us) (false ∷ marks) → written ≡ name → IsFree retained slot → ((other : ℕ) → IsFree retained other → slot ≤ other) → after ≡ slice_set slots (slot - 1) (Some name)
     → IsMarkedStep (slice_set retained (slot - 1) (keeps_next_update name us marks)) starts after u us (false ∷ marks) stored (Some name) (names.Written slot written) marks
 written_marked retained starts slots after u us stored name written slot marks is long many are same_name free lowest put = (
@@ -162,7 +162,7 @@ written_marked retained starts slots after u us stored name written slot marks i
         at false e = e
         at true e = let bad : false ≡ true = sym (retains_same u us false marks name n is e) ∙ next in cc
 
--- one without a name
+-- an update without a name
 nameless_marked : (retained : List Bool) (starts : List ℕ → Option ℕ) (slots after : List (Option (List ℕ))) (u : Update) (us : List Update) (stored : Bool) (field : NameField) (marks : List Bool) → u.name ≡ None → AreMarked retained starts slots (u ∷ us) marks → field ≡ written_field stored None → after ≡ slots
     → IsMarkedStep retained starts after u us marks stored None field marks
 nameless_marked retained starts slots after u us stored field marks none are bare stay = (
@@ -171,7 +171,7 @@ nameless_marked retained starts slots after u us stored field marks none are bar
       ((λ slot is flag. (let over = are.0 slot is flag in (over.0, over.1, sym (retains_none u us marks over.0 none) ∙ over.2))), λ name slot is start next. are.1 name slot is start (retains_none u us marks name none ∙ next)),
 )
 
--- a request has a mark, which is set only where a link begins for its name
+-- a request has a mark, which is set only if a link begins for its name
 abbrev pub IsMarkFor : (List ℕ → Option ℕ) → Option (List ℕ) → List Bool → Type 0
 IsMarkFor starts None marks = Unit {0}
 IsMarkFor starts (Some name) marks = (mark : Bool) × (later : List Bool) × (marks ≡ mark ∷ later) × IsLinkedMark starts name mark
@@ -212,7 +212,7 @@ one_marked retained starts slots after u us stored flag (names.Written slot writ
 
 -- ---- room for a name that is written
 
--- some flag is false, or all are true
+-- some flag is false, or all flags are true
 free_or_full : (flags : List Bool) → ((i : ℕ) × (i < length flags) × (get_or flags i false ≡ false)) ⊎ ((i : ℕ) → i < length flags → get_or flags i false ≡ true)
 free_or_full [] = inr (λ i lt. absurd (omega arith))
 free_or_full (false ∷ flags) = inl (0, omega arith, refl)
@@ -229,7 +229,7 @@ free_or_full (true ∷ flags) = elim (free_or_full flags) [
 abbrev IsOver : (List ℕ → Option ℕ) → List Update → List Bool → ℕ → List ℕ → Type 0
 IsOver starts us marks n name = (slot : ℕ) × (slot ≤ n) × (starts name ≡ Some slot) × (keeps_next_update name us marks ≡ true)
 
--- where all slots are retained, so many names differ and are retained
+-- if all slots are retained, as many distinct names are retained
 names_over : (starts : List ℕ → Option ℕ) (us : List Update) (marks : List Bool) → ((slot : ℕ) → is_slot slot ≡ true → IsRetainedOver starts us marks slot) → (n : ℕ) → n ≤ 128
     → (names : List (List ℕ)) × (length names ≡ n) × IsDistinct is_same_name names × AllByRecursion (IsOver starts us marks n) names
 unfolding IsDistinct
@@ -250,7 +250,7 @@ names_over starts us marks over (suc n) le =
     further [] all = tt
     further (x ∷ xs) all = ((all.0.0, omega (arith, all.0.1), all.0.2, all.0.3), further xs all.1)
 
--- whether a name's next request is kept goes by the requests
+-- whether a name's next request is kept depends only on the requests
 pub retains_keeps : (roster : List Definition) (k : Knowledge) (us : List Update) (marks : List Bool) (name : List ℕ) → keeps_next_update name us marks ≡ keeps_next name (requests_of roster k us) marks
 retains_keeps roster k [] marks name = refl
 retains_keeps roster k (u ∷ us) marks name = by u.name refl marks (λ left. retains_keeps roster (knowledge_after k u) us left name)
@@ -271,18 +271,18 @@ retains_keeps roster k (u ∷ us) marks name = by u.name refl marks (λ left. re
     by (Some n) e [] later = rw e (pass (is_same_name n name) (later [] ∙ none_left rest))
     by (Some n) e (mark ∷ marks) later = rw e (ap (λ (b : Bool). cond (is_same_name n name) mark b) (later marks))
 
--- ---- all of them
+-- ---- all updates
 
--- a link begins for a name exactly where it was requested or held
+-- a link begins for a name if and only if the name was requested or held
 abbrev pub AreBegun : (List ℕ → Option ℕ) → Asking → Type 0
 AreBegun starts asking = (name : List ℕ) → is_some (starts name) ≡ is_some (asking.last name)
 
--- Whatever sends the updates that are left, from the state mid and what is marked there, sends them all from the start
--- with these messages before it.
+-- Messages that send the remaining updates from the state mid and its marks send all updates from the start, with these
+-- messages before them.
 abbrev pub Leads : List Definition → State → List Update → List Bool → List Message → State → (List ℕ → Option ℕ) → List Update → List Bool → Type 0
 Leads roster s us keep ms mid starts left marks = (rest : List Message) (e : State) → AreSent roster mid starts left marks rest e → AreSent roster s (starts_at_first s.slots) us keep (ms ++ rest) e
 
--- The updates are sent as their marks say but for these that are left, with so many requests made.
+-- The updates were sent as their marks say, except the remaining ones, with this many requests so far.
 abbrev pub IsUnderWay : List Definition → State → List Update → List Asked → List Bool → List ℕ → State → List Bool → ℕ → List Update → Type 0
 IsUnderWay roster s us rs keep bytes mid retained index left =
     (ms : List Message) × (starts : List ℕ → Option ℕ) × (k : Knowledge) × (done : List Asked) × (kept : List Bool) × (marks : List Bool)
@@ -318,7 +318,7 @@ abbrev taken : Option (List ℕ) → List Bool → List Bool
 taken None marks = []
 taken (Some name) marks = first_mark marks ∷ []
 
--- what holds after an update whose name went through a slot
+-- what holds after an update whose name used a slot
 abbrev IsAdvanced : List Definition → Knowledge → Update → Option (List ℕ) → Option ℕ → (List ℕ → Option ℕ) → Asking → List Asked → List Bool → Type 0
 IsAdvanced roster k u name slot starts asking rest marks =
     (marks ≡ taken name marks ++ marks_after name marks)
@@ -349,7 +349,7 @@ advanced roster k u (Some name) (Some slot) starts asking rest (mark ∷ marks) 
     of_slot other id true e = let same_id : slot ≡ id = cc in subst (λ (n : ℕ). is_slot n ≡ true) same_id (slotted slot refl)
     of_slot other id false e = slots other id e
 
--- a name field has a slot exactly where the update has a name
+-- a name field has a slot if and only if the update has a name
 slot_of_named : (retained : List Bool) (slots : List (Option (List ℕ))) (stored : Bool) (name : Option (List ℕ)) (field : NameField) → IsNameField retained slots stored name field → (is_some (slot_of field) ≡ is_some name) × ((id : ℕ) → slot_of field ≡ Some id → is_slot id ≡ true)
 slot_of_named retained slots stored None names.NotStored named = (refl, λ id e. cc)
 slot_of_named retained slots stored None names.NoName named = (refl, λ id e. cc)
@@ -390,7 +390,7 @@ flag_at roster k u left rs done keep kept marks starts index n is rs_is keep_is 
         one [] = record { name = n; read_cost = 0; write_cost = 0 }
         one (x ∷ xs) = x
 
--- one update more
+-- one more update
 pub way_step : (roster : List Definition) (s mid after : State) (us left : List Update) (u : Update) (rs : List Asked) (keep next : List Bool) (bytes more : List ℕ) (retained : List Bool) (index : ℕ) (field : NameField) (first : List Message) → IsUnderWay roster s us rs keep bytes mid retained index (u ∷ left) → IsSent roster mid u field first after → IsNameField retained mid.slots (is_stored roster u) u.name field → more ≡ bytes ++ stream_of first → next ≡ kept_next rs keep
     → IsUnderWay roster s us rs keep more after (retained_after retained (slot_of field) (get_or next index false)) (index_after index (slot_of field)) left
 way_step roster s mid after us left u rs keep next bytes more retained index field first (ms, starts, k, done, kept, marks, bytes_are, rs_is, keep_is, so_far, kept_so_far, long, linked, begun, slots, are, long_flags, many, leads) sent named grown next_is =
@@ -431,7 +431,7 @@ way_step roster s mid after us left u rs keep next bytes more retained index fie
     length_after None flag = long_flags
     length_after (Some slot) flag = length-set retained (slot - 1) flag ∙ long_flags
 
--- the index of a request is one of those of the flags
+-- the index of a request is an index of the flags
 pub way_index : (roster : List Definition) (s mid : State) (us left : List Update) (u : Update) (rs : List Asked) (keep next : List Bool) (bytes : List ℕ) (retained : List Bool) (index : ℕ) (field : NameField) (slot : ℕ) → IsUnderWay roster s us rs keep bytes mid retained index (u ∷ left) → IsNameField retained mid.slots (is_stored roster u) u.name field → slot_of field ≡ Some slot → length next ≡ length rs → index < length next
 way_index roster s mid us left u rs keep next bytes retained index field slot (ms, starts, k, done, kept, marks, bytes_are, rs_is, keep_is, so_far, kept_so_far, long, linked, begun, slots, are, long_flags, many, leads) named is flags =
     let held = names_in s.slots in
@@ -443,7 +443,7 @@ way_index roster s mid us left u rs keep next bytes retained index field slot (m
     let whole : length rs ≡ length (done ++ (asked roster k u u.name ++ rest)) = ap (λ (l : List Asked). length l) rs_is in
     omega (arith, length-append done (asked roster k u u.name ++ rest), length-append (asked roster k u u.name) rest)
 
--- where a name is written, some slot is free
+-- if a name is written, some slot is free
 pub way_room : (roster : List Definition) (s mid : State) (us left : List Update) (u : Update) (rs : List Asked) (keep : List Bool) (bytes : List ℕ) (retained : List Bool) (index : ℕ) → IsUnderWay roster s us rs keep bytes mid retained index (u ∷ left) → ((p : ℕ) → kept_over (links (names_in s.slots) rs keep) p ≤ 127) → HasRoomFor retained mid.slots u.name
 way_room roster s mid us left u rs keep bytes retained index (ms, starts, k, done, kept, marks, bytes_are, rs_is, keep_is, so_far, kept_so_far, long, linked, begun, slots, are, long_flags, many, leads) room = by u.name refl
   where
@@ -496,7 +496,7 @@ way_room roster s mid us left u rs keep bytes retained index (ms, starts, k, don
         back : (j : ℕ) → suc j - 1 ≡ j
         back j = omega arith
 
--- a name that a slot retains has its request kept
+-- the request of a name that a slot retains is kept
 retained_marked : (retained : List Bool) (starts : List ℕ → Option ℕ) (slots : List (Option (List ℕ))) (u : Update) (us : List Update) (name : List ℕ) (slot : ℕ) (mark : Bool) (marks : List Bool) → u.name ≡ Some name → AreMarked retained starts slots (u ∷ us) (mark ∷ marks) → Retains retained slots slot name → mark ≡ true
 retained_marked retained starts slots u us name slot mark marks is are retains = sym (retains_same u us mark marks name name is (name_itself name)) ∙ subst (λ (n : List ℕ). keeps_next_update n (u ∷ us) (mark ∷ marks) ≡ true) one over.2
   where
@@ -506,14 +506,14 @@ retained_marked retained starts slots u us name slot mark marks is are retains =
     one : over.0 ≡ name
     one = let both : Some over.0 ≡ Some name = sym (are.1 over.0 slot retains.1.0 over.1 over.2).1.1 ∙ retains.1.1 in cc
 
--- the mark after so many
+-- the mark after this many requests
 mark_behind : (kept marks : List Bool) (mark : Bool) (index : ℕ) → length kept ≡ index → get_or (kept ++ mark ∷ marks) index false ≡ mark
 mark_behind [] marks mark zero many = refl
 mark_behind [] marks mark (suc index) many = absurd (omega arith)
 mark_behind (k ∷ kept) marks mark zero many = absurd (omega arith)
 mark_behind (k ∷ kept) marks mark (suc index) many = mark_behind kept marks mark index (omega arith)
 
--- where the request of an update isn't kept, no slot retains its name
+-- if the request of an update isn't kept, no slot retains its name
 pub way_unkept : (roster : List Definition) (s mid : State) (us left : List Update) (u : Update) (rs : List Asked) (keep : List Bool) (bytes : List ℕ) (retained : List Bool) (index : ℕ) → IsUnderWay roster s us rs keep bytes mid retained index (u ∷ left) → get_or keep index false ≡ false → IsNotRetained retained mid.slots u.name
 way_unkept roster s mid us left u rs keep bytes retained index (ms, starts, k, done, kept, marks, bytes_are, rs_is, keep_is, so_far, kept_so_far, long, linked, begun, slots, are, long_flags, many, leads) off = by u.name refl
   where

@@ -40,7 +40,7 @@ one_name a b same = same_text a b (sym same)
 other_start : {A : Type 0} → (one other : Option ℕ) (a b : ℕ) → one ≡ Some a → other ≡ Some b → (b ≡ a → ⊥) → one ≡ other → A
 other_start one other a b is_a is_b apart same = let both : Some b ≡ Some a = sym is_b ∙ sym same ∙ is_a in let ids : b ≡ a = cc in absurd (apart ids)
 
--- names with two starts are two
+-- names with different starts differ
 pub start_apart : (starts : List ℕ → Option ℕ) (name n : List ℕ) (a b : ℕ) → starts name ≡ Some a → starts n ≡ Some b → (b ≡ a → ⊥) → is_same_name name n ≡ false
 start_apart starts name n a b is_a is_b apart = at (is_same_name name n) refl
   where
@@ -48,7 +48,7 @@ start_apart starts name n a b is_a is_b apart = at (is_same_name name n) refl
     at false e = e
     at true e = other_start (starts name) (starts n) a b is_a is_b apart (ap starts (one_name name n e))
 
--- ---- what is retained, after one update
+-- ---- what is retained after one update
 
 pub retains_same : (u : Update) (us : List Update) (mark : Bool) (marks : List Bool) (name n : List ℕ) → u.name ≡ Some name → is_same_name name n ≡ true → keeps_next_update n (u ∷ us) (mark ∷ marks) ≡ mark
 retains_same u us mark marks name n is same = rw (is, same) refl
@@ -67,19 +67,19 @@ start_other starts name n slot other = rw other refl
 
 -- ---- flags and marks
 
--- a slot retains its name exactly where a retained link goes over this place in it
+-- a slot retains its name if and only if a retained link passes over this place in it
 abbrev pub AreMarked : List Bool → (List ℕ → Option ℕ) → List (Option (List ℕ)) → List Update → List Bool → Type 0
 AreMarked retained starts slots us marks =
     ((slot : ℕ) → is_slot slot ≡ true → retained_at retained slot ≡ true → IsRetainedOver starts us marks slot)
     × ((name : List ℕ) (slot : ℕ) → is_slot slot ≡ true → starts name ≡ Some slot → keeps_next_update name us marks ≡ true → Retains retained slots slot name)
 
--- a slot that isn't the update's retains its name after the update where it did before
+-- a slot other than the update's retains its name after the update if it did before
 pub flag_stays : (retained next : List Bool) (retains : Bool) (slot other : ℕ) → next ≡ slice_set retained (slot - 1) retains → is_slot slot ≡ true → is_slot other ≡ true → (other ≡ slot → ⊥) → retained_at next other ≡ retained_at retained other
 flag_stays retained next retains slot other set is is_other apart = ap (λ (ks : List Bool). retained_at ks other) set ∙ get_or-set_other retained (slot - 1) (other - 1) retains false (places_apart other slot is_other is apart)
 
 -- ---- one update
 
--- what selects a table leaves the slots
+-- selecting a table leaves the slots unchanged
 pub selection_slots : (s mid : State) (d : Definition) → Teaches s (selection s.received d) [] mid → mid.slots ≡ s.slots
 selection_slots s mid d taught = by (is_table (selected_table s.received) d.id) (is_some (table_at s.received.tables d.id)) taught
   where

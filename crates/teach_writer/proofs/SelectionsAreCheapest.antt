@@ -1,4 +1,4 @@
--- What selects a table is the cheapest that can, and nothing that is known is lost by it.
+-- A table is selected in the cheapest way, and selecting it loses nothing that is known.
 use Rattle.std.proofs.Common.{◌≡◌, ℕ, ◌==◌, ◌≤◌, Bool, true, false, ◌||◌, cond, eqb, List, [], ◌∷◌, Option, Some, None, refl, sym, ap, ◌∙◌, subst, inl, inr, ◌⊎◌, arith}
 use Rattle.std.specs.Prelude.{is_some, option_map, filter}
 use Rattle.std.proofs.lemmas.Bool.{cases_eq, ne_eqb}
@@ -22,7 +22,7 @@ use Rattle.known_state.proofs.KnowingMoreCostsLess.{last-kept}
 use Rattle.teach_writer.specs.Sending.{is_table, selection}
 use Rattle.teach_writer.proofs.UpdateStepsAreLegal.{found_is_own}
 
--- what selects a table is the cheapest that can
+-- the selection of a table is the cheapest one
 pub selection_size : (roster : List Definition) (s : State) (d : Definition) → table_at roster d.id ≡ Some d → size_of_all (selection s.received d) ≤ selection_cost roster (knowledge_of s) d.id
 selection_size roster s d listed = at (selected_table s.received) refl (is_some (table_at s.received.tables d.id)) refl
   where
@@ -48,7 +48,7 @@ or-cases : (a b c : Bool) → (a ≡ true → c ≡ true) → (b ≡ true → c 
 or-cases true b c first second h = first refl
 or-cases false b c first second h = second h
 
--- where a table is selected it is received
+-- a table that is selected is received
 pub selected_received : (h : Received) (d : Definition) → selected_table h ≡ Some d → table_at h.tables d.id ≡ Some d
 selected_received h d sel =
     let found = selected-found h d sel in
@@ -60,7 +60,7 @@ received_by_id ds d id found same = elim (cases_eq id d.id) [
   | inr other ↦ let bad : false ≡ true = sym (ne_eqb id d.id other) ∙ same in cc
 ]
 
--- nothing is lost where the table is selected already
+-- nothing is lost if the table is selected already
 pub knows_retained : (s : State) (d : Definition) → selected_table s.received ≡ Some d → KnowsLess (with_selected (knowledge_of s) d.id) (knowledge_of s)
 knows_retained s d sel = record {
   defined = λ id h. or-cases (eqb id d.id) (is_some (table_at s.received.tables id)) (is_some (table_at s.received.tables id)) (received_by_id s.received.tables d id (selected_received s.received d sel)) (λ is. is) h;
@@ -76,7 +76,7 @@ knows_switched s d found = record {
   last = λ id. inl refl;
 }
 
--- and nothing is lost by the definition of a table that isn't received
+-- nor by the definition of a table that isn't received
 pub knows_defined : (roster : List Definition) (s : State) (d : Definition) → repeats_name roster ≡ false → table_at roster d.id ≡ Some d → AreOwn roster s.received.tables → is_some (table_at s.received.tables d.id) ≡ false
     → KnowsLess (with_selected (knowledge_of s) d.id) (knowledge_of (record { received = received_after s.received (messages.Define d); last_numbers = filter (λ l. keeps_last d (table_at s.received.tables l.0) l.0) s.last_numbers; slots = s.slots }))
 knows_defined roster s d distinct listed own new = record {
@@ -108,7 +108,7 @@ knows_defined roster s d distinct listed own new = record {
         let retain : retains id ≡ true = rw (e, ne_eqb id d.id (apart id found), unlike) refl in
         inl (rw (found, still) (sym (last-kept retains s.last_numbers id retain)))
 
--- what selects a table loses nothing
+-- selecting a table loses nothing
 pub selection_knows : (k : KnownState) (d : Definition) (m : Message) (us : List Update) (e : State) → roster_fault k.roster ≡ None → AreOwn k.roster k.state.received.tables → table_at k.roster d.id ≡ Some d → m ∷ [] ≡ selection k.state.received d → Step k.state m us e → KnowsLess (with_selected (knowledge_of k.state) d.id) (knowledge_of e)
 selection_knows k d m us e sound own listed is step = at (is_table (selected_table k.state.received) d.id) refl (table_at k.state.received.tables d.id) refl
   where

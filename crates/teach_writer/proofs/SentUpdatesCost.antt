@@ -46,7 +46,7 @@ use Rattle.teach_writer.proofs.SelectionsAreCheapest.{selection_size, selected_r
 
 -- ---- sizes by the name field
 
--- a message is longer where its name field is
+-- a message is longer if its name field is
 names_longer : (number life : Option ℕ) (key : Key) (values : List Value) (short long : NameField) → length (name_text short) ≤ length (name_text long) → size_of (messages.Update (record { number = number; life = life; key = key; values = values; name = short })) ≤ size_of (messages.Update (record { number = number; life = life; key = key; values = values; name = long }))
 unfolding size_of spelled
 names_longer number life key values short long le =
@@ -100,7 +100,7 @@ own_selection roster h d listed = by (is_table (selected_table h) d.id) (is_some
     by false true = (tt, tt)
     by false false = (listed, tt)
 
--- after what selects a table it is selected, what is received is the roster's own, and nothing is lost
+-- after a table is selected, it is the selected one, what is received is the roster's own, and nothing is lost
 abbrev IsSelected : List Definition → State → Definition → State → Type 0
 IsSelected roster s d mid = (selected_table mid.received ≡ Some d) × AreOwn roster mid.received.tables × KnowsLess (with_selected (knowledge_of s) d.id) (knowledge_of mid)
 
@@ -119,7 +119,7 @@ selected_so roster s mid d sound own listed taught = by (selection s.received d)
         subst (λ (x : State). IsSelected roster s d x) (sym same) ((selection_selects k d m one after own listed is step).1, own_stays roster s after m one own owns.0 step, selection_knows k d m one after sound own listed is step)
     by (m ∷ (n ∷ ms)) is t = let short : length (m ∷ (n ∷ ms)) ≤ 1 = subst (λ (l : List Message). length l ≤ 1) (sym is) (one_at_most s.received d) in absurd (omega arith)
 
--- an update puts its number, and nothing else is lost
+-- an update sets its number, and nothing else is lost
 sent_knows : (mid e : State) (d : Definition) (u : Update) (field : NameField) (k : Knowledge) → KnowsLess (with_selected k u.table) (knowledge_of mid) → table_at mid.received.tables u.table ≡ Some d → Step mid (update_sent mid field u) (u ∷ []) e → KnowsLess (knowledge_after k u) (knowledge_of e)
 sent_knows mid e d u field k knows here (fit, table, on, number, numbered, name, named, carried, received, last_numbers) =
     let same_update : u ≡ resolved (sent_as (last_of mid.last_numbers u.table) field u) table number name = cc in
@@ -143,7 +143,7 @@ sent_knows mid e d u field k knows here (fit, table, on, number, numbered, name,
 
 -- ---- what one update costs
 
--- an update costs no more than with its name written, by what may be less known, and less what is read
+-- with knowledge that may be less, an update costs no more than with its name written, less what is read
 field_within : (roster : List Definition) (k : Knowledge) (d : Definition) (u : Update) (starts : List ℕ → Option ℕ) (us : List Update) (marks : List Bool) (last : Option ℕ) (field : NameField) (name : Option (List ℕ)) (rs : List Asked) → u.name ≡ name → table_at roster u.table ≡ Some d → fits d u ≡ true → name_fits d field ≡ true → (k.last u.table ≡ last) ⊎ (k.last u.table ≡ None) → IsNamed starts us marks (is_stored roster u) name field
     → size_of (messages.Update (sent_as last field u)) + read_savings (asked roster k u name ++ rs) marks ≤ written_cost roster k u + read_savings rs (marks_after name marks)
 field_within roster k d u starts us marks last field name rs is listed fit field_fits less named = by name is marks field field_fits (sent field less) named
@@ -201,7 +201,7 @@ field_within roster k d u starts us marks last field name rs is listed fit field
     by (Some n) e (false ∷ marks) names.NoName f le named = absurd named
     by (Some n) e (false ∷ marks) (names.Held slot) f le named = absurd named
 
--- one update that is sent: it is legal, and what it costs; what is received stays the roster's own, and nothing is lost
+-- one update that is sent: it is legal, and its cost; what is received stays the roster's own, and nothing is lost
 abbrev IsWithin : List Definition → State → Knowledge → Update → NameField → List Message → State → Type 0
 IsWithin roster s k u field ms e =
     Legal roster s ms (u ∷ []) e
@@ -237,7 +237,7 @@ one_within roster s e k u field ms sound own knows for (d, mid, listed, chosen, 
       λ starts us marks rs named. (let within = field_within roster k d u starts us marks (last_of mid.last_numbers u.table) field u.name rs refl listed fit field_fits less named in omega arith),
     )
 
--- all of them
+-- all updates
 pub sent_within : (roster : List Definition) (s e : State) (k : Knowledge) (starts : List ℕ → Option ℕ) (us : List Update) (marks : List Bool) (ms : List Message) → roster_fault roster ≡ None → AreOwn roster s.received.tables → KnowsLess k (knowledge_of s) → AllByRecursion (IsUpdateFor roster) us → AreSent roster s starts us marks ms e
     → Legal roster s ms us e × (size_of_all ms + read_savings (requests_of roster k us) marks ≤ cost_from roster k us)
 sent_within roster s e k starts [] marks ms sound own knows all (none, empty, same) =
@@ -249,7 +249,7 @@ sent_within roster s e k starts (u ∷ us) marks ms sound own knows all (field, 
     let sum : size_of_all ms ≡ size_of_all first + size_of_all rest = ap size_of_all is ∙ sum_by-append size_of first rest in
     (subst (λ (l : List Message). Legal roster s l (u ∷ us) e) (sym is) (legal-append roster first rest s mid e (u ∷ []) us one.0 others.0), omega arith)
 
--- a lesson that is sent as an accepted plan keeps requests is a shortest one, and the plan's prices show it
+-- a lesson that is sent as an accepted plan keeps requests is a shortest one, and the plan's prices prove it
 pub planned_shortest : (k : KnownState) (us : List Update) (plan : Plan) (ms : List Message) (e : State) → roster_fault k.roster ≡ None → AreOwn k.roster k.state.received.tables → length k.state.slots ≡ 128 → IsBatchFor k.roster us → Accepts 128 (names_in k.state.slots) (requests_of k.roster (knowledge_of k.state) us) plan → AreSent k.roster k.state (starts_at_first k.state.slots) us plan.keep ms e
     → Legal k.roster k.state ms us e × (length (stream_of ms) + bound 128 (all_links (names_in k.state.slots) (requests_of k.roster (knowledge_of k.state) us)) plan.prices ≡ full k.roster k.state us) × Shortest k us ms
     × Says k us (stream_of ms) plan.prices (verdicts.Shortest (length (stream_of ms)))

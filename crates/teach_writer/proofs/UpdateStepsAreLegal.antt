@@ -1,4 +1,4 @@
--- What is selected for an update, that it is sent as it is, and that both are legal.
+-- What is selected for an update, that the update is sent unchanged, and that both are legal.
 use Rattle.std.proofs.Common.{◌≡◌, ℕ, ◌+◌, ◌%◌, ◌^◌, ◌<◌, Bool, true, false, eqb, List, [], ◌∷◌, ◌++◌, Option, Some, None, refl, sym, ap, ◌∙◌, subst, inl, inr, arith, append_assoc}
 use Rattle.std.specs.Prelude.{is_some, is_none}
 use Rattle.std.specs.List.{AllByRecursion}
@@ -26,7 +26,7 @@ use Rattle.known_state.specs.Cost.{number_sent, sent_as}
 use Rattle.known_state.proofs.BatchIsOfRoster.{row_of_fits, life_of_fits}
 use Rattle.teach_writer.specs.Sending.{is_table, selection}
 
--- a table that is received is the roster's of its id
+-- a received table is the roster's table of its id
 pub found_is_own : (roster ds : List Definition) (id : ℕ) (t d : Definition) → AreOwn roster ds → table_at ds id ≡ Some t → table_at roster id ≡ Some d → t ≡ d
 found_is_own roster ds id t d own found listed =
     let own_t : table_at roster t.id ≡ Some t = table_at-passes (λ (x : Definition). table_at roster x.id ≡ Some x) ds id t own found in
@@ -34,7 +34,7 @@ found_is_own roster ds id t d own found listed =
     let same : Some t ≡ Some d = sym here ∙ listed in
     cc
 
--- the table selected is the roster's of its id
+-- the selected table is the roster's table of its id
 pub selected_is_own : (k : KnownState) (t d : Definition) → AreOwn k.roster k.state.received.tables → selected_table k.state.received ≡ Some t → table_at k.roster t.id ≡ Some d → t ≡ d
 selected_is_own k t d own sel listed =
     let found = selected-found k.state.received t sel in
@@ -42,7 +42,7 @@ selected_is_own k t d own sel listed =
     let same : Some t ≡ Some d = sym own_t ∙ listed in
     cc
 
--- where the table of an id is selected, it is the roster's
+-- if the table of an id is selected, it is the roster's
 pub retained_selected : (k : KnownState) (d : Definition) → AreOwn k.roster k.state.received.tables → table_at k.roster d.id ≡ Some d → is_table (selected_table k.state.received) d.id ≡ true → selected_table k.state.received ≡ Some d
 retained_selected k d own listed is = at (selected_table k.state.received) refl
   where
@@ -54,7 +54,7 @@ retained_selected k d own listed is = at (selected_table k.state.received) refl
         let listed_t : table_at k.roster t.id ≡ Some d = subst (λ (n : ℕ). table_at k.roster n ≡ Some d) (sym ids) listed in
         e ∙ ap (λ (x : Definition). Some x) (selected_is_own k t d own e listed_t)
 
--- a switch to a table of the roster that is received is taken
+-- a switch to a received table of the roster is a step
 pub switch_taken : (k : KnownState) (d : Definition) → table_at k.roster d.id ≡ Some d → is_some (table_at k.state.received.tables d.id) ≡ true → IsTakenBy k (messages.Switch d.id)
 switch_taken k d listed found = λ e refuses.
     let none : switch_refusal k d.id ≡ None = rw (has_id-table_at k.roster d.id, listed, some-not-none (table_at k.state.received.tables d.id) found) refl in
@@ -65,7 +65,7 @@ switch_taken k d listed found = λ e refuses.
     some-not-none None h = cc
     some-not-none (Some x) h = refl
 
--- after it that table is selected
+-- after it, that table is selected
 pub switch_selects : (roster : List Definition) (h : Received) (d : Definition) → AreOwn roster h.tables → table_at roster d.id ≡ Some d → is_some (table_at h.tables d.id) ≡ true → selected_table (received_after h (messages.Switch d.id)) ≡ Some d
 switch_selects roster h d own listed found = at (table_at h.tables d.id) refl
   where
@@ -73,11 +73,11 @@ switch_selects roster h d own listed found = at (table_at h.tables d.id) refl
     at None e = let bad : false ≡ true = sym (rw e refl) ∙ found in cc
     at (Some t) e = e ∙ ap (λ (x : Definition). Some x) (found_is_own roster h.tables d.id t d own e listed)
 
--- the roster's own definition is taken
+-- the roster's own definition is a step
 pub define_taken : (k : KnownState) (d : Definition) → table_at k.roster d.id ≡ Some d → IsTakenBy k (messages.Define d)
 define_taken k d listed = λ e refuses. refuses.0 listed
 
--- the number sent is resolved to the update's
+-- the number sent resolves to the update's number
 sent_resolved : (last : Option ℕ) (number : ℕ) → resolved_number (number_sent last number) last ≡ Some number
 sent_resolved None number = refl
 sent_resolved (Some last) number = elim (cases_eq ((last + 1) % 2 ^ 32) number) [
@@ -93,11 +93,11 @@ life_word d (Some n) small fit = grind (arith, nat_tests)
 expire_small : (d : Definition) → is_definition d ≡ true → d.expire < 2 ^ 32
 expire_small d is = grind (arith, nat_tests)
 
--- an update fits as it is sent where its name field does
+-- an update fits as it is sent if its name field does
 sent_fits : (last : Option ℕ) (field : NameField) (d : Definition) (u : Update) → is_definition d ≡ true → name_fits d field ≡ true → fits d u ≡ true → is_optional_word (number_sent last u.number) ≡ true → update_fits d (sent_as last field u) ≡ true
 sent_fits last field d u is field_fits fit word = rw (word, life_word d u.life (expire_small d is) (life_of_fits d u fit), row_of_fits d u fit, field_fits) refl
 
--- it is taken where its table is selected, and it reads no empty slot
+-- it is a step if its table is selected and it reads no empty slot
 pub sent_taken : (k : KnownState) (d : Definition) (u : Update) (last : Option ℕ) (field : NameField) → last ≡ last_of k.state.last_numbers d.id → selected_table k.state.received ≡ Some d → is_definition d ≡ true → name_fits d field ≡ true → reads_empty k.state.slots field ≡ false → fits d u ≡ true → is_optional_word (number_sent last u.number) ≡ true → IsTakenBy k (messages.Update (sent_as last field u))
 sent_taken k d u last field is_last sel is field_fits reads fit word = λ e refuses.
     let resolved_here : resolved_number (number_sent last u.number) (last_of k.state.last_numbers d.id) ≡ Some u.number = subst (λ (l : Option ℕ). resolved_number (number_sent last u.number) l ≡ Some u.number) is_last (sent_resolved last u.number) in
@@ -143,7 +143,7 @@ legal-one roster m s e us own step = ((own, tt), (us, [], e, sym (append-none us
     append-none [] = refl
     append-none (x ∷ xs) = ap (λ (l : List Update). x ∷ l) (append-none xs)
 
--- what selects a table of the roster is taken
+-- selecting a table of the roster is legal
 pub selection_taken : (k : KnownState) (d : Definition) (m : Message) → AreOwn k.roster k.state.received.tables → table_at k.roster d.id ≡ Some d → m ∷ [] ≡ selection k.state.received d → IsTakenBy k m
 selection_taken k d m own listed is = at (is_table (selected_table k.state.received) d.id) refl (is_some (table_at k.state.received.tables d.id)) refl
   where
@@ -152,7 +152,7 @@ selection_taken k d m own listed is = at (is_table (selected_table k.state.recei
     at false e true f = let same : m ∷ [] ≡ messages.Switch d.id ∷ [] = is ∙ rw (e, f) refl in let one : messages.Switch d.id ≡ m = cc in subst (λ (x : Message). IsTakenBy k x) one (switch_taken k d listed f)
     at false e false f = let same : m ∷ [] ≡ messages.Define d ∷ [] = is ∙ rw (e, f) refl in let one : messages.Define d ≡ m = cc in subst (λ (x : Message). IsTakenBy k x) one (define_taken k d listed)
 
--- it carries nothing, and after it the table is selected
+-- it carries nothing, and afterwards the table is selected
 pub selection_selects : (k : KnownState) (d : Definition) (m : Message) (us : List Update) (e : State) → AreOwn k.roster k.state.received.tables → table_at k.roster d.id ≡ Some d → m ∷ [] ≡ selection k.state.received d → Step k.state m us e → (us ≡ []) × (selected_table e.received ≡ Some d)
 selection_selects k d m us e own listed is step = at (is_table (selected_table k.state.received) d.id) refl (is_some (table_at k.state.received.tables d.id)) refl
   where
@@ -167,7 +167,7 @@ selection_selects k d m us e own listed is step = at (is_table (selected_table k
     at false h true f = let same : m ∷ [] ≡ messages.Switch d.id ∷ [] = is ∙ rw (h, f) refl in let one : m ≡ messages.Switch d.id = cc in switched f (subst (λ (x : Message). Step k.state x us e) one step)
     at false h false f = let same : m ∷ [] ≡ messages.Define d ∷ [] = is ∙ rw (h, f) refl in let one : m ≡ messages.Define d = cc in defined_so (subst (λ (x : Message). Step k.state x us e) one step)
 
--- where nothing has to select it, it is selected
+-- if nothing needs to select it, it is selected already
 pub selection_none : (k : KnownState) (d : Definition) → AreOwn k.roster k.state.received.tables → table_at k.roster d.id ≡ Some d → [] ≡ selection k.state.received d → selected_table k.state.received ≡ Some d
 selection_none k d own listed is = at (is_table (selected_table k.state.received) d.id) refl (is_some (table_at k.state.received.tables d.id)) refl
   where
@@ -184,7 +184,7 @@ stream-one m = append-nothing (spelled m)
     append-nothing [] = refl
     append-nothing (x ∷ xs) = ap (λ (l : List ℕ). x ∷ l) (append-nothing xs)
 
--- a table of the roster stands there under its own id
+-- a table of the roster is found there under its own id
 pub listed_by_id : (roster : List Definition) (id : ℕ) (d : Definition) → table_at roster id ≡ Some d → table_at roster d.id ≡ Some d
 listed_by_id roster id d listed = subst (λ (n : ℕ). table_at roster n ≡ Some d) (sym (table_at-id roster id d listed)) listed
 

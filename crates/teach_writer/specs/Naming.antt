@@ -1,5 +1,5 @@
--- Through which slots the names of a lesson go (profile). A request is an update with a name; each has a mark, whether it is
--- kept. A request has a link where its name was requested before, or stands in a slot at the start.
+-- The slots that the names of a lesson use (profile). A request is an update with a name; each has a mark, which says
+-- whether it is kept. A request has a link if its name was requested before, or is in a slot at the start.
 use Rattle.std.specs.Prelude.{◌≡◌, ◌≤◌, ℕ, ◌+◌, Bool, true, false, List, [], ◌∷◌, Option, Some, None, if◌then◌else◌}
 use Rattle.table_types.specs.declared.update.Update.{Update}
 use Rattle.table_types.specs.Rosters.{is_same_name}
@@ -16,8 +16,8 @@ abbrev pub lowest_from : ℕ → List (Option (List ℕ)) → List ℕ → Optio
 lowest_from slot [] name = None
 lowest_from slot (held ∷ slots) name = if is_that_name name held then Some slot else lowest_from (slot + 1) slots name
 
--- The slot in which a link for each name begins: at the start the lowest slot that holds the name, and then the slot that
--- the last request for it read or wrote. Without one the next request for the name has no link.
+-- The slot in which a link for each name begins: at the start, the lowest slot that holds the name; later, the slot
+-- that the last request for the name read or wrote. Without such a slot, the next request for the name has no link.
 abbrev pub starts_at_first : List (Option (List ℕ)) → List ℕ → Option ℕ
 starts_at_first slots = λ name. lowest_from 1 slots name
 
@@ -40,18 +40,18 @@ abbrev pub keeps_next_update : List ℕ → List Update → List Bool → Bool
 keeps_next_update name [] marks = false
 keeps_next_update name (u ∷ us) marks = if is_that_name name u.name then first_mark marks else keeps_next_update name us (marks_after u.name marks)
 
--- A name is retained over the first of these updates in that slot: it is the very slot that a kept request will
--- read, whose link began before and ends after.
+-- A name is retained over the first of these updates in this slot: it is the slot that a kept request will read, whose
+-- link begins before the update and ends after it.
 abbrev pub IsRetainedOver : (List ℕ → Option ℕ) → List Update → List Bool → ℕ → Type 0
 IsRetainedOver starts us marks slot = (name : List ℕ) × (starts name ≡ Some slot) × (keeps_next_update name us marks ≡ true)
 
--- that slot may be written there: no name is retained in it
+-- the slot may be written there: no name is retained in it
 abbrev pub IsOpen : (List ℕ → Option ℕ) → List Update → List Bool → ℕ → Type 0
 IsOpen starts us marks slot = (is_slot slot ≡ true) × (IsRetainedOver starts us marks slot → ⊥)
 
--- How the name of the first of these updates is sent. A request that is kept reads the slot in which its link begins; any other name
--- is written, to the lowest slot in which no name is retained over this update. An update without a name has an empty field where
--- its table stores names, and else no field.
+-- How the name of the first of these updates is sent. A request that is kept reads the slot in which its link begins;
+-- any other name is written to the lowest slot in which no name is retained over this update. An update without a name
+-- has an empty field if its table stores names, and no field otherwise.
 abbrev pub IsNamed : (List ℕ → Option ℕ) → List Update → List Bool → Bool → Option (List ℕ) → NameField → Type 0
 IsNamed starts us (true ∷ marks) stored (Some name) (names.Held slot) = starts name ≡ Some slot
 IsNamed starts us (false ∷ marks) stored (Some name) (names.Written slot written) =

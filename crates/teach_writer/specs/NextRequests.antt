@@ -1,4 +1,4 @@
--- The next request for each name, and which names are retained as requests are kept (profile).
+-- The next request for each name, and which names are retained for the requests that are kept (profile).
 use Rattle.std.specs.Prelude.{◌≡◌, ◌≤◌, ℕ, ◌+◌, ◌-◌, slice_set, Bool, false, true, List, [], ◌∷◌, Option, Some, None}
 use Rattle.std.specs.Borrow.{Bor}
 use Rattle.std.specs.BTreeMap.{BTreeMap}
@@ -16,17 +16,18 @@ abbrev pub is_kept : Option NextRequest → Bool
 is_kept None = false
 is_kept (Some next) = next.kept
 
--- whether the first request for a name is kept, by a map from names
+-- whether the first request for a name is kept, given a map from names
 abbrev pub is_first_kept : BTreeMap (Bor (List ℕ)) NextRequest → List ℕ → Bool
 is_first_kept first name = is_kept (tree.get_by (λ k. slice_cmp nat_cmp name k.now) first)
 
--- for each request whether the next one for its name is kept
+-- for each request, whether the next one for its name is kept
 abbrev pub kept_next : List Asked → List Bool → List Bool
 kept_next [] keep = []
 kept_next (r ∷ rs) [] = []
 kept_next (r ∷ rs) (kept ∷ keep) = keeps_next r.name rs keep ∷ kept_next rs keep
 
--- A slot retains its name at the start: it is the lowest that holds that name, and the first request for it is kept.
+-- A slot retains its name at the start: it is the lowest slot that holds that name, and the first request for the name
+-- is kept.
 abbrev pub IsRetainedFirst : List (Option (List ℕ)) → (List ℕ → Bool) → ℕ → Type 0
 IsRetainedFirst slots is_kept slot =
     (name : List ℕ) × Holds slots slot name
@@ -38,17 +39,17 @@ abbrev pub IsNotRetained : List Bool → List (Option (List ℕ)) → Option (Li
 IsNotRetained retained slots None = Unit {0}
 IsNotRetained retained slots (Some name) = (slot : ℕ) → Retains retained slots slot name → ⊥
 
--- where no slot that is retained holds the name, some slot is free
+-- if no retained slot holds the name, some slot is free
 abbrev pub HasRoomFor : List Bool → List (Option (List ℕ)) → Option (List ℕ) → Type 0
 HasRoomFor retained slots None = Unit {0}
 HasRoomFor retained slots (Some name) = ((slot : ℕ) → Retains retained slots slot name → ⊥) → (slot : ℕ) × IsFree retained slot
 
--- what is retained after an update whose name went through a slot, if it has one
+-- what is retained after an update whose name used a slot, if it has one
 abbrev pub retained_after : List Bool → Option ℕ → Bool → List Bool
 retained_after retained None flag = retained
 retained_after retained (Some slot) flag = slice_set retained (slot - 1) flag
 
--- and the index of the next request then
+-- and the index of the next request after it
 abbrev pub index_after : ℕ → Option ℕ → ℕ
 index_after index None = index
 index_after index (Some slot) = index + 1

@@ -1,4 +1,4 @@
--- Which slots of the dictionary retain their names, as lessons are made (profile).
+-- Which slots of the dictionary retain their names while a lesson is made (profile).
 use Rattle.std.specs.Prelude.{◌≡◌, ◌≤◌, ℕ, ◌-◌, Bool, true, false, List, replicate, slice_index_or, Option, Some, None}
 use Rattle.table_types.specs.SlotIds.{slot_count, is_slot}
 use Rattle.dict_slots.specs.Slots.{Holds}
@@ -18,12 +18,12 @@ retained_at retained slot = slice_index_or retained (slot - 1) false
 abbrev pub Retains : List Bool → List (Option (List ℕ)) → ℕ → List ℕ → Type 0
 Retains retained slots slot name = (retained_at retained slot ≡ true) × Holds slots slot name
 
--- that slot may be written: no name is retained there
+-- the slot may be written: no name is retained in it
 abbrev pub IsFree : List Bool → ℕ → Type 0
 IsFree retained slot = (is_slot slot ≡ true) × (retained_at retained slot ≡ false)
 
--- How an update's name is sent. One that is retained is read, in a slot that retains it; any other is written, to the lowest
--- slot that is free. An update without a name has an empty field where its table stores names, and else no field.
+-- How an update's name is sent. A retained name is read, from a slot that retains it; any other is written to the
+-- lowest free slot. An update without a name has an empty field if its table stores names, and no field otherwise.
 abbrev pub IsNameField : List Bool → List (Option (List ℕ)) → Bool → Option (List ℕ) → NameField → Type 0
 IsNameField retained slots stored (Some name) (names.Held slot) = Retains retained slots slot name
 IsNameField retained slots stored (Some name) (names.Written slot written) =

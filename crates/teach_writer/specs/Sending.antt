@@ -1,6 +1,6 @@
--- How a batch is sent (profile). Each update's table is selected where it isn't, by its definition where it isn't defined yet
--- and else by a switch; then the update comes, without its number exactly where that is one more than the table's last,
--- modulo 2^32.
+-- How a batch is sent (profile). If an update's table isn't selected, it is selected first: by its definition if it
+-- isn't defined yet, and by a switch otherwise. Then the update follows, without its number if that is one more than
+-- the table's last, modulo 2^32, and with it otherwise.
 use Rattle.std.specs.Prelude.{◌≡◌, ℕ, Bool, false, ◌==◌, List, [], ◌∷◌, ◌++◌, is_some, Option, Some, None, if◌then◌else◌}
 use Rattle.table_types.specs.declared.update.Update.{Update}
 use Rattle.table_types.specs.Tables.{Definition}
@@ -33,12 +33,12 @@ slot_of (names.Held slot) = Some slot
 slot_of (names.Written slot name) = Some slot
 slot_of field = None
 
--- the update in its shortest number form, with that name field
+-- the update in its shortest number form, with this name field
 abbrev pub update_sent : State → NameField → Update → Message
 update_sent s field u = messages.Update (sent_as (last_of s.last_numbers u.table) field u)
 
--- These messages send one update and lead from s to e: what selects its table, then the update in its shortest number form,
--- with that name field.
+-- These messages send one update and lead from s to e: what selects its table, then the update in its shortest number
+-- form, with this name field.
 abbrev pub IsSent : List Definition → State → Update → NameField → List Message → State → Type 0
 IsSent roster s u field ms e =
     (d : Definition) × (mid : State)
@@ -51,8 +51,8 @@ IsSent roster s u field ms e =
 abbrev pub is_stored : List Definition → Update → Bool
 is_stored roster u = is_named_table (table_at roster u.table)
 
--- These messages send the updates one after another, and nothing else, with one mark for each request: each name is read or
--- written by IsNamed.
+-- These messages send the updates one after another and nothing else, with one mark for each request: each name is read
+-- or written as IsNamed says.
 abbrev pub AreSent : List Definition → State → (List ℕ → Option ℕ) → List Update → List Bool → List Message → State → Type 0
 AreSent roster s starts [] marks ms e = (marks ≡ []) × (ms ≡ []) × (e ≡ s)
 AreSent roster s starts (u ∷ us) marks ms e =
@@ -62,8 +62,8 @@ AreSent roster s starts (u ∷ us) marks ms e =
     × AreSent roster mid (starts_after starts u.name (slot_of field)) us (marks_after u.name marks) rest e
     × (ms ≡ first ++ rest)
 
--- The bytes go through the updates in order, and read the requests that are marked as kept: they spell messages that send one
--- update after another, and nothing else, from the known state to the state e.
+-- The bytes send the updates in order, and read the requests that are marked as kept: they spell messages that send one
+-- update after another and nothing else, from the known state to the state e.
 abbrev pub GoesThrough : KnownState → List Update → List Bool → List ℕ → State → Type 0
 GoesThrough k us marks bytes e =
     (ms : List Message) × AreSent k.roster k.state (starts_at_first k.state.slots) us marks ms e × (bytes ≡ stream_of ms)

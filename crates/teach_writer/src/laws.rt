@@ -8,7 +8,7 @@ ghost use Rattle.known_state.specs.State.{State};
 ghost use Rattle.known_state.specs.Requests.{reads_of};
 ghost use Rattle.teach_writer.specs.Sending.{AreSent};
 
-/// Messages that go through a batch read exactly the requests that are marked as kept, and no other.
+/// Messages that go through a batch read exactly the requests that are marked as kept.
 pub fn marks_are_reads()
     ensures { (roster : List Definition) (s e : State) (starts : List ℕ → Option ℕ) (us : List Update)
         (marks : List Bool) (ms : List Message) → AreSent roster s starts us marks ms e → reads_of ms ≡ marks }

@@ -5,10 +5,10 @@ use retention_flow::PlanError;
 use table_types::{Items, Memory};
 use thiserror::Error;
 
-/// Why there is no lesson. What was lent is as before.
+/// Why there is no lesson. The arguments are unchanged.
 #[derive(Clone, Copy, Debug, PartialEq, Eq, Error)]
 pub enum TeachError {
-    /// Memory was wanted, and the growth was refused.
+    /// Out of memory.
     #[error("memory")]
     Memory,
 }
@@ -32,8 +32,8 @@ impl From<PlanError> for TeachError {
 pub struct Lesson {
     /// The bytes of its messages, one after another.
     pub bytes: Items<u8>,
-    /// One price for each update of the batch that has a name. They show that no legal stream that carries the batch is
-    /// shorter.
+    /// One price for each update of the batch that has a name. The prices prove that no legal stream that carries the
+    /// batch is shorter.
     pub prices: Items<u64>,
     /// What the learner knows after it.
     pub known: Known,

@@ -22,7 +22,7 @@ pub struct NextRequest {
     pub kept: bool,
 }
 
-/// Whether there is a next request and it is kept.
+/// Returns whether there is a next request and it is kept.
 fn is_kept(next: Option<NextRequest>) -> bool
     ensures { result ≡ is_kept next }
 {
@@ -32,7 +32,7 @@ fn is_kept(next: Option<NextRequest>) -> bool
     }
 }
 
-/// Whether the first request for that name is kept, if there is one.
+/// Returns whether there is a first request for `name` and it is kept.
 fn is_first_kept(first: &BTreeMap<&[u8], NextRequest>, name: &Name) -> bool
     ensures { result ≡ is_first_kept first.now name.now }
 {
@@ -42,8 +42,8 @@ fn is_first_kept(first: &BTreeMap<&[u8], NextRequest>, name: &Name) -> bool
     }
 }
 
-/// For each request whether the next one for its name is kept, and that one, if there is one; and for each name its first
-/// request.
+/// Returns three things: for each request, whether the next one for its name is kept; for each request, the next one
+/// for its name, if there is one; and for each name, its first request.
 pub fn next_kept<'a>(
     alloc: Global,
     requests: &'a [Request],
@@ -77,8 +77,8 @@ pub fn next_kept<'a>(
     Ok((next, later, first))
 }
 
-/// Whether a slot retains its name at the start: it is the lowest that holds that name, and the first request for it is
-/// kept.
+/// Returns whether a slot retains its name at the start: whether it is the lowest slot that holds that name, and the
+/// first request for the name is kept.
 fn is_retained_first(slots: &Slots, first: &BTreeMap<&[u8], NextRequest>, slot: u8) -> bool
     requires { is_slot slot ≡ true }
     ensures { IsTrue result ↔ IsRetainedFirst slots.now (λ name. is_first_kept first.now name) slot }
@@ -89,7 +89,7 @@ fn is_retained_first(slots: &Slots, first: &BTreeMap<&[u8], NextRequest>, slot: 
     }
 }
 
-/// The slots that retain their names at the start.
+/// Returns the slots that retain their names at the start.
 pub fn retained_first(slots: &Slots, first: &BTreeMap<&[u8], NextRequest>) -> Retained
     ensures retained { (slot : ℕ) → is_slot slot ≡ true →
         (retained_at result slot ≡ true) ↔ IsRetainedFirst slots.now (λ name. is_first_kept first.now name) slot }

@@ -1,4 +1,4 @@
-//! Lessons by a plan.
+//! Making a lesson according to a plan.
 
 ghost use Rattle.std.specs.Prelude.{◌-◌, ◌≡◌, ◌<◌, ◌≤◌, ◌+◌, ℕ, true, false, IfOk, IfSome, List, length, slice_index_or};
 ghost use Rattle.table_types.specs.Batches.{IsBatchFor};
@@ -26,8 +26,9 @@ use known_state::{Known, Plan, Request};
 use std::alloc::Global;
 use table_types::{Batch, Items, Memory, is_slot};
 
-/// After an update whose name went through that slot, if it has one: the slot retains the name where the next request for
-/// it is kept, as the flag of the request at this index says, and else is free. The next request is at the next index.
+/// Updates `retained` and `index` after an update whose name used `slot`, if it has one: the slot retains the name if
+/// the flag of the request at this index says that the next request for the name is kept, and is free otherwise. The
+/// index moves to the next request.
 fn retain_or_free(retained: &mut Retained, index: &mut usize, slot: Option<u8>, next: &[bool])
     requires slot { IfSome slot (λ id. is_slot id ≡ true) }
     requires index { IfSome slot (λ id. index.old < length next.now) }
@@ -40,7 +41,7 @@ fn retain_or_free(retained: &mut Retained, index: &mut usize, slot: Option<u8>, 
     }
 }
 
-/// Whether the request at this index is kept, if there is one.
+/// Returns whether there is a request at this index and it is kept.
 fn is_kept_at(keep: &[bool], index: usize) -> bool
     ensures { result ≡ slice_index_or keep.now index false }
 {
@@ -51,7 +52,7 @@ fn is_kept_at(keep: &[bool], index: usize) -> bool
     }
 }
 
-/// The slot in which the name of the request at this index is likely to be retained, if one is noted.
+/// Returns the slot in which the name of the request at this index is likely to be retained, if one is noted.
 fn likely_slot(likely_slots: &[Option<u8>], index: usize) -> Option<u8>
     ensures { IfSome result (λ slot. is_slot slot ≡ true) }
 {
@@ -64,7 +65,7 @@ fn likely_slot(likely_slots: &[Option<u8>], index: usize) -> Option<u8>
     }
 }
 
-/// Notes the slot through which the name of the request at this index went as the likely one for the next request for it.
+/// Notes the slot that the request at this index used as the likely one for the next request for the same name.
 fn note_likely_slot(
     likely_slots: &mut [Option<u8>],
     later: &[Option<NextRequest>],
@@ -81,8 +82,8 @@ fn note_likely_slot(
     }
 }
 
-/// Sends the updates of a batch, one after another, as their requests are kept: the bytes, and what the learner knows
-/// after them.
+/// Sends the updates of a batch, one after another, with the requests kept that `keep` marks. Returns the bytes, and
+/// what the learner knows after them.
 fn send_updates(
     alloc: Global,
     known: &Known,
@@ -122,9 +123,9 @@ fn send_updates(
     Ok((bytes, after))
 }
 
-/// The lesson by an accepted plan of the batch's requests, with 128 slots. Each request is read that the plan keeps, and
-/// any other name is written. Its prices are the plan's, and they show that no legal stream that carries the same updates
-/// in that order has fewer bytes.
+/// Returns the lesson according to an accepted plan of the batch's requests, with 128 slots. A request that the plan
+/// keeps is read, and any other name is written. The lesson's prices are the plan's, and they prove that no legal
+/// stream that carries the same updates in the same order has fewer bytes.
 pub fn teach_by(
     alloc: Global,
     known: &Known,

@@ -26,7 +26,7 @@ impl Model for Retained {
     ghost invariant = { λ k. length k.flags ≡ slot_count };
 }
 
-/// The lowest slot that is free, if one is.
+/// Returns the lowest free slot, if there is one.
 fn lowest_free(flags: &[bool; SLOT_COUNT]) -> Option<u8>
     ensures found { IfSome result (λ slot. IsFree flags.now slot) }
     ensures lowest { IfSome result (λ slot. (other : ℕ) → IsFree flags.now other → slot ≤ other) }
@@ -50,7 +50,7 @@ fn is_held_name(held: Option<&Name>, name: &Name) -> bool
 }
 
 impl Retained {
-    /// No slot's name is retained.
+    /// Returns the value in which no slot's name is retained.
     pub fn none() -> Retained
         ensures none { result ≡ none_retained }
         ensures count { length result ≡ slot_count }
@@ -60,7 +60,7 @@ impl Retained {
         }
     }
 
-    /// Whether this name is retained in that slot, by what the slots hold.
+    /// Returns whether `name` is retained in `slot`, given what the slots hold.
     fn retains(&self, slots: &Slots, slot: u8, name: &Name) -> bool
         requires { is_slot slot ≡ true }
         ensures { IsTrue result ↔ Retains self.now slots.now slot name.now }
@@ -68,8 +68,8 @@ impl Retained {
         self.flags[usize::from(slot) - 1] && is_held_name(slots.name(slot), name)
     }
 
-    /// A slot in which this name is retained, by what the slots hold: none where its request isn't kept. The likely one is
-    /// tried first, if there is one.
+    /// Returns a slot in which `name` is retained, given what the slots hold; `None` if the name's request isn't kept.
+    /// Tries `likely_slot` first, if there is one.
     pub fn find(
         &self,
         slots: &Slots,
@@ -99,7 +99,7 @@ impl Retained {
         None
     }
 
-    /// The lowest slot that is free, where one is.
+    /// Returns the lowest free slot. There must be one.
     pub fn free(&self) -> u8
         requires { (slot : ℕ) × IsFree self.now slot }
         ensures free { IsFree self.now result }
@@ -111,7 +111,7 @@ impl Retained {
         }
     }
 
-    /// What the slot holds is retained from here on, or isn't.
+    /// Sets whether the name in `slot` is retained from here on.
     pub fn set(&mut self, slot: u8, retained: bool)
         requires { is_slot slot ≡ true }
         ensures set { self.new ≡ slice_set self.old (slot - 1) retained }

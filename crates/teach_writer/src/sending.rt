@@ -26,7 +26,7 @@ use peers_msg::{Message, NameField, Received, UpdateMsg, append};
 use std::alloc::Global;
 use table_types::{Memory, TableDef, Update};
 
-/// What selects a table of the roster, if anything has to.
+/// Returns what selects a table of the roster, if it isn't selected already.
 fn selection(
     alloc: Global,
     received: &Received,
@@ -45,8 +45,8 @@ fn selection(
     }
 }
 
-/// How the name of an update of that table is sent: read where it is retained, for which the likely slot is tried first, and
-/// else written where a slot is free.
+/// Returns how the name of an update of `table` is sent: read from a slot that retains it, of which the likely slot is
+/// tried first, or written to a free slot.
 fn name_field(
     alloc: Global,
     retained: &Retained,
@@ -79,7 +79,7 @@ fn name_field(
     }
 }
 
-/// The update as its message has it, after that last number of its table, with that name field.
+/// Returns the update as its message has it, if its table's last number is `last`, with the name field `field`.
 fn update_sent(
     alloc: Global,
     last: Option<u32>,
@@ -99,7 +99,7 @@ fn update_sent(
     ))
 }
 
-/// Writes a message: its bytes are appended, and the learner's state moves by it.
+/// Appends a message to `bytes`, and applies it to what the learner knows.
 fn write_message(known: &mut Known, message: Message, bytes: &mut Vec<u8>) -> Result<(), Memory>
     requires { IsTakenBy known.old message }
     ensures appended { OnOk result (bytes.new.items ≡ bytes.old.items ++ spelled message) }
@@ -111,7 +111,7 @@ fn write_message(known: &mut Known, message: Message, bytes: &mut Vec<u8>) -> Re
     known.follow(message)
 }
 
-/// Selects a table of the roster, by a definition or a switch where it isn't selected.
+/// Selects a table of the roster by a definition or a switch, if it isn't selected.
 fn select(alloc: Global, known: &mut Known, id: u64, bytes: &mut Vec<u8>) -> Result<(), Memory>
     requires { (d : Definition) × (table_at known.old.roster id ≡ Some d) }
     ensures chosen { OnOk result ((d : Definition) → table_at known.old.roster id ≡ Some d →
@@ -131,7 +131,7 @@ fn select(alloc: Global, known: &mut Known, id: u64, bytes: &mut Vec<u8>) -> Res
     Ok(())
 }
 
-/// How the name of an update is sent, once its table is found in the roster.
+/// Returns how the name of an update is sent, once its table is found in the roster.
 fn named(
     alloc: Global,
     known: &Known,
@@ -165,7 +165,7 @@ fn named(
     }
 }
 
-/// The slot that a name field reads or writes, if it does.
+/// Returns the slot that a name field reads or writes, if any.
 fn slot_of(field: &NameField) -> Option<u8>
     ensures { result ≡ slot_of field.now }
 {
@@ -175,8 +175,8 @@ fn slot_of(field: &NameField) -> Option<u8>
     }
 }
 
-/// Writes one update of a table of the roster: what selects its table where it isn't selected, and the update. The answer
-/// is the slot through which its name went, if it has one.
+/// Writes one update of a table of the roster: what selects its table, if it isn't selected, and the update. Returns
+/// the slot that the update's name used, if it has one.
 pub fn write_update(
     alloc: Global,
     known: &mut Known,

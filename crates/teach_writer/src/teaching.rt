@@ -1,4 +1,4 @@
-//! How a batch is taught.
+//! Teaching a batch.
 
 ghost use Rattle.std.specs.Prelude.{◌≡◌, ◌≤◌, ◌+◌, IfOk, List, length};
 ghost use Rattle.table_types.specs.Batches.{IsBatchFor};
@@ -22,7 +22,7 @@ use retention_flow::plan;
 use std::alloc::Global;
 use table_types::{Batch, Memory, Name, SLOT_COUNT};
 
-/// The names that the slots hold, slot by slot. One that several slots hold is there as often.
+/// Returns the names that the slots hold, slot by slot. A name that several slots hold occurs as often.
 fn names_held(alloc: Global, slots: &Slots) -> Result<Vec<Name>, Memory>
     ensures names { IfOk result (λ names. names.items ≡ names_in slots.now) }
     ensures few { IfOk result (λ names. length names.items ≤ slot_count) }
@@ -36,8 +36,8 @@ fn names_held(alloc: Global, slots: &Slots) -> Result<Vec<Name>, Memory>
     Ok(names)
 }
 
-/// The names held of which a plan of these requests has to know: those that the slots hold, slot by slot, and none where there
-/// are no requests.
+/// Returns the held names that a plan of these requests depends on: those that the slots hold, slot by slot, or none if
+/// there are no requests.
 fn names_to_plan(alloc: Global, slots: &Slots, requests: &[Request]) -> Result<Vec<Name>, Memory>
     ensures enough { IfOk result (λ names. (plan : Plan) → Accepts slot_count names.items requests.now plan → Accepts slot_count (names_in slots.now) requests.now plan) }
     ensures few { IfOk result (λ names. length names.items ≤ slot_count) }
@@ -48,14 +48,14 @@ fn names_to_plan(alloc: Global, slots: &Slots, requests: &[Request]) -> Result<V
     names_held(alloc, slots)
 }
 
-/// The lesson that teaches the batch to a learner in the known state. It goes through the batch in order. Where an
-/// update's table isn't selected, its definition comes first if it isn't defined yet, and else a switch. An update
-/// comes without its number exactly where that is one more than its table's last, modulo 2^32, and with its life. Its
-/// name is read where the plan of the batch's requests keeps its request, and else written to the lowest slot whose present
-/// name no later update reads there.
+/// Returns the lesson that teaches the batch to a learner in the known state. It goes through the batch in order. If an
+/// update's table isn't selected, a message that selects it comes first: its definition if it isn't defined yet, and a
+/// switch otherwise. An update has its life, and its number unless that is one more than its table's last, modulo 2^32.
+/// Its name is read if the plan of the batch's requests keeps its request; otherwise it is written to the lowest slot
+/// whose present name no later update reads there.
 ///
-/// The batch was made for the roster of the known state. No legal stream that carries the same updates in that order has
-/// fewer bytes, and the lesson's prices, which are the plan's, show it to whoever checks them.
+/// The batch was made for the roster of the known state. No legal stream that carries the same updates in the same
+/// order has fewer bytes, and the lesson's prices, which are the plan's, prove it to any checker.
 pub fn teach(alloc: Global, known: &Known, batch: &Batch) -> Result<Lesson, TeachError>
     requires batch { IsBatchFor known.now.roster batch.now }
     ensures taught { IfOk result (λ lesson. IsLessonFor known.now batch.now lesson.bytes lesson.known) }

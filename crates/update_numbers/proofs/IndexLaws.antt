@@ -29,7 +29,7 @@ same_value : {A : Type 0} (a b : A) → ◌≡◌ {A = Option A} (Some a) (Some 
 same_value a b e = cc
 
 module _ (key_of : ℕ → Option Key) (number_of : Key → Option ℕ) (agree : Agree key_of number_of) (key : Key) where
-  -- a key gives up its number
+  -- a key drops its number
   module _ (number : ℕ) (has : number_of key ≡ Some number) (keys_after : ℕ → Option Key) (numbers_after : Key → Option ℕ)
       (keys_are : (n : ℕ) → keys_after n ≡ cond (is_eq (nat_cmp number n)) None (key_of n))
       (numbers_are : (k : Key) → numbers_after k ≡ cond (is_eq (key_cmp key k)) None (number_of k)) where
@@ -64,7 +64,7 @@ module _ (key_of : ℕ → Option Key) (number_of : Key → Option ℕ) (agree :
     pub dropped_agree : Agree keys_after numbers_after
     dropped_agree = record { keyed = drop_keyed; numbered = drop_numbered }
 
-  -- a key without a number takes one that no key has
+  -- a key without a number gets one that no key has
   module _ (number : ℕ) (none : number_of key ≡ None) (fresh : key_of number ≡ None) (keys_after : ℕ → Option Key) (numbers_after : Key → Option ℕ)
       (keys_are : (n : ℕ) → keys_after n ≡ cond (is_eq (nat_cmp number n)) (Some key) (key_of n))
       (numbers_are : (k : Key) → numbers_after k ≡ cond (is_eq (key_cmp key k)) (Some number) (number_of k)) where
@@ -102,7 +102,7 @@ module _ (key_of : ℕ → Option Key) (number_of : Key → Option ℕ) (agree :
     given_agree = record { keyed = give_keyed; numbered = give_numbered }
 
 module _ (key_of : ℕ → Option Key) (number_of : Key → Option ℕ) (agree : Agree key_of number_of) (key : Key) where
-  -- a key with a number takes another, which no key has
+  -- a key with a number gets another, which no key has
   module _ (older number : ℕ) (has : number_of key ≡ Some older) (fresh : key_of number ≡ None) (keys_after : ℕ → Option Key) (numbers_after : Key → Option ℕ)
       (keys_are : (n : ℕ) → keys_after n ≡ cond (is_eq (nat_cmp older n)) None (cond (is_eq (nat_cmp number n)) (Some key) (key_of n)))
       (numbers_are : (k : Key) → numbers_after k ≡ cond (is_eq (key_cmp key k)) (Some number) (number_of k)) where

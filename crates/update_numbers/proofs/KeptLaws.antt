@@ -1,4 +1,4 @@
--- A number that a key has besides its older one: what the older one's going leaves.
+-- A number that a key has besides its older one: what removing the older one leaves.
 use Rattle.std.proofs.Common.{◌≡◌, ℕ, ◌+◌, cond, List, [], ◌∷◌, ◌++◌, Option, Some, None, sym, ap, ◌∙◌, arith}
 use Rattle.std.specs.List.Sorted.{IsStrictlySortedBy}
 use Rattle.std.specs.Ordering.{is_eq, nat_cmp}
@@ -11,7 +11,7 @@ use Rattle.update_numbers.proofs.IndexLaws.{given_agree, renumbered_agree}
 use Rattle.update_numbers.proofs.NumberLaws.{below_placed, fresh, remove_in_front, without_none, without_one}
 
 module _ (by_number : List (ℕ × Key)) (by_key : List (Key × ℕ)) (number : ℕ) (key : Key) (older : Option ℕ) (by_number_now : List (ℕ × Key)) (by_key_now : List (Key × ℕ)) (kept : IsKept by_number by_key number key older by_number_now by_key_now) where
-  -- the key takes the number in place of its older one
+  -- the key gets the number in place of its older one
   pub placed_pairs : pairs_without older by_number_now ≡ without key by_number ++ (number, key) ∷ []
   placed_pairs = by older (sym kept.had)
     where

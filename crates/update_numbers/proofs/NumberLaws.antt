@@ -1,4 +1,4 @@
--- The pairs of a key among pairs in rising number.
+-- The pairs of a key among pairs in ascending order of number.
 use Rattle.std.proofs.Common.{◌≡◌, ℕ, ◌+◌, ◌<◌, Bool, true, false, List, [], ◌∷◌, ◌++◌, Some, None, refl, sym, ap, ◌∙◌, arith}
 use Rattle.std.specs.List.{AllByRecursion, list_any}
 use Rattle.std.specs.List.Sorted.{IsStrictlySortedBy}
@@ -30,7 +30,7 @@ found_above (e ∷ es) least n k above at = by (nat_cmp n e.0) refl (λ there. f
 above_apart : (least n : ℕ) → nat_cmp least n ≡ Less → is_eq (nat_cmp n least) ≡ false
 above_apart least n less = ap is_eq (nat_cmp_total.antisymm n least ∙ ap ordering_reverse less)
 
--- what holds of each number and key that are found holds of each pair
+-- what holds of each number and key that is found holds of each pair
 pub all_found : (es : List (ℕ × Key)) → IsStrictlySortedBy nat_cmp (keys_of es) → (T : ℕ × Key → Type 0) → ((n : ℕ) (k : Key) → key_at es n ≡ Some k → T (n, k)) → AllByRecursion T es
 unfolding IsStrictlySortedBy
 all_found [] rising T h = tt
@@ -49,7 +49,7 @@ module _ (by_number : List (ℕ × Key)) (by_key : List (Key × ℕ)) (rising : 
           let both : None ≡ Some n = sym none ∙ ap (number_at by_key) (one_key key k same) ∙ agree.keyed n k at in
           absurd cc
 
-  -- and one with a number the pair of that number
+  -- a key with a number has the pair of that number only
   pub one_of : (number : ℕ) → number_at by_key key ≡ Some number → AllByRecursion (λ e. is_of key e ≡ is_eq (nat_cmp number e.0)) by_number
   one_of number has = all_found by_number rising _ (λ n k at. by n k at (is_eq (key_cmp key k)) refl (is_eq (nat_cmp number n)) refl)
     where
@@ -81,12 +81,12 @@ any_some key number k (e ∷ es) one at = by (is_eq (nat_cmp number e.0)) refl (
     by true here rest = rw (one.0, here) refl
     by false other rest = rw (one.0, other) (rest (sym (rw other refl) ∙ at))
 
--- the pairs above a number aren't that number's
+-- the pairs above a key's number aren't the key's
 none_above : (key : Key) (number : ℕ) (es : List (ℕ × Key)) → AllByRecursion (λ m. nat_cmp number m ≡ Less) (keys_of es) → AllByRecursion (λ e. is_of key e ≡ is_eq (nat_cmp number e.0)) es → AllByRecursion (λ e. is_of key e ≡ false) es
 none_above key number [] above one = tt
 none_above key number (e ∷ es) above one = (one.0 ∙ ap is_eq above.0, none_above key number es above.1 one.1)
 
--- without the number's pair is without the key's
+-- without the number's pair is without the key's pair
 pub remove_without : (key : Key) (number : ℕ) (es : List (ℕ × Key)) → IsStrictlySortedBy nat_cmp (keys_of es) → AllByRecursion (λ e. is_of key e ≡ is_eq (nat_cmp number e.0)) es → remove_entry (is_at (nat_cmp number)) es ≡ without key es
 unfolding IsStrictlySortedBy
 remove_without key number [] rising one = refl
@@ -98,7 +98,7 @@ remove_without key number (e ∷ es) rising one = by (is_eq (nat_cmp number e.0)
         let above : AllByRecursion (λ m. nat_cmp number m ≡ Less) (keys_of es) = rw (one_number number e.0 here) rising.0 in
         rw (one.0, here) (sym (all_without key es (none_above key number es above one.1)))
 
--- ---- a number above all
+-- ---- a number above all others
 
 below_greater : (number n : ℕ) → n < number → nat_cmp number n ≡ Greater
 below_greater number n below = sym (nat_cmp_is number n Greater below)
@@ -160,7 +160,7 @@ module _ (by_number : List (ℕ × Key)) (by_key : List (Key × ℕ)) (next : �
   pub below_placed : (after : List (ℕ × Key)) → after ≡ without key by_number ++ (next, key) ∷ [] → AllByRecursion (λ e. e.0 < next + 1) after
   below_placed after placed = rw placed (below_append (without key by_number) next key (below_without key by_number next index.below))
 
--- a number that was put above all is taken out again
+-- a number that was put above all others is removed again
 pub put_back : (es : List (ℕ × Key)) (number : ℕ) (key : Key) → AllByRecursion (λ e. e.0 < number) es → remove_entry (is_at (nat_cmp number)) (insert_entry nat_cmp es number key) ≡ es
 put_back es number key below = ap (λ (fs : List (ℕ × Key)). remove_entry (is_at (nat_cmp number)) fs) (insert_last es number key below) ∙ remove_last es number key below
 

@@ -1,4 +1,4 @@
--- Numbers that rise: one that is taken out, and the greatest.
+-- Ascending numbers: one is removed, and the greatest is.
 use Rattle.std.proofs.Common.{◌≡◌, ℕ, ◌<◌, Bool, true, false, List, [], ◌∷◌, ◌++◌, Some, refl, sym, arith}
 use Rattle.std.specs.List.{AllByRecursion}
 use Rattle.std.specs.List.Sorted.{IsStrictlySortedBy}
@@ -17,7 +17,7 @@ below_removed number next (e ∷ es) below = by (is_eq (nat_cmp number e.0)) ref
     by true here rest = rw here below.1
     by false other rest = rw other (below.0, rest)
 
--- a number is taken out
+-- a number is removed
 pub removed : (pairs after : List (ℕ × Key)) (number next : ℕ) → AreNumbered pairs next → after ≡ pairs_without (Some number) pairs → IsStrictlySortedBy nat_cmp (keys_of after) → AreNumbered after next
 removed pairs after number next are is rising = record { rising = rising; below = rw is (below_removed number next pairs are.below); most = are.most }
 
@@ -34,7 +34,7 @@ unfolding IsStrictlySortedBy
 below_last [] e rising = tt
 below_last (f ∷ fs) e rising = (ranked f.0 e.0 Less (sym (last_number (λ n. nat_cmp f.0 n ≡ Less) fs e rising.0)), below_last fs e rising.1)
 
--- those before the greatest rise
+-- those before the greatest ascend
 pub rising_front : (es : List (ℕ × Key)) (e : ℕ × Key) → IsStrictlySortedBy nat_cmp (keys_of (es ++ e ∷ [])) → IsStrictlySortedBy nat_cmp (keys_of es)
 unfolding IsStrictlySortedBy
 rising_front [] e rising = tt

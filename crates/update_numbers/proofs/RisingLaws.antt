@@ -1,4 +1,4 @@
--- Pairs with the greatest number first, and the same pairs in rising number.
+-- Pairs in descending order of number, and the same pairs in ascending order.
 use Rattle.std.proofs.Common.{◌≡◌, ℕ, ◌<◌, ◌≤◌, ◌^◌, Bool, true, false, not, List, [], ◌∷◌, ◌++◌, length, Some, refl, sym, ap, subst, ◌∙◌, arith}
 use Rattle.std.specs.Prelude.{filter, nat_lt}
 use Rattle.std.specs.List.{AllByRecursion}
@@ -53,18 +53,18 @@ unfolding IsStrictlySortedBy
 sorted_rising [] sorted = tt
 sorted_rising (e ∷ es) sorted = sorted_end (rising es) (e.0.0, e.1) (sorted_rising es sorted.1) (all_rising (λ n. nat_cmp n e.0.0 ≡ Less) es sorted.0)
 
--- none are numbered
+-- no pairs are numbered
 pub none_numbered : (es : List (Reverse ℕ × Key)) (next : ℕ) → es ≡ [] → next ≤ 2 ^ 32 → AreNumbered (rising es) next
 unfolding IsStrictlySortedBy
 none_numbered es next none most = subst (λ (fs : List (Reverse ℕ × Key)). AreNumbered (rising fs) next) (sym none) (record { rising = tt; below = tt; most = most })
 
--- ---- a number above all
+-- ---- a number above all others
 
 pub insert_first : (es : List (Reverse ℕ × Key)) (number : Reverse ℕ) (key : Key) → AllByRecursion (λ p. p.0 < number.0) (rising es) → insert_entry falling_cmp es number key ≡ (number, key) ∷ es
 insert_first [] number key below = refl
 insert_first (e ∷ es) number key below = rw (sym (nat_cmp_is e.0.0 number.0 Less (last_below number.0 (rising es) (e.0.0, e.1) below))) refl
 
--- ---- one that is looked up, and taken out
+-- ---- a pair that is looked up, and removed
 
 turned : (a b : ℕ) → is_eq (nat_cmp a b) ≡ is_eq (nat_cmp b a)
 turned a b = (eq_by_cmp_equiv nat_cmp_total).symm a b
@@ -109,7 +109,7 @@ removed_rising (e ∷ es) number sorted = by (is_eq (nat_cmp e.0.0 number.0)) re
         rw here (sym (ap (λ (n : ℕ). pairs_without (Some n) (rising (e ∷ es))) (sym one) ∙ remove_last (rising es) e.0.0 e.1 (below_last (rising es) (e.0.0, e.1) sorted)))
     by false other rest = rw other (ap (λ (ps : List (ℕ × Key)). ps ++ (e.0.0, e.1) ∷ []) rest ∙ sym (remove_before (rising es) (e.0.0, e.1) number.0 (turned number.0 e.0.0 ∙ other)))
 
--- ---- those above a number
+-- ---- the pairs above a number
 
 past-above : (number n : ℕ) → not (is_le (nat_cmp n number)) ≡ nat_lt number n
 past-above number n = by (nat_cmp n number) refl

@@ -1,4 +1,4 @@
-//! Keys by the numbers of their updates.
+//! Keys by the numbers of their updates, in one map.
 
 ghost use Rattle.std.specs.Prelude.{◌≡◌, ◌≤◌, ◌<◌, ◌^◌, ◌∷◌, ◌++◌, [], IfNone, IfOk, IfSome, OnOk, OnErr, Some, length};
 ghost use Rattle.std.specs.List.{AllByRecursion};
@@ -16,14 +16,14 @@ use std::marker::Model;
 use std::ops::Bound;
 use table_types::{Key, Memory};
 
-/// Keys by the numbers that they were given, each the next one. A key that is given another number keeps its older one
-/// until that is taken out, by whoever knows which it is.
+/// Keys by the numbers assigned to them, each the next one. A key that gets another number keeps its older one until
+/// the caller, who must know it, removes it.
 #[derive(Drop)]
 pub struct NumberedKeys {
-    /// The greatest number first: one that is given is above all others, and a search that begins at the front finds its
-    /// place at once.
+    /// In descending order: a new number is above all others, so a search that begins at the front finds its place at
+    /// once.
     keys: BTreeMap<Reverse<u32>, Key>,
-    /// 2^32 where all are spent.
+    /// 2^32 if all numbers are assigned.
     next: u64,
 }
 
@@ -40,7 +40,7 @@ impl Model for NumberedKeys {
 }
 
 impl NumberedKeys {
-    /// No keys yet, and `first` given next. Doesn't allocate.
+    /// Makes a numbering without keys, whose next number is `first`. Doesn't allocate.
     pub fn new(alloc: Global, first: u32) -> NumberedKeys
         requires { 1 ≤ first }
         ensures { result ≡ record { pairs = []; next = first } }
@@ -51,7 +51,7 @@ impl NumberedKeys {
         }
     }
 
-    /// The number that is given next, or 2^32 where all are spent.
+    /// Returns the next number to assign, or 2^32 if all are assigned.
     pub fn next(&self) -> u64
         ensures next { result ≡ self.now.next }
         ensures most { result ≤ 2 ^ 32 }
@@ -61,14 +61,14 @@ impl NumberedKeys {
         self.next
     }
 
-    /// How many numbers have a key.
+    /// Returns how many numbers have a key.
     pub fn len(&self) -> usize
         ensures { result ≡ length self.now.pairs }
     {
         self.keys.len()
     }
 
-    /// Gives a key the next number. After `Memory` nothing has changed.
+    /// Assigns the next number to `key`. If memory runs out, nothing has changed.
     pub fn push(&mut self, key: Key) -> Result<(), Memory>
         requires { self.old.next < 2 ^ 32 }
         ensures pushed { OnOk result (self.new ≡ pushed key self.old) }
@@ -79,7 +79,8 @@ impl NumberedKeys {
         Ok(())
     }
 
-    /// Takes the greatest number back, which is given next then, and answers it with its key. Doesn't allocate.
+    /// Takes back the greatest number, which is then the next one again, and returns it with its key; `None` if there
+    /// is none. Doesn't allocate.
     pub fn pop(&mut self) -> Option<(u32, Key)>
         ensures last { IfSome result (λ pair. self.old.pairs ≡ self.new.pairs ++ pair ∷ []) }
         ensures next { IfSome result (λ pair. self.new.next ≡ pair.0) }
@@ -91,7 +92,7 @@ impl NumberedKeys {
         Some((number, key))
     }
 
-    /// Takes out the pair of a number, and answers its key. Doesn't allocate.
+    /// Removes the pair of `number`, and returns its key. Doesn't allocate.
     pub fn remove(&mut self, number: u32) -> Option<Key>
         ensures key { result ≡ key_at self.old.pairs number }
         ensures removed { self.new ≡ record { pairs = pairs_without (Some number) self.old.pairs; next = self.old.next } }
@@ -99,7 +100,7 @@ impl NumberedKeys {
         self.keys.remove(&Reverse(number))
     }
 
-    /// The pairs above that number, in rising number. Doesn't allocate.
+    /// Returns the pairs above `number`, in ascending order of number. Doesn't allocate.
     pub fn above(&self, number: u32) -> Rising<'_>
         ensures { result ≡ above number self.now.pairs }
     {

@@ -1,4 +1,4 @@
-//! Numbers of updates.
+//! Numbers of updates by number and by key.
 
 ghost use Rattle.std.specs.Prelude.{◌≡◌, ℕ, ◌↔◌, ◌≤◌, ◌<◌, ◌^◌, [], Err, IfOk, OnOk, OnErr, take};
 ghost use Rattle.std.specs.List.{AllByRecursion, list_any};
@@ -16,24 +16,24 @@ use std::ops::Bound;
 use table_types::{Key, Memory};
 use thiserror::Error;
 
-/// Why no number was given. Nothing has changed.
+/// Why no number was assigned. Nothing has changed.
 #[derive(Clone, Copy, Debug, PartialEq, Eq, Error)]
 pub enum NumberError {
-    /// Each number up to 2^32 - 1 was given.
+    /// All numbers up to 2^32 - 1 are assigned.
     #[error("spent")]
     Spent,
-    /// A growth was refused.
+    /// Memory ran out.
     #[error("memory")]
     Memory,
 }
 
-/// Gives numbers to keys: each the next one, in place of the key's older one.
+/// The numbers of keys. A key is assigned the next number in place of its older one.
 #[derive(Drop)]
 pub struct Numbers {
     alloc: Global,
     by_number: BTreeMap<u32, Key>,
     by_key: BTreeMap<Key, u32>,
-    /// 2^32 where all are spent.
+    /// 2^32 if all numbers are assigned.
     next: u64,
 }
 
@@ -48,7 +48,8 @@ impl Model for Numbers {
     ghost invariant = { λ a. AreIndexed a.by_number.entries a.by_key.entries a.next };
 }
 
-/// Puts a key at a number above all others, and answers the one that it had. After `Memory` nothing has changed.
+/// Puts `key` at `number`, which is above all others, and returns its older number. If memory runs out, nothing has
+/// changed.
 fn keep(
     alloc: Global,
     by_number: &mut BTreeMap<u32, Key>,
@@ -71,7 +72,7 @@ fn keep(
     Ok(older)
 }
 
-/// Takes out the pair of a key's older number, if it had one.
+/// Removes the pair of a key's older number, if it had one.
 fn drop_older(by_number: &mut BTreeMap<u32, Key>, older: Option<u32>)
     requires { IsStrictlySortedBy nat_cmp (keys_of by_number.old.entries) }
     ensures dropped { by_number.new.entries ≡ pairs_without older by_number.old.entries }
@@ -84,7 +85,7 @@ fn drop_older(by_number: &mut BTreeMap<u32, Key>, older: Option<u32>)
 }
 
 impl Numbers {
-    /// No numbers given yet, and `first` given next. Doesn't allocate.
+    /// Makes a numbering without keys, whose next number is `first`. Doesn't allocate.
     pub fn new(alloc: Global, first: u32) -> Numbers
         requires { 1 ≤ first }
         ensures { result ≡ record { pairs = []; next = first } }
@@ -97,7 +98,7 @@ impl Numbers {
         }
     }
 
-    /// The number that is given next, or 2^32 where all are spent.
+    /// Returns the next number to assign, or 2^32 if all are assigned.
     pub fn next(&self) -> u64
         ensures next { result ≡ self.now.next }
         ensures most { result ≤ 2 ^ 32 }
@@ -107,7 +108,7 @@ impl Numbers {
         self.next
     }
 
-    /// Gives a key the next number in place of its older one.
+    /// Assigns the next number to `key` in place of its older one. If it fails, nothing has changed.
     pub fn give(&mut self, key: &Key) -> Result<u32, NumberError>
         ensures given { OnOk result (self.new ≡ given key.now self.old) }
         ensures number { IfOk result (λ number. number ≡ self.old.next) }
@@ -131,7 +132,7 @@ impl Numbers {
         Ok(number)
     }
 
-    /// Drops the number of a key, and answers whether it had one. Doesn't allocate.
+    /// Removes the number of `key`, and returns whether it had one. Doesn't allocate.
     pub fn drop_key(&mut self, key: &Key) -> bool
         ensures had { result ≡ list_any (is_of key.now) self.old.pairs }
         ensures dropped { self.new ≡ dropped key.now self.old }
@@ -143,7 +144,8 @@ impl Numbers {
         true
     }
 
-    /// The first numbers above that one, with equal keys, in rising number: all of them, and no more than `limit`.
+    /// Returns the pairs above `number`, in ascending order of number, with copies of the keys, at most `limit` of
+    /// them.
     pub fn above(&self, number: u32, limit: usize) -> Result<Vec<(u32, Key)>, Memory>
         ensures { IfOk result (λ pairs. pairs.items ≡ take limit (above number self.now.pairs)) }
     {

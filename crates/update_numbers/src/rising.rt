@@ -1,4 +1,4 @@
-//! Numbers with their keys, one after another, in rising number.
+//! Iteration over numbers with their keys, in ascending order of number.
 
 ghost use Rattle.std.specs.Prelude.{◌≡◌, length};
 ghost use Rattle.std.specs.Iterator.{at_most};
@@ -10,10 +10,10 @@ use std::collections::btree_map::Range;
 use std::marker::Model;
 use table_types::Key;
 
-/// The numbers that are left to go over, with their keys, in rising number. Doesn't allocate.
+/// An iterator over the remaining numbers with their keys, in ascending order of number. It doesn't allocate.
 #[derive(Drop)]
 pub struct Rising<'a> {
-    /// The greatest number first.
+    /// In descending order of number.
     falling: Range<'a, Reverse<u32>, Key>,
 }
 
@@ -28,7 +28,7 @@ impl<'a> Model for Rising<'a> {
 }
 
 impl<'a> Rising<'a> {
-    /// The same pairs from the other end.
+    /// Iterates over the same pairs from the other end.
     pub(crate) fn new(falling: Range<'a, Reverse<u32>, Key>) -> Rising<'a>
         ensures { result ≡ rising falling.entry }
     {

@@ -23,7 +23,7 @@ pub struct DefinitionRef<'a> {
     expire: u32,
     /// The bits of the types that the table stores.
     stored: u64,
-    /// The bytes that were found to hold the periods of these types.
+    /// The bytes that begin with the periods of these types, as reading has checked.
     periods: &'a [u8],
 }
 
@@ -41,7 +41,7 @@ impl<'a> Model for DefinitionRef<'a> {
     ghost invariant = { λ d. (is_read (types_at all_types d.stored d.periods.now) ≡ true) × (is_definition (record { id = d.id; name = d.name.now; kind = d.kind; key_length = d.key_length; expire = d.expire; types = list_read (types_at all_types d.stored d.periods.now) }) ≡ true) };
 }
 
-/// The types whose bits stand, and their periods, which the bytes begin with.
+/// Returns the types whose bits are set, with their periods, which are at the front of `periods`.
 fn types_of(
     alloc: Global,
     stored: u64,
@@ -76,7 +76,7 @@ fn is_memory(error: DefError) -> bool
     error == DefError::Memory
 }
 
-/// The definition of parts that make one.
+/// Makes the definition of parts that reading has checked.
 fn table_of(
     alloc: Global,
     id: u64,
@@ -98,7 +98,7 @@ fn table_of(
 }
 
 impl<'a> DefinitionRef<'a> {
-    /// The definition of these parts.
+    /// Makes a definition of its parts.
     pub(crate) fn new(
         id: u64,
         name: &'a [u8],
@@ -123,7 +123,7 @@ impl<'a> DefinitionRef<'a> {
         }
     }
 
-    /// The id that the sender of the updates gives the table, 1 to 2^32 - 1.
+    /// Returns the id that the sender of the updates gives the table, 1 to 2^32 - 1.
     pub fn id(&self) -> u64
         ensures value { result ≡ self.now.id }
         ensures defined { is_definition self.now ≡ true }
@@ -131,35 +131,35 @@ impl<'a> DefinitionRef<'a> {
         self.id
     }
 
-    /// The table's name, of 1 to 255 bytes, none of them NUL.
+    /// Returns the table's name: 1 to 255 bytes, none of them NUL.
     pub fn name(&self) -> &'a [u8]
         ensures { result.now ≡ self.now.name }
     {
         self.name
     }
 
-    /// What the table's keys are.
+    /// Returns the kind of the table's keys.
     pub fn kind(&self) -> KeyKind
         ensures { result ≡ self.now.kind }
     {
         self.kind
     }
 
-    /// The length of its keys in bytes, and of texts one more than the longest has.
+    /// Returns the key length in bytes; for strings, one more than the longest key.
     pub fn key_length(&self) -> u64
         ensures { result ≡ self.now.key_length }
     {
         self.key_length
     }
 
-    /// The life of its rows in milliseconds, and 0 where they live for ever.
+    /// Returns how long a row lives after its last update, in milliseconds; 0 means forever.
     pub fn expire(&self) -> u32
         ensures { result ≡ self.now.expire }
     {
         self.expire
     }
 
-    /// An equal definition of its own.
+    /// Returns an equal owned definition. Fails if memory runs out.
     pub fn to_owned(&self, alloc: Global) -> Result<TableDef, Memory>
         ensures { IfOk result (λ table. table ≡ self.now) }
     {

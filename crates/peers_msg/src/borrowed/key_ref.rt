@@ -15,14 +15,14 @@ pub enum KeyRef<'a> {
     Ip4(&'a [u8; 4]),
     /// The sixteen bytes of an IPv6 address, in network order.
     Ip6(&'a [u8; 16]),
-    /// A text's bytes; in a table of key length L, fewer than L.
+    /// The bytes of a string: fewer than L in a table of key length L.
     Str(&'a [u8]),
-    /// Bytes; in a table of key length L, exactly L.
+    /// Bytes: exactly L in a table of key length L.
     Bin(&'a [u8]),
 }
 
 impl<'a> KeyRef<'a> {
-    /// An equal key of its own. Only a text and bytes take memory.
+    /// Returns an equal owned key. Allocates only for strings and bytes. Fails if memory runs out.
     pub fn to_owned(self, alloc: Global) -> Result<Key, Memory>
         ensures { IfOk result (λ key. key ≡ owned_key self.entry) }
     {

@@ -11,8 +11,8 @@ use crate::message::Message;
 use std::alloc::Global;
 use table_types::Memory;
 
-/// A message of the peers protocol, version 2.1, as its bytes stand where they were received (HAProxy,
-/// doc/peers-v2.0.txt, "Messages"). It is what a `Message` is, and doesn't allocate.
+/// A message of the peers protocol, version 2.1, borrowed from the received bytes (HAProxy, doc/peers-v2.0.txt,
+/// "Messages"). It corresponds to a `Message`, without memory of its own.
 #[derive(Debug, Drop)]
 pub enum MessageRef<'a> {
     /// Class 0.
@@ -21,13 +21,13 @@ pub enum MessageRef<'a> {
     Error(ErrorKind),
     /// Class 10, type 130.
     Define(DefinitionRef<'a>),
-    /// Class 10, type 131: the id of a table that was defined, and is now selected.
+    /// Class 10, type 131: the id of a defined table, which is now selected.
     Switch(u64),
     /// Class 10, type 132.
     Ack {
         /// The id that the sender of the updates gave the table.
         table: u64,
-        /// The number of the last update taken.
+        /// The number of the last update received.
         number: u32,
     },
     /// Class 10, types 128, 129, 133 and 134.
@@ -37,7 +37,7 @@ pub enum MessageRef<'a> {
 }
 
 impl<'a> MessageRef<'a> {
-    /// An equal message of its own.
+    /// Returns an equal owned message. Fails if memory runs out.
     pub fn to_owned(&self, alloc: Global) -> Result<Message, Memory>
         ensures { IfOk result (λ message. message ≡ owned_message self.now) }
     {

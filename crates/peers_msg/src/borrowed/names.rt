@@ -1,4 +1,4 @@
-//! Name fields, made of their own.
+//! Owned copies of borrowed name fields.
 
 ghost use Rattle.std.specs.Prelude.{◌≡◌, true, IfOk};
 ghost use Rattle.peers_msg.specs.Borrowed.{owned_name, is_named};
@@ -9,8 +9,8 @@ use std::alloc::Global;
 use table_types::{Memory, Name};
 
 impl<'a> NameFieldRef<'a> {
-    /// An equal name field of its own. Only a written name takes memory; it has to be one, of 1 to 255 bytes without NUL,
-    /// as the one of each update read is.
+    /// Returns an equal owned name field. Allocates only for a written name, and fails if memory runs out. A written
+    /// name must have 1 to 255 bytes without NUL, as in every update read.
     pub fn to_owned(self, alloc: Global) -> Result<NameField, Memory>
         requires { is_named (owned_name self) ≡ true }
         ensures { IfOk result (λ field. field ≡ owned_name self.entry) }

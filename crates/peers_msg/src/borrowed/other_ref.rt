@@ -1,4 +1,4 @@
-//! Messages without meaning here, borrowed.
+//! Messages that have no meaning here, borrowed.
 
 ghost use Rattle.std.specs.Prelude.{◌≡◌, true, IfOk};
 ghost use Rattle.peers_msg.specs.Messages.{is_other};
@@ -8,7 +8,7 @@ use std::alloc::Global;
 use std::marker::Model;
 use table_types::Memory;
 
-/// A message of a pair of class and type that has no meaning here, with its data borrowed from its bytes.
+/// A message whose pair of class and type has no meaning here, with its data borrowed from the received bytes.
 #[derive(Debug, Drop)]
 pub struct OtherRef<'a> {
     class: u8,
@@ -28,7 +28,7 @@ impl<'a> Model for OtherRef<'a> {
 }
 
 impl<'a> OtherRef<'a> {
-    /// The message of that class and type with these data.
+    /// Makes a message of its class, type and data.
     pub(crate) fn new(class: u8, message_type: u8, body: &'a [u8]) -> OtherRef<'a>
         requires { is_other (record { class = class; message_type = message_type; body = body.now }) ≡ true }
         ensures { result ≡ record { class = class; message_type = message_type; body = body.now } }
@@ -40,7 +40,7 @@ impl<'a> OtherRef<'a> {
         }
     }
 
-    /// Its class.
+    /// Returns the message's class.
     pub fn class(&self) -> u8
         ensures value { result ≡ self.now.class }
         ensures other { is_other self.now ≡ true }
@@ -48,21 +48,21 @@ impl<'a> OtherRef<'a> {
         self.class
     }
 
-    /// Its type.
+    /// Returns the message's type.
     pub fn message_type(&self) -> u8
         ensures { result ≡ self.now.message_type }
     {
         self.message_type
     }
 
-    /// Its data.
+    /// Returns the message's data.
     pub fn body(&self) -> &'a [u8]
         ensures { result.now ≡ self.now.body }
     {
         self.body
     }
 
-    /// An equal message of its own.
+    /// Returns an equal owned message. Fails if memory runs out.
     pub fn to_owned(&self, alloc: Global) -> Result<Other, Memory>
         ensures { IfOk result (λ other. other ≡ self.now) }
     {

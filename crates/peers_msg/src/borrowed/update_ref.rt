@@ -36,7 +36,7 @@ impl<'a> Model for UpdateRef<'a> {
 }
 
 impl<'a> UpdateRef<'a> {
-    /// The update with these fields.
+    /// Makes an update of its fields.
     #[inline(always)]
     pub(crate) fn new(
         number: Option<u32>,
@@ -58,7 +58,7 @@ impl<'a> UpdateRef<'a> {
         }
     }
 
-    /// The sender's number; `None` where it is one more than the table's last.
+    /// Returns the sender's number of the update, or `None` if it is one above the table's last.
     pub fn number(&self) -> Option<u32>
         ensures value { result ≡ self.now.number }
         ensures small { is_small self.now.key self.now.values ≡ true }
@@ -66,28 +66,28 @@ impl<'a> UpdateRef<'a> {
         self.number
     }
 
-    /// The remaining life of the row in milliseconds; `None` where it is not given.
+    /// Returns the row's remaining life in milliseconds, or `None` if it isn't given.
     pub fn life(&self) -> Option<u32>
         ensures { result ≡ self.now.life }
     {
         self.life
     }
 
-    /// The row's key.
+    /// Returns the row's key.
     pub fn key(&self) -> KeyRef<'a>
         ensures { owned_key result ≡ self.now.key }
     {
         self.key
     }
 
-    /// The values in rising id, without the server's name.
+    /// Returns the values, in ascending order of id, without the server's name.
     pub fn values(&self) -> ValuesRef<'a>
         ensures { result ≡ self.now.values }
     {
         self.values.again()
     }
 
-    /// What stands where the server's name goes.
+    /// Returns the name field, which carries the server's name.
     pub fn name(&self) -> NameFieldRef<'a>
         ensures value { owned_name result ≡ self.now.name }
         ensures named { is_named (owned_name result) ≡ true }
@@ -95,7 +95,8 @@ impl<'a> UpdateRef<'a> {
         self.name
     }
 
-    /// An equal update of its own. A text or bytes as key, values and a written name take memory.
+    /// Returns an equal owned update. Allocates for a key of a string or bytes, for values and for a written name.
+    /// Fails if memory runs out.
     pub fn to_owned(&self, alloc: Global) -> Result<UpdateMsg, Memory>
         ensures { IfOk result (λ update. update ≡ self.now) }
     {

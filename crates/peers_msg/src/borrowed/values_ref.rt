@@ -9,11 +9,11 @@ use std::alloc::Global;
 use std::marker::Model;
 use table_types::{DataType, Memory, Shape, ShortList, Value};
 
-/// The values of an update: bytes that were found to hold one for each of the table's types but the server's name.
+/// The values of an update, one for each of the table's types except the server's name, borrowed from its bytes.
 #[derive(Debug, Drop)]
 pub struct ValuesRef<'a> {
     types: &'a [(DataType, Option<u32>)],
-    /// From the first value on.
+    /// The bytes from the first value on.
     bytes: &'a [u8],
 }
 
@@ -30,7 +30,7 @@ impl<'a> Model for ValuesRef<'a> {
     ghost invariant = { λ v. is_read (values_at v.types.now v.bytes.now) ≡ true };
 }
 
-/// How many types have a value: all but the server's name.
+/// Returns how many types have a value: all except the server's name.
 #[inline(always)]
 fn value_count(types: &[(DataType, Option<u32>)]) -> usize
     ensures { result ≡ value_count types.now }
@@ -44,7 +44,7 @@ fn value_count(types: &[(DataType, Option<u32>)]) -> usize
     count
 }
 
-/// The values that the bytes begin with, one for each type but the server's name.
+/// Returns the values at the front of `bytes`, one for each type except the server's name.
 fn values_of(
     alloc: Global,
     types: &[(DataType, Option<u32>)],
@@ -71,7 +71,7 @@ fn values_of(
     Ok(values)
 }
 
-/// The shape of the first value and the types after it; `None` where no type has a value.
+/// Returns the shape of the first value and the types after it, or `None` if no type has a value.
 fn first_shape(types: &[(DataType, Option<u32>)]) -> Option<(Shape, &[(DataType, Option<u32>)])>
     ensures first { IfSome result (λ x. (bytes : List ℕ) → values_at types.now bytes ≡ with_values x.1.now (value_at x.0 bytes)) }
     ensures none { result ≡ None → (bytes : List ℕ) → values_at types.now bytes ≡ Ok ([], bytes) }
@@ -86,7 +86,7 @@ fn first_shape(types: &[(DataType, Option<u32>)]) -> Option<(Shape, &[(DataType,
 }
 
 impl<'a> ValuesRef<'a> {
-    /// The values of these types that the bytes begin with.
+    /// Makes a reference to the values of `types` at the front of `bytes`.
     #[inline(always)]
     pub(crate) fn new(types: &'a [(DataType, Option<u32>)], bytes: &'a [u8]) -> ValuesRef<'a>
         requires { is_read (values_at types.now bytes.now) ≡ true }
@@ -95,7 +95,7 @@ impl<'a> ValuesRef<'a> {
         ValuesRef { types, bytes }
     }
 
-    /// The same values once more.
+    /// Returns another reference to the same values.
     #[inline(always)]
     pub fn again(&self) -> ValuesRef<'a>
         ensures { result ≡ self.now }
@@ -106,14 +106,15 @@ impl<'a> ValuesRef<'a> {
         }
     }
 
-    /// How many values there are.
+    /// Returns the number of values.
     pub fn len(&self) -> usize
         ensures { result ≡ length self.now }
     {
         value_count(self.types)
     }
 
-    /// The first value, in rising id, and `None` after the last. The values after it are left. Doesn't allocate.
+    /// Removes and returns the first value, in ascending order of id, or returns `None` if no value is left. Doesn't
+    /// allocate.
     pub fn next(&mut self) -> Option<Value>
         ensures value { IfSome result (λ value. self.old ≡ value ∷ self.new) }
         ensures none { result ≡ None → (self.old ≡ []) × (self.new ≡ []) }
@@ -131,7 +132,7 @@ impl<'a> ValuesRef<'a> {
         }
     }
 
-    /// Equal values of their own, in rising id.
+    /// Returns the values, in ascending order of id, in a list of their own. Fails if memory runs out.
     pub fn to_owned(&self, alloc: Global) -> Result<ShortList<Value>, Memory>
         ensures { IfOk result (λ values. values ≡ self.now) }
     {

@@ -1,4 +1,4 @@
-//! The data of definitions.
+//! Reading the data of definitions.
 
 ghost use Rattle.std.specs.Prelude.{◌≡◌, true, IfOk};
 ghost use Rattle.table_types.specs.DataTypes.{all_types};
@@ -19,7 +19,7 @@ fn kind_of(number: u64) -> Result<KeyKind, Breach>
     }
 }
 
-/// The period of a rate after its id; nothing for any other type.
+/// Reads a rate's id and period, or nothing for another type.
 #[tactic(auto, unfolding(crate::specs::Reading::period_at))]
 pub(crate) fn period_at(data_type: DataType, bytes: &[u8]) -> Result<(Option<u32>, &[u8]), Breach>
     ensures { Reads (λ x. (x.0, x.1.now)) result (period_at data_type bytes.now) }
@@ -34,7 +34,7 @@ pub(crate) fn period_at(data_type: DataType, bytes: &[u8]) -> Result<(Option<u32
     Ok((Some(period as u32), rest))
 }
 
-/// The bytes after the periods of the types whose bits stand.
+/// Returns the bytes after the periods of the types whose bits are set.
 fn types_end(bits: u64, bytes: &[u8]) -> Result<&[u8], Breach>
     ensures { Reads (λ rest. (list_read (types_at all_types bits bytes.now), rest.now)) result (types_at all_types bits bytes.now) }
 {
@@ -53,7 +53,7 @@ fn types_end(bits: u64, bytes: &[u8]) -> Result<&[u8], Breach>
     Ok(rest)
 }
 
-/// The id of a table and its name.
+/// Reads a table's id and name.
 #[tactic(auto, unfolding(crate::specs::Reading::named_at))]
 fn named_at(bytes: &[u8]) -> Result<((u64, &[u8]), &[u8]), Breach>
     ensures { Reads (λ x. ((x.0.0, x.0.1.now), x.1.now)) result (named_at bytes.now) }
@@ -66,7 +66,7 @@ fn named_at(bytes: &[u8]) -> Result<((u64, &[u8]), &[u8]), Breach>
     Ok(((id, name), rest))
 }
 
-/// The kind of its keys and their length.
+/// Reads the kind of a table's keys and their length.
 #[tactic(auto, unfolding(crate::specs::Reading::keyed_at))]
 fn keyed_at(bytes: &[u8]) -> Result<((KeyKind, u64), &[u8]), Breach>
     ensures { Reads (λ x. (x.0, x.1.now)) result (keyed_at bytes.now) }
@@ -78,7 +78,7 @@ fn keyed_at(bytes: &[u8]) -> Result<((KeyKind, u64), &[u8]), Breach>
     Ok(((kind, key_length), rest))
 }
 
-/// Its expire, the bits of what it stores, and the bytes of the periods.
+/// Reads a table's expire and the bits of its data types, and returns them with the bytes that begin with the periods.
 #[tactic(auto, unfolding(crate::specs::Reading::stored_at))]
 fn stored_at(bytes: &[u8]) -> Result<((u32, u64, &[u8]), &[u8]), Breach>
     ensures stored { Reads (λ x. ((x.0.0, list_read (types_at all_types x.0.1 x.0.2.now)), x.1.now)) result (stored_at bytes.now) }
@@ -92,7 +92,7 @@ fn stored_at(bytes: &[u8]) -> Result<((u32, u64, &[u8]), &[u8]), Breach>
     Ok(((expire as u32, bits, periods), rest))
 }
 
-/// A definition.
+/// Reads a definition.
 #[tactic(auto, unfolding(crate::specs::Reading::definition_at))]
 pub(crate) fn definition_at(bytes: &[u8]) -> Result<DefinitionRef<'_>, Breach>
     ensures { Reads (λ table. table) result (definition_at bytes.now) }

@@ -1,4 +1,4 @@
-//! The fields that data are made of.
+//! Reading the fields of data.
 
 ghost use Rattle.std.specs.Prelude.{◌≡◌, ◌==◌, true, length};
 ghost use Rattle.peers_msg.specs.Borrowed.{Reads};
@@ -7,7 +7,7 @@ ghost use Rattle.peers_msg.specs.Reading.{wanted, ended, integer_at, word_at, by
 use crate::fault::Breach;
 use peers_encint::{Read, get};
 
-/// A test in its place among the fields.
+/// Returns `breach` unless `holds`.
 #[inline(always)]
 pub(crate) fn wanted(holds: bool, breach: Breach) -> Result<(), Breach>
     ensures { Reads (λ _. true) result (wanted holds breach) }
@@ -15,7 +15,7 @@ pub(crate) fn wanted(holds: bool, breach: Breach) -> Result<(), Breach>
     if holds { Ok(()) } else { Err(breach) }
 }
 
-/// The data end with their last field.
+/// Returns a breach unless the data end with their last field.
 #[inline(always)]
 pub(crate) fn ended(rest: &[u8]) -> Result<(), Breach>
     ensures { Reads (λ _. true) result (ended true rest.now) }
@@ -23,7 +23,7 @@ pub(crate) fn ended(rest: &[u8]) -> Result<(), Breach>
     wanted(rest.is_empty(), Breach::Trailing)
 }
 
-/// An encoded integer, with what it is when the bytes end before it does.
+/// Reads an encoded integer. Returns `short` if the bytes end before the integer does.
 #[inline(always)]
 #[tactic(auto, unfolding(crate::specs::Reading::integer_at))]
 pub(crate) fn integer_at(short: Breach, bytes: &[u8]) -> Result<(u64, &[u8]), Breach>
@@ -36,7 +36,7 @@ pub(crate) fn integer_at(short: Breach, bytes: &[u8]) -> Result<(u64, &[u8]), Br
     }
 }
 
-/// Four bytes, the big end first.
+/// Reads four bytes as a number in big-endian order.
 #[inline(always)]
 #[tactic(auto, unfolding(crate::specs::Reading::word_at))]
 pub(crate) fn word_at(short: Breach, bytes: &[u8]) -> Result<(u32, &[u8]), Breach>
@@ -48,7 +48,7 @@ pub(crate) fn word_at(short: Breach, bytes: &[u8]) -> Result<(u32, &[u8]), Breac
     }
 }
 
-/// So many bytes.
+/// Reads `count` bytes.
 #[inline(always)]
 #[tactic(auto, unfolding(crate::specs::Reading::bytes_at))]
 pub(crate) fn bytes_at(short: Breach, count: u64, bytes: &[u8]) -> Result<(&[u8], &[u8]), Breach>

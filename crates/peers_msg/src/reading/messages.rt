@@ -1,4 +1,4 @@
-//! Messages, of which some bytes may still be to come.
+//! Reading messages, which may not be complete yet.
 
 ghost use Rattle.std.specs.Prelude.{◌≡◌, true, option_map};
 ghost use Rattle.peers_msg.specs.declared.meaning.Meaning.TheVariants as meanings;
@@ -118,7 +118,7 @@ fn meant(class: u8, message_type: u8) -> Meaning
     }
 }
 
-/// Class, type and data.
+/// A message's class, type and data.
 #[derive(Clone, Copy)]
 struct Frame<'a> {
     class: u8,
@@ -148,7 +148,7 @@ fn message_of<'a>(
     }
 }
 
-/// The data after a type, once they all stand.
+/// Reads the data after a type, if they are complete.
 #[inline(always)]
 #[tactic(auto, unfolding(crate::specs::Reading::data_at))]
 fn data_at(message_type: u8, bytes: &[u8]) -> Result<Option<(&[u8], &[u8])>, Breach>
@@ -171,7 +171,7 @@ fn data_at(message_type: u8, bytes: &[u8]) -> Result<Option<(&[u8], &[u8])>, Bre
     Ok(Some(rest.split_at(count as usize)))
 }
 
-/// Class, type and data at the front, once they all stand. While they don't, no byte of the data is looked at.
+/// Reads class, type and data at the front, if they are complete. Until then, no byte of the data is looked at.
 #[inline(always)]
 #[tactic(auto, unfolding(crate::specs::Reading::frame_at))]
 fn frame_at(bytes: &[u8]) -> Result<Option<(Frame<'_>, &[u8])>, Breach>
@@ -193,7 +193,7 @@ fn frame_at(bytes: &[u8]) -> Result<Option<(Frame<'_>, &[u8])>, Breach>
     })
 }
 
-/// The message at the front, and the bytes after it; `None` while it isn't whole.
+/// Reads the message at the front and returns it with the bytes after it, or `None` while it isn't complete.
 #[inline(always)]
 #[tactic(auto, unfolding(crate::specs::Reading::message_at, crate::specs::Reading::body_at))]
 pub(crate) fn message_at<'a>(

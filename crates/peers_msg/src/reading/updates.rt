@@ -1,4 +1,4 @@
-//! The data of updates.
+//! Reading the data of updates.
 
 ghost use Rattle.std.specs.Prelude.{◌≡◌, true, IfOk};
 ghost use Rattle.table_types.specs.Updates.{is_name_shape};
@@ -54,7 +54,7 @@ fn key_at(kind: KeyKind, key_length: u64, bytes: &[u8]) -> Result<(KeyRef<'_>, &
     }
 }
 
-/// A count below 2^32.
+/// Reads a count below 2^32.
 #[inline(always)]
 #[tactic(auto, unfolding(crate::specs::Reading::count_at))]
 fn count_at(bytes: &[u8]) -> Result<(u32, &[u8]), Breach>
@@ -101,7 +101,7 @@ pub(crate) fn is_name_shape(shape: Shape) -> bool
     matches!(shape, Shape::Name)
 }
 
-/// The bytes after one value for each type but the server's name.
+/// Returns the bytes after one value for each type except the server's name.
 #[inline(always)]
 fn values_end<'a>(types: &[(DataType, Option<u32>)], bytes: &'a [u8]) -> Result<&'a [u8], Breach>
     ensures { Reads (λ rest. (list_read (values_at types.now bytes.now), rest.now)) result (values_at types.now bytes.now) }
@@ -119,7 +119,7 @@ fn values_end<'a>(types: &[(DataType, Option<u32>)], bytes: &'a [u8]) -> Result<
     Ok(rest)
 }
 
-/// What stands after the slot of a name field.
+/// Reads what follows the slot in a name field.
 #[inline(always)]
 #[tactic(auto, unfolding(crate::specs::Reading::slot_holds))]
 fn slot_holds(slot: u8, bytes: &[u8]) -> Result<NameFieldRef<'_>, Breach>
@@ -137,7 +137,7 @@ fn slot_holds(slot: u8, bytes: &[u8]) -> Result<NameFieldRef<'_>, Breach>
     Ok(NameFieldRef::Written(slot, name))
 }
 
-/// What stands within the length of a name field.
+/// Reads what is within the length of a name field.
 #[inline(always)]
 #[tactic(auto, unfolding(crate::specs::Reading::field_of))]
 fn field_of(bytes: &[u8]) -> Result<NameFieldRef<'_>, Breach>
@@ -167,7 +167,7 @@ fn name_at(stands: bool, bytes: &[u8]) -> Result<(NameFieldRef<'_>, &[u8]), Brea
     Ok((field, rest))
 }
 
-/// An update of that table, with a number and a life or without.
+/// Reads an update of `table`, with a number if `numbered` and with a life if `timed`.
 #[inline(always)]
 #[tactic(auto, unfolding(crate::specs::Reading::update_at))]
 pub(crate) fn update_at<'a>(
@@ -178,7 +178,7 @@ pub(crate) fn update_at<'a>(
 ) -> Result<UpdateRef<'a>, Breach>
     ensures { Reads (λ update. update) result (update_at table.now numbered timed bytes.now) }
 {
-    // The id is read for the contract to see that the table is a definition.
+    // Reading the id only shows the contract that the table is a definition.
     let _ = table.id();
     let (number, rest) = optional_at(numbered, bytes)?;
     let (life, rest) = optional_at(timed, rest)?;

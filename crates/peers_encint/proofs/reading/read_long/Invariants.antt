@@ -3,7 +3,7 @@ use Rattle.peers_encint.specs.Integers.{added_from, tail_length}
 use Rattle.peers_encint.proofs.ReadingLoop.{counted}
 use Rattle.peers_encint.proofs.reading.read_long.Given as goal
 
--- the bytes so far are added, and none of them ends the number
+-- the bytes before the index are added, and none of them ends the number
 abbrev pub invariant-loop-index : goal.invariant-loop-index
 invariant-loop-index l =
     record {

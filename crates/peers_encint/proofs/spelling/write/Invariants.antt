@@ -2,7 +2,7 @@ use Rattle.std.proofs.Common.{◌≡◌, ◌-◌, ◌*◌, ◌^◌, ◌<◌, ◌
 use Rattle.peers_encint.specs.Integers.{spelling, tail_of}
 use Rattle.peers_encint.proofs.spelling.write.Given as goal
 
--- what is written is the front of the spelling, and what is left is spelled by the other bytes
+-- the bytes written are the front of the spelling, and the bytes still to write spell the rest
 abbrev pub invariant-loop-index : goal.invariant-loop-index
 invariant-loop-index l =
     record {

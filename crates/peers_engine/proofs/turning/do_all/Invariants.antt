@@ -5,7 +5,7 @@ use Rattle.session_core.specs.declared.event.Event.{Event}
 use Rattle.peers_engine.specs.Acting.{Acts, asked, worker}
 use Rattle.peers_engine.proofs.turning.do_all.Given as goal
 
--- the actions so far are done, their answers given, and what these ask for kept
+-- the actions so far are performed, their answers are received, and what those ask for is kept
 abbrev pub invariant-loop-action : goal.invariant-loop-action
 invariant-loop-action g l = record {
   done : (answers : List (Event × List Action)) × (out : List ℕ)

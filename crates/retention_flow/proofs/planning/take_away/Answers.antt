@@ -37,14 +37,14 @@ search-requires-clause-later c =
     let many = length c.loop.arcs in
     subst (λ (l : List ℕ). (length l ≡ many) × ((node : ℕ) → node < many → slice_index l node < many)) (sym c.as_slice.ensures.value) c.loop.invariant.later
 
-pub turn-requires-clause-back : goal.turn-requires-clause-back
-turn-requires-clause-back c = c.loop.invariant.back
+pub augment-requires-clause-back : goal.augment-requires-clause-back
+augment-requires-clause-back c = c.loop.invariant.back
 
-pub turn-requires-clause-little : goal.turn-requires-clause-little
-turn-requires-clause-little c = c.loop.invariant.little
+pub augment-requires-clause-little : goal.augment-requires-clause-little
+augment-requires-clause-little c = c.loop.invariant.little
 
-pub turn-requires-clause-search : goal.turn-requires-clause-search
-turn-requires-clause-search c =
+pub augment-requires-clause-search : goal.augment-requires-clause-search
+augment-requires-clause-search c =
     let r = c.requires.room in
     let found = c.in_ok-steps.ensures.steps in (
       c.search.new.heights,
@@ -63,19 +63,19 @@ loop-preserved c =
     let calm = c.in_ok-steps.ensures.calm in
     let count = c.in_ok-steps.ensures.steps.0 in
     let found = subst (λ (l : List (Option Step)). IsSearch hs c.loop.room c.loop.arcs l count) (sym c.deref.ensures.value) c.in_ok-steps.ensures.steps.1 in
-    let turned = c.turn.ensures.turned hs count (r.0 - c.loop.counter) calm found (c.loop.invariant.room r.0 r.3) in
-    let many : length c.turn.new.arcs ≡ length c.loop.arcs = omega (arith, calm.count, turned.0.count) in
+    let turned = c.augment.ensures.turned hs count (r.0 - c.loop.counter) calm found (c.loop.invariant.room r.0 r.3) in
+    let many : length c.augment.new.arcs ≡ length c.loop.arcs = omega (arith, calm.count, turned.0.count) in
     record {
       calm = turned.0;
       later = (omega (arith, c.loop.invariant.later.0), λ node below. omega (arith, c.loop.invariant.later.1 node (omega arith)));
       first = c.in_ok-steps.ensures.first;
       small = c.in_ok-steps.ensures.small;
-      back = c.turn.ensures.back;
-      little = c.turn.ensures.little;
+      back = c.augment.ensures.back;
+      little = c.augment.ensures.little;
       room = λ slots spent.
           let same : slots - c.loop.counter - 1 ≡ slots - (c.loop.counter + 1) = omega arith in
-          subst (λ (n : ℕ). IsRoom n c.turn.new.room c.turn.new.arcs) same (c.turn.ensures.turned hs count (slots - c.loop.counter) calm found (c.loop.invariant.room slots spent)).1;
-      arcs = λ held rs are. c.turn.ensures.arcs held rs (c.loop.invariant.arcs held rs are);
+          subst (λ (n : ℕ). IsRoom n c.augment.new.room c.augment.new.arcs) same (c.augment.ensures.turned hs count (slots - c.loop.counter) calm found (c.loop.invariant.room slots spent)).1;
+      arcs = λ held rs are. c.augment.ensures.arcs held rs (c.loop.invariant.arcs held rs are);
     }
 
 pub returns-clause-calm : goal.returns-clause-calm

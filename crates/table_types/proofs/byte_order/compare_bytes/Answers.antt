@@ -6,11 +6,9 @@ use Rattle.std.proofs.lemmas.List.{take_rest}
 use Rattle.table_types.proofs.ByteOrder.{by_words}
 use Rattle.table_types.proofs.byte_order.compare_bytes.Goals as goal
 
--- src/byte_order.rt:16:5
 pub loop-word-init : goal.loop-word-init
 loop-word-init c = refl
 
--- src/byte_order.rt:19:13
 pub returns-then-one-other : goal.returns-then-one-other
 returns-then-one-other c =
     let at : ℕ = 8 * c.loop-word.word in
@@ -18,7 +16,6 @@ returns-then-one-other c =
     c.cmp.ensures ∙ ap (λ x. nat_cmp x c.word_at-other.result) c.word_at-one.ensures ∙ ap (nat_cmp (from_be_bytes w64 (drop at c.args.left.now))) c.word_at-other.ensures
     ∙ t.0 (λ e. c.if-one-other.true (c.word_at-one.ensures ∙ e ∙ sym c.word_at-other.ensures))
 
--- src/byte_order.rt:16:5
 pub loop-word-preserved : goal.loop-word-preserved
 loop-word-preserved c =
     let at : ℕ = 8 * c.loop-word.word in
@@ -27,7 +24,6 @@ loop-word-preserved c =
     t.1 (sym c.word_at-one.ensures ∙ c.if-one-other.false ∙ c.word_at-other.ensures)
     ∙ ap (λ k. slice_cmp nat_cmp (drop k c.args.left.now) (drop k c.args.right.now)) next
 
--- src/byte_order.rt:12:1
 pub returns : goal.returns
 returns c =
     let words : ℕ = c.loop-word.word in

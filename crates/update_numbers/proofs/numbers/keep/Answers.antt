@@ -8,7 +8,7 @@ use Rattle.update_numbers.specs.Index.{key_at, number_at}
 use Rattle.update_numbers.proofs.NumberLaws.{insert_last, put_back}
 use Rattle.update_numbers.proofs.numbers.keep.Goals as goal
 
--- the number was put and taken out again
+-- the number was put and removed again
 pub returns-in_default-clause-stays : goal.returns-in_default-clause-stays
 returns-in_default-clause-stays c =
     c.remove.ensures.entries

@@ -3,7 +3,7 @@ use Rattle.std.specs.Prelude.{filter}
 use Rattle.table_rows.specs.Rows.{is_live}
 use Rattle.stick_table.proofs.stock.Stock.drop_ended.Given as goal
 
--- what is live is as before, and at each turn there was one row less
+-- the live rows are as before, and each iteration removed one row
 abbrev pub invariant-loop : goal.invariant-loop
 invariant-loop g l =
     (filter (λ e. is_live l.now e.1) l.self.rows ≡ filter (λ e. is_live l.now e.1) l.fn.self.rows)

@@ -9,14 +9,14 @@ use Rattle.table_rows.specs.Places.{IsFirstAt}
 use Rattle.table_rows.proofs.ListLaws.{after_none, all_live, is_first, own_found, own_removed, read, rising_taken}
 use Rattle.table_rows.proofs.list_rows.ListRowsRows.take_ended.Goals as goal
 
--- the first is live, and so all are
+-- the first row is live, and so all are
 pub returns-then-is_live-clause-live : goal.returns-then-is_live-clause-live
 returns-then-is_live-clause-live c =
     let es = c.self.inside.rows.items in
     let first : IsFirstAt es c.in-Some.index = subst (λ fs. IsFirstAt fs c.in-Some.index) c.deref.ensures.value c.in-Some.ensures.first in
     rw (← c.self.view_is) (all_live c.args.now c.index.result.now es c.if-is_live.ensures (after_none es c.self.invariant c.in-Some.index c.index.result.now c.index.ensures first))
 
--- the first isn't
+-- the first row isn't live
 pub returns-clause-first : goal.returns-clause-first
 returns-clause-first c =
     let es = c.self.inside.rows.items in

@@ -6,7 +6,7 @@ use Rattle.table_shards.proofs.PageLaws.{put_opened, put_pages}
 use Rattle.table_shards.proofs.seat.Prepared.add.Goals as goal
 use Rattle.table_shards.proofs.seat.Prepared.add.Goals.{After-write_at}
 
--- the pages are those of the seat with the receipt more
+-- the pages are those of the seat with one more receipt
 written : (c : After-write_at) → page_states c.write_at.new.pages.items ≡ pages_with c.self.inside.table c.args.receipt (closed c.self.inside.space.is_new (page_states c.self.inside.pages.items))
 written c =
     let a = c.self.inside in

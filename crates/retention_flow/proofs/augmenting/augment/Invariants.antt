@@ -3,7 +3,7 @@ use Rattle.known_state.specs.Requests.{Asked}
 use Rattle.known_state.specs.Plans.{at_start}
 use Rattle.retention_flow.specs.Network.{AreArcs, IsCalm, IsRoom, IsSearch}
 use Rattle.retention_flow.proofs.PathIsTurned.{IsWalk, rank_at}
-use Rattle.retention_flow.proofs.turning.turn.Given as goal
+use Rattle.retention_flow.proofs.augmenting.augment.Given as goal
 
 abbrev pub invariant-loop-node : goal.invariant-loop-node
 invariant-loop-node l = record {

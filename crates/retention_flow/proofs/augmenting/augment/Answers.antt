@@ -1,7 +1,7 @@
 use Rattle.std.proofs.Common.{ap, arith}
 use Rattle.std.specs.Prelude.{is_some}
 use Rattle.retention_flow.proofs.PathIsTurned.{first_walk, residual_here, rank_falls, next_walk, next_arcs, last_walk}
-use Rattle.retention_flow.proofs.turning.turn.Goals as goal
+use Rattle.retention_flow.proofs.augmenting.augment.Goals as goal
 
 pub loop-node-init : goal.loop-node-init
 loop-node-init c = record {
@@ -15,14 +15,14 @@ unwrap-step-requires c =
     let walk = c.loop-node.invariant.walk s.0 s.1 s.2 s.4 s.5 s.6 in
     ap is_some walk.here.1
 
-pub turn_one-node-requires-clause-most : goal.turn_one-node-requires-clause-most
-turn_one-node-requires-clause-most c = λ place below.
+pub augment_step-node-requires-clause-most : goal.augment_step-node-requires-clause-most
+augment_step-node-requires-clause-most c = λ place below.
     let s = c.requires.search in
     let walk = c.loop-node.invariant.walk s.0 s.1 s.2 s.4 s.5 s.6 in
     omega (arith, walk.walked place (omega (arith, walk.long)), s.3)
 
-pub turn_one-node-requires-clause-residual : goal.turn_one-node-requires-clause-residual
-turn_one-node-requires-clause-residual c =
+pub augment_step-node-requires-clause-residual : goal.augment_step-node-requires-clause-residual
+augment_step-node-requires-clause-residual c =
     let s = c.requires.search in
     let walk = c.loop-node.invariant.walk s.0 s.1 s.2 s.4 s.5 s.6 in
     (s.0, residual_here s.0 c.loop-node.room c.loop-node.arcs c.args.steps.now s.2 c.loop-node.node c.unwrap-step.result walk c.unwrap-step.ensures)
@@ -31,7 +31,7 @@ pub loop-node-smaller : goal.loop-node-smaller
 loop-node-smaller c =
     let s = c.requires.search in
     let walk = c.loop-node.invariant.walk s.0 s.1 s.2 s.4 s.5 s.6 in
-    rank_falls s.0 c.loop-node.room c.loop-node.arcs c.args.steps.now s.2 c.loop-node.node c.turn_one-node.result c.unwrap-step.result walk c.unwrap-step.ensures c.loop-node-test.true c.turn_one-node.ensures.before
+    rank_falls s.0 c.loop-node.room c.loop-node.arcs c.args.steps.now s.2 c.loop-node.node c.augment_step-node.result c.unwrap-step.result walk c.unwrap-step.ensures c.loop-node-test.true c.augment_step-node.ensures.before
 
 pub loop-node-preserved : goal.loop-node-preserved
 loop-node-preserved c =
@@ -39,11 +39,11 @@ loop-node-preserved c =
     let walk = c.loop-node.invariant.walk s.0 s.1 s.2 s.4 s.5 s.6 in
     record {
       walk = λ hs count slots calm found spent.
-          next_walk hs c.loop-node.room c.loop-node.arcs c.args.steps.now slots c.loop-node.node c.unwrap-step.result c.turn_one-node.new.room c.turn_one-node.new.arcs c.turn_one-node.result
-          c.unwrap-step.ensures c.loop-node-test.true c.turn_one-node.ensures.room c.turn_one-node.ensures.arcs c.turn_one-node.ensures.before (c.loop-node.invariant.walk hs count slots calm found spent);
+          next_walk hs c.loop-node.room c.loop-node.arcs c.args.steps.now slots c.loop-node.node c.unwrap-step.result c.augment_step-node.new.room c.augment_step-node.new.arcs c.augment_step-node.result
+          c.unwrap-step.ensures c.loop-node-test.true c.augment_step-node.ensures.room c.augment_step-node.ensures.arcs c.augment_step-node.ensures.before (c.loop-node.invariant.walk hs count slots calm found spent);
       arcs = λ held rs are.
-          next_arcs held rs s.0 c.loop-node.room c.loop-node.arcs c.args.steps.now s.2 c.loop-node.node c.unwrap-step.result c.turn_one-node.new.arcs
-          c.unwrap-step.ensures c.loop-node-test.true c.turn_one-node.ensures.arcs walk (c.loop-node.invariant.arcs held rs are);
+          next_arcs held rs s.0 c.loop-node.room c.loop-node.arcs c.args.steps.now s.2 c.loop-node.node c.unwrap-step.result c.augment_step-node.new.arcs
+          c.unwrap-step.ensures c.loop-node-test.true c.augment_step-node.ensures.arcs walk (c.loop-node.invariant.arcs held rs are);
     }
 
 pub returns-clause-turned : goal.returns-clause-turned

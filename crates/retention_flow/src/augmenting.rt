@@ -3,13 +3,13 @@
 ghost use Rattle.std.specs.Prelude.{◌≡◌, ℕ, ◌+◌, ◌-◌, ◌^◌, ◌≤◌, ◌<◌, List, true, length, slice_index};
 ghost use Rattle.known_state.specs.Requests.{Asked};
 ghost use Rattle.known_state.specs.Plans.{at_start};
-ghost use Rattle.retention_flow.specs.Network.{is_reached, AreArcs, GoBack, SaveLittle, IsCalm, IsRoom, IsSearch, IsResidual, tail_of, turned_room, turned_arcs};
+ghost use Rattle.retention_flow.specs.Network.{is_reached, AreArcs, GoBack, SaveLittle, IsCalm, IsRoom, IsSearch, IsResidual, tail_of, augmented_room, augmented_arcs};
 
 use crate::arcs::RequestArc;
 use crate::steps::{ResidualArc, Step};
 
-/// Augments along the residual arc by which a node is reached, and answers from which node it leads.
-fn turn_one(
+/// Augments along the residual arc by which a node is reached, and returns the node from which it leads.
+fn augment_step(
     room: &mut [usize],
     arcs: &mut [RequestArc],
     residual: ResidualArc,
@@ -19,8 +19,8 @@ fn turn_one(
     requires small { length arcs.old ≤ 512 }
     requires most { (place : ℕ) → place < length room.old → slice_index room.old place ≤ 512 }
     requires residual { (heights : List ℕ) × IsResidual heights room.old arcs.old residual node 0 }
-    ensures room { room.new ≡ turned_room residual node room.old }
-    ensures arcs { arcs.new ≡ turned_arcs residual node arcs.old }
+    ensures room { room.new ≡ augmented_room residual node room.old }
+    ensures arcs { arcs.new ≡ augmented_arcs residual node arcs.old }
     ensures before { result ≡ tail_of arcs.old residual node }
 {
     match residual {
@@ -44,9 +44,9 @@ fn turn_one(
     }
 }
 
-/// Augments along the path by which the first node is reached from the last, arc by arc. Then there is one slot fewer at
-/// each place, left or taken, and the heights are calm as before.
-pub fn turn(room: &mut [usize], arcs: &mut [RequestArc], steps: &[Option<Step>])
+/// Augments along the path by which the first node is reached from the last, arc by arc. Afterwards each place has one
+/// slot fewer, free or used, and the heights are still calm.
+pub fn augment(room: &mut [usize], arcs: &mut [RequestArc], steps: &[Option<Step>])
     requires small { length arcs.old ≤ 512 }
     requires back { GoBack arcs.old }
     requires little { SaveLittle arcs.old }
@@ -62,6 +62,6 @@ pub fn turn(room: &mut [usize], arcs: &mut [RequestArc], steps: &[Option<Step>])
     let mut node = 0;
     while node < arcs.len() {
         let step = steps[node].unwrap();
-        node = turn_one(room, arcs, step.arc, node);
+        node = augment_step(room, arcs, step.arc, node);
     }
 }

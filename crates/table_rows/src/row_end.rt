@@ -9,18 +9,18 @@ ghost use Rattle.table_rows.specs.EndingOrder.{later_cmp_ties, later_cmp_total};
 use std::cmp::Ordering;
 use table_types::{Key, Row};
 
-/// Where the row of a key stands in the order in which rows end. The last to end comes first: rows that are put mostly end
-/// after all others, and a search that begins at the front finds their place at once.
+/// Where the row of a key stands in the order in which rows end. The last to end comes first: a new row mostly ends
+/// after all others, so a search that begins at the front finds its place at once.
 #[derive(Debug, Drop, PartialEq, Eq)]
-pub struct Ending {
-    /// The milliseconds of the moment at which the row ends, or `u64::MAX` where it lives for ever.
+pub struct RowEnd {
+    /// The moment at which the row ends, in milliseconds, or `u64::MAX` if it never expires.
     pub end: u64,
     /// The number of the row's last update.
     pub number: u32,
     pub key: Key,
 }
 
-/// The milliseconds of the moment at which a row ends, or `u64::MAX` where it lives for ever.
+/// Returns the moment at which `row` ends, in milliseconds, or `u64::MAX` if it never expires.
 pub fn end_of(row: &Row) -> u64
     ensures end { result ≡ end_or_last row.now.ends }
     ensures within { IfSome row.now.ends (λ end. end < 2 ^ 63) }
@@ -31,13 +31,13 @@ pub fn end_of(row: &Row) -> u64
     }
 }
 
-impl Ending {
-    /// Where that row of the key stands.
-    pub fn of(key: Key, row: &Row) -> Ending
+impl RowEnd {
+    /// Returns where `row`, the row of `key`, stands in that order.
+    pub fn of(key: Key, row: &Row) -> RowEnd
         ensures ending { result ≡ ending_of key row.now }
         ensures within { IfSome row.now.ends (λ end. end < 2 ^ 63) }
     {
-        Ending {
+        RowEnd {
             end: end_of(row),
             number: row.number(),
             key,
@@ -45,7 +45,7 @@ impl Ending {
     }
 }
 
-impl PartialOrd for Ending {
+impl PartialOrd for RowEnd {
     ghost partial_cmp = { as_partial_cmp later_cmp };
 
     ghost laws = { partial_order_from_agreeing_total later_cmp later_cmp_total (λ a b. refl) later_cmp_ties };
@@ -55,7 +55,7 @@ impl PartialOrd for Ending {
     }
 }
 
-impl Ord for Ending {
+impl Ord for RowEnd {
     ghost cmp = { later_cmp };
 
     ghost total = { later_cmp_total };
