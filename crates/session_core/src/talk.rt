@@ -178,11 +178,7 @@ impl Greeter {
 
 impl Talk {
     /// What is to be done at an event. The caller ends a session that refuses.
-    pub(crate) fn step(
-        &mut self,
-        alloc: Global,
-        event: Event,
-    ) -> Result<Vec<Action>, SessionError>
+    pub(crate) fn step(&mut self, alloc: Global, event: Event) -> Result<Vec<Action>, SessionError>
         ensures goes { IfOk result (λ acts. Goes (seen self.old) event acts.items (seen self.new)) }
         ensures refused { IfErr result (λ e. Refuses (phase_of self.old.stage self.old.course) event e) }
         ensures exactly { (e : SessionError) → e ≢ errors.Memory → Refuses (phase_of self.old.stage self.old.course) event e → result ≡ Err e }
@@ -201,7 +197,9 @@ impl Talk {
             },
             Stage::Hello(greeter, bytes) => match event {
                 Event::Bytes(piece) => {
-                    bytes.extend_from_slice(piece.as_slice()).map_err(Memory::from)?;
+                    bytes
+                        .extend_from_slice(piece.as_slice())
+                        .map_err(Memory::from)?;
                     match greeter.hear(alloc, bytes.as_slice())? {
                         Heard::More => Ok(Vec::new(alloc)),
                         Heard::Begins(used, first) => {
@@ -252,7 +250,9 @@ impl Talk {
                     return Err(SessionError::Unasked);
                 }
                 let mut actions = Vec::new(alloc);
-                let received = self.course.receive_bytes(alloc, bytes.as_slice(), &mut actions);
+                let received = self
+                    .course
+                    .receive_bytes(alloc, bytes.as_slice(), &mut actions);
                 self.conclude(alloc, received, &mut actions)?;
                 Ok(actions)
             }

@@ -13,4 +13,3 @@ returns-in_ok-nothing-in-Nothing-clause-goes c = rw (c.requires, c.in-Nothing.is
 
 pub returns-in_ok-settled-in-Settled-clause-goes : goal.returns-in_ok-settled-in-Settled-clause-goes
 returns-in_ok-settled-in-Settled-clause-goes c = rw (c.requires, c.in-Settled.is) (c.in_ok-settled-in-Settled.ensures.goes (going (seen c.args.self.now) c.args.self.now.course))
-
