@@ -1,15 +1,20 @@
-//! The node's program: it shares HAProxy stick tables over the peers protocol. The command line chooses a subcommand,
-//! which reads its input, writes its answer, and gives the exit status.
+//! The node's program, which shares HAProxy stick tables over the peers protocol. The command line chooses a subcommand,
+//! which reads its input, writes its output, and returns the exit status.
 #![tactic(auto)]
 
+mod choice;
+mod command_line;
+mod options_error;
+mod program;
 mod run;
+mod settings;
 
-pub use link_commands::{Link, join, serve};
-pub use node_options::{Options, OptionsError, options, plain_words_choose};
-pub use round_command::{RoundSize, round};
-pub use scene_commands::{Ending, check, learn, lesson};
-pub use script_commands::table;
+pub use choice::Options;
+pub use command_line::{Refusal, options, read_words};
+pub use node_commands::{Link, RoundSize, join, round, serve};
+pub use options_error::OptionsError;
 use std::process::ExitCode;
+pub use text_commands::{Ending, check, learn, lesson, table};
 
 fn main(rt: HostRuntime) -> ExitCode {
     ExitCode::from(run::status(&rt, &rt))

@@ -1,26 +1,26 @@
 //! From the words of the command line to the exit status.
 ghost use Rattle.std.specs.Prelude.{◌≤◌};
 
-use link_commands::{Link, join, serve};
-use node_options::{Options, OptionsError, Refusal, choice_of, read_words};
+use crate::choice::Options;
+use crate::command_line::{Refusal, read_words};
+use crate::options_error::OptionsError;
+use node_commands::{Link, RoundSize, join, round, serve};
 use peers_devices::{Counting, Faults, write_all};
-use round_command::{RoundSize, round};
-use scene_commands::{Ending, check, learn, lesson};
-use script_commands::table;
 use std::alloc::{AllocError, Global};
 use std::env;
 use std::io::{ErrorKind, Read, Write};
 use std::net::{Net, TcpListener, TcpStream};
 use std::sync::Wait;
 use std::thread::Threads;
+use text_commands::{Ending, check, learn, lesson, table};
 
-/// The exit status of a command line that is refused, or asks for help.
+/// The exit status if the command line is refused or asks for help.
 const WORDS: u8 = 2;
 
-/// What is said of words that are no command line where there is no memory for more.
+/// The text for words that are no command line, if memory runs out for a longer one.
 const NO_COMMAND_LINE: &str = "error: not a command line of this program\n";
 
-/// Runs the subcommand that the command line chooses, and answers the exit status. `runner` runs its threads and opens
+/// Runs the subcommand that the command line chooses and returns the exit status. `runner` starts its threads and opens
 /// its sockets.
 pub fn status<R: Threads + Wait + Sync + Net<Listener = TcpListener, Stream = TcpStream>>(
     rt: &HostRuntime,
@@ -38,7 +38,7 @@ pub fn status<R: Threads + Wait + Sync + Net<Listener = TcpListener, Stream = Tc
     }
 }
 
-/// The words of the command line. One that isn't text makes them no command line.
+/// Returns the words of the command line, or `Words` if one of them isn't text.
 fn arguments(rt: &HostRuntime) -> Result<Vec<String>, OptionsError> {
     match env::args(rt) {
         Ok(arguments) => match arguments.collect(rt.alloc()) {
@@ -58,9 +58,9 @@ fn texts<'a>(alloc: Global, arguments: &'a [String]) -> Result<Vec<&'a str>, All
     Ok(words)
 }
 
-/// Runs what these words choose. Each subcommand runs in a function that isn't inlined, so that the stack holds the part of one
-/// alone.
-#[tactic(auto, using(node_options::proofs::Choices::few_threads))]
+/// Runs the subcommand that `words` choose. Each runs in a function that isn't inlined, so that the stack holds the frame of
+/// only one of them.
+#[tactic(auto, using(crate::proofs::Choices::few_threads))]
 fn dispatched<
     'a,
     R: Threads + Wait + Sync + Net<Listener = TcpListener, Stream = TcpStream>,
@@ -80,7 +80,7 @@ fn dispatched<
         }
         Ok(Options::Serve(link)) => run_serve(runner, alloc, link, &mut input, &mut output, errors),
         Ok(Options::Join(link)) => run_join(runner, alloc, link, &mut input, &mut output, errors),
-        Err(refusal) => refused(alloc, words, &refusal, errors),
+        Err(refusal) => refused(alloc, &refusal, errors),
     }
 }
 
@@ -147,24 +147,18 @@ fn run_join<
     join(runner, alloc, link, input, output, errors).status()
 }
 
-/// Says why words are refused. Want of memory is the cause only where they are a command line.
-fn refused<E: Write + Faults>(
-    alloc: Global,
-    words: &[&str],
-    refusal: &Refusal,
-    errors: &mut E,
-) -> u8 {
-    match (refusal.cause(), choice_of(words)) {
-        (OptionsError::Memory, Some(_)) => Ending::Memory.said(alloc, errors).status(),
-        (OptionsError::Memory, None) => said(NO_COMMAND_LINE, errors),
-        (OptionsError::Words, _) => match refusal.text(alloc) {
+/// Writes why the words are refused.
+fn refused<E: Write + Faults>(alloc: Global, refusal: &Refusal, errors: &mut E) -> u8 {
+    match refusal.cause() {
+        OptionsError::Memory => Ending::Memory.said(alloc, errors).status(),
+        OptionsError::Words => match refusal.text(alloc) {
             Ok(text) => said(text.as_str(), errors),
             Err(_) => said(NO_COMMAND_LINE, errors),
         },
     }
 }
 
-/// Says what is wrong with the words.
+/// Writes what is wrong with the words.
 fn said<E: Write + Faults>(text: &str, errors: &mut E) -> u8 {
     match write_all(errors, text.as_bytes()) {
         Ok(()) => WORDS,

@@ -1,2 +1,0 @@
-mod Numerals
-mod ReadAgain

@@ -1,6 +1,0 @@
-use Rattle.std.proofs.Common.{◌≡◌, ◌++◌, flat_map, take}
-use Rattle.line_words.specs.Bytes.{digits_of}
-use Rattle.line_words.proofs.bytes.push_hexadecimal.Given as goal
-
-abbrev pub invariant-loop-byte : goal.invariant-loop-byte
-invariant-loop-byte l = l.text.items ≡ l.fn.text.items ++ flat_map digits_of (take l.byte-index l.bytes)

@@ -1,6 +1,0 @@
-mod Lists
-mod LoadingLaws
-mod TurningLaws
-mod PrintingLaws
-mod NodeLaws
-mod EndingLaws

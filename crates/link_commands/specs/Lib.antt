@@ -1,4 +1,0 @@
-pub mod Loading
-pub mod Nodes
-pub mod Printing
-pub mod Turning

@@ -1,0 +1,7 @@
+mod EndingLaws
+mod Lists
+mod LoadingLaws
+mod NodeLaws
+mod PrintingLaws
+pub mod TrackLaws
+mod TurningLaws

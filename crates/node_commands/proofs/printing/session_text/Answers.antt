@@ -1,0 +1,11 @@
+use Rattle.node_commands.proofs.PrintingLaws.{all_pushed, rows_pushed}
+use Rattle.node_commands.proofs.printing.session_text.Goals as goal
+
+pub loop-table-preserved : goal.loop-table-preserved
+loop-table-preserved c = λ rest others.
+    let pushed = c.in_ok-push_table.ensures in
+    rows_pushed c.args.turns c.args.tables.now c.loop-table.table-index c.table-item.result c.loop-table.text.items c.push_table.new.text.items pushed.0 rest
+    c.loop-table-test.true c.table-item.is pushed.1 pushed.2 others c.loop-table.invariant
+
+pub returns : goal.returns
+returns c = all_pushed c.args.turns c.args.tables.now c.loop-table.table-index c.loop-table.text.items c.loop-table-test.false c.loop-table.invariant

@@ -1,0 +1,6 @@
+pub mod Loading
+pub mod Nodes
+pub mod Printing
+pub mod Rounds
+pub mod Tracks
+pub mod Turning

@@ -1,0 +1,77 @@
+-- The turns of a node's session (profile).
+use Rattle.std.specs.Prelude.{◌≡◌, ◌↔◌, ◌+◌, ℕ, zero, suc, Bool, ◌&&◌, List, [], ◌++◌, Option, Some, None, Result, Ok, Err, if◌then◌else◌}
+use Rattle.table_types.specs.Rows.{later_by}
+use Rattle.learner.specs.declared.fault.Fault.{Fault}
+use Rattle.session_core.specs.declared.error.SessionError.TheVariants as refusals
+use Rattle.table_shards.specs.Receipts.{SeatState}
+use Rattle.session_core.specs.declared.event.Event.{Event}
+use Rattle.session_core.specs.declared.state.State.TheVariants as states
+use Rattle.session_core.specs.Sessions.{SessionState, state_of}
+use Rattle.session_actions.specs.declared.errors.EngineError.{EngineError}
+use Rattle.session_actions.specs.declared.errors.EngineError.TheVariants as errors
+use Rattle.peers_engine.specs.declared.turned.Turned.{Turned}
+use Rattle.peers_engine.specs.declared.turned.Turned.TheVariants as turned
+use Rattle.peers_engine.specs.Acting.{Worker, worker}
+use Rattle.session_actions.specs.Reading.{IsRead}
+use Rattle.peers_engine.specs.Turns.{StopsTurn, TakesTurn}
+use Rattle.text_commands.specs.declared.endings.Ending.{Ending}
+use Rattle.text_commands.specs.declared.endings.Ending.TheVariants as endings
+use Rattle.node_commands.specs.Loading.{loaded_at}
+
+-- how a session ends that closed the connection: with the fault of the other node's messages if there was one
+abbrev pub closed_by : Option Fault → Ending
+closed_by None = endings.Done
+closed_by (Some fault) = endings.Stream fault
+
+-- how it ends after a turn fails
+abbrev pub broken_by : Option Fault → EngineError → Ending
+broken_by fault (errors.Session refusals.Ended) = closed_by fault
+broken_by fault (errors.Session refusals.Unasked) = endings.Unasked
+broken_by fault (errors.Session refusals.Memory) = endings.Memory
+broken_by fault errors.Read = endings.Device
+broken_by fault (errors.Write sent) = endings.Device
+broken_by fault errors.Memory = endings.Memory
+broken_by fault errors.Strange = endings.Strange
+
+-- how it ends after a turn, if it does: one that leaves ends once it has sent `resync confirmed`
+abbrev pub ending_after : Bool → SessionState → Result Turned EngineError → Option Ending
+ending_after leaves s (Ok turned.Going) = if leaves && s.confirmed then Some endings.Done else None
+ending_after leaves s (Ok turned.Closed) = Some (closed_by s.fault)
+ending_after leaves s (Err error) = Some (broken_by s.fault error)
+
+-- The node's session, which has number 1 in the tables, in the turn that follows `before` others. The first turn comes a
+-- millisecond after the rows were loaded, and each other turn a millisecond after the last one.
+abbrev pub turn_after : ℕ → SessionState → SeatState → Worker
+turn_after before s seat = worker s seat 1 (later_by (before + 1) loaded_at)
+
+-- A turn takes the worker to another state, returns its result, and received and sent the bytes given. After an error the session
+-- is over.
+abbrev pub Takes : Worker → Result Turned EngineError → List ℕ → List ℕ → Worker → Type 0
+Takes w (Ok gave) received sent e =
+    ((event : Option Event) × IsRead (received ≡ []) event received × TakesTurn (received ≡ []) w event sent e) × ((gave ≡ turned.Closed) ↔ (state_of e.session.phase ≡ states.Ended))
+Takes w (Err error) received sent e =
+    ((event : Option Event) × IsRead (received ≡ []) event received × StopsTurn (received ≡ []) w event error sent e.session) × (state_of e.session.phase ≡ states.Ended)
+
+-- nothing more is received or sent, and the session stays as it is
+abbrev pub Rests : SessionState → List ℕ → List ℕ → SessionState → Type 0
+Rests s received sent e = (received ≡ []) × (sent ≡ []) × (e ≡ s)
+
+-- the session ends after this turn, or goes on
+abbrev pub GoesOn : Option Ending → ℕ → Ending → Type 0 → Type 0 → Type 0
+GoesOn None made ending rests on = on
+GoesOn (Some by) made ending rests on = (made ≡ 1) × (ending ≡ by) × rests
+
+-- After `before` turns, the session makes `made` more, of at most as many as given. It makes them one after another, up to the one
+-- after which it ends; if none ends it, it ends with `Done`. It received and sent the bytes given, one turn's after another's.
+abbrev pub Plays : Bool → ℕ → SessionState → SeatState → ℕ → ℕ → Ending → List ℕ → List ℕ → SessionState → Type 0
+Plays leaves before s seat zero made ending received sent e = (made ≡ 0) × (ending ≡ endings.Done) × Rests s received sent e
+Plays leaves before s seat (suc left) made ending received sent e =
+    (gave : Result Turned EngineError)
+    × (mid : SessionState)
+    × (back : SeatState)
+    × (first out later_received later_sent : List ℕ)
+    × Takes (turn_after before s seat) gave first out (turn_after before mid back)
+    × (received ≡ first ++ later_received)
+    × (sent ≡ out ++ later_sent)
+    × GoesOn (ending_after leaves mid gave) made ending (Rests mid later_received later_sent e)
+    ((later : ℕ) × (made ≡ later + 1) × Plays leaves (before + 1) mid back left later ending later_received later_sent e)

@@ -1,0 +1,279 @@
+//! A node that meets another: its tables, its session, and what it prints once the session is over.
+
+mod loading;
+mod turns;
+
+ghost use Rattle.std.specs.Prelude.{◌≡◌, ◌≢◌, ◌⊎◌, ℕ, List, Ok, true, false, IfErr, IfOk, string_bytes};
+ghost use Rattle.std.specs.Io.KnownBytes.{Appends, Consumes};
+ghost use Rattle.node_text.specs.declared.scenes.Scene.{Scene};
+ghost use Rattle.text_commands.specs.Endings.{IsEarly, line_of};
+ghost use Rattle.text_commands.specs.declared.endings.Ending.TheVariants as endings;
+ghost use Rattle.session_core.specs.Sessions.{connecting};
+ghost use Rattle.table_shards.specs.Audits.{table_rounds};
+ghost use Rattle.table_shards.specs.declared.unlocked.UnlockedTable.{UnlockedTable};
+ghost use Rattle.node_commands.specs.Nodes.{AppendsSome, AreOpened, IsJoining, IsPrinted, IsServing, has_rows};
+ghost use Rattle.node_commands.specs.Printing.{IsText};
+
+use crate::node::loading::loaded;
+use crate::node::turns::{Played, play};
+use crate::printing::session_text;
+use node_text::{Scene, read_scene};
+use peers_devices::{Faults, read_to_end, write_all};
+use peers_hello::Hello;
+use session_core::Session;
+use std::alloc::Global;
+use std::io::{Read, Write};
+use std::sync::Wait;
+use table_shards::{Seat, Shards};
+use table_types::{Memory, Name, Roster, TableDef, Update};
+use text_commands::{Ending, rising_roster};
+
+/// A node that is about to meet another: its tables under their locks, its session, and the seat from which the session works on
+/// the tables.
+#[derive(Drop)]
+pub struct Node {
+    pub(crate) session: Session,
+    pub(crate) shards: Shards,
+    pub(crate) seat: Seat,
+    /// Whether the session ends once it has sent `resync confirmed`.
+    pub(crate) leaves: bool,
+}
+
+/// What a node has to print once its session is over: a text for the output, and the line of the ending for the writer for
+/// errors.
+#[derive(Debug, Drop)]
+pub struct Report {
+    pub(crate) text: Vec<u8>,
+    pub(crate) ending: Ending,
+    pub(crate) line: String,
+    ghost says: { string_bytes line ≡ line_of ending },
+    ghost reported: { has_rows ending ≡ true },
+}
+
+/// Reads a scene from `input`, up to its end.
+fn scene_of<I: Read + Faults>(alloc: Global, input: &mut I) -> Result<Scene, Ending>
+    ensures early { IfErr result IsEarly }
+{
+    let text = read_to_end(alloc, input)?;
+    Ok(read_scene(alloc, text.as_slice())?)
+}
+
+/// Makes the tables of `definitions`, which learn `updates`, puts them under their locks, and makes the one seat.
+#[tactic(auto, using(crate::proofs::NodeLaws::opened_with))]
+fn opened(
+    alloc: Global,
+    definitions: &[TableDef],
+    updates: &[Update],
+) -> Result<(Shards, Seat), Ending>
+    ensures opened { IfOk result (λ made. AreOpened definitions.now updates.now made.0 made.1) }
+    ensures early { IfErr result IsEarly }
+{
+    let cells = loaded(alloc, definitions, updates)?;
+    let (shards, mut seats) = Shards::new(alloc, cells, 1)?;
+    let seat = seats.remove(0);
+    Ok((shards, seat))
+}
+
+/// Makes a node of its parts. Drops the tables and the seat if there is no session.
+fn node_of(
+    session: Result<Session, Memory>,
+    shards: Shards,
+    seat: Seat,
+    leaves: bool,
+) -> Result<Node, Ending>
+    ensures session { IfOk result (λ node. session ≡ Ok node.session) }
+    ensures node { IfOk result (λ node. (node.shards ≡ shards) × (node.seat ≡ seat) × (node.leaves ≡ leaves)) }
+    ensures early { IfErr result IsEarly }
+{
+    match session {
+        Ok(session) => Ok(Node {
+            session,
+            shards,
+            seat,
+            leaves,
+        }),
+        Err(error) => {
+            drop(shards);
+            drop(seat);
+            Err(Ending::from(error))
+        }
+    }
+}
+
+/// Makes the node that serves the rows of `scene`.
+#[tactic(auto, using(crate::proofs::NodeLaws::serving_with))]
+fn serving_of(alloc: Global, name: Name, peer: Name, scene: Scene) -> Result<Node, Ending>
+    ensures node { IfOk result (λ node. IsServing scene name peer node) }
+    ensures early { IfErr result IsEarly }
+{
+    let Scene {
+        tables,
+        updates,
+        ..
+    } = scene;
+    let roster = rising_roster(tables)?;
+    let (shards, seat) = opened(alloc, roster.tables(), updates.as_slice())?;
+    let mut peers = Vec::new(alloc);
+    peers.push(peer).map_err(Memory::from)?;
+    let session = Session::accept(alloc, name, peers, roster, true);
+    node_of(session, shards, seat, false)
+}
+
+/// Makes the session of a node that joins: it isn't up to date.
+fn joining_session(alloc: Global, name: Name, peer: Name, roster: Roster) -> Result<Session, Memory>
+    ensures { IfOk result (λ session. session ≡ connecting (record { remote = peer; local = name; pid = 1; relative = 1 }) roster false) }
+{
+    let hello = Hello {
+        remote: peer,
+        local: name,
+        pid: 1,
+        relative: 1,
+    };
+    Session::connect(alloc, hello, roster, false)
+}
+
+/// Makes the node that joins with the tables of `scene`.
+#[tactic(auto, using(crate::proofs::NodeLaws::joining_with))]
+fn joining_of(alloc: Global, name: Name, peer: Name, scene: Scene) -> Result<Node, Ending>
+    ensures node { IfOk result (λ node. IsJoining scene name peer node) }
+    ensures early { IfErr result IsEarly }
+{
+    let Scene { tables, .. } = scene;
+    let roster = rising_roster(tables)?;
+    let (shards, seat) = opened(alloc, roster.tables(), &[])?;
+    let session = joining_session(alloc, name, peer, roster);
+    node_of(session, shards, seat, true)
+}
+
+/// Returns whether the rows are printed after a session that ended with `ending`.
+fn has_rows(ending: Ending) -> bool
+    ensures { result ≡ has_rows ending }
+{
+    match ending {
+        Ending::Done | Ending::Stream(_) | Ending::Strange | Ending::Unasked => true,
+        Ending::Line(_) | Ending::Scene | Ending::NotShortest | Ending::Memory | Ending::Device =>
+            false,
+    }
+}
+
+/// Returns the ending of a session whose rows aren't printed: `Device` if a device failed, `Memory` otherwise.
+fn early(ending: Ending) -> Ending
+    ensures { (result ≡ Ending.Memory) ⊎ (result ≡ Ending.Device) }
+{
+    match ending {
+        Ending::Device => Ending::Device,
+        _ => Ending::Memory,
+    }
+}
+
+/// Makes the report of a session that is over: the number of its turns, and the rows that the tables now have. Fails with the
+/// session's ending if no rows are printed after it, and with `Memory` if memory runs out.
+fn report_of(alloc: Global, shards: Shards, played: Played) -> Result<Report, Ending>
+    ensures text { IfOk result (λ report. (tables : List UnlockedTable) × (table_rounds tables ≡ shards.tables) × IsText played.turns tables report.text.items) }
+    ensures ending { IfOk result (λ report. report.ending ≡ played.ending) }
+    ensures early { IfErr result (λ ending. (ending ≡ endings.Memory) ⊎ (ending ≡ endings.Device)) }
+{
+    if !has_rows(played.ending) {
+        drop(shards);
+        return Err(early(played.ending));
+    }
+    let Ok(unlocked) = shards.unlock(alloc) else {
+        return Err(Ending::Memory);
+    };
+    let Played { turns, ending } = played;
+    let text = session_text(alloc, turns, unlocked.tables())?;
+    let line = ending.line(alloc)?;
+    Ok(Report { text, ending, line })
+}
+
+impl Node {
+    /// Makes the node `name` that waits for `peer` to connect. Reads a scene from `input`: the node has the scene's tables, which
+    /// have learned its updates. Its session is up to date. Fails with `Line` or `Scene` if the scene is refused, with `Device`
+    /// if the input can't be read, and with `Memory` if memory runs out.
+    pub fn serving<I: Read + Faults>(
+        alloc: Global,
+        name: Name,
+        peer: Name,
+        input: &mut I,
+    ) -> Result<Node, Ending>
+        ensures node { IfOk result (λ node. (scene : Scene) × IsServing scene name peer node) }
+        ensures early { IfErr result IsEarly }
+    {
+        let scene = scene_of(alloc, input)?;
+        let node = serving_of(alloc, name, peer, scene)?;
+        Ok(node)
+    }
+
+    /// Makes the node `name` that connects to `peer`. Reads a scene from `input`: the node has the scene's tables, without rows.
+    /// Its session isn't up to date: it requests a resync, and ends once it has confirmed it. Fails as `serving` does.
+    pub fn joining<I: Read + Faults>(
+        alloc: Global,
+        name: Name,
+        peer: Name,
+        input: &mut I,
+    ) -> Result<Node, Ending>
+        ensures node { IfOk result (λ node. (scene : Scene) × IsJoining scene name peer node) }
+        ensures early { IfErr result IsEarly }
+    {
+        let scene = scene_of(alloc, input)?;
+        let node = joining_of(alloc, name, peer, scene)?;
+        Ok(node)
+    }
+
+    /// Runs the session with the other node for at most `turns` turns, and returns what is to be printed. `from` reads what the
+    /// other node sends, and `to` writes what it receives. Fails with `Device` if a read or a write fails, and with `Memory` if
+    /// memory runs out: then nothing is printed.
+    pub fn meet<H: Wait, R: Read + Faults, W: Write + Faults>(
+        self,
+        rt: &H,
+        alloc: Global,
+        turns: u32,
+        from: &mut R,
+        to: &mut W,
+    ) -> Result<Report, Ending>
+        ensures printed { IfOk result (λ report. (received sent : List ℕ) × IsPrinted self turns report.ending received sent report.text.items
+            × Consumes (R.remaining from.old) (R.remaining from.new) received
+            × Appends (W.contents to.old) (W.contents to.new) sent) }
+        ensures early { IfErr result (λ ending. (ending ≡ endings.Memory) ⊎ (ending ≡ endings.Device)) }
+    {
+        let Node {
+            mut session,
+            shards,
+            seat,
+            leaves,
+        } = self;
+        let played = play(
+            rt,
+            alloc,
+            &mut session,
+            &shards,
+            seat,
+            leaves,
+            turns,
+            from,
+            to,
+        );
+        drop(session);
+        report_of(alloc, shards, played)
+    }
+}
+
+impl Report {
+    /// Writes the text on `output` and the line of the ending on `errors`, and returns the ending: `Device` if a writer fails. Then
+    /// `output` may have only the beginning of the text.
+    pub fn print<O: Write + Faults, E: Write + Faults>(
+        self,
+        output: &mut O,
+        errors: &mut E,
+    ) -> Ending
+        ensures ends { result ≢ Ending.Device → result ≡ self.ending }
+        ensures printed { result ≢ Ending.Device → Appends (O.contents output.old) (O.contents output.new) self.text.items }
+        ensures said { result ≢ Ending.Device → Appends (E.contents errors.old) (E.contents errors.new) (line_of result) }
+        ensures device { result ≡ Ending.Device → AppendsSome (O.contents output.old) (O.contents output.new) self.text.items }
+    {
+        match write_all(output, self.text.as_slice()) {
+            Ok(()) => self.ending.written(errors, self.line.as_str()),
+            Err(_) => Ending::device(errors),
+        }
+    }
+}

@@ -1,0 +1,68 @@
+//! The texts that `serve`, `join` and `round` print.
+
+ghost use Rattle.std.specs.Prelude.{◌≡◌, ◌++◌, ℕ, List, IfOk, OnOk, flat_map};
+ghost use Rattle.node_text.specs.Rows.{row_line};
+ghost use Rattle.node_commands.specs.Printing.{AreRowsOf, IsText, turns_line};
+ghost use Rattle.node_commands.specs.Rounds.{IsPrinted};
+
+use node_text::push_row;
+use std::alloc::{AllocError, Global};
+use table_cell::TableCell;
+use table_shards::{Audit, UnlockedTable};
+use table_types::{Key, Memory, Row, TableDef};
+use text_commands::Ending;
+
+/// Returns the line that says how many turns a session made.
+fn turns_line(alloc: Global, turns: u32) -> Result<Vec<u8>, AllocError>
+    ensures { IfOk result (λ line. line.items ≡ turns_line turns) }
+{
+    Vec::from_slice(alloc, format!(in alloc; "turns {turns}\n")?.as_bytes())
+}
+
+/// Appends a line for each of `rows`, which are rows of `table`.
+fn push_rows(text: &mut Vec<u8>, table: &TableDef, rows: &[(Key, Row)]) -> Result<(), AllocError>
+    ensures { OnOk result (text.new.items ≡ text.old.items ++ flat_map (row_line table.now) rows.now) }
+{
+    for (key, row) in rows {
+        push_row(text, table, key, row)?;
+    }
+    Ok(())
+}
+
+/// Appends a line for each row of a table, in ascending order of the keys.
+fn push_table(text: &mut Vec<u8>, cell: &TableCell) -> Result<(), Memory>
+    ensures { OnOk result ((rows : List ℕ) × AreRowsOf cell.now rows × (text.new.items ≡ text.old.items ++ rows)) }
+{
+    let rows = cell.rows()?;
+    push_rows(text, cell.definition(), rows.as_slice())?;
+    Ok(())
+}
+
+/// Returns the text of a session: the line that says how many turns it made, then the rows of `tables` in this order, each
+/// table's in ascending order of the keys.
+pub(crate) fn session_text(
+    alloc: Global,
+    turns: u32,
+    tables: &[UnlockedTable],
+) -> Result<Vec<u8>, Memory>
+    ensures { IfOk result (λ text. IsText turns tables.now text.items) }
+{
+    let mut text = turns_line(alloc, turns)?;
+    for table in tables {
+        push_table(&mut text, &table.cell)?;
+    }
+    Ok(text)
+}
+
+/// Returns the text of a round: the line `audit ok`, then the rows of its only table. Returns `Device` unless the audit has
+/// exactly one table.
+pub(crate) fn round_text(alloc: Global, audit: &Audit) -> Result<Vec<u8>, Ending>
+    ensures { IfOk result (λ text. IsPrinted audit.now text.items) }
+{
+    let [table] = audit.tables() else {
+        return Err(Ending::Device);
+    };
+    let mut text = Vec::from_slice(alloc, b"audit ok\n")?;
+    push_table(&mut text, &table.cell)?;
+    Ok(text)
+}

@@ -1,0 +1,119 @@
+//! The threads of a round that change the table.
+
+ghost use Rattle.std.specs.Prelude.{◌≡◌, ◌≤◌, IfOk, IsTrue};
+ghost use Rattle.std.specs.List.{AllByRecursion};
+ghost use Rattle.node_commands.specs.Tracks.{GainsTracks, HasTracked, IsTrack};
+
+use crate::rounds::table::{TABLE, refused};
+use std::sync::Wait;
+use table_cell::{CellEvent, Reply, TrackError};
+use table_shards::{Receipt, Seat, Shards, held};
+use table_types::{Change, DataType, Key, Moment};
+use text_commands::Ending;
+
+/// Adds 1 to gpc0 of `key` at the least moment, while it holds the table's lock.
+#[tactic(auto, using(crate::proofs::TrackLaws::one_tracked))]
+fn track_once<R: Wait>(
+    rt: &R,
+    shards: &Shards,
+    seat: Seat,
+    key: u32,
+) -> (Seat, Result<Reply, Ending>)
+    ensures { IfOk result.1 (λ reply. GainsTracks key 1 seat result.0) }
+{
+    let Some(lock) = shards.cell(TABLE) else {
+        return (seat, Err(Ending::Device));
+    };
+    let change = Change::Add(DataType::Gpc0, 1);
+    let mut locked = lock.lock(rt);
+    let (seat, answer) = held::track(
+        &mut locked,
+        seat,
+        TABLE,
+        Key::Int(key),
+        change,
+        Moment::least(),
+    );
+    match answer {
+        Ok(reply) => (seat, Ok(reply)),
+        Err(error) => (seat, Err(refused(error, TrackError::Memory))),
+    }
+}
+
+/// Adds 1 to gpc0 of `key` in table 1 of `shards`, `tracks` times, and takes the table's lock anew each time. Returns the seat,
+/// with the reply to the last change, or `None` if `tracks` is 0. Stops at the first change that is refused: with `Memory` if
+/// memory ran out, and with `Device` otherwise.
+#[tactic(auto, using(crate::proofs::TrackLaws::none_tracked, crate::proofs::TrackLaws::one_more_tracked))]
+pub fn track_all<R: Wait>(
+    rt: &R,
+    shards: &Shards,
+    seat: Seat,
+    key: u32,
+    tracks: u32,
+) -> (Seat, Result<Option<Reply>, Ending>)
+    ensures { IfOk result.1 (λ last. GainsTracks key tracks seat result.0) }
+{
+    let mut seat = seat;
+    let mut last = None;
+    for done in 0..tracks {
+        let (back, answer) = track_once(rt, shards, seat, key);
+        seat = back;
+        match answer {
+            Ok(reply) => last = Some(reply),
+            Err(error) => return (seat, Err(error)),
+        }
+    }
+    (seat, Ok(last))
+}
+
+/// Returns whether the receipt is of a track by the seat `number` that adds 1 to the key of the same number.
+fn is_track(number: u32, receipt: &Receipt) -> bool
+    ensures { IsTrue result → IsTrack number number receipt.now }
+{
+    match receipt.event() {
+        CellEvent::Track {
+            seat,
+            key,
+            change,
+            moment,
+        } => {
+            *seat == number
+                && key.is_same(&Key::Int(number))
+                && change.is_same(&Change::Add(DataType::Gpc0, 1))
+                && *moment == Moment::least()
+        }
+        _ => false,
+    }
+}
+
+/// Returns whether `is_track` is true of all the receipts.
+fn are_tracks(number: u32, receipts: &[Receipt]) -> bool
+    ensures { IsTrue result → AllByRecursion (IsTrack number number) receipts.now }
+{
+    for receipt in receipts {
+        if !is_track(number, receipt) {
+            return false;
+        }
+    }
+    true
+}
+
+/// Returns whether the seat has exactly `tracks` receipts of the table, and `is_track` is true of each.
+fn has_tracked(tracks: u32, seat: &Seat) -> bool
+    ensures { IsTrue result → HasTracked tracks seat.now }
+{
+    let receipts = seat.receipts(TABLE);
+    receipts.len() == tracks as usize && are_tracks(seat.number(), receipts)
+}
+
+/// Returns whether `has_tracked` is true of each of the seats 1 to `threads` among `seats`.
+pub(crate) fn have_tracked(threads: u32, tracks: u32, seats: &[Seat]) -> bool
+    ensures { IsTrue result → AllByRecursion (λ s. s.number ≤ threads → HasTracked tracks s) seats.now }
+{
+    for seat in seats {
+        if seat.number() <= threads && !has_tracked(tracks, seat) {
+            return false;
+        }
+    }
+    true
+}

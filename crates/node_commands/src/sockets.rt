@@ -1,0 +1,173 @@
+//! The subcommands `serve` and `join`: nodes that meet over TCP.
+
+ghost use Rattle.std.specs.Prelude.{◌≡◌, ◌≢◌, ◌⊎◌, ℕ, List, Ok, IfErr, IfOk};
+ghost use Rattle.std.specs.Io.KnownBytes.{Appends};
+ghost use Rattle.node_text.specs.declared.scenes.Scene.{Scene};
+ghost use Rattle.text_commands.specs.Endings.{IsEarly, line_of};
+ghost use Rattle.text_commands.specs.declared.endings.Ending.{Ending};
+ghost use Rattle.node_commands.specs.declared.node.Report.{Report};
+ghost use Rattle.node_commands.specs.Nodes.{AppendsSome, HasRows, IsJoined, IsPrinted, IsServed};
+
+use crate::link::Link;
+use crate::node::{Node, Report};
+use peers_devices::{Counting, Faults};
+use std::alloc::Global;
+use std::io;
+use std::io::{Read, Write};
+use std::net::{Ipv4Addr, Net, TcpListener, TcpStream};
+use std::sync::Wait;
+use text_commands::Ending;
+
+/// Listens on `port` of 127.0.0.1, and accepts one connection.
+fn accepted<N: Net<Listener = TcpListener, Stream = TcpStream>>(
+    net: &N,
+    port: u16,
+) -> io::Result<TcpStream> {
+    let listener = TcpListener::bind(net, (Ipv4Addr::LOCALHOST, port))?;
+    let (stream, _) = listener.accept()?;
+    stream.set_nodelay(true)?;
+    Ok(stream)
+}
+
+/// Connects to `port` of 127.0.0.1.
+fn connected<N: Net<Listener = TcpListener, Stream = TcpStream>>(
+    net: &N,
+    port: u16,
+) -> io::Result<TcpStream> {
+    let stream = TcpStream::connect(net, (Ipv4Addr::LOCALHOST, port))?;
+    stream.set_nodelay(true)?;
+    Ok(stream)
+}
+
+/// Runs a node's session over `stream`, and closes it. Fails with `Device` if there is no connection.
+fn met<H: Wait>(
+    rt: &H,
+    alloc: Global,
+    node: Node,
+    turns: u32,
+    stream: io::Result<TcpStream>,
+) -> Result<Report, Ending>
+    ensures printed { IfOk result (λ report. (received sent : List ℕ) × IsPrinted node turns report.ending received sent report.text.items) }
+    ensures early { IfErr result IsEarly }
+{
+    match stream {
+        Ok(stream) => node.meet(
+            rt,
+            alloc,
+            turns,
+            &mut Counting::new(&stream),
+            &mut Counting::new(&stream),
+        ),
+        Err(_) => {
+            drop(node);
+            Err(Ending::Device)
+        }
+    }
+}
+
+/// Runs the session of a node that serves.
+fn served<N: Net<Listener = TcpListener, Stream = TcpStream> + Wait, I: Read + Faults>(
+    rt: &N,
+    alloc: Global,
+    link: Link,
+    input: &mut I,
+) -> Result<Report, Ending>
+    ensures printed { IfOk result (λ report. (scene : Scene) × IsServed scene link report.ending report.text.items) }
+    ensures early { IfErr result IsEarly }
+{
+    let Link {
+        turns,
+        port,
+        name,
+        peer,
+    } = link;
+    let node = Node::serving(alloc, name, peer, input)?;
+    met(rt, alloc, node, turns, accepted(rt, port))
+}
+
+/// Runs the session of a node that joins.
+fn joined<N: Net<Listener = TcpListener, Stream = TcpStream> + Wait, I: Read + Faults>(
+    rt: &N,
+    alloc: Global,
+    link: Link,
+    input: &mut I,
+) -> Result<Report, Ending>
+    ensures printed { IfOk result (λ report. (scene : Scene) × IsJoined scene link report.ending report.text.items) }
+    ensures early { IfErr result IsEarly }
+{
+    let Link {
+        turns,
+        port,
+        name,
+        peer,
+    } = link;
+    let node = Node::joining(alloc, name, peer, input)?;
+    met(rt, alloc, node, turns, connected(rt, port))
+}
+
+/// Prints the report of a session, or the line of the ending if there is no report.
+fn reported<O: Write + Faults, E: Write + Faults>(
+    alloc: Global,
+    met: Result<Report, Ending>,
+    output: &mut O,
+    errors: &mut E,
+) -> Ending
+    requires { IfErr met IsEarly }
+    ensures printed { HasRows result → (report : Report) × (met ≡ Ok report) × (report.ending ≡ result) × Appends (O.contents output.old) (O.contents output.new) report.text.items }
+    ensures said { result ≢ Ending.Device → Appends (E.contents errors.old) (E.contents errors.new) (line_of result) }
+    ensures silent { (HasRows result → ⊥) → result ≢ Ending.Device → output.new ≡ output.old }
+    ensures device { result ≡ Ending.Device → (output.new ≡ output.old)
+        ⊎ ((report : Report) × (met ≡ Ok report) × AppendsSome (O.contents output.old) (O.contents output.new) report.text.items) }
+{
+    match met {
+        Ok(report) => report.print(output, errors),
+        Err(ending) => ending.said(alloc, errors),
+    }
+}
+
+/// Reads a scene from `input`, waits on the link's port for the other node to connect, and runs one session with it, which
+/// teaches the rows of the scene. Then writes on `output` how many turns the session made, and the rows that the tables now have.
+///
+/// The session ends after the link's turns, when the other node closes the connection, or when it has a fault. If the scene is
+/// refused, memory runs out or the connection fails, `serve` writes nothing on `output`. Unless a device fails, it writes the
+/// line of the ending on `errors`. `serve` waits for the other node.
+pub fn serve<
+    N: Net<Listener = TcpListener, Stream = TcpStream> + Wait,
+    I: Read + Faults,
+    O: Write + Faults,
+    E: Write + Faults,
+>(rt: &N, alloc: Global, link: Link, input: &mut I, output: &mut O, errors: &mut E) -> Ending
+    ensures printed { HasRows result → (scene : Scene) × (text : List ℕ) × IsServed scene link result text
+        × Appends (O.contents output.old) (O.contents output.new) text }
+    ensures said { result ≢ Ending.Device → Appends (E.contents errors.old) (E.contents errors.new) (line_of result) }
+    ensures silent { (HasRows result → ⊥) → result ≢ Ending.Device → output.new ≡ output.old }
+    ensures device { result ≡ Ending.Device → (output.new ≡ output.old)
+        ⊎ ((scene : Scene) × (ending : Ending) × (text : List ℕ) × IsServed scene link ending text
+        × AppendsSome (O.contents output.old) (O.contents output.new) text) }
+{
+    let met = served(rt, alloc, link, input);
+    reported(alloc, met, output, errors)
+}
+
+/// Reads a scene from `input`, of which it takes only the tables, connects to the link's port, and runs one session with the node
+/// that listens there, from which it requests all rows. Then writes on `output` how many turns the session made, and the rows
+/// that the tables now have.
+///
+/// The session ends as in `serve`, and also once it has all rows: after the turn that sent `resync confirmed`.
+pub fn join<
+    N: Net<Listener = TcpListener, Stream = TcpStream> + Wait,
+    I: Read + Faults,
+    O: Write + Faults,
+    E: Write + Faults,
+>(rt: &N, alloc: Global, link: Link, input: &mut I, output: &mut O, errors: &mut E) -> Ending
+    ensures printed { HasRows result → (scene : Scene) × (text : List ℕ) × IsJoined scene link result text
+        × Appends (O.contents output.old) (O.contents output.new) text }
+    ensures said { result ≢ Ending.Device → Appends (E.contents errors.old) (E.contents errors.new) (line_of result) }
+    ensures silent { (HasRows result → ⊥) → result ≢ Ending.Device → output.new ≡ output.old }
+    ensures device { result ≡ Ending.Device → (output.new ≡ output.old)
+        ⊎ ((scene : Scene) × (ending : Ending) × (text : List ℕ) × IsJoined scene link ending text
+        × AppendsSome (O.contents output.old) (O.contents output.new) text) }
+{
+    let met = joined(rt, alloc, link, input);
+    reported(alloc, met, output, errors)
+}

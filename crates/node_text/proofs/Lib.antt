@@ -1,0 +1,4 @@
+mod LessonLines
+mod LineNumbers
+mod Numerals
+mod ReadAgain

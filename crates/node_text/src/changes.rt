@@ -1,0 +1,75 @@
+//! Changes of rows.
+ghost use Rattle.std.specs.Prelude.{◌≡◌, ◌++◌, OnOk};
+ghost use Rattle.table_types.specs.DataTypes.{name_of};
+ghost use Rattle.node_text.specs.Changes.{change_text};
+ghost use Rattle.node_text.specs.Numbers.{spaced};
+
+use crate::error::LineError;
+use crate::names::{name_or_none, push_stored_name};
+use crate::numbers::{number, number32, push_spaced};
+use crate::tables::type_named;
+use std::alloc::{AllocError, Global};
+use table_types::{Change, DataType};
+
+/// Reads a change: `add TYPE N`, `take TYPE N`, `put TYPE N`, `rate TYPE N` or `name NAME`.
+pub(crate) fn change_of(alloc: Global, words: &[&[u8]]) -> Result<Change, LineError> {
+    match words {
+        [kind, name] if *kind == b"name".as_slice() => {
+            Ok(Change::SetName(name_or_none(alloc, name)?))
+        }
+        [kind, data_type, word] => number_change(kind, data_type, word).ok_or(LineError::Refused),
+        _ => Err(LineError::Refused),
+    }
+}
+
+/// Reads a change of the value of a data type.
+fn number_change(kind: &[u8], data_type: &[u8], word: &[u8]) -> Option<Change> {
+    let data_type = type_named(data_type)?;
+    match kind {
+        b"add" => Some(Change::Add(data_type, number(word, u64::MAX)?)),
+        b"take" => Some(Change::Take(data_type, number(word, u64::MAX)?)),
+        b"put" => Some(Change::Put(data_type, number(word, u64::MAX)?)),
+        b"rate" => Some(Change::AddRate(data_type, number32(word)?)),
+        _ => None,
+    }
+}
+
+/// Appends a space and `change`.
+pub(crate) fn push_change(text: &mut Vec<u8>, change: &Change) -> Result<(), AllocError>
+    ensures { OnOk result (text.new.items ≡ text.old.items ++ change_text change.now) }
+{
+    match change {
+        Change::Add(data_type, number) => {
+            text.extend_from_slice(b" add ")?;
+            push_type_and_number(text, *data_type, *number)
+        }
+        Change::Take(data_type, number) => {
+            text.extend_from_slice(b" take ")?;
+            push_type_and_number(text, *data_type, *number)
+        }
+        Change::Put(data_type, number) => {
+            text.extend_from_slice(b" put ")?;
+            push_type_and_number(text, *data_type, *number)
+        }
+        Change::AddRate(data_type, number) => {
+            text.extend_from_slice(b" rate ")?;
+            push_type_and_number(text, *data_type, u64::from(*number))
+        }
+        Change::SetName(name) => {
+            text.extend_from_slice(b" name")?;
+            push_stored_name(text, true, name.as_ref())
+        }
+    }
+}
+
+/// Appends a data type and a number.
+fn push_type_and_number(
+    text: &mut Vec<u8>,
+    data_type: DataType,
+    number: u64,
+) -> Result<(), AllocError>
+    ensures { OnOk result (text.new.items ≡ text.old.items ++ (name_of data_type ++ spaced number)) }
+{
+    text.extend_from_slice(data_type.name().as_bytes())?;
+    push_spaced(text, number)
+}

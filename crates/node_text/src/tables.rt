@@ -1,0 +1,50 @@
+//! Definitions of tables.
+use crate::error::LineError;
+use crate::keys::kind_named;
+use crate::names::may_name;
+use crate::numbers::{number, number32};
+use crate::words::cut;
+use std::alloc::Global;
+use table_types::{DataType, TableDef};
+
+/// Reads the table of a line `table ID NAME KIND L EXPIRE TYPES..`, from the words after the first.
+pub(crate) fn table_of(alloc: Global, words: &[&[u8]]) -> Result<TableDef, LineError> {
+    let [id, name, kind, key_length, expire, types @ ..] = words else {
+        return Err(LineError::Refused);
+    };
+    let id = number(id, u64::MAX).ok_or(LineError::Refused)?;
+    let kind = kind_named(kind).ok_or(LineError::Refused)?;
+    let key_length = number(key_length, u64::MAX).ok_or(LineError::Refused)?;
+    let expire = number32(expire).ok_or(LineError::Refused)?;
+    if !may_name(name) {
+        return Err(LineError::Refused);
+    }
+    let name = Vec::from_slice(alloc, name)?;
+    let types = types_of(alloc, types)?;
+    Ok(TableDef::new(alloc, id, name, kind, key_length, expire, types)?)
+}
+
+/// Reads data types, one from each word.
+fn types_of(alloc: Global, words: &[&[u8]]) -> Result<Vec<(DataType, Option<u32>)>, LineError> {
+    let mut types = Vec::new(alloc);
+    if words.len() > DataType::ALL.len() {
+        return Err(LineError::Refused);
+    }
+    for word in words {
+        types.push(type_of(word).ok_or(LineError::Refused)?)?;
+    }
+    Ok(types)
+}
+
+/// Reads a data type `name`, or `name:period` for one with a period in milliseconds.
+fn type_of(word: &[u8]) -> Option<(DataType, Option<u32>)> {
+    match cut(word, b':') {
+        Some((name, period)) => Some((type_named(name)?, Some(number32(period)?))),
+        None => Some((type_named(word)?, None)),
+    }
+}
+
+/// Returns the data type of this name.
+pub(crate) fn type_named(name: &[u8]) -> Option<DataType> {
+    DataType::from_name(str::from_utf8(name).ok()?)
+}

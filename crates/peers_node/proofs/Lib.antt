@@ -1,0 +1,3 @@
+mod Choices
+mod NamesApart
+mod Numbers

@@ -1,0 +1,39 @@
+//! What a command line asks for.
+
+use node_commands::Link;
+
+/// The most threads of a round.
+pub(crate) const MOST_THREADS: u32 = 8;
+
+/// The most updates that a thread of a round tracks.
+pub(crate) const MOST_TRACKS: u32 = 1_000;
+
+/// The most turns of a session.
+pub(crate) const MOST_TURNS: u32 = 1_000_000;
+
+/// The last port.
+pub(crate) const LAST_PORT: u32 = 65_535;
+
+/// The subcommand that was chosen, with its options.
+#[derive(Debug, Drop)]
+pub enum Options {
+    /// Read a scene and write its lesson.
+    Lesson,
+    /// Read a scene and write the verdict on its stream and prices.
+    Check,
+    /// Read a scene and write what a learner makes of its stream.
+    Learn,
+    /// Read a script and write what a table answers to its calls.
+    Table,
+    /// Run a round.
+    Round {
+        /// The number of threads: 1 to 8.
+        threads: u32,
+        /// The number of times each of them tracks: 1 to 1,000.
+        tracks: u32,
+    },
+    /// Read a scene, wait for another node to connect, and teach it the rows.
+    Serve(Link),
+    /// Read a scene, connect to a node that serves, and take its rows.
+    Join(Link),
+}

@@ -1,8 +1,0 @@
-use Rattle.std.proofs.Common.{◌≡◌, ◌++◌, drop}
-use Rattle.std.specs.List.{flat_map}
-use Rattle.scene_text.specs.Rows.{row_line}
-use Rattle.round_command.proofs.printing.push_entries.Given as goal
-
-abbrev pub invariant-loop-entry : goal.invariant-loop-entry
-invariant-loop-entry l =
-    l.text.items ++ flat_map (row_line l.table) (drop l.entry-index l.rows) ≡ l.fn.text.items ++ flat_map (row_line l.table) l.rows

@@ -1,5 +1,0 @@
-use Rattle.round_command.specs.Tracks.{GainsTracks}
-use Rattle.round_command.proofs.tracking.track_all.Given as goal
-
-abbrev pub invariant-loop-done : goal.invariant-loop-done
-invariant-loop-done g l = GainsTracks l.key l.done l.fn.seat l.seat

@@ -1,5 +1,0 @@
-use Rattle.scene_commands.proofs.SceneLaws.{lesson_checked}
-use Rattle.scene_commands.proofs.laws.taught_lessons_are_shortest.Goals as goal
-
-pub returns : goal.returns
-returns c = lesson_checked

@@ -1,4 +1,0 @@
-pub mod Acks
-pub mod Lessons
-pub mod Rows
-pub mod Verdicts

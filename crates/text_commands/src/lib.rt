@@ -1,0 +1,22 @@
+//! The subcommands `lesson`, `check`, `learn` and `table`. Each reads a scene or a script from a reader, writes its output and
+//! its errors to two writers, and returns how it ended.
+#![tactic(auto)]
+
+mod answers;
+mod checking;
+mod endings;
+mod laws;
+mod learning;
+mod lines;
+mod listing;
+mod running;
+mod settings;
+mod tabling;
+mod teaching;
+
+pub use checking::check;
+pub use endings::Ending;
+pub use laws::taught_lessons_are_shortest;
+pub use learning::{learn, rising_roster};
+pub use tabling::table;
+pub use teaching::lesson;

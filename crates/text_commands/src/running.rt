@@ -1,0 +1,120 @@
+//! Runs of a script: its calls, made in turn.
+ghost use Rattle.std.specs.Prelude.{◌≡◌, ◌++◌, ℕ, IfErr, IfOk, List, OnOk, option_copied};
+ghost use Rattle.std.specs.List.{AllByRecursion};
+ghost use Rattle.node_text.specs.Calls.{IsCall};
+ghost use Rattle.node_text.specs.Scripts.{IsScript};
+ghost use Rattle.text_commands.specs.Endings.{IsEarly};
+ghost use Rattle.text_commands.specs.Running.{IsPrinted, PrintAll, Prints, batch_at};
+
+use crate::answers::{acknowledge, close, learn, open, purge, settle, track};
+use crate::endings::Ending;
+use crate::listing::{copy, push_event_at, push_events, push_rows};
+use node_text::{Call, Script};
+use std::alloc::Global;
+use table_cell::TableCell;
+use table_types::Batch;
+
+/// The greatest number of rows that a table stores unless the script says it.
+const MOST_ROWS: u32 = TableCell::MOST_ROWS as u32;
+
+/// A script's run: its table, the batches that the table has returned, and the text printed so far.
+#[derive(Drop)]
+struct Run {
+    cell: TableCell,
+    given: Vec<Batch>,
+    text: Vec<u8>,
+}
+
+/// Returns what a script prints. It refuses a script with a refused line.
+pub(crate) fn printed(alloc: Global, script: Script) -> Result<Vec<u8>, Ending>
+    requires { (count : ℕ) × IsScript count script }
+    ensures printed { IfOk result (λ text. IsPrinted script text.items) }
+    ensures early { IfErr result IsEarly }
+{
+    let Script {
+        table,
+        size,
+        nopurge,
+        first,
+        calls,
+        refused,
+    } = script;
+    let size = size.unwrap_or(MOST_ROWS) as usize;
+    let cell = TableCell::new(alloc, table, size, nopurge.is_some(), first.unwrap_or(1))?;
+    let mut run = Run {
+        cell,
+        given: Vec::new(alloc),
+        text: Vec::new(alloc),
+    };
+    run.make_all(alloc, calls)?;
+    match refused {
+        Some(number) => Err(Ending::Line(number)),
+        None => Ok(run.text),
+    }
+}
+
+impl Run {
+    /// Makes the calls, each with the number of its line, and appends what they print.
+    fn make_all(&mut self, alloc: Global, calls: Vec<(usize, Call)>) -> Result<(), Ending>
+        requires { AllByRecursion (λ call. IsCall call.1) calls.items }
+        ensures printed { OnOk result ((text : List ℕ) × PrintAll self.old.cell self.old.given.items calls.items text self.new.cell
+            × (self.new.text.items ≡ self.old.text.items ++ text)) }
+        ensures early { IfErr result IsEarly }
+    {
+        for (number, call) in calls {
+            self.make(alloc, number, call)?;
+        }
+        Ok(())
+    }
+
+    /// Makes a call, which is in the line of this number, and appends what it prints.
+    fn make(&mut self, alloc: Global, number: usize, call: Call) -> Result<(), Ending>
+        requires { IsCall call }
+        ensures printed { OnOk result ((text : List ℕ) × Prints self.old.cell self.old.given.items call text self.new.cell self.new.given.items
+            × (self.new.text.items ≡ self.old.text.items ++ text)) }
+        ensures early { IfErr result IsEarly }
+    {
+        let Run { cell, given, text } = self;
+        match call {
+            Call::Settle { session, batch } => match batch_at(given.as_slice(), batch) {
+                Some(batch) => settle(cell, text, session, batch)?,
+                None => return Err(Ending::Line(number)),
+            },
+            Call::Copy {
+                session,
+                kind,
+                limit,
+                moment,
+            } => copy(alloc, cell, given, text, session, kind, limit, moment)?,
+            Call::Open(session) => open(cell, text, session)?,
+            Call::Close(session) => close(cell, text, session)?,
+            Call::Track {
+                seat,
+                key,
+                change,
+                moment,
+            } => track(alloc, cell, text, seat, key, change, moment)?,
+            Call::Learn {
+                session,
+                update,
+                moment,
+            } => learn(alloc, cell, text, session, update, moment)?,
+            Call::Ack { session, number } => acknowledge(cell, text, session, number)?,
+            Call::Purge(moment) => purge(alloc, cell, text, moment)?,
+            Call::Events => push_events(alloc, cell, text)?,
+            Call::Event(place) => push_event_at(cell, text, place)?,
+            Call::Rows => push_rows(alloc, cell, text)?,
+        }
+        Ok(())
+    }
+}
+
+/// Returns the batch at this place, from 1, of those in `given`.
+fn batch_at(given: &[Batch], place: u64) -> Option<&Batch>
+    ensures { option_copied result ≡ batch_at given.now place }
+{
+    if place == 0 {
+        return None;
+    }
+    given.get((place - 1) as usize)
+}
