@@ -38,9 +38,9 @@ use Rattle.session_core.specs.declared.phase.Phase.{Phase}
 use Rattle.session_core.specs.declared.phase.Phase.TheVariants as phases
 use Rattle.session_core.specs.declared.phase.Stage.{Stage}
 use Rattle.session_core.specs.declared.phase.Stage.TheVariants as stages
-use Rattle.session_core.specs.declared.talk.Talk.{Talk}
-use Rattle.session_core.specs.declared.talk.Heard.{Heard}
-use Rattle.session_core.specs.declared.talk.Heard.TheVariants as heards
+use Rattle.session_core.specs.declared.machine.Machine.{Machine}
+use Rattle.session_core.specs.declared.handshake.Handshake.{Handshake}
+use Rattle.session_core.specs.declared.handshake.Handshake.TheVariants as handshakes
 use Rattle.session_core.specs.Shares.{any_out, all_quiet, out_set, quiet_set}
 use Rattle.session_core.specs.Actions.{sends_control, status_text, reopens, confirms}
 use Rattle.session_core.specs.Courses.{Course, course_begun, course_fed, teaching_anew, ReceivesAll, acks_sent, acks_given, kind_of, table_to_ask, is_due, none_due, Answered, finished, state_of_course}
@@ -53,16 +53,16 @@ pub record SessionState : Type 0 where
   pub fault : Option Fault
   pub confirmed : Bool
 
--- how far it has come, with its course; a session that is over has none
+-- the phase of a session at a stage with the course c; at its end the course no longer matters
 abbrev pub phase_of : Stage → Course → Phase
 phase_of (stages.New hello) c = phases.New hello c
 phase_of (stages.Hello greeter bytes) c = phases.Hello greeter bytes.items c
 phase_of stages.Open c = phases.Open c
 phase_of stages.Ended c = phases.Ended
 
--- what is seen of it
-abbrev pub seen : Talk → SessionState
-seen t = record { phase = phase_of t.stage t.course; known = t.known; fault = t.fault; confirmed = t.confirmed }
+-- the state of the session that a machine steps
+abbrev pub seen : Machine → SessionState
+seen m = record { phase = phase_of m.stage m.course; known = m.known; fault = m.fault; confirmed = m.confirmed }
 
 abbrev pub in_phase : SessionState → Phase → SessionState
 in_phase s phase = record { phase = phase; known = s.known; fault = s.fault; confirmed = s.confirmed }
@@ -164,6 +164,12 @@ abbrev pub Greets : SessionState → Greeter → List ℕ → Course → List Ac
 Greets s greeters.Connects bytes c acts e = Connects (status_of bytes) s bytes c acts e
 Greets s (greeters.Accepts own peers) bytes c acts e = Accepts (answer_of own peers bytes) s (greeters.Accepts own peers) bytes c acts e
 
+-- what follows in a session whose bytes so far amount to this
+abbrev pub Follows : Handshake → SessionState → Greeter → List ℕ → Course → List Action → SessionState → Type 0
+Follows handshakes.Incomplete s greeter bytes c acts e = Stays s (phases.Hello greeter bytes c) acts e
+Follows (handshakes.Accepted used answer) s greeter bytes c acts e = ReceivesBytes s (course_fed c (drop used bytes)) answer.items acts e
+Follows (handshakes.Refused given) s greeter bytes c acts e = (acts ≡ given.items) × (e ≡ ended s)
+
 abbrev pub GoesHello : SessionState → Greeter → List ℕ → Course → Event → List Action → SessionState → Type 0
 GoesHello s greeter bytes c (events.Bytes piece) acts e = Greets s greeter (bytes ++ piece) c acts e
 GoesHello s greeter bytes c events.Turn acts e = Stays s (phases.Hello greeter bytes c) acts e
@@ -228,19 +234,9 @@ GoesOpen s c events.ReadFault acts e = Closes s acts e
 GoesOpen s c events.WriteFault acts e = Closes s acts e
 GoesOpen s c events.Opened acts e = ⊥
 
--- a step that failed leaves what stays readable
-abbrev pub Keeps : Talk → Talk → Type 0
-Keeps s e = (e.known ≡ s.known) × (e.fault ≡ s.fault) × (e.confirmed ≡ s.confirmed)
-
--- what the bytes so far of a hello or a status make of a session
-abbrev pub IsHeard : Heard → SessionState → Greeter → List ℕ → Course → List Action → SessionState → Type 0
-IsHeard heards.More s greeter bytes c acts e = Stays s (phases.Hello greeter bytes c) acts e
-IsHeard (heards.Begins used first) s greeter bytes c acts e = ReceivesBytes s (course_fed c (drop used bytes)) first.items acts e
-IsHeard (heards.Over given) s greeter bytes c acts e = (acts ≡ given.items) × (e ≡ ended s)
-
--- any session that stands at the course c goes at an event to the course e
-abbrev pub GoesOn : Course → Event → List Action → Course → Type 0
-GoesOn c event acts e = (s : SessionState) → GoesOpen s c event acts (going s e)
+-- the open session s goes on, and its course c becomes e
+abbrev pub GoesOn : SessionState → Course → Event → List Action → Course → Type 0
+GoesOn s c event acts e = GoesOpen s c event acts (going s e)
 
 -- ---- any phase
 
@@ -301,6 +297,10 @@ IsWhy asked error = ⊥
 abbrev pub Refuses : Phase → Event → SessionError → Type 0
 Refuses phases.Ended event error = error ≡ errors.Ended
 Refuses phase event error = IsWhy (is_asked phase event) error
+
+-- a refused event leaves what stays readable
+abbrev pub Keeps : Machine → Machine → Type 0
+Keeps m e = (e.known ≡ m.known) × (e.fault ≡ m.fault) × (e.confirmed ≡ m.confirmed)
 
 -- ---- what a caller can read
 

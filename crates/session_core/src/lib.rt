@@ -8,14 +8,15 @@ mod due;
 mod error;
 mod event;
 mod halt;
+mod handshake;
 mod laws;
+mod machine;
 mod open;
 mod phase;
 mod receiving;
 mod session;
 mod share;
 mod state;
-mod talk;
 
 pub use action::Action;
 pub use error::SessionError;

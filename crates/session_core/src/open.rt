@@ -1,35 +1,24 @@
-//! What an open session does at an event.
+//! The events that an open session receives.
 
-ghost use Rattle.std.specs.Prelude.{◌≡◌, ◌∷◌, [], Some, true, IfOk, IfErr, OnOk, OnErr};
-ghost use Rattle.table_types.specs.declared.copies.Settled.TheVariants as settles;
-ghost use Rattle.session_core.specs.declared.action.Action.TheVariants as actions;
+ghost use Rattle.std.specs.Prelude.{◌≡◌, [], IfOk, IfErr};
 ghost use Rattle.session_core.specs.declared.event.Event.TheVariants as events;
 ghost use Rattle.session_core.specs.declared.due.Due.TheVariants as dues;
-ghost use Rattle.session_core.specs.declared.phase.Phase.TheVariants as phases;
-ghost use Rattle.session_core.specs.Shares.{all_quiet, out_set};
-ghost use Rattle.session_core.specs.Actions.{reopens};
-ghost use Rattle.session_core.specs.Courses.{teaching_anew, kind_of, table_to_ask, none_due, is_due, Answered};
-ghost use Rattle.session_core.specs.Sessions.{GoesOpen, Turns, IsCopied, HasNothing, FinishesResync, Settles, IsWhy, going, is_asked_open, GoesOn};
+ghost use Rattle.session_core.specs.Courses.{none_due, is_due, Answered};
+ghost use Rattle.session_core.specs.Sessions.{SessionState, GoesOn, IsWhy};
 
 use crate::action::{Action, only};
 use crate::course::Course;
 use crate::due::Due;
 use crate::error::SessionError;
-use crate::event::Event;
-use crate::phase::Phase;
 use crate::receiving::only_control;
-use crate::session::Session;
 use crate::share::{all_quiet, any_out};
-use known_state::Known;
-use peers_msg::ErrorKind;
 use std::alloc::Global;
-use std::mem;
-use table_types::{Batch, Items, Memory, Settled};
+use table_types::{Batch, Settled};
 
 impl Course {
-    /// There is time to teach.
+    /// Handles a turn: asks the next table for a batch, if there is one.
     pub(crate) fn turn(&mut self, alloc: Global) -> Result<Vec<Action>, SessionError>
-        ensures goes { IfOk result (λ acts. GoesOn self.old events.Turn acts.items self.new) }
+        ensures goes { (s : SessionState) → IfOk result (λ acts. GoesOn s self.old events.Turn acts.items self.new) }
         ensures refused { IfErr result (λ e. IsWhy (none_due self.old.due) e) }
     {
         if !self.none_due() {
@@ -45,14 +34,14 @@ impl Course {
         }
     }
 
-    /// A batch of the table of that id was copied: it is out, and is to be taught.
+    /// Handles a batch that was copied from `table`: marks it as outstanding and asks for its lesson.
     pub(crate) fn copied(
         &mut self,
         alloc: Global,
         table: u64,
         batch: Batch,
     ) -> Result<Vec<Action>, SessionError>
-        ensures goes { IfOk result (λ acts. GoesOn self.old (events.Copied table batch) acts.items self.new) }
+        ensures goes { (s : SessionState) → IfOk result (λ acts. GoesOn s self.old (events.Copied table batch) acts.items self.new) }
         ensures refused { IfErr result (λ e. IsWhy (is_due (dues.Copy table) self.old.due) e) }
     {
         self.answer(Due::Copy(table))?;
@@ -61,9 +50,10 @@ impl Course {
         Ok(only(alloc, Action::Teach(batch))?)
     }
 
-    /// The table of that id has nothing to teach: in a resync it is quiet then.
+    /// Handles the answer that `table` has nothing to teach. In a resync, marks the table as quiet, and ends the resync if
+    /// all tables are.
     pub(crate) fn nothing(&mut self, alloc: Global, table: u64) -> Result<Vec<Action>, SessionError>
-        ensures goes { IfOk result (λ acts. GoesOn self.old (events.Nothing table) acts.items self.new) }
+        ensures goes { (s : SessionState) → IfOk result (λ acts. GoesOn s self.old (events.Nothing table) acts.items self.new) }
         ensures refused { IfErr result (λ e. IsWhy (is_due (dues.Copy table) self.old.due) e) }
     {
         self.answer(Due::Copy(table))?;
@@ -78,7 +68,7 @@ impl Course {
         Ok(only_control(alloc, self.finished())?)
     }
 
-    /// The lesson was written.
+    /// Handles the end of a lesson.
     pub(crate) fn written(&mut self, alloc: Global) -> Result<Vec<Action>, SessionError>
         ensures goes { IfOk result (λ acts. Answered self.old dues.Teach self.new × (acts.items ≡ [])) }
         ensures refused { IfErr result (λ e. IsWhy (is_due dues.Teach self.old.due) e) }
@@ -87,15 +77,14 @@ impl Course {
         Ok(Vec::new(alloc))
     }
 
-    /// An acknowledgement settled that much of the table of that id. A request that waits begins its resync where
-    /// nothing is out any more.
+    /// Handles what an acknowledgement settled in `table`. Starts a deferred resync once no batch is outstanding.
     pub(crate) fn settled(
         &mut self,
         alloc: Global,
         table: u64,
         settled: Settled,
     ) -> Result<Vec<Action>, SessionError>
-        ensures goes { IfOk result (λ acts. GoesOn self.old (events.Settled table settled) acts.items self.new) }
+        ensures goes { (s : SessionState) → IfOk result (λ acts. GoesOn s self.old (events.Settled table settled) acts.items self.new) }
         ensures refused { IfErr result (λ e. IsWhy (is_due (dues.Ack table) self.old.due) e) }
     {
         self.answer(Due::Ack(table))?;

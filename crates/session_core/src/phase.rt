@@ -18,7 +18,8 @@ pub(crate) enum Greeter {
     },
 }
 
-/// The phase of a session.
+/// The phase of a session in the definitions: its stage, with its course. The program keeps the two apart, and makes no
+/// value of this type.
 #[derive(Drop)]
 pub(crate) enum Phase {
     /// The connection isn't established yet. The session sends this hello first.
@@ -31,14 +32,14 @@ pub(crate) enum Phase {
     Ended,
 }
 
-/// How far a session has come, beside its course.
+/// The stage of a session.
 #[derive(Drop)]
 pub(crate) enum Stage {
-    /// The connection doesn't stand yet, on which that hello is to be sent.
+    /// The connection isn't established yet. The session sends this hello first.
     New(Hello),
-    /// The hello or the status isn't whole yet; these bytes of it came.
+    /// The hello or the status is incomplete. These bytes of it were received.
     Hello(Greeter, Vec<u8>),
-    /// Messages go to and fro.
+    /// Both sides send messages.
     Open,
     /// The session is over.
     Ended,

@@ -1,55 +1,41 @@
 //! Sessions.
 
-ghost use Rattle.std.specs.Prelude.{◌≡◌, ◌≢◌, ◌∷◌, ◌++◌, [], None, Ok, Err, IfOk, IfErr, OnOk, OnErr, drop};
-ghost use Rattle.known_state.specs.Known.{fresh_of};
-ghost use Rattle.peers_hello.specs.Hellos.{hello_text, answer_of};
-ghost use Rattle.peers_hello.specs.Statuses.{status_of};
-ghost use Rattle.session_core.specs.declared.action.Action.TheVariants as actions;
+ghost use Rattle.std.specs.Prelude.{◌≡◌, ◌≢◌, Err, IfOk, IfErr, OnErr};
 ghost use Rattle.session_core.specs.declared.error.SessionError.{SessionError};
 ghost use Rattle.session_core.specs.declared.error.SessionError.TheVariants as errors;
-ghost use Rattle.session_core.specs.declared.halt.Halt.TheVariants as halts;
-ghost use Rattle.session_core.specs.declared.phase.Greeter.TheVariants as greeters;
-ghost use Rattle.session_core.specs.declared.phase.Phase.TheVariants as phases;
-ghost use Rattle.session_core.specs.Actions.{status_text, sends_control};
-ghost use Rattle.peers_msg.specs.declared.control.Control.TheVariants as controls;
-ghost use Rattle.session_core.specs.Courses.{course_fed, acks_sent, acks_given};
-ghost use Rattle.session_core.specs.Sessions.{Goes, GoesNew, GoesHello, Connects, Accepts, Greets, ReceivesBytes, Concludes, confirmed_by, Refuses, IsWhy, is_asked_new, is_asked_hello, connecting, accepting, in_phase, ended, state_of, kind_of_breach, kind_of_fault};
+ghost use Rattle.session_core.specs.Sessions.{Goes, Refuses, connecting, accepting, ended, state_of};
 
-use crate::action::{Action, confirms, only, push};
+use crate::action::Action;
 use crate::course::Course;
 use crate::error::SessionError;
 use crate::event::Event;
-use crate::halt::Halt;
+use crate::machine::Machine;
 use crate::phase::{Greeter, Stage};
-use crate::receiving::only_control;
 use crate::state::State;
-use crate::talk::Talk;
-use itoa::Buffer;
 use known_state::Known;
 use learner::Fault;
-use peers_hello::{Answer, Hello, Status, read_status};
-use peers_msg::{Breach, Control, ErrorKind};
+use peers_hello::Hello;
 use std::alloc::Global;
 use std::marker::Model;
 use table_types::{Items, Memory, Moment, Name, Roster};
 
-/// A session between this node and another peer (HAProxy, doc/peers-v2.0.txt). It does no work itself: at each event it
-/// gives the actions that are to be done, in this order.
+/// A session between this node and another peer (HAProxy, doc/peers-v2.0.txt). It does no I/O itself: at each event it
+/// returns the actions that its caller performs, in order.
 ///
-/// These are answered in the order in which they were given, before the next `Bytes` or `Turn`:
+/// The caller answers these actions in the order in which it received them, before the next `Bytes` or `Turn`:
 ///
 /// | Action | Answer |
 /// |---|---|
-/// | `Copy` | `Copied`, or `Nothing` where the table has nothing to teach |
+/// | `Copy` | `Copied`, or `Nothing` if the table has nothing to teach |
 /// | `Teach` | `Written` |
-/// | `Ack` | `Settled`, or `Refused` where the number is above all that were taught |
+/// | `Ack` | `Settled`, or `Refused` if the number is above every number taught |
 ///
-/// What stands before a `Close` or a `Part` is still to be done, but isn't answered. `End`, `ReadFault` and `WriteFault`
-/// may come whenever the session isn't over.
+/// The caller performs the actions before a `Close` or a `Part` too, but doesn't answer them. `End`, `ReadFault` and
+/// `WriteFault` may happen whenever the session isn't over.
 #[derive(Drop)]
 pub struct Session {
     alloc: Global,
-    talk: Talk,
+    machine: Machine,
 }
 
 impl Model for Session {
@@ -57,13 +43,13 @@ impl Model for Session {
 
     ghost Value = { SessionState };
 
-    ghost view = { λ s. seen s.talk };
+    ghost view = { λ s. seen s.machine };
 }
 
 impl Session {
-    /// A session of the side that opens the connection, and sends that hello. It begins as `New`, and waits for `Opened`.
-    /// `up_to_date` says whether this node has all rows itself: so it ends the resyncs that it teaches as finished,
-    /// otherwise as partial. Refuses with `Memory`.
+    /// Returns a session for the side that opens the connection and sends `hello`. It starts as `New` and awaits
+    /// `Opened`. `up_to_date` says whether this node has every row itself: if so, it ends the resyncs that it teaches
+    /// with resync finished, otherwise with resync partial. Fails with `Memory` if memory runs out.
     pub fn connect(
         alloc: Global,
         hello: Hello,
@@ -75,7 +61,7 @@ impl Session {
         let course = Course::new(alloc, roster.copy(alloc)?, up_to_date)?;
         Ok(Session {
             alloc,
-            talk: Talk {
+            machine: Machine {
                 stage: Stage::New(hello),
                 course,
                 known: Known::fresh(alloc, roster),
@@ -85,8 +71,8 @@ impl Session {
         })
     }
 
-    /// A session of the side that was connected to: the peer `own`, which accepts these peers. It begins as `Hello`, and
-    /// `Opened` doesn't come. `up_to_date` is as at `connect`. Refuses with `Memory`.
+    /// Returns a session for the side that accepts the connection: this node is `own` and accepts `peers`. It starts as
+    /// `Hello` and receives no `Opened`. `up_to_date` is as for `connect`. Fails with `Memory` if memory runs out.
     pub fn accept(
         alloc: Global,
         own: Name,
@@ -100,7 +86,7 @@ impl Session {
         let peers = Items::new(peers);
         Ok(Session {
             alloc,
-            talk: Talk {
+            machine: Machine {
                 stage: Stage::Hello(Greeter::Accepts { own, peers }, Vec::new(alloc)),
                 course,
                 known: Known::fresh(alloc, roster),
@@ -110,52 +96,54 @@ impl Session {
         })
     }
 
-    /// Where the session stands.
+    /// Returns the state of the session.
     pub fn state(&self) -> State
         ensures { result ≡ state_of self.now.phase }
     {
-        match &self.talk.stage {
+        match &self.machine.stage {
             Stage::New(_) => State::New,
             Stage::Hello(_, _) => State::Hello,
-            Stage::Open => self.talk.course.state(),
+            Stage::Open => self.machine.course.state(),
             Stage::Ended => State::Ended,
         }
     }
 
-    /// What is known of the remote peer as a learner: what the lessons written so far make of it.
+    /// Returns what is known of the remote peer as a learner, as the lessons written so far leave it.
     pub fn known(&self) -> &Known
         ensures { result.now ≡ self.now.known }
     {
-        &self.talk.known
+        &self.machine.known
     }
 
-    /// The fault of the remote peer's messages that ended the session; `None` otherwise, also after `Memory`.
+    /// Returns the fault in the remote peer's messages that ended the session, if one did. After `Memory` it is `None`
+    /// too.
     pub fn fault(&self) -> Option<Fault>
         ensures { result ≡ self.now.fault }
     {
-        self.talk.fault
+        self.machine.fault
     }
 
-    /// Whether the session has given the `Send` of resync confirmed.
+    /// Returns whether the session has asked to send resync confirmed.
     pub fn confirmed(&self) -> bool
         ensures { result ≡ self.now.confirmed }
     {
-        self.talk.confirmed
+        self.machine.confirmed
     }
 
-    /// What is to be done at an event, in this order. The event comes at that moment, on which nothing depends.
+    /// Returns the actions to perform at `event`, in order. The moment makes no difference.
     ///
-    /// Refuses with `Ended` where the session was over, with `Unasked` where the event can't come there, and with
-    /// `Memory`. After each of these it is over, and no action is given; `known`, `fault` and `confirmed` are as before.
+    /// Refuses with `Ended` if the session was over, with `Unasked` if the event can't happen in its state, and with
+    /// `Memory` if memory runs out. The session is then over and returns no action; `known`, `fault` and `confirmed`
+    /// stay as they were.
     pub fn on(&mut self, event: Event, _now: Moment) -> Result<Vec<Action>, SessionError>
         ensures goes { IfOk result (λ acts. Goes self.old event acts.items self.new) }
         ensures refused { IfErr result (λ e. Refuses self.old.phase event e) }
         ensures exactly { (e : SessionError) → e ≢ errors.Memory → Refuses self.old.phase event e → result ≡ Err e }
         ensures ended { OnErr result (self.new ≡ ended self.old) }
     {
-        let given = self.talk.step(self.alloc, event);
+        let given = self.machine.step(self.alloc, event);
         if given.is_err() {
-            self.talk.stage = Stage::Ended;
+            self.machine.stage = Stage::Ended;
         }
         given
     }
