@@ -1,4 +1,4 @@
--- What the answers of actions ask for is answered once more at most, and those answers ask for nothing.
+-- The answers of actions ask for actions at most once more, and the answers to those ask for nothing.
 use Rattle.std.proofs.Common.{◌≡◌, ℕ, Bool, true, false, List, [], ◌∷◌, ◌++◌, Option, Some, None, refl, sym, ap, ◌∙◌, subst, inl, inr}
 use Rattle.std.specs.List.{list_all}
 use Rattle.std.proofs.lemmas.Bool.{false≢true, and_parts, and_from}

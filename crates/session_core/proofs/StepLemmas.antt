@@ -181,7 +181,7 @@ copied_kept ids steps s c table batch rest acts e event (out, quiet, flags, soun
       here.0,
     )
 
--- the copy that is answered was asked for last
+-- the copy just answered was the last one asked for
 answered_left : (steps before : List (Event × List Action)) (table : ℕ) (teaching : Bool) (acts : List Action) → teaching ≡ true → steps ≡ before ++ ((events.Turn, actions.Copy table (kind_of teaching) ∷ []) ∷ []) → reopened table acts ≡ false → HasNothingLeft (with_step steps (events.Nothing table) acts) table
 answered_left steps before table teaching acts is_teaching last still =
     let resync : steps ≡ before ++ ((events.Turn, actions.Copy table kinds.Resync ∷ []) ∷ []) = last ∙ rw is_teaching refl in

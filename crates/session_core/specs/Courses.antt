@@ -61,7 +61,7 @@ abbrev pub acknowledged : Bool → Course → ℕ → ℕ → List Action × Cou
 acknowledged true c table number = (actions.Ack table number ∷ [], record c { due = c.due ++ (dues.Ack table ∷ []) })
 acknowledged false c table number = ([], c)
 
--- the end of a resync is answered with resync confirmed, whether this node requested the resync or not
+-- this node answers the end of a resync with resync confirmed, whether it requested the resync or not
 abbrev pub said : Course → Control → List Action × Course
 said c controls.ResyncRequest = requested (any_out c.shares) c
 said c controls.ResyncFinished = (sends_control controls.ResyncConfirmed ∷ [], c)

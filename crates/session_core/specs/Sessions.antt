@@ -36,6 +36,11 @@ use Rattle.session_core.specs.declared.phase.Greeter.{Greeter}
 use Rattle.session_core.specs.declared.phase.Greeter.TheVariants as greeters
 use Rattle.session_core.specs.declared.phase.Phase.{Phase}
 use Rattle.session_core.specs.declared.phase.Phase.TheVariants as phases
+use Rattle.session_core.specs.declared.phase.Stage.{Stage}
+use Rattle.session_core.specs.declared.phase.Stage.TheVariants as stages
+use Rattle.session_core.specs.declared.machine.Machine.{Machine}
+use Rattle.session_core.specs.declared.handshake.Handshake.{Handshake}
+use Rattle.session_core.specs.declared.handshake.Handshake.TheVariants as handshakes
 use Rattle.session_core.specs.Shares.{any_out, all_quiet, out_set, quiet_set}
 use Rattle.session_core.specs.Actions.{sends_control, status_text, reopens, confirms}
 use Rattle.session_core.specs.Courses.{Course, course_begun, course_fed, teaching_anew, ReceivesAll, acks_sent, acks_given, kind_of, table_to_ask, is_due, none_due, Answered, finished, state_of_course}
@@ -47,6 +52,17 @@ pub record SessionState : Type 0 where
   pub known : KnownState
   pub fault : Option Fault
   pub confirmed : Bool
+
+-- the phase of a session at a stage with the course c; at its end the course no longer matters
+abbrev pub phase_of : Stage → Course → Phase
+phase_of (stages.New hello) c = phases.New hello c
+phase_of (stages.Hello greeter bytes) c = phases.Hello greeter bytes.items c
+phase_of stages.Open c = phases.Open c
+phase_of stages.Ended c = phases.Ended
+
+-- the state of the session that a machine steps
+abbrev pub seen : Machine → SessionState
+seen m = record { phase = phase_of m.stage m.course; known = m.known; fault = m.fault; confirmed = m.confirmed }
 
 abbrev pub in_phase : SessionState → Phase → SessionState
 in_phase s phase = record { phase = phase; known = s.known; fault = s.fault; confirmed = s.confirmed }
@@ -95,7 +111,7 @@ abbrev pub confirmed_by : List Action → SessionState → SessionState
 confirmed_by acts s = record { phase = s.phase; known = s.known; fault = s.fault; confirmed = s.confirmed || confirms acts }
 
 -- What follows the received messages: the acknowledgements that are due, unless one of the messages halted the session.
--- An error message closes the connection, and a fault is answered with an error message, both without the
+-- An error message closes the connection, and the session answers a fault with an error message, both without the
 -- acknowledgements.
 abbrev pub Concludes : SessionState → Course → Result (Unit {0}) Halt → List Action → List Action → SessionState → Type 0
 Concludes s c (Ok _) given acts e = (acts ≡ given ++ acks_given c) × (e ≡ confirmed_by acts (going s (acks_sent c)))
@@ -126,7 +142,7 @@ GoesNew s hello c event acts e = ⊥
 
 -- ---- Hello
 
--- status 200 is answered with a resync request, and the bytes after it are messages; any other status closes
+-- the session answers status 200 with a resync request, and the bytes after it are messages; any other status closes
 abbrev pub IsWelcomed : Bool → SessionState → Course → List ℕ → List Action → SessionState → Type 0
 IsWelcomed true s c rest acts e = ReceivesBytes s (course_fed c rest) (sends_control controls.ResyncRequest ∷ []) acts e
 IsWelcomed false s c rest acts e = Closes s acts e
@@ -137,7 +153,7 @@ Connects statuses.More s bytes c acts e = Stays s (phases.Hello greeters.Connect
 Connects (statuses.Code code used) s bytes c acts e = IsWelcomed (code == 200) s c (drop used bytes) acts e
 Connects (statuses.Other used) s bytes c acts e = Closes s acts e
 
--- an accepted hello is answered with status 200, and the bytes after it are messages; any other with its code
+-- the session answers an accepted hello with status 200, and the bytes after it are messages; any other with its code
 abbrev pub Accepts : Answer → SessionState → Greeter → List ℕ → Course → List Action → SessionState → Type 0
 Accepts answers.More s greeter bytes c acts e = Stays s (phases.Hello greeter bytes c) acts e
 Accepts (answers.Accepted name used) s greeter bytes c acts e = ReceivesBytes s (course_fed c (drop used bytes)) (actions.Send (status_text 200) ∷ []) acts e
@@ -147,6 +163,12 @@ Accepts (answers.Refused code used) s greeter bytes c acts e = (acts ≡ actions
 abbrev pub Greets : SessionState → Greeter → List ℕ → Course → List Action → SessionState → Type 0
 Greets s greeters.Connects bytes c acts e = Connects (status_of bytes) s bytes c acts e
 Greets s (greeters.Accepts own peers) bytes c acts e = Accepts (answer_of own peers bytes) s (greeters.Accepts own peers) bytes c acts e
+
+-- what follows in a session whose bytes so far amount to this
+abbrev pub Follows : Handshake → SessionState → Greeter → List ℕ → Course → List Action → SessionState → Type 0
+Follows handshakes.Incomplete s greeter bytes c acts e = Stays s (phases.Hello greeter bytes c) acts e
+Follows (handshakes.Accepted used answer) s greeter bytes c acts e = ReceivesBytes s (course_fed c (drop used bytes)) answer.items acts e
+Follows (handshakes.Refused given) s greeter bytes c acts e = (acts ≡ given.items) × (e ≡ ended s)
 
 abbrev pub GoesHello : SessionState → Greeter → List ℕ → Course → Event → List Action → SessionState → Type 0
 GoesHello s greeter bytes c (events.Bytes piece) acts e = Greets s greeter (bytes ++ piece) c acts e
@@ -212,6 +234,10 @@ GoesOpen s c events.ReadFault acts e = Closes s acts e
 GoesOpen s c events.WriteFault acts e = Closes s acts e
 GoesOpen s c events.Opened acts e = ⊥
 
+-- the open session s goes on, and its course c becomes e
+abbrev pub GoesOn : SessionState → Course → Event → List Action → Course → Type 0
+GoesOn s c event acts e = GoesOpen s c event acts (going s e)
+
 -- ---- any phase
 
 abbrev pub GoesIn : Phase → SessionState → Event → List Action → SessionState → Type 0
@@ -271,6 +297,10 @@ IsWhy asked error = ⊥
 abbrev pub Refuses : Phase → Event → SessionError → Type 0
 Refuses phases.Ended event error = error ≡ errors.Ended
 Refuses phase event error = IsWhy (is_asked phase event) error
+
+-- a refused event leaves what stays readable
+abbrev pub Keeps : Machine → Machine → Type 0
+Keeps m e = (e.known ≡ m.known) × (e.fault ≡ m.fault) × (e.confirmed ≡ m.confirmed)
 
 -- ---- what a caller can read
 

@@ -18,7 +18,8 @@ pub(crate) enum Greeter {
     },
 }
 
-/// The phase of a session.
+/// The phase of a session in the definitions: its stage, with its course. The program keeps the two apart, and makes no
+/// value of this type.
 #[derive(Drop)]
 pub(crate) enum Phase {
     /// The connection isn't established yet. The session sends this hello first.
@@ -27,6 +28,19 @@ pub(crate) enum Phase {
     Hello(Greeter, Items<u8>, Course),
     /// Both sides send messages.
     Open(Course),
+    /// The session is over.
+    Ended,
+}
+
+/// The stage of a session.
+#[derive(Drop)]
+pub(crate) enum Stage {
+    /// The connection isn't established yet. The session sends this hello first.
+    New(Hello),
+    /// The hello or the status is incomplete. These bytes of it were received.
+    Hello(Greeter, Vec<u8>),
+    /// Both sides send messages.
+    Open,
     /// The session is over.
     Ended,
 }

@@ -1,0 +1,144 @@
+//! The hello and its status.
+
+ghost use Rattle.std.specs.Prelude.{List, ◌≡◌, ◌∷◌, [], IfOk, drop};
+ghost use Rattle.peers_hello.specs.Hellos.{hello_text, answer_of};
+ghost use Rattle.peers_hello.specs.Statuses.{status_of};
+ghost use Rattle.peers_msg.specs.declared.control.Control.TheVariants as controls;
+ghost use Rattle.session_core.specs.declared.action.Action.{Action};
+ghost use Rattle.session_core.specs.declared.action.Action.TheVariants as actions;
+ghost use Rattle.session_core.specs.declared.phase.Greeter.TheVariants as greeters;
+ghost use Rattle.session_core.specs.Actions.{status_text, sends_control};
+ghost use Rattle.session_core.specs.Courses.{Course};
+ghost use Rattle.session_core.specs.Sessions.{SessionState, Connects, Accepts, Greets, Follows};
+
+use crate::action::{Action, only, push};
+use crate::phase::Greeter;
+use crate::receiving::only_control;
+use itoa::Buffer;
+use peers_hello::{Answer, Hello, Status, read_status};
+use peers_msg::Control;
+use std::alloc::Global;
+use table_types::{Items, Memory, Name};
+
+/// What the received bytes of a hello or a status amount to.
+#[derive(Drop)]
+pub(crate) enum Handshake {
+    /// The hello or the status is incomplete.
+    Incomplete,
+    /// The handshake succeeds.
+    Accepted {
+        /// The size of the hello or the status. Messages follow it.
+        used: usize,
+        /// The actions that answer it.
+        answer: Vec<Action>,
+    },
+    /// The handshake fails. These actions end the session.
+    Refused(Vec<Action>),
+}
+
+/// Returns the bytes after the first `used`.
+pub(crate) fn after(bytes: &[u8], used: usize) -> &[u8]
+    ensures { result.now ≡ drop used bytes.now }
+{
+    if used <= bytes.len() {
+        &bytes[used..]
+    } else {
+        &bytes[bytes.len()..]
+    }
+}
+
+/// Returns the status line with `code`.
+fn status_text(alloc: Global, code: u16) -> Result<Items<u8>, Memory>
+    ensures { IfOk result (λ bytes. bytes ≡ status_text code) }
+{
+    let mut digits = Buffer::new();
+    let mut bytes = Vec::from_slice(alloc, digits.format(code).as_bytes())?;
+    bytes.push(b'\n')?;
+    Ok(Items::new(bytes))
+}
+
+/// Returns the bytes of a hello.
+fn hello_text(alloc: Global, hello: &Hello) -> Result<Items<u8>, Memory>
+    ensures { IfOk result (λ bytes. bytes ≡ hello_text hello.now) }
+{
+    Ok(Items::new(hello.write(alloc)?))
+}
+
+/// Returns the action that sends `hello`, with which this node opens the handshake.
+pub(crate) fn greeting(alloc: Global, hello: &Hello) -> Result<Vec<Action>, Memory>
+    ensures { IfOk result (λ acts. acts.items ≡ actions.Send (hello_text hello.now) ∷ []) }
+{
+    only(alloc, Action::Send(hello_text(alloc, hello)?))
+}
+
+/// Returns the action that accepts a hello.
+fn welcome(alloc: Global) -> Result<Vec<Action>, Memory>
+    ensures { IfOk result (λ acts. acts.items ≡ actions.Send (status_text 200) ∷ []) }
+{
+    only(alloc, Action::Send(status_text(alloc, 200)?))
+}
+
+/// Returns the actions that refuse a hello with `code`.
+fn turn_away(alloc: Global, code: u16) -> Result<Vec<Action>, Memory>
+    ensures { IfOk result (λ acts. acts.items ≡ actions.Send (status_text code) ∷ (actions.Close ∷ [])) }
+{
+    let mut actions = only(alloc, Action::Send(status_text(alloc, code)?))?;
+    push(&mut actions, Action::Close)?;
+    Ok(actions)
+}
+
+/// Returns the action that requests a resync.
+fn request(alloc: Global) -> Result<Vec<Action>, Memory>
+    ensures { IfOk result (λ acts. acts.items ≡ sends_control controls.ResyncRequest ∷ []) }
+{
+    only_control(alloc, Control::ResyncRequest)
+}
+
+/// Reads the received bytes of the status that answers this node's hello.
+fn receive_status(alloc: Global, bytes: &[u8]) -> Result<Handshake, Memory>
+    ensures { IfOk result (λ handshake. (s : SessionState) (c : Course) (acts : List Action) (e : SessionState) → Follows handshake s greeters.Connects bytes.now c acts e → Connects (status_of bytes.now) s bytes.now c acts e) }
+{
+    match read_status(bytes) {
+        Status::More => Ok(Handshake::Incomplete),
+        Status::Code(code, used) => {
+            if code == 200 {
+                let answer = request(alloc)?;
+                Ok(Handshake::Accepted { used, answer })
+            } else {
+                Ok(Handshake::Refused(only(alloc, Action::Close)?))
+            }
+        }
+        Status::Other(_) => Ok(Handshake::Refused(only(alloc, Action::Close)?)),
+    }
+}
+
+/// Reads the received bytes of the remote peer's hello, which must name this node, `own`, and one of `peers`.
+fn receive_hello(
+    alloc: Global,
+    own: &Name,
+    peers: &[Name],
+    bytes: &[u8],
+) -> Result<Handshake, Memory>
+    ensures { IfOk result (λ handshake. (s : SessionState) (c : Course) (acts : List Action) (e : SessionState) → Follows handshake s (greeters.Accepts own.now peers.now) bytes.now c acts e → Accepts (answer_of own.now peers.now bytes.now) s (greeters.Accepts own.now peers.now) bytes.now c acts e) }
+{
+    match Hello::read(alloc, bytes, own, peers)? {
+        Answer::More => Ok(Handshake::Incomplete),
+        Answer::Accepted(_, used) => {
+            let answer = welcome(alloc)?;
+            Ok(Handshake::Accepted { used, answer })
+        }
+        Answer::Refused(code, _) => Ok(Handshake::Refused(turn_away(alloc, code)?)),
+    }
+}
+
+impl Greeter {
+    /// Reads the received bytes of the hello or the status.
+    pub(crate) fn receive(&self, alloc: Global, bytes: &[u8]) -> Result<Handshake, Memory>
+        ensures { IfOk result (λ handshake. (s : SessionState) (c : Course) (acts : List Action) (e : SessionState) → Follows handshake s self.now bytes.now c acts e → Greets s self.now bytes.now c acts e) }
+    {
+        match self {
+            Greeter::Connects => receive_status(alloc, bytes),
+            Greeter::Accepts { own, peers } => receive_hello(alloc, own, peers.as_slice(), bytes),
+        }
+    }
+}

@@ -1,0 +1,206 @@
+//! The steps of a session.
+
+ghost use Rattle.std.specs.Prelude.{◌≡◌, ◌≢◌, ◌∷◌, [], Err, IfOk, IfErr, OnOk, OnErr};
+ghost use Rattle.session_core.specs.declared.action.Action.TheVariants as actions;
+ghost use Rattle.session_core.specs.declared.error.SessionError.{SessionError};
+ghost use Rattle.session_core.specs.declared.error.SessionError.TheVariants as errors;
+ghost use Rattle.session_core.specs.declared.event.Event.TheVariants as events;
+ghost use Rattle.session_core.specs.declared.halt.Halt.TheVariants as halts;
+ghost use Rattle.session_core.specs.declared.phase.Greeter.TheVariants as greeters;
+ghost use Rattle.session_core.specs.declared.phase.Phase.TheVariants as phases;
+ghost use Rattle.session_core.specs.declared.phase.Stage.TheVariants as stages;
+ghost use Rattle.session_core.specs.Courses.{course_fed, none_due, acks_sent, acks_given};
+ghost use Rattle.session_core.specs.Sessions.{Goes, GoesOpen, Keeps, Concludes, Refuses, IsWhy, is_asked_open, phase_of, seen, going, kind_of_breach, kind_of_fault};
+
+use crate::action::{Action, confirms, only, push};
+use crate::course::Course;
+use crate::due::Due;
+use crate::error::SessionError;
+use crate::event::Event;
+use crate::halt::Halt;
+use crate::handshake::{Handshake, after, greeting};
+use crate::phase::{Greeter, Stage};
+use known_state::Known;
+use learner::Fault;
+use peers_msg::{Breach, ErrorKind};
+use std::alloc::Global;
+use table_types::Memory;
+
+/// A session as its steps change it. The course stays in place through all stages.
+#[derive(Drop)]
+pub(crate) struct Machine {
+    pub(crate) stage: Stage,
+    pub(crate) course: Course,
+    /// What is known of the remote peer as a learner.
+    pub(crate) known: Known,
+    /// The fault in the remote peer's messages that ended the session.
+    pub(crate) fault: Option<Fault>,
+    /// Whether the session asked to send resync confirmed.
+    pub(crate) confirmed: bool,
+}
+
+/// Returns the error message that answers a breach.
+fn kind_of_breach(breach: Breach) -> ErrorKind
+    ensures { result ≡ kind_of_breach breach }
+{
+    if breach == Breach::SizeLimit {
+        ErrorKind::SizeLimit
+    } else {
+        ErrorKind::Protocol
+    }
+}
+
+/// Returns the error message that answers a fault.
+fn kind_of(fault: Fault) -> ErrorKind
+    ensures { result ≡ kind_of_fault fault }
+{
+    match fault {
+        Fault::Breach(breach) => kind_of_breach(breach),
+        Fault::Memory | Fault::Closed | Fault::EmptySlot | Fault::NoNumber => ErrorKind::Protocol,
+    }
+}
+
+impl Machine {
+    /// Makes the step at `event`, and returns the actions to perform, in order. After an error the stage and the course
+    /// may be anything, and the caller must end the session.
+    pub(crate) fn step(&mut self, alloc: Global, event: Event) -> Result<Vec<Action>, SessionError>
+        ensures goes { IfOk result (λ acts. Goes (seen self.old) event acts.items (seen self.new)) }
+        ensures refused { IfErr result (λ e. Refuses (phase_of self.old.stage self.old.course) event e) }
+        ensures exactly { (e : SessionError) → e ≢ errors.Memory → Refuses (phase_of self.old.stage self.old.course) event e → result ≡ Err e }
+        ensures kept { OnErr result (Keeps self.old self.new) }
+    {
+        match &mut self.stage {
+            Stage::New(hello) => match event {
+                Event::Opened => {
+                    let actions = greeting(alloc, hello)?;
+                    self.stage = Stage::Hello(Greeter::Connects, Vec::new(alloc));
+                    Ok(actions)
+                }
+                Event::Turn => Ok(Vec::new(alloc)),
+                Event::End | Event::ReadFault | Event::WriteFault => self.close(alloc),
+                _ => Err(SessionError::Unasked),
+            },
+            Stage::Hello(greeter, bytes) => match event {
+                Event::Bytes(piece) => {
+                    bytes
+                        .extend_from_slice(piece.as_slice())
+                        .map_err(Memory::from)?;
+                    match greeter.receive(alloc, bytes.as_slice())? {
+                        Handshake::Incomplete => Ok(Vec::new(alloc)),
+                        Handshake::Accepted { used, answer } => {
+                            let mut actions = answer;
+                            let rest = after(bytes.as_slice(), used);
+                            let received = self.course.receive_bytes(alloc, rest, &mut actions);
+                            self.conclude(alloc, received, &mut actions)?;
+                            Ok(actions)
+                        }
+                        Handshake::Refused(actions) => {
+                            self.stage = Stage::Ended;
+                            Ok(actions)
+                        }
+                    }
+                }
+                Event::Turn => Ok(Vec::new(alloc)),
+                Event::End | Event::ReadFault | Event::WriteFault => self.close(alloc),
+                _ => Err(SessionError::Unasked),
+            },
+            Stage::Open => self.go_open(alloc, event),
+            Stage::Ended => Err(SessionError::Ended),
+        }
+    }
+
+    /// Makes the step of an open session at `event`.
+    fn go_open(&mut self, alloc: Global, event: Event) -> Result<Vec<Action>, SessionError>
+        requires { self.old.stage ≡ stages.Open }
+        ensures goes { IfOk result (λ acts. GoesOpen (seen self.old) self.old.course event acts.items (seen self.new)) }
+        ensures refused { IfErr result (λ e. IsWhy (is_asked_open self.old.course.due event) e) }
+        ensures kept { OnErr result (Keeps self.old self.new) }
+    {
+        match event {
+            Event::Turn => self.course.turn(alloc),
+            Event::Bytes(bytes) => self.receive(alloc, bytes.as_slice()),
+            Event::Copied(table, batch) => self.course.copied(alloc, table, batch),
+            Event::Nothing(table) => self.course.nothing(alloc, table),
+            Event::Written(known) => {
+                let actions = self.course.written(alloc)?;
+                self.known = known;
+                Ok(actions)
+            }
+            Event::Settled(table, settled) => self.course.settled(alloc, table, settled),
+            Event::Refused(table) => {
+                self.course.answer(Due::Ack(table))?;
+                self.end_with(alloc, Action::Part(ErrorKind::Protocol))
+            }
+            Event::End | Event::ReadFault | Event::WriteFault => self.close(alloc),
+            Event::Opened => Err(SessionError::Unasked),
+        }
+    }
+
+    /// Receives the messages in `bytes`, unless an answer is due.
+    fn receive(&mut self, alloc: Global, bytes: &[u8]) -> Result<Vec<Action>, SessionError>
+        ensures goes { IfOk result (λ acts. GoesOpen (seen self.old) self.old.course (events.Bytes bytes.now) acts.items (seen self.new)) }
+        ensures refused { IfErr result (λ e. IsWhy (none_due self.old.course.due) e) }
+        ensures kept { OnErr result (Keeps self.old self.new) }
+    {
+        if !self.course.none_due() {
+            return Err(SessionError::Unasked);
+        }
+        let mut actions = Vec::new(alloc);
+        let received = self.course.receive_bytes(alloc, bytes, &mut actions);
+        self.conclude(alloc, received, &mut actions)?;
+        Ok(actions)
+    }
+
+    /// Follows up the received messages: appends the acknowledgements that are due, or what ends a halted session.
+    fn conclude(
+        &mut self,
+        alloc: Global,
+        received: Result<(), Halt>,
+        actions: &mut Vec<Action>,
+    ) -> Result<(), Memory>
+        ensures goes { OnOk result (Concludes (seen self.old) self.old.course received actions.old.items actions.new.items (seen self.new)) }
+        ensures memory { OnOk result (received ≢ Err halts.Memory) }
+        ensures kept { OnErr result (Keeps self.old self.new) }
+    {
+        match received {
+            Ok(()) => {
+                self.course.send_acks(alloc, actions)?;
+                self.stage = Stage::Open;
+            }
+            Err(Halt::Failed) => {
+                push(actions, Action::Close)?;
+                self.stage = Stage::Ended;
+            }
+            Err(Halt::Fault(fault)) => {
+                push(actions, Action::Part(kind_of(fault)))?;
+                self.fault = Some(fault);
+                self.stage = Stage::Ended;
+            }
+            Err(Halt::Memory) => return Err(Memory),
+        }
+        self.confirmed = self.confirmed || confirms(actions.as_slice());
+        Ok(())
+    }
+
+    /// Ends the session, and returns the action that closes the connection.
+    fn close(&mut self, alloc: Global) -> Result<Vec<Action>, SessionError>
+        ensures actions { IfOk result (λ acts. acts.items ≡ actions.Close ∷ []) }
+        ensures session { OnOk result (self.new ≡ record self.old { stage = stages.Ended }) }
+        ensures memory { IfErr result (λ e. e ≡ errors.Memory) }
+        ensures kept { OnErr result (Keeps self.old self.new) }
+    {
+        self.end_with(alloc, Action::Close)
+    }
+
+    /// Ends the session, and returns this one action.
+    fn end_with(&mut self, alloc: Global, action: Action) -> Result<Vec<Action>, SessionError>
+        ensures actions { IfOk result (λ acts. acts.items ≡ action ∷ []) }
+        ensures session { OnOk result (self.new ≡ record self.old { stage = stages.Ended }) }
+        ensures memory { IfErr result (λ e. e ≡ errors.Memory) }
+        ensures kept { OnErr result (Keeps self.old self.new) }
+    {
+        let actions = only(alloc, action)?;
+        self.stage = Stage::Ended;
+        Ok(actions)
+    }
+}
