@@ -3,8 +3,8 @@ use Rattle.std.proofs.Common.{◌≡◌, ℕ, Bool, true, false, List, [], ◌�
 use Rattle.std.proofs.lemmas.List.{append-nil}
 use Rattle.session_core.specs.declared.action.Action.{Action}
 use Rattle.session_core.specs.declared.event.Event.{Event}
-use Rattle.session_core.specs.declared.phase.Phase.{Phase}
-use Rattle.session_core.specs.declared.phase.Phase.TheVariants as phases
+use Rattle.session_core.specs.Phases.{Phase}
+use Rattle.session_core.specs.Phases as phases
 use Rattle.session_core.specs.Courses.{state_of_course}
 use Rattle.session_core.specs.Sessions.{SessionState, Goes, GoesIn, state_of}
 use Rattle.table_shards.specs.Receipts.{SeatState}

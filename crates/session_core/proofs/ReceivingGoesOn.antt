@@ -11,7 +11,7 @@ use Rattle.session_core.specs.declared.action.Action.{Action}
 use Rattle.session_core.specs.declared.action.Action.TheVariants as actions
 use Rattle.session_core.specs.declared.halt.Halt.{Halt}
 use Rattle.session_core.specs.declared.halt.Halt.TheVariants as halts
-use Rattle.session_core.specs.declared.phase.Phase.TheVariants as phases
+use Rattle.session_core.specs.Phases as phases
 use Rattle.session_core.specs.Courses.{Course, AreReceived, acknowledged, acks_given, acks_sent, message_received, is_failure, requested, said}
 use Rattle.session_core.specs.Sessions.{SessionState, ReceivesBytes, confirmed_by, ended, going, kind_of_fault}
 use Rattle.session_core.proofs.IntakeGoesOn.{Does, does}

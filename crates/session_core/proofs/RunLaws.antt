@@ -25,8 +25,8 @@ use Rattle.session_core.specs.declared.halt.Halt.{Halt}
 use Rattle.session_core.specs.declared.halt.Halt.TheVariants as halts
 use Rattle.session_core.specs.declared.phase.Greeter.{Greeter}
 use Rattle.session_core.specs.declared.phase.Greeter.TheVariants as greeters
-use Rattle.session_core.specs.declared.phase.Phase.{Phase}
-use Rattle.session_core.specs.declared.phase.Phase.TheVariants as phases
+use Rattle.session_core.specs.Phases.{Phase}
+use Rattle.session_core.specs.Phases as phases
 use Rattle.session_core.specs.declared.share.Share.{Share}
 use Rattle.session_core.specs.Shares.{any_out, all_quiet, quiet_set}
 use Rattle.session_core.specs.Actions.{sends_control, status_text}

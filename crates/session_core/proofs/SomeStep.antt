@@ -24,8 +24,8 @@ use Rattle.session_core.specs.declared.event.Event.{Event}
 use Rattle.session_core.specs.declared.event.Event.TheVariants as events
 use Rattle.session_core.specs.declared.phase.Greeter.{Greeter}
 use Rattle.session_core.specs.declared.phase.Greeter.TheVariants as greeters
-use Rattle.session_core.specs.declared.phase.Phase.{Phase}
-use Rattle.session_core.specs.declared.phase.Phase.TheVariants as phases
+use Rattle.session_core.specs.Phases.{Phase}
+use Rattle.session_core.specs.Phases as phases
 use Rattle.session_core.specs.Actions.{reopens, sends_control, status_text}
 use Rattle.session_core.specs.Courses.{Course, Answered, course_fed, finished, is_due, is_same_due, kind_of, none_due, table_to_ask, teaching_anew}
 use Rattle.session_core.specs.Shares.{out_set}

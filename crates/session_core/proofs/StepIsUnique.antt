@@ -26,8 +26,8 @@ use Rattle.session_core.specs.declared.halt.Halt.{Halt}
 use Rattle.session_core.specs.declared.halt.Halt.TheVariants as halts
 use Rattle.session_core.specs.declared.phase.Greeter.{Greeter}
 use Rattle.session_core.specs.declared.phase.Greeter.TheVariants as greeters
-use Rattle.session_core.specs.declared.phase.Phase.{Phase}
-use Rattle.session_core.specs.declared.phase.Phase.TheVariants as phases
+use Rattle.session_core.specs.Phases.{Phase}
+use Rattle.session_core.specs.Phases as phases
 use Rattle.session_core.specs.Courses.{Course, AreReceived, Answered, Receives, ReceivesAll, IsHalted, acks_sent, course_fed, message_received, is_failure, table_to_ask}
 use Rattle.session_core.specs.Sessions.{SessionState, Accepts, Concludes, Connects, FinishesResync, Goes, GoesHello, GoesIn, GoesNew, GoesOpen, Greets, HasNothing, IsCopied, IsWelcomed, ReceivesBytes, Settles, StartsPendingResync, Turns, confirmed_by, ended, going}
 

@@ -1,5 +1,6 @@
 pub mod Shares
 pub mod Actions
 pub mod Courses
+pub mod Phases
 pub mod Sessions
 pub mod Runs

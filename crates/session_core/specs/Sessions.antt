@@ -34,8 +34,8 @@ use Rattle.session_core.specs.declared.halt.Halt.{Halt}
 use Rattle.session_core.specs.declared.halt.Halt.TheVariants as halts
 use Rattle.session_core.specs.declared.phase.Greeter.{Greeter}
 use Rattle.session_core.specs.declared.phase.Greeter.TheVariants as greeters
-use Rattle.session_core.specs.declared.phase.Phase.{Phase}
-use Rattle.session_core.specs.declared.phase.Phase.TheVariants as phases
+use Rattle.session_core.specs.Phases.{Phase}
+use Rattle.session_core.specs.Phases as phases
 use Rattle.session_core.specs.declared.phase.Stage.{Stage}
 use Rattle.session_core.specs.declared.phase.Stage.TheVariants as stages
 use Rattle.session_core.specs.declared.machine.Machine.{Machine}

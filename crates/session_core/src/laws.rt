@@ -5,7 +5,7 @@ ghost use Rattle.std.specs.List.{AllByRecursion};
 ghost use Rattle.table_types.specs.Tables.{Definition};
 ghost use Rattle.session_core.specs.declared.action.Action.{Action};
 ghost use Rattle.session_core.specs.declared.event.Event.{Event};
-ghost use Rattle.session_core.specs.declared.phase.Phase.TheVariants as phases;
+ghost use Rattle.session_core.specs.Phases as phases;
 ghost use Rattle.session_core.specs.Sessions.{SessionState, Goes, is_asked};
 ghost use Rattle.session_core.specs.Runs.{Runs, IsBegun, ends_resync, HasNothingLeft, HasNothingOut, HoldsBytes, BringsBytes, was_confirmed};
 

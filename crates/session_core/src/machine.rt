@@ -7,7 +7,7 @@ ghost use Rattle.session_core.specs.declared.error.SessionError.TheVariants as e
 ghost use Rattle.session_core.specs.declared.event.Event.TheVariants as events;
 ghost use Rattle.session_core.specs.declared.halt.Halt.TheVariants as halts;
 ghost use Rattle.session_core.specs.declared.phase.Greeter.TheVariants as greeters;
-ghost use Rattle.session_core.specs.declared.phase.Phase.TheVariants as phases;
+ghost use Rattle.session_core.specs.Phases as phases;
 ghost use Rattle.session_core.specs.declared.phase.Stage.TheVariants as stages;
 ghost use Rattle.session_core.specs.Courses.{course_fed, none_due, acks_sent, acks_given};
 ghost use Rattle.session_core.specs.Sessions.{Goes, GoesOpen, Keeps, Concludes, Refuses, IsWhy, is_asked_open, phase_of, seen, going, kind_of_breach, kind_of_fault};

@@ -1,6 +1,5 @@
-//! The phases of a session.
+//! The stages of a session.
 
-use crate::course::Course;
 use peers_hello::Hello;
 use table_types::{Items, Name};
 
@@ -16,20 +15,6 @@ pub(crate) enum Greeter {
         /// The peers that this node accepts.
         peers: Items<Name>,
     },
-}
-
-/// The phase of a session in the definitions: its stage, with its course. The program keeps the two apart, and makes no
-/// value of this type.
-#[derive(Drop)]
-pub(crate) enum Phase {
-    /// The connection isn't established yet. The session sends this hello first.
-    New(Hello, Course),
-    /// The hello or the status is incomplete. These bytes of it were received.
-    Hello(Greeter, Items<u8>, Course),
-    /// Both sides send messages.
-    Open(Course),
-    /// The session is over.
-    Ended,
 }
 
 /// The stage of a session.
