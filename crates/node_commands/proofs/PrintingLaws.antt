@@ -1,5 +1,5 @@
 -- The rows of one table after another are printed.
-use Rattle.std.proofs.Common.{◌≡◌, ◌≤◌, ◌<◌, ◌+◌, ◌++◌, ◌∙◌, ℕ, List, [], ◌∷◌, ap, append_assoc, drop, get_or, length, refl, subst, sym}
+use Rattle.std.proofs.Common.{◌≡◌, ◌≤◌, ◌<◌, ◌+◌, ◌++◌, ◌∙◌, ℕ, List, [], ap, append_assoc, drop, get_or, length, refl, subst, sym}
 use Rattle.std.proofs.lemmas.List.{append-nil, drop_all}
 use Rattle.table_shards.specs.declared.unlocked.UnlockedTable.{UnlockedTable}
 use Rattle.node_commands.specs.Printing.{AreRowsOf, AreRowsOfAll, IsText}
