@@ -1,5 +1,5 @@
 -- What a script's calls print.
-use Rattle.std.proofs.Common.{◌≡◌, ◌∙◌, ◌++◌, ℕ, List, [], ◌∷◌, ap, append-nil, arith, length, refl, subst, sym}
+use Rattle.std.proofs.Common.{◌≡◌, ◌≤◌, ◌∙◌, ◌++◌, ℕ, List, [], ◌∷◌, ap, append-nil, arith, length, refl, subst, sym}
 use Rattle.std.specs.Prelude.{Bool, None, Result, Some, is_some}
 use Rattle.std.specs.Option.{unwrap_or}
 use Rattle.std.specs.List.{AllByRecursion}
@@ -20,11 +20,11 @@ pub settle_printed : (c : CellState) (given : List (List Update)) (session place
     → (text : List ℕ) × Prints c given (calls.Settle session place) text c given × (after ≡ before ++ text)
 settle_printed c given session place us before after at (r, settles, (text, lines, same)) = (text, (us, r, at, settles, lines, refl, refl), same)
 
--- the calls of a script are in their ranges
+-- the calls of a script are in their ranges, and the numbers of their lines are at least 1
 pub calls_are : (count : ℕ) (calls : List (ℕ × Call)) → AllByRecursion (λ call. IsLineOf count call.0 × IsCall call.1) calls
-    → AllByRecursion (λ call. IsCall call.1) calls
+    → AllByRecursion (λ call. (1 ≤ call.0) × IsCall call.1) calls
 calls_are count [] all = tt
-calls_are count (call ∷ calls) ((line, is), all) = (is, calls_are count calls all)
+calls_are count (call ∷ calls) (((first, last), is), all) = ((first, is), calls_are count calls all)
 
 -- after the last call
 pub all_printed : (start c : CellState) (given more : List (List Update)) (calls left : List (ℕ × Call)) (n : ℕ) (before after : List ℕ)

@@ -15,9 +15,9 @@ use Rattle.price_checker.specs.Verdicts.{Says}
 use Rattle.price_checker.specs.declared.verdict.Verdict.{Verdict}
 use Rattle.price_checker.specs.declared.verdict.Verdict.TheVariants as verdicts
 use Rattle.text_commands.specs.Settings.{prices_of, start_of}
-use Rattle.text_commands.specs.Checking.{IsVerdict}
+use Rattle.text_commands.specs.Checking.{EndsCheck, IsVerdict, ending_of}
 use Rattle.text_commands.specs.Teaching.{AreTaught, IsLesson}
-use Rattle.text_commands.specs.Learning.{AreInRisingId, IsLearned, IsPrinted, acks_text, rows_text}
+use Rattle.text_commands.specs.Learning.{AreInRisingId, EndsLearn, IsLearned, IsPrinted, acks_text, rows_text}
 use Rattle.text_commands.specs.declared.endings.Ending.{Ending}
 use Rattle.text_commands.specs.declared.endings.Ending.TheVariants as endings
 
@@ -109,3 +109,30 @@ only_printed scene text endings.Strange printed done fault = printed
 only_printed scene text endings.Unasked printed done fault = printed
 only_printed scene text endings.Memory printed done fault = printed
 only_printed scene text endings.Device printed done fault = printed
+
+-- the ending by the verdict on a scene is one with which `check` may end
+pub check_ends : (scene : Scene) (verdict : Verdict) (ending : Ending) → IsVerdict scene verdict → ending ≡ ending_of verdict → EndsCheck ending
+check_ends scene (verdicts.NotLegal why at) ending is same = subst EndsCheck (sym same) (scene, verdicts.NotLegal why at, is, refl)
+check_ends scene (verdicts.NotCarried at) ending is same = subst EndsCheck (sym same) (scene, verdicts.NotCarried at, is, refl)
+check_ends scene verdicts.PriceCount ending is same = subst EndsCheck (sym same) (scene, verdicts.PriceCount, is, refl)
+check_ends scene verdicts.PriceRange ending is same = subst EndsCheck (sym same) (scene, verdicts.PriceRange, is, refl)
+check_ends scene (verdicts.Gap saved bound) ending is same = subst EndsCheck (sym same) (scene, verdicts.Gap saved bound, is, refl)
+check_ends scene (verdicts.Shortest bytes) ending is same = subst EndsCheck (sym same) (scene, verdicts.Shortest bytes, is, refl)
+
+-- the ending with which something is printed for a scene is one with which `learn` may end
+learn_ends : (scene : Scene) (text : List ℕ) (ending : Ending) → IsPrinted scene text ending → EndsLearn ending
+learn_ends scene text endings.Done (count, l, learned, is) = (scene, count, l, learned)
+learn_ends scene text (endings.Stream fault) (l, named, learned, is) = (scene, l, named, learned)
+learn_ends scene text (endings.Line n) printed = absurd printed
+learn_ends scene text endings.Scene printed = absurd printed
+learn_ends scene text endings.NotShortest printed = absurd printed
+learn_ends scene text endings.Strange printed = absurd printed
+learn_ends scene text endings.Unasked printed = absurd printed
+learn_ends scene text endings.Memory printed = absurd printed
+learn_ends scene text endings.Device printed = absurd printed
+
+-- also once its line is written
+pub learn_written : (scene : Scene) (text : List ℕ) (ending after : Ending) → IsPrinted scene text ending
+    → (after ≡ ending) ⊎ (after ≡ endings.Device) → EndsLearn after
+learn_written scene text ending after printed (inl same) = subst EndsLearn (sym same) (learn_ends scene text ending printed)
+learn_written scene text ending after printed (inr failed) = subst EndsLearn (sym failed) tt

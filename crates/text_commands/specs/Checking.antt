@@ -7,6 +7,7 @@ use Rattle.price_checker.specs.Verdicts.{Says}
 use Rattle.price_checker.specs.declared.verdict.Verdict.{Verdict}
 use Rattle.price_checker.specs.declared.verdict.Verdict.TheVariants as verdicts
 use Rattle.node_text.specs.declared.scenes.Scene.{Scene}
+use Rattle.text_commands.specs.Endings.{IsEarly}
 use Rattle.text_commands.specs.Settings.{prices_of, start_of}
 use Rattle.text_commands.specs.declared.endings.Ending.{Ending}
 use Rattle.text_commands.specs.declared.endings.Ending.TheVariants as endings
@@ -30,3 +31,13 @@ abbrev pub HasVerdict : Ending → Type 0
 HasVerdict endings.Done = Unit {0}
 HasVerdict endings.NotShortest = Unit {0}
 HasVerdict ending = ⊥
+
+-- the ending is the one by the verdict on some scene
+abbrev pub IsByVerdict : Ending → Type 0
+IsByVerdict ending = (scene : Scene) × (verdict : Verdict) × IsVerdict scene verdict × (ending ≡ ending_of verdict)
+
+-- how `check` may end: by the verdict on some scene, or early
+abbrev pub EndsCheck : Ending → Type 0
+EndsCheck endings.Done = IsByVerdict endings.Done
+EndsCheck endings.NotShortest = IsByVerdict endings.NotShortest
+EndsCheck ending = IsEarly ending

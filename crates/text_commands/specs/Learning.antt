@@ -10,6 +10,7 @@ use Rattle.learner.specs.Learning.{LearnerFeeds, Learning, unlearned}
 use Rattle.node_text.specs.Acks.{ack_line}
 use Rattle.node_text.specs.Rows.{row_line}
 use Rattle.node_text.specs.declared.scenes.Scene.{Scene}
+use Rattle.text_commands.specs.Endings.{IsEarly}
 use Rattle.text_commands.specs.declared.endings.Ending.{Ending}
 use Rattle.text_commands.specs.declared.endings.Ending.TheVariants as endings
 
@@ -53,3 +54,9 @@ IsPrinted scene text (endings.Stream fault) =
     × IsLearned scene (Err fault) l
     × (text ≡ rows_text l)
 IsPrinted scene text _ = ⊥
+
+-- how `learn` may end: with Done or with the stream's fault, as the learner of some scene returns it; or early
+abbrev pub EndsLearn : Ending → Type 0
+EndsLearn endings.Done = (scene : Scene) × (count : ℕ) × (l : Learning) × IsLearned scene (Ok count) l
+EndsLearn (endings.Stream fault) = (scene : Scene) × (l : Learning) × (fault ≢ faults.Memory) × IsLearned scene (Err fault) l
+EndsLearn ending = IsEarly ending

@@ -1,5 +1,5 @@
 -- What a script prints: its calls are made in turn, each of the table as the calls before it left it (profile).
-use Rattle.std.specs.Prelude.{◌≡◌, ◌-◌, ◌+◌, ◌++◌, ℕ, List, [], ◌∷◌, Option, Some, None, Result, Ok, Err, length, slice_get, is_some, nat_lt, if◌then◌else◌}
+use Rattle.std.specs.Prelude.{◌≡◌, ◌≤◌, ◌-◌, ◌+◌, ◌++◌, ℕ, List, [], ◌∷◌, Option, Some, None, Result, Ok, Err, length, slice_get, is_some, nat_lt, if◌then◌else◌}
 use Rattle.std.specs.Option.{unwrap_or}
 use Rattle.table_types.specs.declared.key.Key.{Key}
 use Rattle.table_types.specs.declared.copies.Settled.{Settled}
@@ -21,6 +21,9 @@ use Rattle.node_text.specs.declared.calls.Call.{Call}
 use Rattle.node_text.specs.declared.calls.Call.TheVariants as calls
 use Rattle.node_text.specs.declared.scripts.Script.{Script}
 use Rattle.text_commands.specs.Answers.{acknowledged, closed, copied, event_line, events_line, learned, opened, purged, rows_lines, settled, tracked}
+use Rattle.text_commands.specs.Endings.{IsEarly}
+use Rattle.text_commands.specs.declared.endings.Ending.{Ending}
+use Rattle.text_commands.specs.declared.endings.Ending.TheVariants as endings
 
 -- ---- a call
 
@@ -84,3 +87,10 @@ table_of s = new_cell s.table (unwrap_or s.size 1000000) (is_some s.nopurge) (un
 -- no line of the script is refused, and its calls print the text
 unfoldable pub IsPrinted : Script → List ℕ → Type 0
 IsPrinted s text = (e : CellState) × (s.refused ≡ None) × PrintAll (table_of s) [] s.calls.items text e
+
+-- how `table` may end: with Done, and some script without a refused line is run to its end; at a refused line, whose number is at
+-- least 1; or early for another reason
+abbrev pub EndsTable : Ending → Type 0
+EndsTable endings.Done = (script : Script) × (text : List ℕ) × IsPrinted script text
+EndsTable (endings.Line number) = 1 ≤ number
+EndsTable ending = IsEarly ending

@@ -1,11 +1,10 @@
 //! The subcommand `check`.
 ghost use Rattle.std.specs.Prelude.{◌≡◌, ◌≢◌, IfErr, IfOk, string_bytes};
 ghost use Rattle.std.specs.Io.KnownBytes.{Appends};
-ghost use Rattle.learner.specs.declared.fault.Fault.{Fault};
 ghost use Rattle.price_checker.specs.declared.verdict.Verdict.{Verdict};
 ghost use Rattle.node_text.specs.Verdicts.{verdict_line};
 ghost use Rattle.node_text.specs.declared.scenes.Scene.{Scene};
-ghost use Rattle.text_commands.specs.Checking.{HasVerdict, IsVerdict, ending_of};
+ghost use Rattle.text_commands.specs.Checking.{EndsCheck, HasVerdict, IsVerdict, ending_of};
 ghost use Rattle.text_commands.specs.Endings.{IsEarly, line_of};
 
 use crate::endings::Ending;
@@ -30,7 +29,7 @@ pub fn check<R: Read + Faults, W: Write + Faults, E: Write + Faults>(
     ensures verdict { HasVerdict result → (scene : Scene) × (verdict : Verdict) × IsVerdict scene verdict × (result ≡ ending_of verdict)
         × Appends (W.contents output.old) (W.contents output.new) (verdict_line verdict) }
     ensures silent { (HasVerdict result → ⊥) → result ≢ Ending.Device → output.new ≡ output.old }
-    ensures streamless { (fault : Fault) → result ≢ Ending.Stream fault }
+    ensures ends { EndsCheck result }
     ensures said { result ≢ Ending.Device → Appends (E.contents errors.old) (E.contents errors.new) (line_of result) }
 {
     let (text, ending) = match verdict_text(alloc, input) {

@@ -7,7 +7,7 @@ ghost use Rattle.learner.specs.Learning.{Learning};
 ghost use Rattle.node_text.specs.Rows.{row_line};
 ghost use Rattle.node_text.specs.declared.scenes.Scene.{Scene};
 ghost use Rattle.text_commands.specs.Endings.{IsEarly, line_of};
-ghost use Rattle.text_commands.specs.Learning.{AreInRisingId, IsLearned, IsPrinted, acks_text, rows_text};
+ghost use Rattle.text_commands.specs.Learning.{AreInRisingId, EndsLearn, IsLearned, IsPrinted, acks_text, rows_text};
 
 use crate::endings::Ending;
 use learner::{Fault, Learner};
@@ -34,6 +34,7 @@ pub fn learn<R: Read + Faults, W: Write + Faults, E: Write + Faults>(
     ensures fault { (fault : Fault) → result ≡ Ending.Stream fault → (scene : Scene) × (l : Learning) × (fault ≢ faults.Memory) × IsLearned scene (Err fault) l
         × Appends (W.contents output.old) (W.contents output.new) (rows_text l) }
     ensures silent { result ≢ Ending.Done → ((fault : Fault) → result ≢ Ending.Stream fault) → result ≢ Ending.Device → output.new ≡ output.old }
+    ensures ends { EndsLearn result }
     ensures said { result ≢ Ending.Device → Appends (E.contents errors.old) (E.contents errors.new) (line_of result) }
 {
     let Learned { text, ending, line } = match learned_of(alloc, input) {

@@ -1,5 +1,5 @@
 //! Runs of a script: its calls, made in turn.
-ghost use Rattle.std.specs.Prelude.{◌≡◌, ◌++◌, ℕ, IfErr, IfOk, List, OnOk, option_copied};
+ghost use Rattle.std.specs.Prelude.{◌≡◌, ◌≤◌, ◌++◌, ℕ, Err, IfErr, IfOk, List, OnOk, option_copied};
 ghost use Rattle.std.specs.List.{AllByRecursion};
 ghost use Rattle.node_text.specs.Calls.{IsCall};
 ghost use Rattle.node_text.specs.Scripts.{IsScript};
@@ -30,6 +30,7 @@ pub(crate) fn printed(alloc: Global, script: Script) -> Result<Vec<u8>, Ending>
     requires { (count : ℕ) × IsScript count script }
     ensures printed { IfOk result (λ text. IsPrinted script text.items) }
     ensures early { IfErr result IsEarly }
+    ensures line { (number : ℕ) → result ≡ Err (Ending.Line number) → 1 ≤ number }
 {
     let Script {
         table,
@@ -56,10 +57,11 @@ pub(crate) fn printed(alloc: Global, script: Script) -> Result<Vec<u8>, Ending>
 impl Run {
     /// Makes the calls, each with the number of its line, and appends what they print.
     fn make_all(&mut self, alloc: Global, calls: Vec<(usize, Call)>) -> Result<(), Ending>
-        requires { AllByRecursion (λ call. IsCall call.1) calls.items }
+        requires { AllByRecursion (λ call. (1 ≤ call.0) × IsCall call.1) calls.items }
         ensures printed { OnOk result ((text : List ℕ) × PrintAll self.old.cell self.old.given.items calls.items text self.new.cell
             × (self.new.text.items ≡ self.old.text.items ++ text)) }
         ensures early { IfErr result IsEarly }
+        ensures line { (number : ℕ) → result ≡ Err (Ending.Line number) → 1 ≤ number }
     {
         for (number, call) in calls {
             self.make(alloc, number, call)?;
@@ -69,10 +71,11 @@ impl Run {
 
     /// Makes a call, which is in the line of this number, and appends what it prints.
     fn make(&mut self, alloc: Global, number: usize, call: Call) -> Result<(), Ending>
-        requires { IsCall call }
+        requires { (1 ≤ number) × IsCall call }
         ensures printed { OnOk result ((text : List ℕ) × Prints self.old.cell self.old.given.items call text self.new.cell self.new.given.items
             × (self.new.text.items ≡ self.old.text.items ++ text)) }
         ensures early { IfErr result IsEarly }
+        ensures line { (number : ℕ) → result ≡ Err (Ending.Line number) → 1 ≤ number }
     {
         let Run { cell, given, text } = self;
         match call {

@@ -1,11 +1,10 @@
 //! The subcommand `table`.
-ghost use Rattle.std.specs.Prelude.{◌≡◌, ◌≢◌, ℕ, List, IfErr, IfOk};
+ghost use Rattle.std.specs.Prelude.{◌≡◌, ◌≢◌, ◌≤◌, ℕ, Err, List, IfErr, IfOk};
 ghost use Rattle.std.specs.Io.KnownBytes.{Appends};
-ghost use Rattle.learner.specs.declared.fault.Fault.{Fault};
 ghost use Rattle.node_text.specs.declared.scripts.Script.{Script};
 ghost use Rattle.node_text.specs.Scripts.{IsScript};
 ghost use Rattle.text_commands.specs.Endings.{IsEarly, line_of};
-ghost use Rattle.text_commands.specs.Running.{IsPrinted};
+ghost use Rattle.text_commands.specs.Running.{EndsTable, IsPrinted};
 
 use crate::endings::Ending;
 use crate::running::printed;
@@ -27,8 +26,7 @@ pub fn table<R: Read + Faults, W: Write + Faults, E: Write + Faults>(
     ensures done { result ≡ Ending.Done → (script : Script) × (text : List ℕ) × IsPrinted script text
         × Appends (W.contents output.old) (W.contents output.new) text }
     ensures silent { result ≢ Ending.Done → result ≢ Ending.Device → output.new ≡ output.old }
-    ensures streamless { (fault : Fault) → result ≢ Ending.Stream fault }
-    ensures verdictless { result ≢ Ending.NotShortest }
+    ensures ends { EndsTable result }
     ensures said { result ≢ Ending.Device → Appends (E.contents errors.old) (E.contents errors.new) (line_of result) }
 {
     let text = match answers(alloc, input) {
@@ -45,6 +43,7 @@ pub fn table<R: Read + Faults, W: Write + Faults, E: Write + Faults>(
 fn answers<R: Read + Faults>(alloc: Global, input: &mut R) -> Result<Vec<u8>, Ending>
     ensures printed { IfOk result (λ text. (script : Script) × IsPrinted script text.items) }
     ensures early { IfErr result IsEarly }
+    ensures line { (number : ℕ) → result ≡ Err (Ending.Line number) → 1 ≤ number }
 {
     let script = script_of(alloc, input)?;
     let text = printed(alloc, script)?;
@@ -55,6 +54,7 @@ fn answers<R: Read + Faults>(alloc: Global, input: &mut R) -> Result<Vec<u8>, En
 fn script_of<R: Read + Faults>(alloc: Global, input: &mut R) -> Result<Script, Ending>
     ensures script { IfOk result (λ script. (count : ℕ) × IsScript count script) }
     ensures early { IfErr result IsEarly }
+    ensures line { (number : ℕ) → result ≡ Err (Ending.Line number) → 1 ≤ number }
 {
     let text = read_to_end(alloc, input)?;
     Ok(read_script(alloc, text.as_slice())?)

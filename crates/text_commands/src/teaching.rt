@@ -3,11 +3,10 @@ ghost use Rattle.std.specs.Prelude.{◌≡◌, ◌≢◌, ℕ, List, map, IfErr,
 ghost use Rattle.std.specs.Io.KnownBytes.{Appends};
 ghost use Rattle.peers_msg.specs.Spelling.{spelled, stream_of};
 ghost use Rattle.peers_msg.specs.declared.message.Message.{Message};
-ghost use Rattle.learner.specs.declared.fault.Fault.{Fault};
 ghost use Rattle.node_text.specs.Lessons.{printed};
 ghost use Rattle.node_text.specs.declared.scenes.Scene.{Scene};
 ghost use Rattle.text_commands.specs.Endings.{IsEarly, line_of};
-ghost use Rattle.text_commands.specs.Teaching.{IsLesson};
+ghost use Rattle.text_commands.specs.Teaching.{EndsLesson, IsLesson};
 
 use crate::endings::Ending;
 use crate::settings::setting_of;
@@ -29,7 +28,7 @@ pub fn lesson<R: Read + Faults, W: Write + Faults, E: Write + Faults>(
     ensures done { result ≡ Ending.Done → (scene : Scene) × (messages : List Message) × (prices : List ℕ) × IsLesson scene messages prices
         × Appends (W.contents output.old) (W.contents output.new) (printed (map spelled messages) prices) }
     ensures silent { result ≢ Ending.Done → result ≢ Ending.Device → output.new ≡ output.old }
-    ensures streamless { (fault : Fault) → result ≢ Ending.Stream fault }
+    ensures ends { EndsLesson result }
     ensures said { result ≢ Ending.Device → Appends (E.contents errors.old) (E.contents errors.new) (line_of result) }
 {
     let text = match lesson_text(alloc, input) {
