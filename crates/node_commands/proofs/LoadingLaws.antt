@@ -4,8 +4,8 @@ use Rattle.std.proofs.lemmas.List.{append-nil, drop_all}
 use Rattle.std.specs.Prelude.{MatchBool, Result}
 use Rattle.table_types.specs.Tables.{Definition}
 use Rattle.table_types.specs.declared.update.Update.{Update}
-use Rattle.stick_table.specs.declared.events.Reply.{Reply}
-use Rattle.stick_table.specs.declared.errors.LearnError.{LearnError}
+use Rattle.table_cell.specs.declared.events.Reply.{Reply}
+use Rattle.table_cell.specs.declared.errors.LearnError.{LearnError}
 use Rattle.table_cell.specs.Histories.{CellState, Learns}
 use Rattle.table_shards.specs.Agreement.{id_of}
 use Rattle.node_commands.specs.Loading.{AreLoaded, IsLoaded, Loads, loaded_at}

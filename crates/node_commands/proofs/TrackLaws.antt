@@ -5,8 +5,8 @@ use Rattle.table_types.specs.declared.change.Change.TheVariants as changes
 use Rattle.table_types.specs.declared.data_type.DataType.TheVariants as types
 use Rattle.table_types.specs.declared.key.Key.TheVariants as keys
 use Rattle.table_cell.specs.Histories.{CellState, events_of}
-use Rattle.stick_table.specs.declared.events.CellEvent.TheVariants as events
-use Rattle.stick_table.specs.declared.events.CellReply.{CellReply}
+use Rattle.table_cell.specs.declared.events.CellEvent.TheVariants as events
+use Rattle.table_cell.specs.declared.events.CellReply.{CellReply}
 use Rattle.table_shards.specs.declared.receipt.Receipt.{Receipt}
 use Rattle.table_shards.specs.Receipts.{SeatState, receipts_of}
 use Rattle.table_shards.specs.declared.errors.ShardError.{ShardError}

@@ -10,11 +10,11 @@ use Rattle.session_core.specs.declared.state.State.TheVariants as states
 use Rattle.table_shards.specs.Receipts.{SeatState}
 use Rattle.table_types.specs.Rows.{later_by}
 use Rattle.session_core.specs.Sessions.{SessionState, state_of}
-use Rattle.session_actions.specs.declared.errors.EngineError.{EngineError}
+use Rattle.peers_engine.specs.declared.errors.EngineError.{EngineError}
 use Rattle.peers_engine.specs.declared.turned.Turned.{Turned}
 use Rattle.peers_engine.specs.declared.turned.Turned.TheVariants as turned
 use Rattle.peers_engine.specs.Acting.{Worker, worker}
-use Rattle.session_actions.specs.Reading.{IsRead}
+use Rattle.peers_engine.specs.Reading.{IsRead}
 use Rattle.peers_engine.specs.Turns.{StopsTurn, TakesTurn}
 use Rattle.text_commands.specs.declared.endings.Ending.{Ending}
 use Rattle.text_commands.specs.declared.endings.Ending.TheVariants as endings

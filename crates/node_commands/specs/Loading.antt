@@ -2,7 +2,7 @@
 use Rattle.std.specs.Prelude.{◌≡◌, ◌^◌, ℕ, false, ◌==◌, List, [], ◌∷◌, Ok, MatchBool}
 use Rattle.table_types.specs.Tables.{Definition}
 use Rattle.table_types.specs.declared.update.Update.{Update}
-use Rattle.stick_table.specs.declared.events.Reply.{Reply}
+use Rattle.table_cell.specs.declared.events.Reply.{Reply}
 use Rattle.table_cell.specs.Histories.{CellState, Learns, Opens, new_cell}
 use Rattle.table_shards.specs.Agreement.{id_of}
 

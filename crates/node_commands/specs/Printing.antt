@@ -3,7 +3,7 @@ use Rattle.std.specs.Prelude.{◌≡◌, ◌++◌, ℕ, List, [], ◌∷◌, cod
 use Rattle.std.specs.Fmt.{decimal}
 use Rattle.table_types.specs.declared.key.Key.{Key}
 use Rattle.table_types.specs.Rows.{StoredRow}
-use Rattle.stick_table.specs.Stock.{AreInRisingKey}
+use Rattle.table_cell.specs.Stock.{AreInRisingKey}
 use Rattle.table_cell.specs.Histories.{CellState}
 use Rattle.table_shards.specs.declared.unlocked.UnlockedTable.{UnlockedTable}
 use Rattle.node_text.specs.Rows.{row_line}

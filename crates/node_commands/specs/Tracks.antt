@@ -4,7 +4,7 @@ use Rattle.std.specs.List.{AllByRecursion}
 use Rattle.table_types.specs.declared.change.Change.TheVariants as changes
 use Rattle.table_types.specs.declared.data_type.DataType.TheVariants as types
 use Rattle.table_types.specs.declared.key.Key.TheVariants as keys
-use Rattle.stick_table.specs.declared.events.CellEvent.TheVariants as events
+use Rattle.table_cell.specs.declared.events.CellEvent.TheVariants as events
 use Rattle.table_shards.specs.declared.receipt.Receipt.{Receipt}
 use Rattle.table_shards.specs.Receipts.{SeatState, receipts_of}
 

@@ -15,7 +15,7 @@ use crate::rounds::table::{SESSION, TABLE, new_table, refused, roster};
 use crate::rounds::tracking::have_tracked;
 use known_state::Known;
 use peers_devices::{Faults, write_all};
-use session_actions::AlwaysOpen;
+use peers_engine::AlwaysOpen;
 use std::alloc::Global;
 use std::io::Write;
 use std::sync::Wait;

@@ -2,8 +2,8 @@
 use Rattle.std.specs.Prelude.{◌++◌, ℕ, List, [], ◌∷◌, codes}
 use Rattle.std.specs.Fmt.{decimal}
 use Rattle.table_types.specs.declared.change.Change.{Change}
-use Rattle.stick_table.specs.declared.events.CellEvent.{CellEvent}
-use Rattle.stick_table.specs.declared.events.CellEvent.TheVariants as events
+use Rattle.table_cell.specs.declared.events.CellEvent.{CellEvent}
+use Rattle.table_cell.specs.declared.events.CellEvent.TheVariants as events
 use Rattle.table_types.specs.declared.key.Key.{Key}
 use Rattle.table_types.specs.declared.update.Update.{Update}
 use Rattle.table_types.specs.Tables.{Definition}

@@ -1,19 +1,19 @@
 -- Names of a table's refusals, as they are printed (profile).
 use Rattle.std.specs.Prelude.{ℕ, List, Option, Some, None, codes}
-use Rattle.stick_table.specs.declared.errors.TrackError.{TrackError}
-use Rattle.stick_table.specs.declared.errors.TrackError.TheVariants as untracked
-use Rattle.stick_table.specs.declared.errors.LearnError.{LearnError}
-use Rattle.stick_table.specs.declared.errors.LearnError.TheVariants as unlearned
-use Rattle.stick_table.specs.declared.errors.CopyError.{CopyError}
-use Rattle.stick_table.specs.declared.errors.CopyError.TheVariants as uncopied
-use Rattle.stick_table.specs.declared.errors.AckError.{AckError}
-use Rattle.stick_table.specs.declared.errors.AckError.TheVariants as unacknowledged
-use Rattle.stick_table.specs.declared.errors.OpenError.{OpenError}
-use Rattle.stick_table.specs.declared.errors.OpenError.TheVariants as unopened
-use Rattle.stick_table.specs.declared.errors.CloseError.{CloseError}
-use Rattle.stick_table.specs.declared.errors.CloseError.TheVariants as unclosed
-use Rattle.stick_table.specs.declared.errors.PurgeError.{PurgeError}
-use Rattle.stick_table.specs.declared.errors.PurgeError.TheVariants as unpurged
+use Rattle.table_cell.specs.declared.errors.TrackError.{TrackError}
+use Rattle.table_cell.specs.declared.errors.TrackError.TheVariants as untracked
+use Rattle.table_cell.specs.declared.errors.LearnError.{LearnError}
+use Rattle.table_cell.specs.declared.errors.LearnError.TheVariants as unlearned
+use Rattle.table_cell.specs.declared.errors.CopyError.{CopyError}
+use Rattle.table_cell.specs.declared.errors.CopyError.TheVariants as uncopied
+use Rattle.table_cell.specs.declared.errors.AckError.{AckError}
+use Rattle.table_cell.specs.declared.errors.AckError.TheVariants as unacknowledged
+use Rattle.table_cell.specs.declared.errors.OpenError.{OpenError}
+use Rattle.table_cell.specs.declared.errors.OpenError.TheVariants as unopened
+use Rattle.table_cell.specs.declared.errors.CloseError.{CloseError}
+use Rattle.table_cell.specs.declared.errors.CloseError.TheVariants as unclosed
+use Rattle.table_cell.specs.declared.errors.PurgeError.{PurgeError}
+use Rattle.table_cell.specs.declared.errors.PurgeError.TheVariants as unpurged
 
 -- Each refusal has its name. Out of memory has none, since it ends the program.
 

@@ -8,7 +8,7 @@ use Rattle.session_core.specs.Phases as phases
 use Rattle.session_core.specs.Courses.{state_of_course}
 use Rattle.session_core.specs.Sessions.{SessionState, Goes, GoesIn, state_of}
 use Rattle.table_shards.specs.Receipts.{SeatState}
-use Rattle.session_actions.specs.Doing.{Done}
+use Rattle.peers_engine.specs.Doing.{Done}
 use Rattle.peers_engine.specs.Acting.{Acts, IsGiven, IsGivenIn, Worker, asked, stands}
 
 pub acts_on : (s mid e : Worker) (before after : List Action) (answers more : List (Event × List Action)) (out rest : List ℕ)

@@ -22,7 +22,7 @@ use Rattle.session_core.specs.Shares.{all_quiet, out_set, quiet_set}
 use Rattle.session_core.specs.Actions.{reopens}
 use Rattle.session_core.specs.Courses.{Course}
 use Rattle.session_core.specs.Sessions.{SessionState, Goes, GoesIn, GoesOpen, HasNothing, FinishesResync, StartsPendingResync, Settles, state_of}
-use Rattle.session_actions.specs.Doing.{Done}
+use Rattle.peers_engine.specs.Doing.{Done}
 use Rattle.peers_engine.specs.Acting.{Acts, IsGiven, IsGivenIn, Worker, asked, stands}
 
 -- an action that a table doesn't answer

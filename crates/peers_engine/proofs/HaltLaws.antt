@@ -14,8 +14,8 @@ use Rattle.session_core.specs.declared.event.Event.{Event}
 use Rattle.session_core.specs.declared.state.State.TheVariants as states
 use Rattle.session_core.specs.Sessions.{SessionState, Goes, ended, state_of}
 use Rattle.session_core.specs.Runs.{Runs}
-use Rattle.session_actions.specs.declared.errors.EngineError.{EngineError}
-use Rattle.session_actions.specs.Doing.{Done, Fails}
+use Rattle.peers_engine.specs.declared.errors.EngineError.{EngineError}
+use Rattle.peers_engine.specs.Doing.{Done, Fails}
 use Rattle.peers_engine.specs.Acting.{Acts, IsCut, IsLost, DoesNotGoOn, Stops, IsGiven, Worker, asked, stands}
 use Rattle.peers_engine.specs.Turns.{Breaks, Halts, HaltsAt, Receives, Idles, Reacts, StopsTurn, TakesTurn, Turns, first_event, is_push}
 use Rattle.peers_engine.proofs.ActLaws.{acts_on, one_act, given_some}

@@ -1,3 +1,5 @@
+mod AnswerLaws
+mod CallLaws
 mod ActLaws
 mod CalmLaws
 mod EndLaws

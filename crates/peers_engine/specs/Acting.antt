@@ -8,9 +8,9 @@ use Rattle.session_core.specs.declared.event.Event.{Event}
 use Rattle.session_core.specs.declared.state.State.{State}
 use Rattle.session_core.specs.declared.state.State.TheVariants as states
 use Rattle.session_core.specs.Sessions.{SessionState, Goes, Refuses, ended, state_of}
-use Rattle.session_actions.specs.declared.errors.EngineError.{EngineError}
-use Rattle.session_actions.specs.declared.errors.EngineError.TheVariants as errors
-use Rattle.session_actions.specs.Doing.{Done, Fails}
+use Rattle.peers_engine.specs.declared.errors.EngineError.{EngineError}
+use Rattle.peers_engine.specs.declared.errors.EngineError.TheVariants as errors
+use Rattle.peers_engine.specs.Doing.{Done, Fails}
 
 -- A session at work: its state, the seat from which it calls the tables, its number in them, and the moment of the
 -- turn.

@@ -1,2 +1,5 @@
+pub mod Calls
+pub mod Doing
+pub mod Reading
 pub mod Acting
 pub mod Turns

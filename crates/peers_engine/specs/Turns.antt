@@ -10,8 +10,8 @@ use Rattle.session_core.specs.declared.state.State.{State}
 use Rattle.session_core.specs.declared.state.State.TheVariants as states
 use Rattle.session_core.specs.Sessions.{SessionState, Goes, ended, state_of}
 use Rattle.session_core.specs.Runs.{Runs}
-use Rattle.session_actions.specs.declared.errors.EngineError.{EngineError}
-use Rattle.session_actions.specs.Reading.{IsUnread}
+use Rattle.peers_engine.specs.declared.errors.EngineError.{EngineError}
+use Rattle.peers_engine.specs.Reading.{IsUnread}
 use Rattle.peers_engine.specs.Acting.{Acts, IsRefused, Stops, Worker, asked, stands}
 
 -- the event with which a turn begins: it opens a new session, and lets any other teach

@@ -1,12 +1,22 @@
-//! Driving a session: its turns, and devices that fail after some calls.
+//! Driving a session: its turns, the actions that it asks for, the gate at which its worker stops between its steps, and
+//! devices that fail after some calls. Each call on a table takes the table's lock for that call only.
 #![tactic(auto)]
 
+mod context;
+mod doing;
+mod errors;
 mod fused;
+mod gate;
+mod reading;
+mod tables;
 mod turned;
 mod turning;
+mod writing;
 
+pub use errors::EngineError;
 pub use fused::Fused;
+pub use gate::{AlwaysOpen, Gate, Stage};
 pub use peers_devices::{Counting, Faults};
-pub use session_actions::{AlwaysOpen, EngineError, Gate, Stage, WriteFault, write_lesson};
 pub use turned::Turned;
 pub use turning::turn;
+pub use writing::{WriteFault, write_lesson};

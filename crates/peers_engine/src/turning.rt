@@ -10,15 +10,19 @@ ghost use Rattle.session_core.specs.declared.error.SessionError.TheVariants as r
 ghost use Rattle.session_core.specs.declared.event.Event.{Event};
 ghost use Rattle.session_core.specs.declared.state.State.TheVariants as states;
 ghost use Rattle.session_core.specs.Sessions.{Goes, Refuses, ended, state_of};
-ghost use Rattle.session_actions.specs.declared.errors.EngineError.TheVariants as errors;
+ghost use Rattle.peers_engine.specs.declared.errors.EngineError.TheVariants as errors;
 ghost use Rattle.peers_engine.specs.declared.turned.Turned.TheVariants as turns;
 ghost use Rattle.peers_engine.specs.Acting.{Acts, DoesNotGoOn, Stops, IsGiven, asked, worker};
-ghost use Rattle.session_actions.specs.Reading.{IsRead};
+ghost use Rattle.peers_engine.specs.Reading.{IsRead};
 ghost use Rattle.peers_engine.specs.Turns.{Breaks, Halts, HaltsAt, Receives, Idles, Reacts, StopsTurn, TakesTurn, Turns, first_event, is_push};
 
+use crate::context::Context;
+use crate::doing::do_action;
+use crate::errors::EngineError;
+use crate::gate::Gate;
+use crate::reading::read_event;
 use crate::turned::Turned;
 use peers_devices::Faults;
-use session_actions::{Context, EngineError, Gate, do_action, read_event};
 use session_core::{Action, Event, Session, State};
 use std::alloc::Global;
 use std::io::{Read, Write};

@@ -11,18 +11,18 @@ use Rattle.std.specs.BTreeMap.{is_at}
 use Rattle.std.proofs.lemmas.Bool.{cases_Bool, cond-true, cond-false, cases_eq, eq-eqb, ne_eqb}
 use Rattle.table_types.specs.declared.update.Update.{Update}
 use Rattle.table_types.specs.declared.copies.CopyKind.{CopyKind}
-use Rattle.stick_table.specs.declared.errors.LearnError.{LearnError}
-use Rattle.stick_table.specs.declared.errors.LearnError.TheVariants as unlearned
-use Rattle.stick_table.specs.declared.events.CellEvent.{CellEvent}
-use Rattle.stick_table.specs.declared.events.CellEvent.TheVariants as events
-use Rattle.stick_table.specs.declared.events.CellReply.{CellReply}
-use Rattle.stick_table.specs.declared.events.CellReply.TheVariants as replies
-use Rattle.stick_table.specs.Machine.{TableState, Step, learn_refusal, new_table}
+use Rattle.table_cell.specs.declared.errors.LearnError.{LearnError}
+use Rattle.table_cell.specs.declared.errors.LearnError.TheVariants as unlearned
+use Rattle.table_cell.specs.declared.events.CellEvent.{CellEvent}
+use Rattle.table_cell.specs.declared.events.CellEvent.TheVariants as events
+use Rattle.table_cell.specs.declared.events.CellReply.{CellReply}
+use Rattle.table_cell.specs.declared.events.CellReply.TheVariants as replies
+use Rattle.table_cell.specs.Machine.{TableState, Step, learn_refusal, new_table}
 use Rattle.table_cell.specs.Histories.{CellState, Learns, Made, batch_in, batch_of, is_copy_of, is_history_full, latest_batch, or_former}
-use Rattle.stick_table.specs.Soundness.{IsTimely}
+use Rattle.table_cell.specs.Soundness.{IsTimely}
 use Rattle.table_cell.specs.Cells.{AreLatestCopies, IsCell, IsLatestCopy, cell_of}
-use Rattle.stick_table.proofs.RefusalLaws.{memory_is_no_learn_refusal}
-use Rattle.stick_table.proofs.RowsLaws.{some_none}
+use Rattle.table_cell.proofs.RefusalLaws.{memory_is_no_learn_refusal}
+use Rattle.table_cell.proofs.RowsLaws.{some_none}
 use Rattle.table_cell.proofs.RunLaws.{made_sound}
 
 -- ---- the parameters of the table stay

@@ -1,2 +1,16 @@
+pub mod RowsLaws
+pub mod OneStep
+pub mod SessionLaws
+pub mod CellLaws
+pub mod StockLaws
+pub mod StockSteps
+pub mod StepLaws
+pub mod RefusalLaws
+pub mod UnackedLaws
+pub mod LiveLaws
+pub mod SomeStep
+pub mod BatchLaws
+pub mod CopyLaws
+pub mod LearnedLaws
 pub mod RunLaws
 pub mod HistoryLaws

@@ -6,14 +6,14 @@ use Rattle.table_types.specs.Tables.{Definition, is_definition}
 use Rattle.std.specs.Prelude.{take, slice_get}
 use Rattle.table_types.specs.declared.update.Update.{Update}
 use Rattle.table_types.specs.declared.copies.CopyKind.{CopyKind}
-use Rattle.stick_table.specs.declared.events.CellEvent.{CellEvent}
-use Rattle.stick_table.specs.declared.events.CellEvent.TheVariants as events
-use Rattle.stick_table.specs.declared.events.CellReply.{CellReply}
-use Rattle.stick_table.specs.declared.events.CellReply.TheVariants as replies
-use Rattle.stick_table.specs.Machine.{TableState, Step, Replays, unacked}
+use Rattle.table_cell.specs.declared.events.CellEvent.{CellEvent}
+use Rattle.table_cell.specs.declared.events.CellEvent.TheVariants as events
+use Rattle.table_cell.specs.declared.events.CellReply.{CellReply}
+use Rattle.table_cell.specs.declared.events.CellReply.TheVariants as replies
+use Rattle.table_cell.specs.Machine.{TableState, Step, Replays, unacked}
 use Rattle.table_cell.specs.Histories.{CellState, IsSoundCell, IsReplayed, Kept, Made, events_of, is_history_full, new_cell, room_of}
-use Rattle.stick_table.specs.Soundness.{IsTimely}
-use Rattle.stick_table.proofs.StepLaws.{run_longer, step_sound, new_sound}
+use Rattle.table_cell.specs.Soundness.{IsTimely}
+use Rattle.table_cell.proofs.StepLaws.{run_longer, step_sound, new_sound}
 
 pub made_longer : (c e : CellState) (event : CellEvent) (reply : CellReply) → IsReplayed c → Made c event reply e → IsReplayed e
 made_longer c e event reply run (step, is) =

@@ -4,9 +4,9 @@ use Rattle.std.specs.Ordering.{nat_cmp}
 use Rattle.std.specs.Map.{lookup}
 use Rattle.std.specs.BTreeMap.{is_at}
 use Rattle.table_types.specs.declared.update.Update.{Update}
-use Rattle.stick_table.specs.declared.events.CellEvent.{CellEvent}
-use Rattle.stick_table.specs.declared.events.CellReply.{CellReply}
-use Rattle.stick_table.specs.Machine.{TableState, new_table}
+use Rattle.table_cell.specs.declared.events.CellEvent.{CellEvent}
+use Rattle.table_cell.specs.declared.events.CellReply.{CellReply}
+use Rattle.table_cell.specs.Machine.{TableState, new_table}
 use Rattle.table_cell.specs.Histories.{CellState, IsSoundCell, batch_of, latest_batch}
 
 -- a table with its history, which has dropped no event since the table was new with `first` as its next number

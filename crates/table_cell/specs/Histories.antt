@@ -3,30 +3,30 @@ use Rattle.std.specs.Prelude.{◌≡◌, ℕ, ◌+◌, ◌-◌, ◌≤◌, ◌^�
 use Rattle.table_types.specs.declared.key.Key.{Key}
 use Rattle.table_types.specs.declared.update.Update.{Update}
 use Rattle.table_types.specs.Tables.{Definition}
-use Rattle.stick_table.specs.Machine.{TableState, Step, Replays, new_table, unacked, track_refusal, learn_refusal, copy_refusal, ack_refusal, open_refusal, close_refusal, purge_refusal}
+use Rattle.table_cell.specs.Machine.{TableState, Step, Replays, new_table, unacked, track_refusal, learn_refusal, copy_refusal, ack_refusal, open_refusal, close_refusal, purge_refusal}
 use Rattle.table_types.specs.declared.change.Change.{Change}
 use Rattle.table_types.specs.declared.copies.CopyKind.{CopyKind}
 use Rattle.table_types.specs.declared.copies.Settled.{Settled}
-use Rattle.stick_table.specs.Soundness.{IsSound}
-use Rattle.stick_table.specs.declared.events.Reply.{Reply}
-use Rattle.stick_table.specs.declared.events.CellEvent.{CellEvent}
-use Rattle.stick_table.specs.declared.events.CellEvent.TheVariants as events
-use Rattle.stick_table.specs.declared.events.CellReply.{CellReply}
-use Rattle.stick_table.specs.declared.events.CellReply.TheVariants as replies
-use Rattle.stick_table.specs.declared.errors.TrackError.{TrackError}
-use Rattle.stick_table.specs.declared.errors.TrackError.TheVariants as untracked
-use Rattle.stick_table.specs.declared.errors.LearnError.{LearnError}
-use Rattle.stick_table.specs.declared.errors.LearnError.TheVariants as unlearned
-use Rattle.stick_table.specs.declared.errors.CopyError.{CopyError}
-use Rattle.stick_table.specs.declared.errors.CopyError.TheVariants as uncopied
-use Rattle.stick_table.specs.declared.errors.AckError.{AckError}
-use Rattle.stick_table.specs.declared.errors.AckError.TheVariants as unacknowledged
-use Rattle.stick_table.specs.declared.errors.OpenError.{OpenError}
-use Rattle.stick_table.specs.declared.errors.OpenError.TheVariants as unopened
-use Rattle.stick_table.specs.declared.errors.CloseError.{CloseError}
-use Rattle.stick_table.specs.declared.errors.CloseError.TheVariants as unclosed
-use Rattle.stick_table.specs.declared.errors.PurgeError.{PurgeError}
-use Rattle.stick_table.specs.declared.errors.PurgeError.TheVariants as unpurged
+use Rattle.table_cell.specs.Soundness.{IsSound}
+use Rattle.table_cell.specs.declared.events.Reply.{Reply}
+use Rattle.table_cell.specs.declared.events.CellEvent.{CellEvent}
+use Rattle.table_cell.specs.declared.events.CellEvent.TheVariants as events
+use Rattle.table_cell.specs.declared.events.CellReply.{CellReply}
+use Rattle.table_cell.specs.declared.events.CellReply.TheVariants as replies
+use Rattle.table_cell.specs.declared.errors.TrackError.{TrackError}
+use Rattle.table_cell.specs.declared.errors.TrackError.TheVariants as untracked
+use Rattle.table_cell.specs.declared.errors.LearnError.{LearnError}
+use Rattle.table_cell.specs.declared.errors.LearnError.TheVariants as unlearned
+use Rattle.table_cell.specs.declared.errors.CopyError.{CopyError}
+use Rattle.table_cell.specs.declared.errors.CopyError.TheVariants as uncopied
+use Rattle.table_cell.specs.declared.errors.AckError.{AckError}
+use Rattle.table_cell.specs.declared.errors.AckError.TheVariants as unacknowledged
+use Rattle.table_cell.specs.declared.errors.OpenError.{OpenError}
+use Rattle.table_cell.specs.declared.errors.OpenError.TheVariants as unopened
+use Rattle.table_cell.specs.declared.errors.CloseError.{CloseError}
+use Rattle.table_cell.specs.declared.errors.CloseError.TheVariants as unclosed
+use Rattle.table_cell.specs.declared.errors.PurgeError.{PurgeError}
+use Rattle.table_cell.specs.declared.errors.PurgeError.TheVariants as unpurged
 
 -- ---- replay
 

@@ -2,16 +2,18 @@
 
 ghost use Rattle.std.specs.Prelude.{◌≡◌, ◌↔◌, ◌≤◌, ◌∷◌, ◌++◌, [], IfOk, IsOk, None, OnErr, OnOk, false, option_and_then, option_copied, slice_get};
 ghost use Rattle.table_cell.specs.Cells.{AreLatestCopies};
-ghost use Rattle.stick_table.specs.declared.events.CellEvent.TheVariants as events;
-ghost use Rattle.stick_table.specs.declared.events.CellReply.TheVariants as replies;
+ghost use Rattle.table_cell.specs.declared.events.CellEvent.TheVariants as events;
+ghost use Rattle.table_cell.specs.declared.events.CellReply.TheVariants as replies;
 ghost use Rattle.table_cell.specs.Histories.{Copies, IsLatestBatch, batch_in, first_of, latest_batch};
-ghost use Rattle.stick_table.specs.Machine.{Step, copy_refusal, unacked};
-ghost use Rattle.stick_table.specs.Soundness.{IsSound};
+ghost use Rattle.table_cell.specs.Machine.{Step, copy_refusal, unacked};
+ghost use Rattle.table_cell.specs.Soundness.{IsSound};
 
 use crate::cell::TableCell;
-use crate::errors::StrangeBatch;
+use crate::copying::last_number;
+use crate::errors::{CopyError, StrangeBatch};
+use crate::events::{CellEvent, CellReply};
+use crate::table::Table;
 use std::collections::BTreeMap;
-use stick_table::{CellEvent, CellReply, CopyError, Table, last_number};
 use table_types::{Batch, CopyKind, Memory, Moment};
 
 /// Records that the session is taught `batch`, and adds the event to the history. If memory runs out, nothing has

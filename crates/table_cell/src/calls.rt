@@ -1,13 +1,15 @@
 //! Acknowledging, opening and closing sessions, and purging rows.
 
 ghost use Rattle.std.specs.Prelude.{◌≡◌, ◌∷◌, ◌++◌, [], IfOk, None, OnErr, false};
-ghost use Rattle.stick_table.specs.declared.events.CellEvent.TheVariants as events;
-ghost use Rattle.stick_table.specs.declared.events.CellReply.TheVariants as replies;
+ghost use Rattle.table_cell.specs.declared.events.CellEvent.TheVariants as events;
+ghost use Rattle.table_cell.specs.declared.events.CellReply.TheVariants as replies;
 ghost use Rattle.table_cell.specs.Histories.{Acknowledges, Closes, Opens, Purges};
-ghost use Rattle.stick_table.specs.Machine.{Step, open_refusal};
+ghost use Rattle.table_cell.specs.Machine.{Step, open_refusal};
 
 use crate::cell::TableCell;
-use stick_table::{AckError, CellEvent, CellReply, CloseError, OpenError, PurgeError, Table};
+use crate::errors::{AckError, CloseError, OpenError, PurgeError};
+use crate::events::{CellEvent, CellReply};
+use crate::table::Table;
 use table_types::{Memory, Moment, Settled};
 
 /// Opens `session`, and adds the event to the history. If memory runs out, nothing has changed.

@@ -1,13 +1,14 @@
 //! Stick tables with their history.
 
 ghost use Rattle.std.specs.Prelude.{◌≡◌, ◌≤◌, IfOk, IsOk, option_map};
-ghost use Rattle.stick_table.specs.Stock.{AreInRisingKey};
+ghost use Rattle.table_cell.specs.Stock.{AreInRisingKey};
 ghost use Rattle.table_cell.specs.Histories.{IsSoundCell, Kept, events_of, event_in, is_history_full, new_cell, room_of};
 
+use crate::events::{CellEvent, CellReply};
+use crate::table::Table;
 use std::alloc::Global;
 use std::collections::BTreeMap;
 use std::marker::Model;
-use stick_table::{CellEvent, CellReply, Table};
 use table_types::{Key, Memory, Row, TableDef};
 
 /// A stick table that keeps its history: each event with its reply, including the batches that were copied.

@@ -1,11 +1,49 @@
 //! Laws of the definitions, whatever the program does.
 
-ghost use Rattle.std.specs.Prelude.{◌≡◌, ◌≤◌, ◌^◌, Bool, ℕ, false, true};
+ghost use Rattle.std.specs.Prelude.{◌≡◌, ◌≤◌, ◌∷◌, ◌++◌, ◌^◌, [], Bool, ℕ, List, true, false};
 ghost use Rattle.table_types.specs.Tables.{Definition, is_definition};
-ghost use Rattle.stick_table.specs.declared.events.CellEvent.{CellEvent};
-ghost use Rattle.stick_table.specs.declared.events.CellReply.{CellReply};
-ghost use Rattle.stick_table.specs.Soundness.{IsTimely};
+ghost use Rattle.table_types.specs.Batches.{IsBatchFor};
+ghost use Rattle.table_types.specs.declared.copies.CopyKind.{CopyKind};
+ghost use Rattle.table_cell.specs.declared.events.CellEvent.{CellEvent};
+ghost use Rattle.table_cell.specs.declared.events.CellReply.{CellReply};
+ghost use Rattle.table_cell.specs.Machine.{IsGranted, Replays, Step, TableState, new_table, unacked};
+ghost use Rattle.table_cell.specs.Soundness.{AreTimely, IsSound, IsTimely};
 ghost use Rattle.table_cell.specs.Histories.{CellState, IsReplayed, IsSoundCell, Kept, Made, is_history_full, new_cell};
+
+/// A run continues by one step.
+pub fn a_run_goes_on()
+    ensures { (s mid e : TableState) (hs : List (CellEvent × CellReply)) (event : CellEvent) (reply : CellReply) →
+        Replays s hs mid → Step mid event reply e → Replays s (hs ++ (event, reply) ∷ []) e }
+{}
+
+/// In a given state an event has at most one reply and leads to at most one state, so a history leads to at most one
+/// state.
+pub fn a_step_is_unique()
+    ensures step { (s e f : TableState) (event : CellEvent) (a b : CellReply) → Step s event a e → Step s event b f → (a ≡ b) × (e ≡ f) }
+    ensures run { (s e f : TableState) (hs : List (CellEvent × CellReply)) → Replays s hs e → Replays s hs f → e ≡ f }
+{}
+
+/// A sound table replies to every event that it doesn't refuse.
+pub fn a_step_exists()
+    ensures { (s : TableState) (event : CellEvent) → IsSound s → IsGranted s event → (reply : CellReply) × (e : TableState) × Step s event reply e }
+{}
+
+/// A step keeps a sound table sound if its moment, if it has one, is below 2^63, and so does a run of such steps. A new
+/// table is sound.
+pub fn a_table_stays_sound()
+    ensures step { (s e : TableState) (event : CellEvent) (reply : CellReply) → IsTimely event → IsSound s → Step s event reply e → IsSound e }
+    ensures run { (s e : TableState) (hs : List (CellEvent × CellReply)) → AreTimely hs → IsSound s → Replays s hs e → IsSound e }
+    ensures new { (d : Definition) (size first : ℕ) (nopurge : Bool) → is_definition d ≡ true → 1 ≤ size → 1 ≤ first → first ≤ 2 ^ 32 →
+        IsSound (new_table d size nopurge first) }
+{}
+
+/// The rows of a sound table that a session hasn't acknowledged make a batch for that table, and so for each roster in
+/// which the table's id denotes it: each update has a life of 1 to the table's expire, or 0 if its rows never expire,
+/// and everything else is in its range.
+pub fn what_is_copied_is_a_batch()
+    ensures { (s : TableState) (session limit now : ℕ) (kind : CopyKind) → IsSound s → s.latest ≤ now → limit ≤ 512 →
+        IsBatchFor (s.definition ∷ []) (unacked s session kind now limit) }
+{}
 
 /// After one more event, the state is again the replay of the history.
 pub fn a_history_goes_on()

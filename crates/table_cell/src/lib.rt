@@ -1,18 +1,31 @@
-//! A stick table that keeps its history, including each batch that was copied.
+//! A stick table: its rows and their numbers, its open sessions, what each event does to it, and the history of its
+//! events, including each batch that was copied.
 #![tactic(auto)]
 
+mod above;
+mod batch;
 mod batches;
 mod calls;
 mod cell;
+mod copying;
 mod errors;
+mod events;
 mod laws;
+mod learned_run;
+mod progress;
+mod refusals;
+mod sessions;
+mod stock;
+mod table;
 mod tracking;
 
 pub use cell::TableCell;
-pub use errors::StrangeBatch;
-pub use laws::{a_cell_stays_sound, a_history_goes_on, batches_are_kept};
-pub use stick_table::{
-    AckError, CellEvent, CellReply, CloseError, CopyError, LearnError, OpenError, PurgeError,
-    Reply, TrackError,
+pub use errors::{
+    AckError, CloseError, CopyError, LearnError, OpenError, PurgeError, StrangeBatch, TrackError,
+};
+pub use events::{CellEvent, CellReply, Reply};
+pub use laws::{
+    a_cell_stays_sound, a_history_goes_on, a_run_goes_on, a_step_exists, a_step_is_unique,
+    a_table_stays_sound, batches_are_kept, what_is_copied_is_a_batch,
 };
 pub use table_types::{CopyKind, Settled};

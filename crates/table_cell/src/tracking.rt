@@ -3,15 +3,17 @@
 ghost use Rattle.std.specs.Prelude.{◌≡◌, ◌≤◌, ◌<◌, ◌^◌, ◌∷◌, ◌++◌, [], IfOk, List, None, OnErr, OnOk, false};
 ghost use Rattle.table_types.specs.declared.key.Key.{Key};
 ghost use Rattle.table_types.specs.Rows.{StoredRow};
-ghost use Rattle.stick_table.specs.declared.events.CellEvent.TheVariants as events;
-ghost use Rattle.stick_table.specs.declared.events.CellReply.TheVariants as replies;
+ghost use Rattle.table_cell.specs.declared.events.CellEvent.TheVariants as events;
+ghost use Rattle.table_cell.specs.declared.events.CellReply.TheVariants as replies;
 ghost use Rattle.table_cell.specs.Histories.{Learns, Tracks, first_of};
-ghost use Rattle.stick_table.specs.Machine.{Leaves, Step, learn_refusal, learned, stored, track_refusal, tracked};
-ghost use Rattle.stick_table.specs.Parts.{reply_of};
+ghost use Rattle.table_cell.specs.Machine.{Leaves, Step, learn_refusal, learned, stored, track_refusal, tracked};
+ghost use Rattle.table_cell.specs.Parts.{reply_of};
 
 use crate::cell::TableCell;
+use crate::errors::{LearnError, TrackError};
+use crate::events::{CellEvent, CellReply, Reply};
+use crate::table::Table;
 use std::alloc::Global;
-use stick_table::{CellEvent, CellReply, LearnError, Reply, Table, TrackError};
 use table_types::{Change, Key, Memory, Moment, Row, Update};
 
 /// Returns the reply to a change that made `row`: one copy for the history, and two for the caller.

@@ -3,8 +3,8 @@ use Rattle.std.specs.Prelude.{◌≡◌, ◌≢◌, ℕ, ◌+◌, ◌≤◌, Lis
 use Rattle.table_types.specs.declared.update.Update.{Update}
 use Rattle.table_cell.specs.Histories.{CellState, IsLatestBatch, events_of}
 use Rattle.table_cell.specs.declared.errors.StrangeBatch.{StrangeBatch}
-use Rattle.stick_table.specs.declared.events.CellEvent.{CellEvent}
-use Rattle.stick_table.specs.declared.events.CellReply.{CellReply}
+use Rattle.table_cell.specs.declared.events.CellEvent.{CellEvent}
+use Rattle.table_cell.specs.declared.events.CellReply.{CellReply}
 use Rattle.table_shards.specs.declared.errors.ShardError.{ShardError}
 use Rattle.table_shards.specs.declared.errors.ShardError.TheVariants as errors
 use Rattle.table_shards.specs.Receipts.{SeatState, ahead_of, seen_of, with_receipt}

@@ -4,8 +4,8 @@
 
 ghost use Rattle.std.specs.Prelude.{◌≡◌, ◌≤◌, ◌<◌, IfErr, IfOk};
 ghost use Rattle.table_cell.specs.Histories.{Acknowledges, Closes, Copies, Learns, Opens, Purges, Tracks, events_of};
-ghost use Rattle.stick_table.specs.declared.events.CellEvent.TheVariants as events;
-ghost use Rattle.stick_table.specs.declared.events.CellReply.TheVariants as replies;
+ghost use Rattle.table_cell.specs.declared.events.CellEvent.TheVariants as events;
+ghost use Rattle.table_cell.specs.declared.events.CellReply.TheVariants as replies;
 ghost use Rattle.table_shards.specs.Receipts.{seen_of, with_receipt};
 ghost use Rattle.table_shards.specs.Holding.{Holds, Looks, MayCall, MayNot, Refuses, Settles, receipted};
 

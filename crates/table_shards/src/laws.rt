@@ -2,8 +2,8 @@
 
 ghost use Rattle.std.specs.Prelude.{◌≡◌, ◌≤◌, ◌<◌, ◌+◌, ◌-◌, ◌∷◌, ◌++◌, [], ℕ, List, length};
 ghost use Rattle.table_cell.specs.Histories.{CellState, Made, events_of};
-ghost use Rattle.stick_table.specs.declared.events.CellEvent.{CellEvent};
-ghost use Rattle.stick_table.specs.declared.events.CellReply.{CellReply};
+ghost use Rattle.table_cell.specs.declared.events.CellEvent.{CellEvent};
+ghost use Rattle.table_cell.specs.declared.events.CellReply.{CellReply};
 ghost use Rattle.table_shards.specs.declared.receipt.Receipt.{Receipt};
 ghost use Rattle.table_shards.specs.Receipts.{SeatState, all_receipts, receipts_of, seen_of, with_receipt};
 ghost use Rattle.table_shards.specs.Agreement.{Agree, IsEntry, id_of};

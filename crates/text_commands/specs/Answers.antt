@@ -6,17 +6,17 @@ use Rattle.table_types.specs.declared.copies.Settled.{Settled}
 use Rattle.table_types.specs.declared.update.Update.{Update}
 use Rattle.table_types.specs.Rows.{StoredRow}
 use Rattle.table_types.specs.Tables.{Definition}
-use Rattle.stick_table.specs.declared.events.Reply.{Reply}
-use Rattle.stick_table.specs.declared.events.CellEvent.{CellEvent}
-use Rattle.stick_table.specs.declared.events.CellReply.{CellReply}
-use Rattle.stick_table.specs.declared.errors.TrackError.{TrackError}
-use Rattle.stick_table.specs.declared.errors.LearnError.{LearnError}
-use Rattle.stick_table.specs.declared.errors.CopyError.{CopyError}
-use Rattle.stick_table.specs.declared.errors.AckError.{AckError}
+use Rattle.table_cell.specs.declared.events.Reply.{Reply}
+use Rattle.table_cell.specs.declared.events.CellEvent.{CellEvent}
+use Rattle.table_cell.specs.declared.events.CellReply.{CellReply}
+use Rattle.table_cell.specs.declared.errors.TrackError.{TrackError}
+use Rattle.table_cell.specs.declared.errors.LearnError.{LearnError}
+use Rattle.table_cell.specs.declared.errors.CopyError.{CopyError}
+use Rattle.table_cell.specs.declared.errors.AckError.{AckError}
 use Rattle.table_cell.specs.declared.errors.StrangeBatch.{StrangeBatch}
-use Rattle.stick_table.specs.declared.errors.OpenError.{OpenError}
-use Rattle.stick_table.specs.declared.errors.CloseError.{CloseError}
-use Rattle.stick_table.specs.declared.errors.PurgeError.{PurgeError}
+use Rattle.table_cell.specs.declared.errors.OpenError.{OpenError}
+use Rattle.table_cell.specs.declared.errors.CloseError.{CloseError}
+use Rattle.table_cell.specs.declared.errors.PurgeError.{PurgeError}
 use Rattle.node_text.specs.Events.{event_text}
 use Rattle.node_text.specs.Refusals.{ack_refusal, close_refusal, copy_refusal, learn_refusal, open_refusal, purge_refusal, track_refusal}
 use Rattle.node_text.specs.Replies.{event_reply_text, reply_text, settled_name}

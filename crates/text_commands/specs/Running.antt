@@ -6,16 +6,16 @@ use Rattle.table_types.specs.declared.copies.Settled.{Settled}
 use Rattle.table_types.specs.declared.update.Update.{Update}
 use Rattle.table_types.specs.Rows.{StoredRow}
 use Rattle.table_types.specs.Tables.{Definition}
-use Rattle.stick_table.specs.declared.events.Reply.{Reply}
-use Rattle.stick_table.specs.declared.errors.TrackError.{TrackError}
-use Rattle.stick_table.specs.declared.errors.LearnError.{LearnError}
-use Rattle.stick_table.specs.declared.errors.CopyError.{CopyError}
-use Rattle.stick_table.specs.declared.errors.AckError.{AckError}
+use Rattle.table_cell.specs.declared.events.Reply.{Reply}
+use Rattle.table_cell.specs.declared.errors.TrackError.{TrackError}
+use Rattle.table_cell.specs.declared.errors.LearnError.{LearnError}
+use Rattle.table_cell.specs.declared.errors.CopyError.{CopyError}
+use Rattle.table_cell.specs.declared.errors.AckError.{AckError}
 use Rattle.table_cell.specs.declared.errors.StrangeBatch.{StrangeBatch}
-use Rattle.stick_table.specs.declared.errors.OpenError.{OpenError}
-use Rattle.stick_table.specs.declared.errors.CloseError.{CloseError}
-use Rattle.stick_table.specs.declared.errors.PurgeError.{PurgeError}
-use Rattle.stick_table.specs.Stock.{AreInRisingKey}
+use Rattle.table_cell.specs.declared.errors.OpenError.{OpenError}
+use Rattle.table_cell.specs.declared.errors.CloseError.{CloseError}
+use Rattle.table_cell.specs.declared.errors.PurgeError.{PurgeError}
+use Rattle.table_cell.specs.Stock.{AreInRisingKey}
 use Rattle.table_cell.specs.Histories.{Acknowledges, CellState, Closes, Copies, IsLatestBatch, Learns, Opens, Purges, Tracks, event_in, events_of, new_cell, room_of}
 use Rattle.node_text.specs.declared.calls.Call.{Call}
 use Rattle.node_text.specs.declared.calls.Call.TheVariants as calls

@@ -1,14 +1,14 @@
 //! Calls that change a table, or compare a batch with its own, and what is printed of them.
 ghost use Rattle.std.specs.Prelude.{ℕ, OnOk, Result};
 ghost use Rattle.table_types.specs.declared.copies.Settled.{Settled};
-ghost use Rattle.stick_table.specs.declared.events.Reply.{Reply};
-ghost use Rattle.stick_table.specs.declared.errors.AckError.{AckError};
-ghost use Rattle.stick_table.specs.declared.errors.CloseError.{CloseError};
-ghost use Rattle.stick_table.specs.declared.errors.LearnError.{LearnError};
-ghost use Rattle.stick_table.specs.declared.errors.OpenError.{OpenError};
-ghost use Rattle.stick_table.specs.declared.errors.PurgeError.{PurgeError};
+ghost use Rattle.table_cell.specs.declared.events.Reply.{Reply};
+ghost use Rattle.table_cell.specs.declared.errors.AckError.{AckError};
+ghost use Rattle.table_cell.specs.declared.errors.CloseError.{CloseError};
+ghost use Rattle.table_cell.specs.declared.errors.LearnError.{LearnError};
+ghost use Rattle.table_cell.specs.declared.errors.OpenError.{OpenError};
+ghost use Rattle.table_cell.specs.declared.errors.PurgeError.{PurgeError};
 ghost use Rattle.table_cell.specs.declared.errors.StrangeBatch.{StrangeBatch};
-ghost use Rattle.stick_table.specs.declared.errors.TrackError.{TrackError};
+ghost use Rattle.table_cell.specs.declared.errors.TrackError.{TrackError};
 ghost use Rattle.table_cell.specs.Histories.{Acknowledges, Closes, Learns, Opens, Purges, Tracks};
 ghost use Rattle.text_commands.specs.Answers.{Adds, acknowledged, closed, learned, opened, purged, settled, tracked};
 ghost use Rattle.text_commands.specs.Running.{Settles, definition_of};

@@ -3,8 +3,8 @@ ghost use Rattle.std.specs.Prelude.{◌≡◌, ◌+◌, ◌++◌, ◌≤◌, Lis
 ghost use Rattle.table_types.specs.declared.key.Key.{Key};
 ghost use Rattle.table_types.specs.declared.update.Update.{Update};
 ghost use Rattle.table_types.specs.Rows.{StoredRow};
-ghost use Rattle.stick_table.specs.declared.errors.CopyError.{CopyError};
-ghost use Rattle.stick_table.specs.Stock.{AreInRisingKey};
+ghost use Rattle.table_cell.specs.declared.errors.CopyError.{CopyError};
+ghost use Rattle.table_cell.specs.Stock.{AreInRisingKey};
 ghost use Rattle.table_cell.specs.Histories.{Copies, event_in, events_of, room_of};
 ghost use Rattle.node_text.specs.Updates.{update_line};
 ghost use Rattle.text_commands.specs.Answers.{Adds, batch_lines, copied, event_line, events_line, rows_lines, stored_row_line};

@@ -1,7 +1,7 @@
 //! The tables of a node before its session begins.
 
 ghost use Rattle.std.specs.Prelude.{◌≡◌, ◌==◌, ◌++◌, ◌∷◌, [], false, IfErr, IfOk, Ok, OnOk};
-ghost use Rattle.stick_table.specs.declared.events.Reply.{Reply};
+ghost use Rattle.table_cell.specs.declared.events.Reply.{Reply};
 ghost use Rattle.table_cell.specs.Histories.{Learns, Opens, new_cell};
 ghost use Rattle.table_shards.specs.Agreement.{id_of};
 ghost use Rattle.text_commands.specs.Endings.{IsEarly};

@@ -5,7 +5,7 @@ ghost use Rattle.known_state.specs.Lessons.{IsLessonFor};
 
 use crate::rounds::table::{SESSION, TABLE, refused};
 use known_state::Known;
-use session_actions::{Gate, Stage};
+use peers_engine::{Gate, Stage};
 use std::alloc::Global;
 use std::sync::Wait;
 use table_cell::{AckError, CopyError, TableCell};

@@ -2,13 +2,13 @@ use Rattle.std.proofs.Common.{◌≡◌, ◌∷◌, ◌++◌, [], ℕ, false, Li
 use Rattle.std.specs.Ordering.{is_eq, nat_cmp}
 use Rattle.std.specs.Map.{lookup}
 use Rattle.std.specs.BTreeMap.{is_at}
-use Rattle.stick_table.specs.declared.events.CellEvent.{CellEvent}
-use Rattle.stick_table.specs.declared.events.CellEvent.TheVariants as events
-use Rattle.stick_table.specs.declared.events.CellReply.{CellReply}
-use Rattle.stick_table.specs.declared.events.CellReply.TheVariants as replies
-use Rattle.stick_table.specs.Machine.{last_number, unacked}
-use Rattle.stick_table.proofs.StepLaws.{copy_granted}
-use Rattle.stick_table.proofs.CopyLaws.{taught_is}
+use Rattle.table_cell.specs.declared.events.CellEvent.{CellEvent}
+use Rattle.table_cell.specs.declared.events.CellEvent.TheVariants as events
+use Rattle.table_cell.specs.declared.events.CellReply.{CellReply}
+use Rattle.table_cell.specs.declared.events.CellReply.TheVariants as replies
+use Rattle.table_cell.specs.Machine.{last_number, unacked}
+use Rattle.table_cell.proofs.StepLaws.{copy_granted}
+use Rattle.table_cell.proofs.CopyLaws.{taught_is}
 use Rattle.table_cell.proofs.HistoryLaws.{latest_copied}
 use Rattle.table_cell.proofs.batches.keep.Goals as goal
 

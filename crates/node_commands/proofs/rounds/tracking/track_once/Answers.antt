@@ -1,7 +1,7 @@
 use Rattle.std.proofs.Common.{◌≡◌, Ok}
 use Rattle.table_cell.specs.Histories as histories
-use Rattle.stick_table.specs.declared.events.CellEvent.TheVariants as events
-use Rattle.stick_table.specs.declared.events.CellReply.TheVariants as replies
+use Rattle.table_cell.specs.declared.events.CellEvent.TheVariants as events
+use Rattle.table_cell.specs.declared.events.CellReply.TheVariants as replies
 use Rattle.table_types.specs.declared.change.Change.TheVariants as changes
 use Rattle.table_types.specs.declared.data_type.DataType.TheVariants as types
 use Rattle.table_types.specs.declared.key.Key.TheVariants as keys

@@ -1,12 +1,12 @@
 use Rattle.std.proofs.Common.{◌≡◌, ◌∷◌, ◌++◌, [], List, None, false, refl, sym, ap, ◌∙◌}
-use Rattle.stick_table.specs.declared.events.CellEvent.{CellEvent}
-use Rattle.stick_table.specs.declared.events.CellEvent.TheVariants as events
-use Rattle.stick_table.specs.declared.events.CellReply.{CellReply}
-use Rattle.stick_table.specs.declared.events.CellReply.TheVariants as replies
+use Rattle.table_cell.specs.declared.events.CellEvent.{CellEvent}
+use Rattle.table_cell.specs.declared.events.CellEvent.TheVariants as events
+use Rattle.table_cell.specs.declared.events.CellReply.{CellReply}
+use Rattle.table_cell.specs.declared.events.CellReply.TheVariants as replies
 use Rattle.table_cell.specs.Cells.{cell_of}
 use Rattle.table_cell.specs.Histories.{is_history_full}
-use Rattle.stick_table.specs.Machine.{ack_refusal}
-use Rattle.stick_table.proofs.RefusalLaws.{ack_free}
+use Rattle.table_cell.specs.Machine.{ack_refusal}
+use Rattle.table_cell.proofs.RefusalLaws.{ack_free}
 use Rattle.table_cell.proofs.HistoryLaws.{cell_goes_on}
 use Rattle.table_cell.proofs.cell.TableCell.ack.Goals as goal
 

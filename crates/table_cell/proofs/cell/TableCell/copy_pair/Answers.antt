@@ -1,12 +1,12 @@
 use Rattle.std.proofs.Common.{◌≡◌, ◌<◌, ◌^◌, Option, None, false, sym, ap, subst, ◌∙◌}
 use Rattle.std.specs.Prelude.{IfNone}
-use Rattle.stick_table.specs.declared.errors.CopyError.{CopyError}
-use Rattle.stick_table.specs.declared.events.CellEvent.TheVariants as events
-use Rattle.stick_table.specs.declared.events.CellReply.TheVariants as replies
+use Rattle.table_cell.specs.declared.errors.CopyError.{CopyError}
+use Rattle.table_cell.specs.declared.events.CellEvent.TheVariants as events
+use Rattle.table_cell.specs.declared.events.CellReply.TheVariants as replies
 use Rattle.table_cell.specs.Cells.{cell_of}
 use Rattle.table_cell.specs.Histories.{is_history_full}
-use Rattle.stick_table.specs.Machine.{copy_refusal}
-use Rattle.stick_table.proofs.CopyLaws.{copy_free}
+use Rattle.table_cell.specs.Machine.{copy_refusal}
+use Rattle.table_cell.proofs.CopyLaws.{copy_free}
 use Rattle.table_cell.proofs.RunLaws.{made_sound}
 use Rattle.table_cell.proofs.HistoryLaws.{is_made}
 use Rattle.table_cell.proofs.cell.TableCell.copy_pair.Goals as goal

@@ -1,12 +1,12 @@
 use Rattle.std.proofs.Common.{◌≡◌, ◌<◌, ◌^◌, Option, Some, None, false, refl, sym, ap, subst, ◌∙◌}
 use Rattle.std.specs.Prelude.{IfNone}
-use Rattle.stick_table.specs.declared.events.CellEvent.TheVariants as events
-use Rattle.stick_table.specs.declared.events.CellReply.TheVariants as replies
+use Rattle.table_cell.specs.declared.events.CellEvent.TheVariants as events
+use Rattle.table_cell.specs.declared.events.CellReply.TheVariants as replies
 use Rattle.table_cell.specs.Cells.{cell_of}
-use Rattle.stick_table.specs.declared.errors.LearnError.{LearnError}
-use Rattle.stick_table.specs.Machine.{learn_refusal}
+use Rattle.table_cell.specs.declared.errors.LearnError.{LearnError}
+use Rattle.table_cell.specs.Machine.{learn_refusal}
 use Rattle.table_cell.specs.Histories.{CellState, Made, is_history_full}
-use Rattle.stick_table.proofs.RefusalLaws.{learn_free}
+use Rattle.table_cell.proofs.RefusalLaws.{learn_free}
 use Rattle.table_cell.proofs.HistoryLaws.{cell_goes_on, is_made, learn_refused}
 use Rattle.table_cell.proofs.cell.TableCell.learn_pair.Goals as goal
 

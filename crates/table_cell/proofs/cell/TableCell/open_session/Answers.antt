@@ -1,10 +1,10 @@
 use Rattle.std.proofs.Common.{◌≡◌, None, false, refl, sym, ap, ◌∙◌}
-use Rattle.stick_table.specs.declared.events.CellEvent.TheVariants as events
-use Rattle.stick_table.specs.declared.events.CellReply.TheVariants as replies
+use Rattle.table_cell.specs.declared.events.CellEvent.TheVariants as events
+use Rattle.table_cell.specs.declared.events.CellReply.TheVariants as replies
 use Rattle.table_cell.specs.Cells.{cell_of}
 use Rattle.table_cell.specs.Histories.{is_history_full}
-use Rattle.stick_table.specs.Machine.{open_refusal}
-use Rattle.stick_table.proofs.RefusalLaws.{open_granted}
+use Rattle.table_cell.specs.Machine.{open_refusal}
+use Rattle.table_cell.proofs.RefusalLaws.{open_granted}
 use Rattle.table_cell.proofs.HistoryLaws.{cell_goes_on}
 use Rattle.table_cell.proofs.cell.TableCell.open_session.Goals as goal
 

@@ -1,14 +1,14 @@
 use Rattle.std.proofs.Common.{◌≡◌, ◌<◌, ◌^◌, ◌∷◌, ◌++◌, [], List, Option, None, false, refl, sym, ap, subst, ◌∙◌}
 use Rattle.std.specs.Prelude.{IfNone}
-use Rattle.stick_table.specs.declared.errors.PurgeError.{PurgeError}
-use Rattle.stick_table.specs.declared.events.CellEvent.{CellEvent}
-use Rattle.stick_table.specs.declared.events.CellEvent.TheVariants as events
-use Rattle.stick_table.specs.declared.events.CellReply.{CellReply}
-use Rattle.stick_table.specs.declared.events.CellReply.TheVariants as replies
+use Rattle.table_cell.specs.declared.errors.PurgeError.{PurgeError}
+use Rattle.table_cell.specs.declared.events.CellEvent.{CellEvent}
+use Rattle.table_cell.specs.declared.events.CellEvent.TheVariants as events
+use Rattle.table_cell.specs.declared.events.CellReply.{CellReply}
+use Rattle.table_cell.specs.declared.events.CellReply.TheVariants as replies
 use Rattle.table_cell.specs.Cells.{cell_of}
 use Rattle.table_cell.specs.Histories.{is_history_full}
-use Rattle.stick_table.specs.Machine.{purge_refusal}
-use Rattle.stick_table.proofs.RefusalLaws.{purge_granted}
+use Rattle.table_cell.specs.Machine.{purge_refusal}
+use Rattle.table_cell.proofs.RefusalLaws.{purge_granted}
 use Rattle.table_cell.proofs.HistoryLaws.{cell_goes_on}
 use Rattle.table_cell.proofs.cell.TableCell.purge.Goals as goal
 

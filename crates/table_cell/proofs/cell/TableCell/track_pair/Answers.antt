@@ -1,12 +1,12 @@
 use Rattle.std.proofs.Common.{◌≡◌, ◌<◌, ◌^◌, Option, None, false, refl, sym, ap, subst, ◌∙◌}
 use Rattle.std.specs.Prelude.{IfNone}
-use Rattle.stick_table.specs.declared.events.CellEvent.TheVariants as events
-use Rattle.stick_table.specs.declared.events.CellReply.TheVariants as replies
+use Rattle.table_cell.specs.declared.events.CellEvent.TheVariants as events
+use Rattle.table_cell.specs.declared.events.CellReply.TheVariants as replies
 use Rattle.table_cell.specs.Cells.{cell_of}
-use Rattle.stick_table.specs.declared.errors.TrackError.{TrackError}
-use Rattle.stick_table.specs.Machine.{track_refusal}
+use Rattle.table_cell.specs.declared.errors.TrackError.{TrackError}
+use Rattle.table_cell.specs.Machine.{track_refusal}
 use Rattle.table_cell.specs.Histories.{CellState, Made, is_history_full}
-use Rattle.stick_table.proofs.RefusalLaws.{track_free}
+use Rattle.table_cell.proofs.RefusalLaws.{track_free}
 use Rattle.table_cell.proofs.HistoryLaws.{cell_goes_on, is_made}
 use Rattle.table_cell.proofs.cell.TableCell.track_pair.Goals as goal
 

@@ -1,0 +1,76 @@
+-- How a session's actions are performed, and what is written for them.
+use Rattle.std.specs.Prelude.{◌≡◌, ◌⊎◌, ◌<◌, ℕ, List, [], ◌∷◌, length, take, Option, Some, None, Ok, Err}
+use Rattle.std.specs.Io.KnownBytes.{Appends}
+use Rattle.table_types.specs.declared.update.Update.{Update}
+use Rattle.table_types.specs.declared.copies.Settled.{Settled}
+use Rattle.peers_msg.specs.declared.control.ErrorKind.{ErrorKind}
+use Rattle.peers_msg.specs.declared.message.Message.{Message}
+use Rattle.peers_msg.specs.Spelling.{error_type, stream_of}
+use Rattle.table_cell.specs.declared.errors.AckError.TheVariants as acks
+use Rattle.table_cell.specs.declared.errors.CopyError.TheVariants as copies
+use Rattle.table_shards.specs.declared.errors.ShardError.TheVariants as shards
+use Rattle.table_shards.specs.Receipts.{SeatState}
+use Rattle.known_state.specs.Known.{KnownState}
+use Rattle.known_state.specs.Lessons.{IsLessonFor}
+use Rattle.known_state.specs.Shortest.{Shortest}
+use Rattle.session_core.specs.declared.action.Action.{Action}
+use Rattle.session_core.specs.declared.action.Action.TheVariants as actions
+use Rattle.session_core.specs.declared.event.Event.{Event}
+use Rattle.session_core.specs.declared.event.Event.TheVariants as events
+use Rattle.peers_engine.specs.Calls.{CallsAck, CallsCopy, IsLearned, IsReopened, IsSettled}
+use Rattle.peers_engine.specs.declared.errors.EngineError.{EngineError}
+use Rattle.peers_engine.specs.declared.errors.EngineError.TheVariants as errors
+
+-- the bytes of an error message
+abbrev pub error_text : ErrorKind → List ℕ
+error_text kind = 1 ∷ (error_type kind ∷ [])
+
+-- the bytes spell messages that are among the shortest that teach the batch from the known state k
+abbrev pub AreShortest : KnownState → List Update → List ℕ → Type 0
+AreShortest k batch bytes = (ms : List Message) × (bytes ≡ stream_of ms) × Shortest k batch ms
+
+-- a shortest lesson of the batch from the known state k, which leads to the known state after
+abbrev pub IsShortestLesson : KnownState → List Update → List ℕ → KnownState → Type 0
+IsShortestLesson k batch bytes after = IsLessonFor k batch bytes after × AreShortest k batch bytes
+
+-- Session n, whose known state is k, performs an action from the seat s at the moment now: what is written for it, its
+-- answer, and how it leaves the seat.
+abbrev pub Done : ℕ → ℕ → KnownState → SeatState → Action → List ℕ → Option Event → SeatState → Type 0
+Done n now k s (actions.Send bytes) out answer t = (out ≡ bytes) × (answer ≡ None) × (t ≡ s)
+Done n now k s (actions.Learn u) out answer t = (out ≡ []) × (answer ≡ None) × IsLearned n now s u t
+Done n now k s (actions.Ack table number) out answer t = (out ≡ [])
+    × (((settled : Settled) × (answer ≡ Some (events.Settled table settled)) × CallsAck n s table number (Ok settled) t)
+    ⊎ ((answer ≡ Some (events.Refused table)) × CallsAck n s table number (Err (shards.Cell acks.AckAhead)) t))
+Done n now k s (actions.Reopen table) out answer t = (out ≡ []) × (answer ≡ None) × IsReopened n s table t
+Done n now k s (actions.Copy table kind) out answer t = (out ≡ [])
+    × (((batch : List Update) × (answer ≡ Some (events.Copied table batch)) × CallsCopy n now s table kind (Ok batch) t)
+    ⊎ ((answer ≡ Some (events.Nothing table)) × CallsCopy n now s table kind (Err (shards.Cell copies.Nothing)) t))
+Done n now k s (actions.Teach batch) out answer t =
+    (after : KnownState) × IsShortestLesson k batch out after × (answer ≡ Some (events.Written after)) × IsSettled n s batch × (t ≡ s)
+Done n now k s (actions.Part kind) out answer t = (out ≡ error_text kind) × (answer ≡ None) × (t ≡ s)
+Done n now k s actions.Close out answer t = (out ≡ []) × (answer ≡ None) × (t ≡ s)
+
+-- the error if a table refuses an action, or if memory runs out
+abbrev pub IsRefusal : EngineError → Type 0
+IsRefusal errors.Memory = Unit {0}
+IsRefusal errors.Strange = Unit {0}
+IsRefusal error = ⊥
+
+-- an action that calls a table; a lesson calls it to test that its batch is the session's latest one
+abbrev pub IsAtTable : Action → Type 0
+IsAtTable (actions.Send bytes) = ⊥
+IsAtTable (actions.Part kind) = ⊥
+IsAtTable actions.Close = ⊥
+IsAtTable act = Unit {0}
+
+-- a write of these bytes failed: exactly the first sent of them were written, and not all
+abbrev pub Falls : List ℕ → EngineError → Option (List ℕ) → Option (List ℕ) → Type 0
+Falls bytes (errors.Write sent) old new = (sent < length bytes) × Appends old new (take sent bytes)
+Falls bytes error old new = ⊥
+
+-- An action fails: a write failed after some of its bytes; or a table refused it or memory ran out, and nothing was
+-- written.
+abbrev pub Fails : ℕ → ℕ → KnownState → SeatState → Action → EngineError → List ℕ → Type 0
+Fails n now k s act (errors.Write sent) out =
+    (bytes : List ℕ) × (answer : Option Event) × Done n now k s act bytes answer s × (sent < length bytes) × (out ≡ take sent bytes)
+Fails n now k s act error out = IsRefusal error × IsAtTable act × (out ≡ [])

@@ -1,2 +1,0 @@
-mod AnswerLaws
-mod CallLaws

@@ -1,5 +1,0 @@
-use Rattle.stick_table.proofs.BatchLaws.{copied_batch}
-use Rattle.stick_table.proofs.laws.what_is_copied_is_a_batch.Goals as goal
-
-pub returns : goal.returns
-returns c = λ s session limit now kind. copied_batch s session kind limit now

@@ -1,9 +1,0 @@
-use Rattle.std.proofs.Common.{◌≡◌}
-use Rattle.std.specs.Prelude.{filter, slice_get}
-use Rattle.stick_table.specs.Machine.{is_unacked}
-use Rattle.stick_table.proofs.UnackedLaws.{is_due}
-use Rattle.stick_table.proofs.table.Table.first_unacked.Given as goal
-
-abbrev pub invariant-loop-key : goal.invariant-loop-key
-invariant-loop-key l =
-    slice_get (filter (is_due l.fn.kind l.fn.now) l.key-iterator) 0 ≡ slice_get (filter (is_unacked l.fn.kind l.fn.number l.fn.now) l.fn.self.rows) 0

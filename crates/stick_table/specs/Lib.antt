@@ -1,6 +1,0 @@
-pub mod Copying
-pub mod Machine
-pub mod Soundness
-pub mod Stock
-pub mod LearnedRuns
-pub mod Parts

@@ -1,0 +1,185 @@
+//! Copying rows for a session.
+
+ghost use Rattle.std.specs.Prelude.{◌≡◌, ◌≤◌, ◌&&◌, IfOk, filter, map, option_map, slice_get, take, true};
+ghost use Rattle.std.specs.List.{list_all};
+ghost use Rattle.table_types.specs.declared.data_type.Shape.{Shape};
+ghost use Rattle.table_types.specs.Changes.{cell_types};
+ghost use Rattle.table_types.specs.Tables.{has_its_period, is_definition};
+ghost use Rattle.table_types.specs.Updates.{value_fits};
+ghost use Rattle.table_types.specs.Rotation.{turned};
+ghost use Rattle.table_rows.specs.Rows.{is_live};
+ghost use Rattle.table_cell.specs.Machine.{is_copied, is_unacked, last_number};
+ghost use Rattle.table_cell.specs.Soundness.{CellsFit, EndFits, EntryFits, IsSound};
+ghost use Rattle.table_cell.specs.Copying.{life_left, update_of, value_of, values_of};
+
+use crate::table::Table;
+use std::alloc::Global;
+use table_rows::is_live;
+use table_types::{
+    Cell, CopyKind, DataType, Key, Memory, Moment, Row, Shape, ShortList, TableDef, Update, Value,
+    rotate,
+};
+
+/// Returns whether a copy of `kind` includes the row.
+fn is_copied(kind: CopyKind, row: &Row) -> bool
+    ensures { result ≡ is_copied kind row.now }
+{
+    match kind {
+        CopyKind::Push => !row.is_learned(),
+        CopyKind::Resync => true,
+    }
+}
+
+/// Returns whether a copy of `kind` at `now` includes the row.
+fn is_copied_at(kind: CopyKind, row: &Row, now: Moment) -> bool
+    ensures { result ≡ (is_copied kind row.now && is_live now row.now) }
+{
+    is_copied(kind, row) && is_live(row, now)
+}
+
+/// Returns the cell as of `now`: rotated, if it is a rate with a period.
+fn turned(cell: Cell, period: Option<u32>, now: Moment) -> Cell
+    ensures { result ≡ turned now period cell }
+{
+    match period {
+        Some(period) => rotate(cell, period, now),
+        None => cell,
+    }
+}
+
+/// Returns the value of a cell in an update at `now`. The age of a rate's period must fit the value.
+fn value_of(cell: Cell, now: Moment) -> Value
+    requires { (shape : Shape) × (value_fits shape (value_of now cell) ≡ true) }
+    ensures { result ≡ value_of now cell }
+{
+    match cell {
+        Cell::Count(count) => Value::Count(count),
+        Cell::Rate {
+            start,
+            current,
+            previous,
+        } => Value::Rate {
+            elapsed: now.milliseconds().saturating_sub(start) as u32,
+            current,
+            previous,
+        },
+    }
+}
+
+fn values_of(
+    alloc: Global,
+    types: &[(DataType, Option<u32>)],
+    cells: &[Cell],
+    now: Moment,
+) -> Result<ShortList<Value>, Memory>
+    requires cells { CellsFit now (cell_types types.now) cells.now }
+    requires periods { list_all has_its_period types.now ≡ true }
+    ensures { IfOk result (λ values. values ≡ values_of now types.now cells.now) }
+{
+    let mut rest = cells;
+    let mut values = ShortList::with_capacity(alloc, cells.len())?;
+    for entry in types {
+        if entry.0.shape() == Shape::Name {
+            continue;
+        }
+        let Some((cell, others)) = rest.split_first() else {
+            return Ok(values);
+        };
+        values = values.with(alloc, value_of(turned(*cell, entry.1, now), now))?;
+        rest = others;
+    }
+    Ok(values)
+}
+
+/// Returns the remaining life of a row in milliseconds, and 0 if it never expires.
+fn life_left(row: &Row, expire: u32, now: Moment) -> u32
+    requires { EndFits now expire row.now.ends }
+    ensures { result ≡ life_left now row.now.ends }
+{
+    match row.ends() {
+        Some(end) => end.milliseconds().saturating_sub(now.milliseconds()) as u32,
+        None => 0,
+    }
+}
+
+/// Returns the row as an update at `now`.
+fn update_of(
+    alloc: Global,
+    definition: &TableDef,
+    key: &Key,
+    row: &Row,
+    now: Moment,
+) -> Result<Update, Memory>
+    requires defined { is_definition definition.now ≡ true }
+    requires fits { EntryFits definition.now now (key.now, row.now) }
+    ensures { IfOk result (λ update. update ≡ update_of definition.now now (key.now, row.now)) }
+{
+    let values = values_of(alloc, definition.types(), row.cells(), now)?;
+    let name = match row.name() {
+        Some(name) => Some(name.copy(alloc)?),
+        None => None,
+    };
+    Ok(Update {
+        table: definition.id(),
+        number: row.number(),
+        life: Some(life_left(row, definition.expire(), now)),
+        key: key.copy(alloc)?,
+        values,
+        name,
+    })
+}
+
+impl Table {
+    /// Returns the first row above `number`, in ascending order of number, that a copy of `kind` includes. Doesn't
+    /// allocate.
+    pub(crate) fn first_unacked(
+        &self,
+        number: u32,
+        kind: CopyKind,
+        now: Moment,
+    ) -> Option<(&Key, &Row)>
+        ensures { option_map (λ e. (e.0.now, e.1.now)) result ≡ slice_get (filter (is_unacked kind number now) self.now.rows) 0 }
+    {
+        for (key, row) in self.stock.above(self.copy_start(kind, number)) {
+            if is_copied_at(kind, row, now) {
+                return Some((key, row));
+            }
+        }
+        None
+    }
+
+    /// Returns the updates of the rows above `number` that a copy of `kind` includes, in ascending order of number, at
+    /// most `limit` of them.
+    pub(crate) fn unacked(
+        &self,
+        number: u32,
+        kind: CopyKind,
+        limit: usize,
+        now: Moment,
+    ) -> Result<Vec<Update>, Memory>
+        requires sound { IsSound self.now }
+        requires later { self.now.latest ≤ now }
+        ensures { IfOk result (λ updates. updates.items ≡ take limit (map (update_of self.now.definition now) (filter (is_unacked kind number now) self.now.rows))) }
+    {
+        let mut updates = Vec::new(self.alloc);
+        for (key, row) in self.stock.above(self.copy_start(kind, number)) {
+            if updates.len() >= limit {
+                break;
+            }
+            if is_copied_at(kind, row, now) {
+                updates.push(update_of(self.alloc, &self.definition, key, row, now)?)?;
+            }
+        }
+        Ok(updates)
+    }
+}
+
+/// Returns the number of the last update, or `least` if there are no updates.
+pub(crate) fn last_number(updates: &[Update], least: u32) -> u32
+    ensures { result ≡ last_number least updates.now }
+{
+    match updates.last() {
+        Some(update) => update.number,
+        None => least,
+    }
+}

@@ -1,0 +1,194 @@
+//! The rows of a table with their numbers.
+
+ghost use Rattle.std.specs.Prelude.{◌≡◌, ◌≤◌, ◌<◌, ◌+◌, ◌^◌, [], ◌∷◌, ◌++◌, nat_lt, not, filter, length, IfNone, IfOk, IfSome, OnErr, OnOk, option_copied};
+ghost use Rattle.std.specs.Bool.{OnFalse, OnTrue};
+ghost use Rattle.std.specs.List.Sorted.{IsStrictlySortedBy};
+ghost use Rattle.std.specs.Map.{keys_of};
+ghost use Rattle.table_types.specs.declared.key.Key.{Key};
+ghost use Rattle.table_types.specs.Keys.{key_cmp};
+ghost use Rattle.table_rows.specs.Rows.{IsFirstToEnd, is_live, row_at};
+ghost use Rattle.update_numbers.specs.Index.{pairs_without};
+ghost use Rattle.update_numbers.specs.Numbers.{Numbering, pushed};
+ghost use Rattle.table_cell.specs.Machine.{without};
+ghost use Rattle.table_cell.specs.Stock.{IsStock, left_for, number_of};
+
+use crate::above::Above;
+use std::alloc::Global;
+use std::marker::Model;
+use table_rows::Rows;
+use table_types::{Key, Memory, Moment, Row};
+use update_numbers::NumberedKeys;
+
+/// The rows of a table by key, with the numbers assigned to them, and the next number to assign.
+#[derive(Drop)]
+pub(crate) struct Stock<R: Rows> {
+    alloc: Global,
+    rows: R,
+    numbers: NumberedKeys,
+}
+
+impl<R: Rows> Model for Stock<R> {
+    ghost use Rattle.table_cell.specs.Stock.{AreKept, Stocked, rows_of, stocked};
+
+    ghost Value = { Stocked };
+
+    ghost view = { λ a. stocked a.numbers.next (rows_of (R.content a.rows) a.numbers.pairs) };
+
+    ghost invariant = { λ a. AreKept (R.content a.rows) a.numbers.pairs a.numbers.next };
+}
+
+/// Removes the number of `row`, if there is one. Doesn't allocate.
+fn drop_number(numbers: &mut NumberedKeys, row: Option<Row>)
+    ensures { numbers.new ≡ record { pairs = pairs_without (number_of row) numbers.old.pairs; next = numbers.old.next } }
+{
+    if let Some(row) = row {
+        numbers.remove(row.number());
+    }
+}
+
+/// Takes back the last number assigned. Doesn't allocate.
+fn take_back(numbers: &mut NumberedKeys)
+    ensures { (before : Numbering) (key : Key) → numbers.old ≡ pushed key before → numbers.new ≡ before }
+{
+    numbers.pop();
+}
+
+impl<R: Rows> Stock<R> {
+    /// Makes a stock without rows, whose next number is `first`. Doesn't allocate.
+    pub(crate) fn new(alloc: Global, rows: R, first: u32) -> Stock<R>
+        requires none { R.content rows ≡ [] }
+        requires first { 1 ≤ first }
+        ensures { result ≡ record { rows = []; next = first } }
+    {
+        Stock {
+            alloc,
+            rows,
+            numbers: NumberedKeys::new(alloc, first),
+        }
+    }
+
+    /// Returns the next number to assign, or 2^32 if all are assigned.
+    pub(crate) fn next(&self) -> u64
+        ensures next { result ≡ self.now.next }
+        ensures sound { IsStock self.now }
+    {
+        self.numbers.next()
+    }
+
+    /// Returns the number of rows.
+    pub(crate) fn len(&self) -> usize
+        ensures { result ≡ length self.now.rows }
+    {
+        self.numbers.len()
+    }
+
+    /// Returns the row of `key`.
+    pub(crate) fn row(&self, key: &Key) -> Option<&Row>
+        ensures { option_copied result ≡ row_at key.now self.now.rows }
+    {
+        self.rows.get(key)
+    }
+
+    /// Returns the key of the first row to end, or `None` if there are no rows.
+    pub(crate) fn first_to_end(&self) -> Option<&Key>
+        ensures first { IfSome result (λ key. IsFirstToEnd self.now.rows key.now) }
+        ensures none { IfNone result (self.now.rows ≡ []) }
+    {
+        self.rows.first_to_end()
+    }
+
+    /// Stores `row`, which has the next number, in place of the key's. If memory runs out, nothing has changed.
+    fn store(&mut self, key: Key, row: Row) -> Result<(), Memory>
+        requires number { row.number ≡ self.old.next }
+        requires left { self.old.next < 2 ^ 32 }
+        ensures stored { OnOk result (self.new ≡ record { rows = without key self.old.rows ++ (key, row) ∷ []; next = self.old.next + 1 }) }
+        ensures stays { OnErr result (self.new ≡ self.old) }
+    {
+        self.numbers.push(key.copy(self.alloc)?)?;
+        let Ok(older) = self.rows.put(key, row) else {
+            take_back(&mut self.numbers);
+            return Err(Memory);
+        };
+        drop_number(&mut self.numbers, older);
+        Ok(())
+    }
+
+    /// Removes the row of `key`. Doesn't allocate.
+    fn take(&mut self, key: &Key)
+        ensures { self.new ≡ record { rows = without key.now self.old.rows; next = self.old.next } }
+    {
+        let row = self.rows.take(key);
+        drop_number(&mut self.numbers, row);
+    }
+
+    /// Stores `row`, which has the next number, in place of the key's. If the key had none, removes the row of
+    /// `leaving`, if there is one, to make room. If memory runs out, nothing has changed.
+    pub(crate) fn put(&mut self, key: Key, row: Row, leaving: Option<Key>) -> Result<(), Memory>
+        requires number { row.number ≡ self.old.next }
+        requires left { self.old.next < 2 ^ 32 }
+        requires first { IfSome leaving (IsFirstToEnd self.old.rows) }
+        ensures put { OnOk result (self.new ≡ record { rows = without key (left_for key leaving self.old.rows) ++ (key, row) ∷ []; next = self.old.next + 1 }) }
+        ensures stays { OnErr result (self.new ≡ self.old) }
+    {
+        let before = self.len();
+        self.store(key, row)?;
+        if self.len() <= before {
+            return Ok(());
+        }
+        if let Some(leaving) = leaving {
+            self.take(&leaving);
+        }
+        Ok(())
+    }
+
+    /// Removes one row that isn't live at `now`, and returns whether there was one. Doesn't allocate.
+    fn take_one_ended(&mut self, now: Moment) -> bool
+        ensures live { filter (λ e. is_live now e.1) self.new.rows ≡ filter (λ e. is_live now e.1) self.old.rows }
+        ensures next { self.new.next ≡ self.old.next }
+        ensures one { OnTrue result (length self.new.rows + 1 ≡ length self.old.rows) }
+        ensures none { OnFalse result (filter (λ e. is_live now e.1) self.new.rows ≡ self.new.rows) }
+    {
+        let Some((_, ended)) = self.rows.take_ended(now) else {
+            return false;
+        };
+        drop_number(&mut self.numbers, Some(ended));
+        true
+    }
+
+    /// Removes the rows that aren't live at `now`. Doesn't allocate.
+    fn drop_ended(&mut self, now: Moment)
+        ensures { self.new ≡ record { rows = filter (λ e. is_live now e.1) self.old.rows; next = self.old.next } }
+    {
+        let most = self.len();
+        for _ in 0..most {
+            if !self.take_one_ended(now) {
+                return;
+            }
+        }
+    }
+
+    /// Removes the rows that aren't live at `now`, and returns their number. Doesn't allocate.
+    pub(crate) fn take_ended(&mut self, now: Moment) -> usize
+        ensures live { self.new ≡ record { rows = filter (λ e. is_live now e.1) self.old.rows; next = self.old.next } }
+        ensures count { result ≡ length (filter (λ e. not (is_live now e.1)) self.old.rows) }
+    {
+        let before = self.len();
+        self.drop_ended(now);
+        before - self.len()
+    }
+
+    /// Returns the rows above `number` with their keys, in ascending order of number. Doesn't allocate.
+    pub(crate) fn above(&self, number: u32) -> Above<'_, R>
+        ensures { result ≡ filter (λ e. nat_lt number e.1.number) self.now.rows }
+    {
+        Above::new(self.numbers.above(number), &self.rows)
+    }
+
+    /// Returns copies of the rows with their keys, in ascending order of key.
+    pub(crate) fn list(&self) -> Result<Vec<(Key, Row)>, Memory>
+        ensures rising { IfOk result (λ list. IsStrictlySortedBy key_cmp (keys_of list.items)) }
+        ensures each { IfOk result (λ list. (key : Key) → row_at key list.items ≡ row_at key self.now.rows) }
+    {
+        self.rows.list()
+    }
+}

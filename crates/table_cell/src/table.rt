@@ -1,0 +1,200 @@
+//! The state of a stick table.
+
+ghost use Rattle.std.specs.Prelude.{◌≡◌, ◌≤◌, ◌<◌, ◌^◌, IfOk, IfSome, List, nat_lt, OnErr, OnOk, filter, length, not, option_copied};
+ghost use Rattle.std.specs.List.{list_all};
+ghost use Rattle.table_types.specs.declared.key.Key.{Key};
+ghost use Rattle.table_types.specs.Rows.{StoredRow};
+ghost use Rattle.table_rows.specs.Rows.{IsFirstToEnd, is_live};
+ghost use Rattle.table_cell.specs.Stock.{AreInRisingKey};
+ghost use Rattle.table_cell.specs.Machine.{Leaves, has_room, is_full, learned, live_row, new_table, stored, tracked};
+ghost use Rattle.table_cell.specs.Stock.{left_for};
+
+use crate::learned_run::LearnedRun;
+use crate::progress::Progress;
+use crate::stock::Stock;
+use std::alloc::Global;
+use std::marker::Model;
+use table_rows::{MapRows, is_live};
+use table_types::{Change, Key, Memory, Moment, Row, TableDef, Update};
+
+/// A stick table: its parameters, its rows, the latest moment, and its open sessions.
+#[derive(Drop)]
+pub(crate) struct Table {
+    pub(crate) alloc: Global,
+    pub(crate) definition: TableDef,
+    pub(crate) size: usize,
+    pub(crate) nopurge: bool,
+    pub(crate) stock: Stock<MapRows>,
+    pub(crate) latest: Moment,
+    pub(crate) sessions: Vec<(u32, Progress)>,
+    pub(crate) learned_run: LearnedRun,
+}
+
+impl Model for Table {
+    ghost use Rattle.table_cell.specs.LearnedRuns.{IsLearnedRun};
+    ghost use Rattle.table_cell.specs.Machine.{TableState};
+
+    ghost Value = { TableState };
+
+    ghost view = { λ t. record { definition = t.definition; size = t.size; nopurge = t.nopurge; rows = t.stock.rows; next = t.stock.next; latest = t.latest; sessions = t.sessions.items } };
+
+    ghost invariant = { λ t. IsLearnedRun t.learned_run.after t.learned_run.last t.stock.next t.stock.rows };
+}
+
+impl Table {
+    /// Makes a table without rows or sessions, whose next number is `first`. Doesn't allocate.
+    pub(crate) fn new(
+        alloc: Global,
+        definition: TableDef,
+        size: usize,
+        nopurge: bool,
+        first: u32,
+    ) -> Table
+        requires { 1 ≤ first }
+        ensures { result ≡ new_table definition size nopurge first }
+    {
+        Table {
+            alloc,
+            definition,
+            size,
+            nopurge,
+            stock: Stock::new(alloc, MapRows::new(alloc), first),
+            latest: Moment::least(),
+            sessions: Vec::new(alloc),
+            learned_run: LearnedRun { after: 0, last: 0 },
+        }
+    }
+
+    /// Returns the table's allocator.
+    pub(crate) fn alloc(&self) -> Global {
+        self.alloc
+    }
+
+    /// Returns the table's definition.
+    pub(crate) fn definition(&self) -> &TableDef
+        ensures { result.now ≡ self.now.definition }
+    {
+        &self.definition
+    }
+
+    /// Returns copies of the rows with their keys, in ascending order of key.
+    pub(crate) fn rows(&self) -> Result<Vec<(Key, Row)>, Memory>
+        ensures { IfOk result (λ list. AreInRisingKey self.now.rows list.items) }
+    {
+        self.stock.list()
+    }
+
+    /// Returns whether `now` is before the latest moment of an event.
+    pub(crate) fn is_past(&self, now: Moment) -> bool
+        ensures past { result ≡ nat_lt now self.now.latest }
+        ensures timely { now < 2 ^ 63 }
+    {
+        now.milliseconds() < self.latest.milliseconds()
+    }
+
+    /// Returns whether a row of `key` displaces no other: the key has a row, or there is room for one more.
+    pub(crate) fn has_room(&self, key: &Key) -> bool
+        ensures { result ≡ has_room self.now key.now }
+    {
+        self.stock.len() < self.size || self.stock.row(key).is_some()
+    }
+
+    fn are_live(&self, now: Moment) -> bool
+        ensures { result ≡ list_all (λ e. is_live now e.1) self.now.rows }
+    {
+        let Some(first) = self.stock.first_to_end() else {
+            return true;
+        };
+        match self.stock.row(first) {
+            Some(row) => is_live(row, now),
+            None => true,
+        }
+    }
+
+    /// Returns whether a row of `key` would displace another, all rows are live, and the table has `nopurge`.
+    pub(crate) fn is_full(&self, key: &Key, now: Moment) -> bool
+        ensures { result ≡ is_full self.now key.now now }
+    {
+        self.nopurge && !self.has_room(key) && self.are_live(now)
+    }
+
+    /// Returns the row of `key`, if it is live.
+    fn live_row(&self, key: &Key, now: Moment) -> Option<&Row>
+        ensures { option_copied result ≡ live_row key.now now self.now }
+    {
+        match self.stock.row(key) {
+            Some(row) if is_live(row, now) => Some(row),
+            _ => None,
+        }
+    }
+
+    /// Returns the next number to assign. There must be one left.
+    pub(crate) fn next(&self) -> u32
+        requires { self.now.next < 2 ^ 32 }
+        ensures { result ≡ self.now.next }
+    {
+        self.stock.next() as u32
+    }
+
+    /// Returns the row that `change` makes, under the next number. There must be a number left.
+    pub(crate) fn tracked(&self, key: &Key, change: &Change, now: Moment) -> Result<Row, Memory>
+        requires { self.now.next < 2 ^ 32 }
+        ensures { IfOk result (λ row. row ≡ tracked self.now key.now change.now now) }
+    {
+        let live = self.live_row(key, now);
+        Row::tracked(self.alloc, &self.definition, live, change, self.next(), now)
+    }
+
+    /// Returns the row that `update` makes, under the next number. There must be a number left.
+    pub(crate) fn learned(&self, update: &Update, now: Moment) -> Result<Row, Memory>
+        requires { self.now.next < 2 ^ 32 }
+        ensures { IfOk result (λ row. row ≡ learned self.now update.now now) }
+    {
+        Row::learned_as(
+            self.alloc,
+            update,
+            self.next(),
+            self.definition.expire(),
+            now,
+        )
+    }
+
+    /// Returns the key of the row that has to be removed to store a row of a new key, or `None` if there is room.
+    fn leaving(&self) -> Result<Option<Key>, Memory>
+        requires { 1 ≤ self.now.size }
+        ensures leaves { IfOk result (λ leaving. (key : Key) → Leaves self.now key (left_for key leaving self.now.rows)) }
+        ensures first { IfOk result (λ leaving. IfSome leaving (IsFirstToEnd self.now.rows)) }
+    {
+        if self.stock.len() < self.size {
+            return Ok(None);
+        }
+        match self.stock.first_to_end() {
+            Some(first) => Ok(Some(first.copy(self.alloc)?)),
+            None => Ok(None),
+        }
+    }
+
+    /// Stores `row`, which has the next number, in place of the key's, and removes the first row to end if there is no
+    /// room for it. `now` becomes the latest moment. If memory runs out, nothing has changed.
+    pub(crate) fn store(&mut self, key: Key, row: Row, now: Moment) -> Result<(), Memory>
+        requires some { 1 ≤ self.old.size }
+        requires number { row.number ≡ self.old.next }
+        requires left { self.old.next < 2 ^ 32 }
+        ensures stored { OnOk result ((rest : List (Key × StoredRow)) × Leaves self.old key rest × (self.new ≡ stored self.old key row now rest)) }
+        ensures stays { OnErr result (self.new ≡ self.old) }
+    {
+        let leaving = self.leaving()?;
+        self.stock.put(key, row, leaving)?;
+        self.latest = now;
+        Ok(())
+    }
+
+    /// Removes the rows that aren't live at `now`, and returns their number. Doesn't allocate.
+    pub(crate) fn purge(&mut self, now: Moment) -> usize
+        ensures live { self.new ≡ record self.old { rows = filter (λ row. is_live now row.1) self.old.rows; latest = now } }
+        ensures count { result ≡ length (filter (λ row. not (is_live now row.1)) self.old.rows) }
+    {
+        self.latest = now;
+        self.stock.take_ended(now)
+    }
+}
