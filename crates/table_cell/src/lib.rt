@@ -8,6 +8,7 @@ mod batches;
 mod calls;
 mod cell;
 mod copying;
+mod entry;
 mod errors;
 mod events;
 mod handing;
@@ -21,6 +22,7 @@ mod table;
 mod tracking;
 
 pub use cell::TableCell;
+pub use entry::Entry;
 pub use errors::{
     AckError, CloseError, CopyError, LearnError, OpenError, PurgeError, StrangeBatch, TrackError,
 };
