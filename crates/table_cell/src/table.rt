@@ -198,6 +198,9 @@ impl Table {
     pub(crate) fn count_ended(&self, now: Moment) -> usize
         ensures { result ≡ length (filter (λ row. not (is_live now row.1)) self.now.rows) }
     {
+        if self.are_live(now) {
+            return 0;
+        }
         self.stock.count_ended(now)
     }
 
