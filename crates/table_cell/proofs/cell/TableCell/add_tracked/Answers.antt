@@ -1,8 +1,6 @@
-use Rattle.std.proofs.Common.{◌≡◌, ◌<◌, ◌^◌, Option, None, false, refl, sym, ap, subst, ◌∙◌}
-use Rattle.std.specs.Prelude.{IfNone}
+use Rattle.std.proofs.Common.{◌≡◌, None, false, refl, sym, ap, subst, ◌∙◌}
 use Rattle.table_cell.specs.declared.events.CellEvent.TheVariants as events
 use Rattle.table_cell.specs.declared.events.CellReply.TheVariants as replies
-use Rattle.table_cell.specs.Cells.{cell_of}
 use Rattle.table_cell.specs.Histories.{CellState, is_history_full}
 use Rattle.table_cell.specs.Machine.{track_refusal}
 use Rattle.table_cell.specs.Parts.{reply_of}

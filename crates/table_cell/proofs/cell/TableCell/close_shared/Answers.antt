@@ -1,12 +1,10 @@
-use Rattle.std.proofs.Common.{◌≡◌, ◌<◌, ◌^◌, Option, None, false, refl, sym, ap, subst, ◌∙◌}
-use Rattle.std.specs.Prelude.{IfNone}
+use Rattle.std.proofs.Common.{◌≡◌, None, false, refl, sym, ap, ◌∙◌}
 use Rattle.table_cell.specs.declared.events.CellEvent.TheVariants as events
 use Rattle.table_cell.specs.declared.events.CellReply.TheVariants as replies
-use Rattle.table_cell.specs.Cells.{cell_of}
-use Rattle.table_cell.specs.Histories.{CellState, is_history_full}
+use Rattle.table_cell.specs.Histories.{is_history_full}
 use Rattle.table_cell.specs.Machine.{close_refusal}
 use Rattle.table_cell.proofs.RefusalLaws.{close_granted}
-use Rattle.table_cell.proofs.HistoryLaws.{call_made, cell_goes_on}
+use Rattle.table_cell.proofs.HistoryLaws.{cell_goes_on}
 use Rattle.table_cell.proofs.cell.TableCell.close_shared.Goals as goal
 
 pub invariant_of-self-2 : goal.invariant_of-self-2

@@ -2,12 +2,11 @@ use Rattle.std.proofs.Common.{◌≡◌, ◌<◌, ◌^◌, Option, None, false, 
 use Rattle.std.specs.Prelude.{IfNone}
 use Rattle.table_cell.specs.declared.events.CellEvent.TheVariants as events
 use Rattle.table_cell.specs.declared.events.CellReply.TheVariants as replies
-use Rattle.table_cell.specs.Cells.{cell_of}
-use Rattle.table_cell.specs.Histories.{CellState, is_history_full}
+use Rattle.table_cell.specs.Histories.{is_history_full}
 use Rattle.table_cell.specs.declared.errors.PurgeError.{PurgeError}
 use Rattle.table_cell.specs.Machine.{purge_refusal}
 use Rattle.table_cell.proofs.RefusalLaws.{purge_granted}
-use Rattle.table_cell.proofs.HistoryLaws.{call_made, cell_goes_on}
+use Rattle.table_cell.proofs.HistoryLaws.{cell_goes_on}
 use Rattle.table_cell.proofs.cell.TableCell.purge_with_reply.Goals as goal
 
 pub invariant_of-self-2 : goal.invariant_of-self-2

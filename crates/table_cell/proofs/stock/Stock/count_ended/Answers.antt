@@ -1,4 +1,4 @@
-use Rattle.std.proofs.Common.{◌≡◌, ◌+◌, ◌∙◌, List, ap, arith, length, not}
+use Rattle.std.proofs.Common.{◌≡◌, ◌∙◌, List, ap, arith, length}
 use Rattle.std.specs.Prelude.{filter}
 use Rattle.table_types.specs.declared.key.Key.{Key}
 use Rattle.table_types.specs.Rows.{StoredRow}
