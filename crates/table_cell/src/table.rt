@@ -189,12 +189,18 @@ impl Table {
         Ok(())
     }
 
-    /// Removes the rows that aren't live at `now`, and returns their number. Doesn't allocate.
-    pub(crate) fn purge(&mut self, now: Moment) -> usize
-        ensures live { self.new ≡ record self.old { rows = filter (λ row. is_live now row.1) self.old.rows; latest = now } }
-        ensures count { result ≡ length (filter (λ row. not (is_live now row.1)) self.old.rows) }
+    /// Returns how many rows aren't live at `now`. Doesn't allocate.
+    pub(crate) fn count_ended(&self, now: Moment) -> usize
+        ensures { result ≡ length (filter (λ row. not (is_live now row.1)) self.now.rows) }
+    {
+        self.stock.count_ended(now)
+    }
+
+    /// Removes the rows that aren't live at `now`. Doesn't allocate.
+    pub(crate) fn purge(&mut self, now: Moment)
+        ensures { self.new ≡ record self.old { rows = filter (λ row. is_live now row.1) self.old.rows; latest = now } }
     {
         self.latest = now;
-        self.stock.take_ended(now)
+        self.stock.drop_ended(now);
     }
 }

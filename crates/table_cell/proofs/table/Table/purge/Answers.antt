@@ -5,4 +5,4 @@ use Rattle.table_cell.proofs.table.Table.purge.Goals as goal
 pub invariant_of-self : goal.invariant_of-self
 invariant_of-self c =
     let run = c.self.inside.learned_run in
-    rw c.take_ended.ensures.live (run_kept (λ e. is_live c.args.now e.1) run.after run.last c.self.inside.stock.next c.self.inside.stock.rows c.self.invariant)
+    rw c.drop_ended.ensures (run_kept (λ e. is_live c.args.now e.1) run.after run.last c.self.inside.stock.next c.self.inside.stock.rows c.self.invariant)

@@ -9,7 +9,7 @@ use Rattle.table_cell.specs.Machine.{copy_refusal}
 use Rattle.table_cell.proofs.CopyLaws.{copy_free}
 use Rattle.table_cell.proofs.RunLaws.{made_sound}
 use Rattle.table_cell.proofs.HistoryLaws.{is_made}
-use Rattle.table_cell.proofs.cell.TableCell.copy_pair.Goals as goal
+use Rattle.table_cell.proofs.cell.TableCell.copy_with_reply.Goals as goal
 
 pub invariant_of-self-2 : goal.invariant_of-self-2
 invariant_of-self-2 c =
@@ -18,7 +18,7 @@ invariant_of-self-2 c =
     let room : is_history_full (cell_of c.self.inside.first c.self.inside.table c.self.inside.history.items) ≡ false = ap is_history_full c.self.view_is ∙ sym c.is_history_full-full.ensures ∙ granted.0 in
     let timely = subst (λ (r : Option CopyError). IfNone r (c.args.now < 2 ^ 63)) c.in_default.is c.copy_refusal.ensures.timely in
     record {
-      sound = made_sound (cell_of c.self.inside.first c.self.inside.table c.self.inside.history.items) (cell_of c.self.inside.first c.copy_pair.new.table c.copy_pair.new.history.items) (events.Copy c.args.session c.args.kind c.args.limit c.args.now) (replies.Copy c.in-Ok.pair.0) timely room c.self.invariant.sound
-          (is_made c.self.inside.first c.self.inside.table c.copy_pair.new.table c.self.inside.history.items c.copy_pair.new.history.items (events.Copy c.args.session c.args.kind c.args.limit c.args.now) (replies.Copy c.in-Ok.pair.0) c.in-Ok.ensures.step c.in-Ok.ensures.event);
+      sound = made_sound (cell_of c.self.inside.first c.self.inside.table c.self.inside.history.items) (cell_of c.self.inside.first c.copy.new.table c.copy.new.history.items) (events.Copy c.args.session c.args.kind c.args.limit c.args.now) (replies.Copy c.in-Ok.copied.0) timely room c.self.invariant.sound
+          (is_made c.self.inside.first c.self.inside.table c.copy.new.table c.self.inside.history.items c.copy.new.history.items (events.Copy c.args.session c.args.kind c.args.limit c.args.now) (replies.Copy c.in-Ok.copied.0) c.in-Ok.ensures.step c.in-Ok.ensures.event);
       latest = c.in-Ok.ensures.latest;
     }
