@@ -7,8 +7,7 @@ use Rattle.table_types.specs.declared.key.Key.TheVariants as keys
 use Rattle.table_cell.specs.Histories.{CellState, events_of}
 use Rattle.table_cell.specs.declared.events.CellEvent.TheVariants as events
 use Rattle.table_cell.specs.declared.events.CellReply.{CellReply}
-use Rattle.table_shards.specs.declared.receipt.Receipt.{Receipt}
-use Rattle.table_shards.specs.Receipts.{SeatState, receipts_of}
+use Rattle.table_shards.specs.Receipts.{ReceiptState, SeatState, receipts_of}
 use Rattle.table_shards.specs.declared.errors.ShardError.{ShardError}
 use Rattle.table_shards.specs.Holding.{Holds, receipted}
 use Rattle.table_shards.proofs.PageLaws.{one_more}
@@ -21,7 +20,7 @@ none_tracked key s = (refl, [], sym (append-nil (receipts_of 1 s)), refl, tt)
 tracked_once : (key : ℕ) (s : SeatState) (c : CellState) (reply : CellReply)
     → GainsTracks key 1 s (receipted 1 c s (events.Track s.number (keys.Int key) (changes.Add types.Gpc0 1) 4294967296) reply)
 tracked_once key s c reply =
-    let r : Receipt = record { place = events_of c + 1; event = events.Track s.number (keys.Int key) (changes.Add types.Gpc0 1) 4294967296; reply = reply } in
+    let r : ReceiptState = record { place = events_of c + 1; event = events.Track s.number (keys.Int key) (changes.Add types.Gpc0 1) 4294967296; reply = reply } in
     (refl, r ∷ [], one_more s 1 r, refl, (refl, tt))
 
 pub one_tracked : (key now : ℕ) (s e : SeatState) (c : CellState) (reply : CellReply) → now ≡ 4294967296
@@ -35,7 +34,7 @@ pub one_more_tracked : (key n : ℕ) (s m e : SeatState) → GainsTracks key n s
 one_more_tracked key n s m e (same, made, before, count, all) (again, more, after, one, last) = (
   again ∙ same,
   made ++ more,
-  after ∙ (ap (λ (rs : List Receipt). rs ++ more) before ∙ append_assoc (receipts_of 1 s) made more),
+  after ∙ (ap (λ (rs : List ReceiptState). rs ++ more) before ∙ append_assoc (receipts_of 1 s) made more),
   length-append made more ∙ (ap (λ (k : ℕ). k + length more) count ∙ ap (λ (k : ℕ). n + k) one),
   all_both (IsTrack s.number key) made more all (subst (λ (k : ℕ). AllByRecursion (IsTrack k key) more) same last),
 )

@@ -6,54 +6,53 @@ use Rattle.std.proofs.lemmas.Option.{slice_get_within}
 use Rattle.table_cell.specs.declared.events.CellEvent.{CellEvent}
 use Rattle.table_cell.specs.declared.events.CellReply.{CellReply}
 use Rattle.table_cell.specs.Histories.{CellState, events_of, event_in}
-use Rattle.table_shards.specs.declared.receipt.Receipt.{Receipt}
-use Rattle.table_shards.specs.Receipts.{SeatState, all_receipts, times}
+use Rattle.table_shards.specs.Receipts.{ReceiptState, SeatState, all_receipts, times}
 use Rattle.table_shards.specs.Agreement.{Agree, IsEntry, id_of}
 use Rattle.table_shards.proofs.AllLaws.{all_so}
 use Rattle.table_shards.proofs.PageLaws.{eqb_is, some_none}
 use Rattle.table_shards.proofs.ReceiptLaws.{times_here, times_other}
 
 -- the receipts of other places
-abbrev elsewhere : ℕ → List Receipt → List Receipt
+abbrev elsewhere : ℕ → List ReceiptState → List ReceiptState
 elsewhere place rs = filter (λ r. not (r.place == place)) rs
 
-elsewhere_here : (place : ℕ) (r : Receipt) (rs : List Receipt) → (r.place == place) ≡ true → elsewhere place (r ∷ rs) ≡ elsewhere place rs
+elsewhere_here : (place : ℕ) (r : ReceiptState) (rs : List ReceiptState) → (r.place == place) ≡ true → elsewhere place (r ∷ rs) ≡ elsewhere place rs
 elsewhere_here place r rs same = rw same refl
 
-elsewhere_other : (place : ℕ) (r : Receipt) (rs : List Receipt) → (r.place == place) ≡ false → elsewhere place (r ∷ rs) ≡ r ∷ elsewhere place rs
+elsewhere_other : (place : ℕ) (r : ReceiptState) (rs : List ReceiptState) → (r.place == place) ≡ false → elsewhere place (r ∷ rs) ≡ r ∷ elsewhere place rs
 elsewhere_other place r rs other = rw other refl
 
-parted : (place : ℕ) (rs : List Receipt) → length (elsewhere place rs) + times place rs ≡ length rs
+parted : (place : ℕ) (rs : List ReceiptState) → length (elsewhere place rs) + times place rs ≡ length rs
 parted place [] = refl
 parted place (r ∷ rs) = elim (cases_Bool (r.place == place)) [
   | inl same ↦
-      let shorter : length (elsewhere place (r ∷ rs)) ≡ length (elsewhere place rs) = ap (λ (xs : List Receipt). length xs) (elsewhere_here place r rs same) in
+      let shorter : length (elsewhere place (r ∷ rs)) ≡ length (elsewhere place rs) = ap (λ (xs : List ReceiptState). length xs) (elsewhere_here place r rs same) in
       omega (arith, parted place rs, shorter, times_here place r rs same)
   | inr other ↦
-      let longer : length (elsewhere place (r ∷ rs)) ≡ 1 + length (elsewhere place rs) = ap (λ (xs : List Receipt). length xs) (elsewhere_other place r rs other) ∙ omega arith in
+      let longer : length (elsewhere place (r ∷ rs)) ≡ 1 + length (elsewhere place rs) = ap (λ (xs : List ReceiptState). length xs) (elsewhere_other place r rs other) ∙ omega arith in
       omega (arith, parted place rs, longer, times_other place r rs other)
 ]
 
 -- the counts of other places stay
-still : (place other : ℕ) (rs : List Receipt) → (place ≡ other → ⊥) → times other (elsewhere place rs) ≡ times other rs
+still : (place other : ℕ) (rs : List ReceiptState) → (place ≡ other → ⊥) → times other (elsewhere place rs) ≡ times other rs
 still place other [] apart = refl
 still place other (r ∷ rs) apart = elim (cases_Bool (r.place == place)) [
   | inl same ↦
       let here : r.place ≡ place = eqb_is r.place place same in
       let none = times_other other r rs (ne_eqb r.place other (λ is. apart (sym here ∙ is))) in
-      ap (λ (xs : List Receipt). times other xs) (elsewhere_here place r rs same) ∙ omega (arith, still place other rs apart, none)
+      ap (λ (xs : List ReceiptState). times other xs) (elsewhere_here place r rs same) ∙ omega (arith, still place other rs apart, none)
   | inr away ↦
-      ap (λ (xs : List Receipt). times other xs) (elsewhere_other place r rs away)
+      ap (λ (xs : List ReceiptState). times other xs) (elsewhere_other place r rs away)
       ∙ elim (cases_Bool (r.place == other)) [
         | inl there ↦ omega (arith, still place other rs apart, times_here other r rs there, times_here other r (elsewhere place rs) there)
         | inr gone ↦ omega (arith, still place other rs apart, times_other other r rs gone, times_other other r (elsewhere place rs) gone)
       ]
 ]
 
-abbrev Within : ℕ → ℕ → Receipt → Type 0
+abbrev Within : ℕ → ℕ → ReceiptState → Type 0
 Within low n r = (low < r.place) × (r.place ≤ low + n)
 
-fewer : (low n : ℕ) (rs : List Receipt) → AllByRecursion (Within low (suc n)) rs → AllByRecursion (Within low n) (elsewhere (low + suc n) rs)
+fewer : (low n : ℕ) (rs : List ReceiptState) → AllByRecursion (Within low (suc n)) rs → AllByRecursion (Within low n) (elsewhere (low + suc n) rs)
 fewer low n [] all = tt
 fewer low n (r ∷ rs) (first, rest) = elim (cases_Bool (r.place == low + suc n)) [
   | inl same ↦ subst (AllByRecursion (Within low n)) (sym (elsewhere_here (low + suc n) r rs same)) (fewer low n rs rest)
@@ -64,7 +63,7 @@ fewer low n (r ∷ rs) (first, rest) = elim (cases_Bool (r.place == low + suc n)
 ]
 
 -- if each of these places has one receipt, there are as many receipts as places
-pub as_many : (n low : ℕ) (rs : List Receipt) → AllByRecursion (Within low n) rs → ((place : ℕ) → low < place → place ≤ low + n → times place rs ≡ 1) → length rs ≡ n
+pub as_many : (n low : ℕ) (rs : List ReceiptState) → AllByRecursion (Within low n) rs → ((place : ℕ) → low < place → place ≤ low + n → times place rs ≡ 1) → length rs ≡ n
 as_many zero low [] all once = refl
 as_many zero low (r ∷ rs) (first, rest) once = absurd (omega (arith, first.0, first.1))
 as_many (suc n) low rs all once =

@@ -5,8 +5,7 @@ use Rattle.std.specs.List.{AllByRecursion}
 use Rattle.std.proofs.lemmas.Bool.{cond_both}
 use Rattle.std.proofs.lemmas.List.{take_more}
 use Rattle.table_cell.specs.Histories.{CellState, events_of}
-use Rattle.table_shards.specs.declared.receipt.Receipt.{Receipt}
-use Rattle.table_shards.specs.Receipts.{SeatState, PlacesRise, all_receipts, receipts_of, seen_of, times}
+use Rattle.table_shards.specs.Receipts.{ReceiptState, SeatState, PlacesRise, all_receipts, receipts_of, seen_of, times}
 use Rattle.table_shards.specs.Agreement.{Agree, AreEntries, Compares, IsEntry, IsLeastStray, OneOf, Strays, id_of, lesser}
 use Rattle.table_shards.proofs.AllLaws.{all_both, all_end, all_left, all_right, all_so}
 
@@ -64,16 +63,16 @@ next_taken ss i s lt is = take_more ss i s lt ∙ ap (λ (x : SeatState). take i
 
 -- ---- agreement
 
-both_hold : (P Q : Receipt → Type 0) (rs : List Receipt) → AllByRecursion P rs → AllByRecursion Q rs → AllByRecursion (λ r. P r × Q r) rs
+both_hold : (P Q : ReceiptState → Type 0) (rs : List ReceiptState) → AllByRecursion P rs → AllByRecursion Q rs → AllByRecursion (λ r. P r × Q r) rs
 both_hold P Q [] ps qs = tt
 both_hold P Q (r ∷ rs) (p, ps) (q, qs) = ((p, q), both_hold P Q rs ps qs)
 
 -- what holds of each seat's receipts holds of all of them
-joined : (P : Receipt → Type 0) (t : ℕ) (ss : List SeatState) → AllByRecursion (λ s. AllByRecursion P (receipts_of t s)) ss → AllByRecursion P (all_receipts t ss)
+joined : (P : ReceiptState → Type 0) (t : ℕ) (ss : List SeatState) → AllByRecursion (λ s. AllByRecursion P (receipts_of t s)) ss → AllByRecursion P (all_receipts t ss)
 joined P t [] all = tt
 joined P t (s ∷ ss) (first, rest) = all_both P (receipts_of t s) (all_receipts t ss) first (joined P t ss rest)
 
-apart : (P : Receipt → Type 0) (t : ℕ) (ss : List SeatState) → AllByRecursion P (all_receipts t ss) → AllByRecursion (λ s. AllByRecursion P (receipts_of t s)) ss
+apart : (P : ReceiptState → Type 0) (t : ℕ) (ss : List SeatState) → AllByRecursion P (all_receipts t ss) → AllByRecursion (λ s. AllByRecursion P (receipts_of t s)) ss
 apart P t [] all = tt
 apart P t (s ∷ ss) all = (all_left P (receipts_of t s) (all_receipts t ss) all, apart P t ss (all_right P (receipts_of t s) (all_receipts t ss) all))
 
@@ -135,7 +134,7 @@ pub agree_at : (b : Bool) (c : CellState) (began : ℕ) (ss : List SeatState) (t
     → MatchBool b (Once t began ss last) (Once t began ss last → ⊥) → MatchBool b (Agree c began ss) (Agree c began ss → ⊥)
 agree_at b c began ss t last is_table is_last own after rise once =
     agree_where b c began ss own
-    (subst (λ (id : ℕ). AllByRecursion (λ (r : Receipt). began < r.place) (all_receipts id ss)) is_table after)
+    (subst (λ (id : ℕ). AllByRecursion (λ (r : ReceiptState). began < r.place) (all_receipts id ss)) is_table after)
     (subst (λ (id : ℕ). AllByRecursion (λ (s : SeatState). PlacesRise 0 (receipts_of id s) (seen_of id s)) ss) is_table rise)
     (subst (λ (n : ℕ). MatchBool b (Once (id_of c) began ss n) (Once (id_of c) began ss n → ⊥)) is_last (subst (λ (id : ℕ). MatchBool b (Once id began ss last) (Once id began ss last → ⊥)) is_table once))
 
@@ -143,4 +142,4 @@ pub agree_not_at : (b : Bool) (c : CellState) (began : ℕ) (ss : List SeatState
     → MatchBool b (AllByRecursion (λ r. began < r.place) (all_receipts t ss)) (AllByRecursion (λ r. began < r.place) (all_receipts t ss) → ⊥)
     → MatchBool b (Agree c began ss) (Agree c began ss → ⊥)
 agree_not_at b c began ss t is_table not_so after =
-    agree_not b c began ss not_so (subst (λ (id : ℕ). MatchBool b (AllByRecursion (λ (r : Receipt). began < r.place) (all_receipts id ss)) (AllByRecursion (λ (r : Receipt). began < r.place) (all_receipts id ss) → ⊥)) is_table after)
+    agree_not b c began ss not_so (subst (λ (id : ℕ). MatchBool b (AllByRecursion (λ (r : ReceiptState). began < r.place) (all_receipts id ss)) (AllByRecursion (λ (r : ReceiptState). began < r.place) (all_receipts id ss) → ⊥)) is_table after)

@@ -5,8 +5,7 @@ use Rattle.std.proofs.lemmas.List.{take-set, drop-set, drop_more, get_or_default
 use Rattle.std.proofs.lemmas.Bool.{cases_Bool}
 use Rattle.std.proofs.lemmas.Bool.Decides.{nat_tests}
 use Rattle.table_shards.specs.declared.pages.Page.{Page}
-use Rattle.table_shards.specs.declared.receipt.Receipt.{Receipt}
-use Rattle.table_shards.specs.Receipts.{PageState, SeatState, page_at, page_with, pages_with, receipts_of, receipts_on, seen_of, seen_on, with_receipt, PlacesRise}
+use Rattle.table_shards.specs.Receipts.{ReceiptState, PageState, SeatState, page_at, page_with, pages_with, receipts_of, receipts_on, seen_of, seen_on, with_receipt, PlacesRise}
 use Rattle.table_shards.specs.Pages.{page_state, page_states, TablesDiffer, ArePages, IsPageAt}
 
 pub some_none : {A : Type 0} (x : A) → ◌≡◌ {A = Option A} (Some x) None → ⊥
@@ -37,10 +36,10 @@ page_here t p ps same = rw same refl
 page_there : (t : ℕ) (p : PageState) (ps : List PageState) → (p.table == t) ≡ false → page_at t (p ∷ ps) ≡ page_at t ps
 page_there t p ps other = rw other refl
 
-put_here : (t : ℕ) (r : Receipt) (p : PageState) (ps : List PageState) → (p.table == t) ≡ true → pages_with t r (p ∷ ps) ≡ page_with p r ∷ ps
+put_here : (t : ℕ) (r : ReceiptState) (p : PageState) (ps : List PageState) → (p.table == t) ≡ true → pages_with t r (p ∷ ps) ≡ page_with p r ∷ ps
 put_here t r p ps same = rw same refl
 
-put_there : (t : ℕ) (r : Receipt) (p : PageState) (ps : List PageState) → (p.table == t) ≡ false → pages_with t r (p ∷ ps) ≡ p ∷ pages_with t r ps
+put_there : (t : ℕ) (r : ReceiptState) (p : PageState) (ps : List PageState) → (p.table == t) ≡ false → pages_with t r (p ∷ ps) ≡ p ∷ pages_with t r ps
 put_there t r p ps other = rw other refl
 
 -- if no page is of the table, the search reaches the page at the end
@@ -61,7 +60,7 @@ none_more t ps i x lt is apart none =
     ∙ page_there t (page_state x) [] (ne_eqb x.table t apart)
 
 -- and the receipt goes there
-pub put_end : (t : ℕ) (r : Receipt) (ps rest : List PageState) → page_at t ps ≡ None → pages_with t r (ps ++ rest) ≡ ps ++ pages_with t r rest
+pub put_end : (t : ℕ) (r : ReceiptState) (ps rest : List PageState) → page_at t ps ≡ None → pages_with t r (ps ++ rest) ≡ ps ++ pages_with t r rest
 put_end t r [] rest none = refl
 put_end t r (q ∷ ps) rest none = elim (cases_Bool (q.table == t)) [
   | inl same ↦ absurd (some_none q (sym (page_here t q ps same) ∙ none))
@@ -69,7 +68,7 @@ put_end t r (q ∷ ps) rest none = elim (cases_Bool (q.table == t)) [
 ]
 
 -- a receipt written on the page of its table
-pub written : (t : ℕ) (r : Receipt) (q : Page) (ps : List Page) (i : ℕ) → IsPageAt t ps i → page_state q ≡ page_with (page_state (get_or ps i q)) r
+pub written : (t : ℕ) (r : ReceiptState) (q : Page) (ps : List Page) (i : ℕ) → IsPageAt t ps i → page_state q ≡ page_with (page_state (get_or ps i q)) r
     → page_states (set ps i q) ≡ pages_with t r (page_states ps)
 written t r q ps i here so =
     let before = page_states (take i ps) in
@@ -103,7 +102,7 @@ abbrev empty_page : ℕ → PageState
 empty_page t = record { table = t; seen = 0; receipts = [] }
 
 -- a receipt written on a new page
-pub put_new : (t : ℕ) (r : Receipt) (p : Page) (ps : List Page) → page_at t (page_states ps) ≡ None → page_state p ≡ page_with (empty_page t) r → page_states (ps ++ p ∷ []) ≡ pages_with t r (page_states ps)
+pub put_new : (t : ℕ) (r : ReceiptState) (p : Page) (ps : List Page) → page_at t (page_states ps) ≡ None → page_state p ≡ page_with (empty_page t) r → page_states (ps ++ p ∷ []) ≡ pages_with t r (page_states ps)
 put_new t r p ps none is =
     states_append ps (p ∷ [])
     ∙ ap (λ (s : PageState). page_states ps ++ s ∷ []) is
@@ -115,12 +114,12 @@ put_new t r p ps none is =
 abbrev seen_at : ℕ → List PageState → ℕ
 seen_at t ps = seen_on (page_at t ps)
 
-pub rise_more : (before seen : ℕ) (r : Receipt) (rs : List Receipt) → PlacesRise before rs seen → seen < r.place → PlacesRise before (rs ++ r ∷ []) r.place
+pub rise_more : (before seen : ℕ) (r : ReceiptState) (rs : List ReceiptState) → PlacesRise before rs seen → seen < r.place → PlacesRise before (rs ++ r ∷ []) r.place
 rise_more before seen r [] rise less = (omega arith, omega arith)
 rise_more before seen r (q ∷ rs) (first, rest) less = (first, rise_more q.place seen r rs rest less)
 
 -- what a seat has of other tables stays
-put_apart : (t u : ℕ) (r : Receipt) (ps : List PageState) → (t ≡ u → ⊥) → page_at u ps ≡ None → page_at u (pages_with t r ps) ≡ None
+put_apart : (t u : ℕ) (r : ReceiptState) (ps : List PageState) → (t ≡ u → ⊥) → page_at u ps ≡ None → page_at u (pages_with t r ps) ≡ None
 put_apart t u r [] apart none = page_there u (page_with (empty_page t) r) [] (ne_eqb t u apart)
 put_apart t u r (p ∷ ps) apart none = elim (cases_Bool (p.table == u)) [
   | inl same ↦ absurd (some_none p (sym (page_here u p ps same) ∙ none))
@@ -130,7 +129,7 @@ put_apart t u r (p ∷ ps) apart none = elim (cases_Bool (p.table == u)) [
   ]
 ]
 
-pub put_differ : (t : ℕ) (r : Receipt) (ps : List PageState) → TablesDiffer ps → TablesDiffer (pages_with t r ps)
+pub put_differ : (t : ℕ) (r : ReceiptState) (ps : List PageState) → TablesDiffer ps → TablesDiffer (pages_with t r ps)
 put_differ t r [] differ = (refl, tt)
 put_differ t r (p ∷ ps) (none, rest) = elim (cases_Bool (p.table == t)) [
   | inl same ↦ subst TablesDiffer (sym (put_here t r p ps same)) (none, rest)
@@ -142,7 +141,7 @@ put_differ t r (p ∷ ps) (none, rest) = elim (cases_Bool (p.table == t)) [
 abbrev Rise : PageState → Type 0
 Rise p = PlacesRise 0 p.receipts p.seen
 
-pub put_rise : (t : ℕ) (r : Receipt) (ps : List PageState) → AllByRecursion (λ p. PlacesRise 0 p.receipts p.seen) ps → seen_at t ps < r.place → AllByRecursion (λ p. PlacesRise 0 p.receipts p.seen) (pages_with t r ps)
+pub put_rise : (t : ℕ) (r : ReceiptState) (ps : List PageState) → AllByRecursion (λ p. PlacesRise 0 p.receipts p.seen) ps → seen_at t ps < r.place → AllByRecursion (λ p. PlacesRise 0 p.receipts p.seen) (pages_with t r ps)
 put_rise t r [] all less = ((omega arith, omega arith), tt)
 put_rise t r (p ∷ ps) (first, rest) less = elim (cases_Bool (p.table == t)) [
   | inl same ↦
@@ -153,7 +152,7 @@ put_rise t r (p ∷ ps) (first, rest) less = elim (cases_Bool (p.table == t)) [
       subst (AllByRecursion Rise) (sym (put_there t r p ps other)) (first, put_rise t r ps rest seen)
 ]
 
-pub put_pages : (t : ℕ) (r : Receipt) (ps : List PageState) → ArePages ps → seen_at t ps < r.place → ArePages (pages_with t r ps)
+pub put_pages : (t : ℕ) (r : ReceiptState) (ps : List PageState) → ArePages ps → seen_at t ps < r.place → ArePages (pages_with t r ps)
 put_pages t r ps pages less = record { differ = put_differ t r ps pages.differ; rise = put_rise t r ps pages.rise less }
 
 pub rise_at : (t : ℕ) (p : PageState) (ps : List PageState) → AllByRecursion (λ p. PlacesRise 0 p.receipts p.seen) ps → page_at t ps ≡ Some p → PlacesRise 0 p.receipts p.seen
@@ -180,7 +179,7 @@ abbrev or_empty : ℕ → Option PageState → PageState
 or_empty t None = empty_page t
 or_empty t (Some p) = p
 
-put_at : (t : ℕ) (r : Receipt) (ps : List PageState) → page_at t (pages_with t r ps) ≡ Some (page_with (or_empty t (page_at t ps)) r)
+put_at : (t : ℕ) (r : ReceiptState) (ps : List PageState) → page_at t (pages_with t r ps) ≡ Some (page_with (or_empty t (page_at t ps)) r)
 put_at t r [] = page_here t (page_with (empty_page t) r) [] (eq-eqb t t refl)
 put_at t r (p ∷ ps) = elim (cases_Bool (p.table == t)) [
   | inl same ↦
@@ -191,7 +190,7 @@ put_at t r (p ∷ ps) = elim (cases_Bool (p.table == t)) [
       ∙ ap (λ (o : Option PageState). Some (page_with (or_empty t o) r)) (sym (page_there t p ps other))
 ]
 
-put_elsewhere : (t u : ℕ) (r : Receipt) (ps : List PageState) → (t ≡ u → ⊥) → page_at u (pages_with t r ps) ≡ page_at u ps
+put_elsewhere : (t u : ℕ) (r : ReceiptState) (ps : List PageState) → (t ≡ u → ⊥) → page_at u (pages_with t r ps) ≡ page_at u ps
 put_elsewhere t u r [] apart = page_there u (page_with (empty_page t) r) [] (ne_eqb t u apart)
 put_elsewhere t u r (p ∷ ps) apart = elim (cases_Bool (p.table == t)) [
   | inl first ↦ elim (cases_Bool (p.table == u)) [
@@ -204,15 +203,15 @@ put_elsewhere t u r (p ∷ ps) apart = elim (cases_Bool (p.table == t)) [
   ]
 ]
 
-pub then_seen : (s : SeatState) (t : ℕ) (r : Receipt) → seen_of t (with_receipt s t r) ≡ r.place
+pub then_seen : (s : SeatState) (t : ℕ) (r : ReceiptState) → seen_of t (with_receipt s t r) ≡ r.place
 then_seen s t r = ap seen_on (put_at t r s.pages)
 
-pub one_more : (s : SeatState) (t : ℕ) (r : Receipt) → receipts_of t (with_receipt s t r) ≡ receipts_of t s ++ r ∷ []
+pub one_more : (s : SeatState) (t : ℕ) (r : ReceiptState) → receipts_of t (with_receipt s t r) ≡ receipts_of t s ++ r ∷ []
 one_more s t r = ap receipts_on (put_at t r s.pages) ∙ by (page_at t s.pages) refl
   where
     by : (o : Option PageState) → page_at t s.pages ≡ o → receipts_on (Some (page_with (or_empty t (page_at t s.pages)) r)) ≡ receipts_on (page_at t s.pages) ++ r ∷ []
     by None is = rw is refl
     by (Some p) is = rw is refl
 
-pub other_tables : (s : SeatState) (t u : ℕ) (r : Receipt) → (t ≡ u → ⊥) → (seen_of u (with_receipt s t r) ≡ seen_of u s) × (receipts_of u (with_receipt s t r) ≡ receipts_of u s)
+pub other_tables : (s : SeatState) (t u : ℕ) (r : ReceiptState) → (t ≡ u → ⊥) → (seen_of u (with_receipt s t r) ≡ seen_of u s) × (receipts_of u (with_receipt s t r) ≡ receipts_of u s)
 other_tables s t u r apart = (ap seen_on (put_elsewhere t u r s.pages apart), ap receipts_on (put_elsewhere t u r s.pages apart))

@@ -8,20 +8,19 @@ use Rattle.std.proofs.lemmas.Bool.{cases_lt}
 use Rattle.std.proofs.lemmas.Bool.Decides.{nat_tests}
 use Rattle.std.proofs.lemmas.List.{drop_more, take_more}
 use Rattle.std.proofs.lemmas.List.Sums.{sum_by-cons, sum_by-append}
-use Rattle.table_shards.specs.declared.receipt.Receipt.{Receipt}
-use Rattle.table_shards.specs.Receipts.{SeatState, PlacesRise, all_receipts, receipts_of, times}
+use Rattle.table_shards.specs.Receipts.{ReceiptState, SeatState, PlacesRise, all_receipts, receipts_of, times}
 use Rattle.table_shards.proofs.AllLaws.{all_left, all_right, all_both}
 
 -- ---- ascending places
 
-pub rise_low : (before seen : ℕ) (rs : List Receipt) (i : ℕ) (d : Receipt) → PlacesRise before rs seen → i < length rs → before < (get_or rs i d).place
+pub rise_low : (before seen : ℕ) (rs : List ReceiptState) (i : ℕ) (d : ReceiptState) → PlacesRise before rs seen → i < length rs → before < (get_or rs i d).place
 rise_low before seen [] i d rise lt = absurd (omega arith)
 rise_low before seen (r ∷ rs) zero d (first, rest) lt = first
 rise_low before seen (r ∷ rs) (suc i) d (first, rest) lt =
     let low : r.place < (get_or rs i d).place = rise_low r.place seen rs i d rest (omega arith) in
     omega arith
 
-pub rise_order : (before seen : ℕ) (rs : List Receipt) (i j : ℕ) (d : Receipt) → PlacesRise before rs seen → i ≤ j → j < length rs → (get_or rs i d).place ≤ (get_or rs j d).place
+pub rise_order : (before seen : ℕ) (rs : List ReceiptState) (i j : ℕ) (d : ReceiptState) → PlacesRise before rs seen → i ≤ j → j < length rs → (get_or rs i d).place ≤ (get_or rs j d).place
 rise_order before seen [] i j d rise le lt = absurd (omega arith)
 rise_order before seen (r ∷ rs) zero zero d rise le lt = omega arith
 rise_order before seen (r ∷ rs) zero (suc j) d (first, rest) le lt =
@@ -32,24 +31,24 @@ rise_order before seen (r ∷ rs) (suc i) (suc j) d (first, rest) le lt = rise_o
 
 -- ---- counts
 
-pub times_here : (place : ℕ) (r : Receipt) (rs : List Receipt) → (r.place == place) ≡ true → times place (r ∷ rs) ≡ 1 + times place rs
+pub times_here : (place : ℕ) (r : ReceiptState) (rs : List ReceiptState) → (r.place == place) ≡ true → times place (r ∷ rs) ≡ 1 + times place rs
 times_here place r rs same =
     let one : cond (r.place == place) 1 0 ≡ 1 = rw same refl in
-    sum_by-cons (λ (q : Receipt). cond (q.place == place) 1 0) r rs ∙ ap (λ (n : ℕ). n + times place rs) one
+    sum_by-cons (λ (q : ReceiptState). cond (q.place == place) 1 0) r rs ∙ ap (λ (n : ℕ). n + times place rs) one
 
-pub times_other : (place : ℕ) (r : Receipt) (rs : List Receipt) → (r.place == place) ≡ false → times place (r ∷ rs) ≡ 0 + times place rs
+pub times_other : (place : ℕ) (r : ReceiptState) (rs : List ReceiptState) → (r.place == place) ≡ false → times place (r ∷ rs) ≡ 0 + times place rs
 times_other place r rs other =
     let none : cond (r.place == place) 1 0 ≡ 0 = rw other refl in
-    sum_by-cons (λ (q : Receipt). cond (q.place == place) 1 0) r rs ∙ ap (λ (n : ℕ). n + times place rs) none
+    sum_by-cons (λ (q : ReceiptState). cond (q.place == place) 1 0) r rs ∙ ap (λ (n : ℕ). n + times place rs) none
 
-times_above : (place before seen : ℕ) (rs : List Receipt) → PlacesRise before rs seen → place ≤ before → times place rs ≡ 0
+times_above : (place before seen : ℕ) (rs : List ReceiptState) → PlacesRise before rs seen → place ≤ before → times place rs ≡ 0
 times_above place before seen [] rise le = refl
 times_above place before seen (r ∷ rs) (first, rest) le =
     let other = times_other place r rs (ne_eqb r.place place (λ is. absurd (omega arith))) in
     let none : times place rs ≡ 0 = times_above place r.place seen rs rest (omega arith) in
     omega (arith, other, none)
 
-pub found_once : (place before seen : ℕ) (rs : List Receipt) (i : ℕ) (d : Receipt) → PlacesRise before rs seen → i < length rs → (get_or rs i d).place ≡ place → times place rs ≡ 1
+pub found_once : (place before seen : ℕ) (rs : List ReceiptState) (i : ℕ) (d : ReceiptState) → PlacesRise before rs seen → i < length rs → (get_or rs i d).place ≡ place → times place rs ≡ 1
 found_once place before seen [] i d rise lt is = absurd (omega arith)
 found_once place before seen (r ∷ rs) zero d (first, rest) lt is =
     let here = times_here place r rs (eq-eqb r.place place is) in
@@ -61,7 +60,7 @@ found_once place before seen (r ∷ rs) (suc i) d (first, rest) lt is =
     let one : times place rs ≡ 1 = found_once place r.place seen rs i d rest (omega arith) is in
     omega (arith, other, one)
 
-pub found_never : (place : ℕ) (rs : List Receipt) → ((i : ℕ) (d : Receipt) → i < length rs → (get_or rs i d).place ≡ place → ⊥) → times place rs ≡ 0
+pub found_never : (place : ℕ) (rs : List ReceiptState) → ((i : ℕ) (d : ReceiptState) → i < length rs → (get_or rs i d).place ≡ place → ⊥) → times place rs ≡ 0
 found_never place [] none = refl
 found_never place (r ∷ rs) none =
     let other = times_other place r rs (ne_eqb r.place place (none zero r (omega arith))) in
@@ -69,7 +68,7 @@ found_never place (r ∷ rs) none =
     omega (arith, other, rest)
 
 -- what a binary search for a place finds
-pub searched : (place seen : ℕ) (rs : List Receipt) → PlacesRise 0 rs seen → (r : Result ℕ ℕ) → IsSearchInRange r (length rs) → IsBinarySearchResult (λ q. nat_cmp q.place place) rs r → cond (is_ok r) 1 0 ≡ times place rs
+pub searched : (place seen : ℕ) (rs : List ReceiptState) → PlacesRise 0 rs seen → (r : Result ℕ ℕ) → IsSearchInRange r (length rs) → IsBinarySearchResult (λ q. nat_cmp q.place place) rs r → cond (is_ok r) 1 0 ≡ times place rs
 searched place seen [] rise (Ok i) within equal = absurd (omega arith)
 searched place seen (q ∷ rs) rise (Ok i) within equal = sym (found_once place 0 seen (q ∷ rs) i q rise within (ranked _ place Equal (sym (equal q))))
 searched place seen rs rise (Err i) within parted =
@@ -88,7 +87,7 @@ pub times_next : (place t : ℕ) (ss : List SeatState) (i : ℕ) (s : SeatState)
     → times place (all_receipts t (drop i ss)) ≡ times place (receipts_of t s) + times place (all_receipts t (drop (i + 1) ss))
 times_next place t ss i s lt is =
     ap (λ (rest : List SeatState). times place (all_receipts t rest)) (drop_more ss i s lt)
-    ∙ sum_by-append (λ (q : Receipt). cond (q.place == place) 1 0) (receipts_of t (get_or ss i s)) (all_receipts t (drop (i + 1) ss))
+    ∙ sum_by-append (λ (q : ReceiptState). cond (q.place == place) 1 0) (receipts_of t (get_or ss i s)) (all_receipts t (drop (i + 1) ss))
     ∙ ap (λ (x : SeatState). times place (receipts_of t x) + times place (all_receipts t (drop (i + 1) ss))) (sym is)
 
 all_append : (t : ℕ) (ss : List SeatState) (s : SeatState) → all_receipts t (ss ++ s ∷ []) ≡ all_receipts t ss ++ receipts_of t s
@@ -96,7 +95,7 @@ all_append t [] s = append-nil (receipts_of t s)
 all_append t (x ∷ ss) s = ap (λ rest. receipts_of t x ++ rest) (all_append t ss s) ∙ sym (append_assoc (receipts_of t x) (all_receipts t ss) (receipts_of t s))
 
 -- what holds of all receipts of some seats and of those of the next seat
-pub receipts_more : (P : Receipt → Type 0) (t : ℕ) (ss : List SeatState) (i : ℕ) (s : SeatState) → i < length ss → s ≡ get_or ss i s
+pub receipts_more : (P : ReceiptState → Type 0) (t : ℕ) (ss : List SeatState) (i : ℕ) (s : SeatState) → i < length ss → s ≡ get_or ss i s
     → AllByRecursion P (receipts_of t s) → AllByRecursion P (all_receipts t (take i ss)) → AllByRecursion P (all_receipts t (take (i + 1) ss))
 receipts_more P t ss i s lt is one all =
     let whole : all_receipts t (take (i + 1) ss) ≡ all_receipts t (take i ss) ++ receipts_of t s =
@@ -104,7 +103,7 @@ receipts_more P t ss i s lt is one all =
     subst (AllByRecursion P) (sym whole) (all_both P (all_receipts t (take i ss)) (receipts_of t s) all one)
 
 -- and of the receipts of one seat
-pub receipts_of_one : (P : Receipt → Type 0) (t : ℕ) (ss : List SeatState) (i : ℕ) (d : SeatState) → i < length ss → AllByRecursion P (all_receipts t ss) → AllByRecursion P (receipts_of t (get_or ss i d))
+pub receipts_of_one : (P : ReceiptState → Type 0) (t : ℕ) (ss : List SeatState) (i : ℕ) (d : SeatState) → i < length ss → AllByRecursion P (all_receipts t ss) → AllByRecursion P (receipts_of t (get_or ss i d))
 receipts_of_one P t [] i d lt all = absurd (omega arith)
 receipts_of_one P t (s ∷ ss) zero d lt all = all_left P (receipts_of t s) (all_receipts t ss) all
 receipts_of_one P t (s ∷ ss) (suc i) d lt all = receipts_of_one P t ss i d (omega arith) (all_right P (receipts_of t s) (all_receipts t ss) all)

@@ -2,8 +2,7 @@
 use Rattle.std.specs.Prelude.{◌≡◌, ℕ, ◌<◌, ◌≤◌, ◌⊎◌, List, [], ◌∷◌, Option, Some, None, nat_lt, if◌then◌else◌}
 use Rattle.std.specs.List.{AllByRecursion}
 use Rattle.table_cell.specs.Histories.{CellState, events_of, event_in}
-use Rattle.table_shards.specs.declared.receipt.Receipt.{Receipt}
-use Rattle.table_shards.specs.Receipts.{SeatState, all_receipts, receipts_of, seen_of, times, PlacesRise}
+use Rattle.table_shards.specs.Receipts.{ReceiptState, SeatState, all_receipts, receipts_of, seen_of, times, PlacesRise}
 
 -- some element has the property
 abbrev pub OneOf : {A : Type 0} → (A → Type 0) → List A → Type 0
@@ -15,7 +14,7 @@ abbrev pub id_of : CellState → ℕ
 id_of c = c.state.definition.id
 
 -- the receipt is the table's event at its place, with its reply
-abbrev pub IsEntry : CellState → Receipt → Type 0
+abbrev pub IsEntry : CellState → ReceiptState → Type 0
 IsEntry c r = event_in c r.place ≡ Some (r.event, r.reply)
 
 -- Each event of the table after the first `began` is the receipt of exactly one seat, exactly once; each receipt of the

@@ -30,6 +30,13 @@ Holds call left table c s (Err (errors.SeatAhead seen found)) c' s' =
 Holds call left table c s (Err errors.Memory) c' s' = MayCall table c s × (c' ≡ c) × (s' ≡ s)
 Holds call left table c s (Err (errors.Cell error)) c' s' = MayCall table c s × call c (Err error) c' × (s' ≡ s)
 
+-- The same for a call that makes this event and returns nothing but that it was made: the cell's call gave some answer,
+-- and the receipt at the seat has the reply of that answer.
+abbrev pub Leaves : {A E : Type 0} → (CellState → Result A E → CellState → Type 0) → CellEvent → (A → CellReply) → ℕ → CellState → SeatState → Result (Unit {0}) (ShardError E) → CellState → SeatState → Type 0
+Leaves {A} call event reply table c s (Ok done) c' s' =
+    (answer : A) × Holds call (λ a. receipted table c s event (reply a)) table c s (Ok answer) c' s'
+Leaves call event reply table c s (Err error) c' s' = Holds call (λ a. receipted table c s event (reply a)) table c s (Err error) c' s'
+
 -- The same for a call that makes no event: it needs no memory, and the seat stays as it was.
 abbrev pub Looks : {A E : Type 0} → (CellState → Result A E → CellState → Type 0) → ℕ → CellState → SeatState → Result A (ShardError E) → CellState → SeatState → Type 0
 Looks call table c s (Err errors.Memory) c' s' = ⊥

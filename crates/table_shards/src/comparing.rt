@@ -15,10 +15,10 @@ use table_cell::TableCell;
 fn is_entry(cell: &TableCell, receipt: &Receipt) -> bool
     ensures { IsTrue result ↔ IsEntry cell.now receipt.now }
 {
-    match cell.event_at(receipt.place) {
+    match cell.event_at(receipt.place()) {
         None => false,
         Some((event, reply)) => {
-            are_same_events(event, &receipt.event) && are_same_replies(reply, &receipt.reply)
+            are_same_events(event, receipt.event()) && are_same_replies(reply, receipt.reply())
         }
     }
 }

@@ -52,7 +52,7 @@ fn are_after(from: u64, receipts: &[Receipt]) -> bool
     ensures { MatchBool result (AllByRecursion (λ r. from < r.place) receipts.now) (AllByRecursion (λ r. from < r.place) receipts.now → ⊥) }
 {
     for receipt in receipts {
-        if receipt.place <= from {
+        if receipt.place() <= from {
             return false;
         }
     }

@@ -32,7 +32,7 @@ pub fn track(
         (λ reply. receipted table locked.old seat (events.Track seat.number key change now) (replies.Track reply))
         table locked.old seat result.1 locked.new result.0 }
 {
-    let result = lent::track(locked, &mut seat, table, key, change, now);
+    let result = lent::track_with_reply(locked, &mut seat, table, key, change, now);
     (seat, result)
 }
 
@@ -49,7 +49,7 @@ pub fn learn(
         (λ reply. receipted table locked.old seat (events.Learn session update now) (replies.Learn reply))
         table locked.old seat result.1 locked.new result.0 }
 {
-    let result = lent::learn(locked, &mut seat, table, session, update, now);
+    let result = lent::learn_with_reply(locked, &mut seat, table, session, update, now);
     (seat, result)
 }
 

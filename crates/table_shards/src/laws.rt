@@ -4,17 +4,16 @@ ghost use Rattle.std.specs.Prelude.{◌≡◌, ◌≤◌, ◌<◌, ◌+◌, ◌-
 ghost use Rattle.table_cell.specs.Histories.{CellState, Made, events_of};
 ghost use Rattle.table_cell.specs.declared.events.CellEvent.{CellEvent};
 ghost use Rattle.table_cell.specs.declared.events.CellReply.{CellReply};
-ghost use Rattle.table_shards.specs.declared.receipt.Receipt.{Receipt};
-ghost use Rattle.table_shards.specs.Receipts.{SeatState, all_receipts, receipts_of, seen_of, with_receipt};
+ghost use Rattle.table_shards.specs.Receipts.{ReceiptState, SeatState, all_receipts, receipts_of, seen_of, with_receipt};
 ghost use Rattle.table_shards.specs.Agreement.{Agree, IsEntry, id_of};
 ghost use Rattle.table_shards.specs.Holding.{MayCall, receipted};
 
 /// Adding a receipt of a table to a seat appends it to the seat's receipts of the table, and the seat has then seen its
 /// place. For other tables nothing changes.
 pub fn one_receipt_more()
-    ensures seen { (s : SeatState) (table : ℕ) (r : Receipt) → seen_of table (with_receipt s table r) ≡ r.place }
-    ensures last { (s : SeatState) (table : ℕ) (r : Receipt) → receipts_of table (with_receipt s table r) ≡ receipts_of table s ++ r ∷ [] }
-    ensures others { (s : SeatState) (table other : ℕ) (r : Receipt) → (table ≡ other → ⊥) →
+    ensures seen { (s : SeatState) (table : ℕ) (r : ReceiptState) → seen_of table (with_receipt s table r) ≡ r.place }
+    ensures last { (s : SeatState) (table : ℕ) (r : ReceiptState) → receipts_of table (with_receipt s table r) ≡ receipts_of table s ++ r ∷ [] }
+    ensures others { (s : SeatState) (table other : ℕ) (r : ReceiptState) → (table ≡ other → ⊥) →
         (seen_of other (with_receipt s table r) ≡ seen_of other s) × (receipts_of other (with_receipt s table r) ≡ receipts_of other s) }
 {}
 

@@ -66,7 +66,7 @@ pub fn write(page: &mut Page, receipt: Receipt)
     requires { HasRoom page.old }
     ensures { page_state page.new ≡ page_with (page_state page.old) receipt }
 {
-    page.seen = receipt.place;
+    page.seen = receipt.place();
     page.receipts.push_reserved(receipt);
 }
 
@@ -115,7 +115,7 @@ fn write_page(pages: &mut Vec<Page>, receipts: Vec<Receipt>, table: u64, receipt
     requires space { vec_len pages.old < vec_capacity pages.old }
     ensures { page_states pages.new.items ≡ pages_with table receipt (page_states pages.old.items) }
 {
-    let seen = receipt.place;
+    let seen = receipt.place();
     let mut receipts = receipts;
     receipts.push_reserved(receipt);
     pages.push_reserved(Page {
@@ -142,6 +142,6 @@ pub fn has_place(receipts: &[Receipt], seen: u64, place: u64) -> bool
     ensures { cond result 1 0 ≡ times place receipts.now }
 {
     receipts
-        .binary_search_by_key(&place, |receipt| receipt.place)
+        .binary_search_by_key(&place, |receipt| receipt.place())
         .is_ok()
 }

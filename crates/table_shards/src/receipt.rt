@@ -1,20 +1,34 @@
 //! A receipt of an event.
 
-ghost use Rattle.std.specs.Prelude.{◌≡◌, ◌↔◌, IfOk, IsTrue};
+ghost use Rattle.std.specs.Prelude.{◌≡◌, ◌↔◌, IsTrue};
 
-use std::alloc::Global;
-use table_cell::{CellEvent, CellReply, Reply};
-use table_types::Memory;
+use std::marker::Model;
+use table_cell::{CellEvent, CellReply, Entry, Reply};
 
-/// What a seat keeps of an event that its thread made. Only the calls of the module `held` make receipts.
+/// What a seat keeps of an event that its thread made. It shares the event and the reply with the table's history. Only
+/// the calls of the module `held` make receipts.
 #[derive(Debug, Drop)]
 pub struct Receipt {
-    pub(crate) place: u64,
-    pub(crate) event: CellEvent,
-    pub(crate) reply: CellReply,
+    place: u64,
+    entry: Entry,
+}
+
+impl Model for Receipt {
+    ghost use Rattle.table_shards.specs.Receipts.{ReceiptState};
+
+    ghost Value = { ReceiptState };
+
+    ghost view = { λ a. record { place = a.place; event = a.entry.0; reply = a.entry.1 } };
 }
 
 impl Receipt {
+    /// Makes the receipt of the event at `place`.
+    pub(crate) fn new(place: u64, entry: Entry) -> Receipt
+        ensures { result ≡ record { place = place; event = entry.0; reply = entry.1 } }
+    {
+        Receipt { place, entry }
+    }
+
     /// Returns the event's place among all events of the table, from 1.
     pub fn place(&self) -> u64
         ensures { result ≡ self.now.place }
@@ -26,14 +40,14 @@ impl Receipt {
     pub fn event(&self) -> &CellEvent
         ensures { result.now ≡ self.now.event }
     {
-        &self.event
+        self.entry.event()
     }
 
     /// Returns the table's reply.
     pub fn reply(&self) -> &CellReply
         ensures { result.now ≡ self.now.reply }
     {
-        &self.reply
+        self.entry.reply()
     }
 }
 

@@ -6,7 +6,7 @@ ghost use Rattle.table_cell.specs.declared.events.CellEvent.TheVariants as event
 ghost use Rattle.table_cell.specs.declared.events.CellReply.TheVariants as replies;
 ghost use Rattle.table_shards.specs.Receipts.{seen_of, with_receipt};
 ghost use Rattle.table_shards.specs.Pages.{page_states, seat_of, ArePages, HasRoomIn};
-ghost use Rattle.table_shards.specs.Holding.{Allows, Holds, Looks, MayCall, Refuses, Settles, receipted};
+ghost use Rattle.table_shards.specs.Holding.{Allows, Holds, Leaves, Looks, MayCall, Refuses, Settles, receipted};
 
 use crate::book::Book;
 use crate::errors::ShardError;
@@ -14,12 +14,11 @@ use crate::locked::Locked;
 use crate::pages::Room;
 use crate::receipt::Receipt;
 use crate::seat::Seat;
-use std::alloc::Global;
 use table_cell::{
-    AckError, CellEvent, CellReply, CloseError, CopyError, LearnError, OpenError, PurgeError,
-    Reply, StrangeBatch, TrackError,
+    AckError, CloseError, CopyError, Entry, LearnError, OpenError, PurgeError, Reply, StrangeBatch,
+    TrackError,
 };
-use table_types::{Batch, Change, CopyKind, Key, Memory, Moment, Settled, Update};
+use table_types::{Batch, Change, CopyKind, Key, Moment, Settled, Update};
 
 /// Returns why the call may not be made: the cell is another table's, or the seat has seen more events than the cell
 /// has.
@@ -45,48 +44,41 @@ fn begin<E>(locked: &Locked, book: &mut Book, table: u64) -> Result<Room, ShardE
     Ok(book.make_room(table)?)
 }
 
-/// Adds a receipt of the event that was just made.
-fn finish(
-    locked: &Locked,
-    book: &mut Book,
-    room: Room,
-    table: u64,
-    event: CellEvent,
-    reply: CellReply,
-)
+/// Adds a receipt of the event that was just made, and shares it.
+fn finish(locked: &Locked, book: &mut Book, room: Room, table: u64, entry: Entry)
     requires room { HasRoomIn table book.old.pages room }
     requires pages { ArePages (page_states book.old.pages.items) }
     requires above { seen_of table (seat_of book.old) < events_of locked.now }
-    ensures added { seat_of book.new ≡ with_receipt (seat_of book.old) table (record { place = events_of locked.now; event = event; reply = reply }) }
+    ensures added { seat_of book.new ≡ with_receipt (seat_of book.old) table (record { place = events_of locked.now; event = entry.0; reply = entry.1 }) }
     ensures pages { ArePages (page_states book.new.pages.items) }
 {
-    let receipt = Receipt {
-        place: locked.cell.events(),
-        event,
-        reply,
-    };
-    book.add(room, table, receipt);
+    book.add(room, table, Receipt::new(locked.cell.events(), entry));
 }
 
-fn track_event(
-    alloc: Global,
-    seat: u32,
-    key: &Key,
-    change: &Change,
-    moment: Moment,
-) -> Result<CellEvent, Memory>
-    ensures { IfOk result (λ event. event ≡ events.Track seat key.now change.now moment) }
-{
-    Ok(CellEvent::Track {
-        seat,
-        key: key.copy(alloc)?,
-        change: change.copy(alloc)?,
-        moment,
-    })
-}
-
-/// Calls `TableCell::track` for the seat, and adds a receipt.
+/// Calls `TableCell::track` for the seat, and adds a receipt, which has the reply.
 pub fn track(
+    locked: &mut Locked,
+    seat: &mut Seat,
+    table: u64,
+    key: Key,
+    change: Change,
+    now: Moment,
+) -> Result<(), ShardError<TrackError>>
+    ensures { Leaves (λ c r e. Tracks c seat.old.number key change now r e) (events.Track seat.old.number key change now) replies.Track
+        table locked.old seat.old result locked.new seat.new }
+{
+    let number = seat.book.number;
+    let room = begin(locked, &mut seat.book, table)?;
+    let entry = locked
+        .cell
+        .track_shared(number, key, change, now)
+        .map_err(ShardError::Cell)?;
+    finish(locked, &mut seat.book, room, table, entry);
+    Ok(())
+}
+
+/// Calls `TableCell::track` for the seat, adds a receipt, and returns the reply.
+pub fn track_with_reply(
     locked: &mut Locked,
     seat: &mut Seat,
     table: u64,
@@ -100,24 +92,37 @@ pub fn track(
 {
     let number = seat.book.number;
     let room = begin(locked, &mut seat.book, table)?;
-    let event = track_event(seat.book.alloc, number, &key, &change, now)?;
-    let (reply, copy) = locked
+    let (reply, entry) = locked
         .cell
-        .track_pair(number, key, change, now)
+        .track_with_reply(number, key, change, now)
         .map_err(ShardError::Cell)?;
-    finish(
-        locked,
-        &mut seat.book,
-        room,
-        table,
-        event,
-        CellReply::Track(copy),
-    );
+    finish(locked, &mut seat.book, room, table, entry);
     Ok(reply)
 }
 
-/// Calls `TableCell::learn`, and adds a receipt.
+/// Calls `TableCell::learn`, and adds a receipt, which has the reply.
 pub fn learn(
+    locked: &mut Locked,
+    seat: &mut Seat,
+    table: u64,
+    session: u32,
+    update: Update,
+    now: Moment,
+) -> Result<(), ShardError<LearnError>>
+    ensures { Leaves (λ c r e. Learns c session update now r e) (events.Learn session update now) replies.Learn
+        table locked.old seat.old result locked.new seat.new }
+{
+    let room = begin(locked, &mut seat.book, table)?;
+    let entry = locked
+        .cell
+        .learn_shared(session, update, now)
+        .map_err(ShardError::Cell)?;
+    finish(locked, &mut seat.book, room, table, entry);
+    Ok(())
+}
+
+/// Calls `TableCell::learn`, adds a receipt, and returns the reply.
+pub fn learn_with_reply(
     locked: &mut Locked,
     seat: &mut Seat,
     table: u64,
@@ -130,23 +135,11 @@ pub fn learn(
         table locked.old seat.old result locked.new seat.new }
 {
     let room = begin(locked, &mut seat.book, table)?;
-    let event = CellEvent::Learn {
-        session,
-        update: update.copy(seat.book.alloc)?,
-        moment: now,
-    };
-    let (learned, copy) = locked
+    let (learned, entry) = locked
         .cell
-        .learn_pair(session, update, now)
+        .learn_with_reply(session, update, now)
         .map_err(ShardError::Cell)?;
-    finish(
-        locked,
-        &mut seat.book,
-        room,
-        table,
-        event,
-        CellReply::Learn(copy),
-    );
+    finish(locked, &mut seat.book, room, table, entry);
     Ok(learned)
 }
 
@@ -166,24 +159,11 @@ pub fn copy(
         table locked.old seat.old result locked.new seat.new }
 {
     let room = begin(locked, &mut seat.book, table)?;
-    let (batch, copy) = locked
+    let (batch, entry) = locked
         .cell
-        .copy_pair(session, kind, limit, now)
+        .copy_with_reply(session, kind, limit, now)
         .map_err(ShardError::Cell)?;
-    let event = CellEvent::Copy {
-        session,
-        kind,
-        limit,
-        moment: now,
-    };
-    finish(
-        locked,
-        &mut seat.book,
-        room,
-        table,
-        event,
-        CellReply::Copy(copy),
-    );
+    finish(locked, &mut seat.book, room, table, entry);
     Ok(batch)
 }
 
@@ -200,16 +180,11 @@ pub fn ack(
         table locked.old seat.old result locked.new seat.new }
 {
     let room = begin(locked, &mut seat.book, table)?;
-    let settled = locked.cell.ack(session, number).map_err(ShardError::Cell)?;
-    let event = CellEvent::Ack { session, number };
-    finish(
-        locked,
-        &mut seat.book,
-        room,
-        table,
-        event,
-        CellReply::Ack(settled),
-    );
+    let (settled, entry) = locked
+        .cell
+        .ack_with_reply(session, number)
+        .map_err(ShardError::Cell)?;
+    finish(locked, &mut seat.book, room, table, entry);
     Ok(settled)
 }
 
@@ -238,9 +213,8 @@ pub fn open_session(
         table locked.old seat.old result locked.new seat.new }
 {
     let room = begin(locked, &mut seat.book, table)?;
-    locked.cell.open_session(session).map_err(ShardError::Cell)?;
-    let event = CellEvent::Open { session };
-    finish(locked, &mut seat.book, room, table, event, CellReply::Open);
+    let entry = locked.cell.open_shared(session).map_err(ShardError::Cell)?;
+    finish(locked, &mut seat.book, room, table, entry);
     Ok(())
 }
 
@@ -255,12 +229,8 @@ pub fn close_session(
         table locked.old seat.old result locked.new seat.new }
 {
     let room = begin(locked, &mut seat.book, table)?;
-    locked
-        .cell
-        .close_session(session)
-        .map_err(ShardError::Cell)?;
-    let event = CellEvent::Close { session };
-    finish(locked, &mut seat.book, room, table, event, CellReply::Close);
+    let entry = locked.cell.close_shared(session).map_err(ShardError::Cell)?;
+    finish(locked, &mut seat.book, room, table, entry);
     Ok(())
 }
 
@@ -275,15 +245,7 @@ pub fn purge(
         table locked.old seat.old result locked.new seat.new }
 {
     let room = begin(locked, &mut seat.book, table)?;
-    let count = locked.cell.purge(now).map_err(ShardError::Cell)?;
-    let event = CellEvent::Purge { moment: now };
-    finish(
-        locked,
-        &mut seat.book,
-        room,
-        table,
-        event,
-        CellReply::Purge(count),
-    );
+    let (count, entry) = locked.cell.purge_with_reply(now).map_err(ShardError::Cell)?;
+    finish(locked, &mut seat.book, room, table, entry);
     Ok(count)
 }

@@ -1,7 +1,6 @@
 use Rattle.std.proofs.Common.{◌<◌, sym, subst}
 use Rattle.std.specs.List.{AllByRecursion}
-use Rattle.table_shards.specs.declared.receipt.Receipt.{Receipt}
-use Rattle.table_shards.specs.Receipts.{SeatState, PlacesRise, receipts_of, seen_of}
+use Rattle.table_shards.specs.Receipts.{ReceiptState, SeatState, PlacesRise, receipts_of, seen_of}
 use Rattle.table_shards.proofs.AllLaws.{all_more}
 use Rattle.table_shards.proofs.ReceiptLaws.{receipts_more, receipts_of_one}
 use Rattle.table_shards.proofs.counts.are_of_round.Goals as goal
@@ -10,12 +9,12 @@ pub loop-seat-preserved : goal.loop-seat-preserved
 loop-seat-preserved c =
     let seat : SeatState = c.seat-item.result in
     record {
-      after = receipts_more (λ (r : Receipt). c.args.from < r.place) c.args.table c.args.seats.now c.loop-seat.seat-index seat c.loop-seat-test.true c.seat-item.is c.if-not-is_of_round.ensures.after c.loop-seat.invariant.after;
+      after = receipts_more (λ (r : ReceiptState). c.args.from < r.place) c.args.table c.args.seats.now c.loop-seat.seat-index seat c.loop-seat-test.true c.seat-item.is c.if-not-is_of_round.ensures.after c.loop-seat.invariant.after;
       rising = all_more (λ (s : SeatState). PlacesRise 0 (receipts_of c.args.table s) (seen_of c.args.table s)) c.args.seats.now c.loop-seat.seat-index seat c.loop-seat-test.true c.seat-item.is c.is_of_round.ensures.rising c.loop-seat.invariant.rising;
     }
 
 pub returns-then-not-is_of_round-clause-after : goal.returns-then-not-is_of_round-clause-after
 returns-then-not-is_of_round-clause-after c = λ all.
     let seat : SeatState = c.seat-item.result in
-    let own = receipts_of_one (λ (r : Receipt). c.args.from < r.place) c.args.table c.args.seats.now c.loop-seat.seat-index seat c.loop-seat-test.true all in
-    c.if-not-is_of_round.ensures.after (subst (λ (s : SeatState). AllByRecursion (λ (r : Receipt). c.args.from < r.place) (receipts_of c.args.table s)) (sym c.seat-item.is) own)
+    let own = receipts_of_one (λ (r : ReceiptState). c.args.from < r.place) c.args.table c.args.seats.now c.loop-seat.seat-index seat c.loop-seat-test.true all in
+    c.if-not-is_of_round.ensures.after (subst (λ (s : SeatState). AllByRecursion (λ (r : ReceiptState). c.args.from < r.place) (receipts_of c.args.table s)) (sym c.seat-item.is) own)
