@@ -75,20 +75,19 @@ fn has_row(learner: &Learner, id: u64, key: &Key, number: Option<u32>) -> bool {
     }
 }
 
-fn are_rows(learner: &Learner, entries: &[(Key, Row)], stream: &Stream) -> bool {
-    for (entry, row) in entries.iter().zip(stream.rows) {
-        if !is_row(entry, row.0, row.1)
-            || !has_row(learner, stream.table.id, &entry.0, Some(row.1))
-        {
+fn are_rows(learner: &Learner, id: u64, entries: &[(Key, Row)], rows: &[(u8, u32)]) -> bool {
+    for (entry, row) in entries.iter().zip(rows) {
+        if !is_row(entry, row.0, row.1) || !has_row(learner, id, &entry.0, Some(row.1)) {
             return false;
         }
     }
-    entries.len() == stream.rows.len() && has_row(learner, stream.table.id, &Key::Int(9), None)
+    entries.len() == rows.len() && has_row(learner, id, &Key::Int(9), None)
 }
 
-fn has_rows(learner: &Learner, stream: &Stream) -> Option<bool> {
-    let rows = learner.rows(stream.table.id).ok()?;
-    Some(are_rows(learner, rows.as_slice(), stream))
+/// Returns whether the rows of table `id` are those of these keys and numbers, learned at 2^32 ms with a life of 30,000 ms.
+pub fn has_rows(learner: &Learner, id: u64, rows: &[(u8, u32)]) -> Option<bool> {
+    let entries = learner.rows(id).ok()?;
+    Some(are_rows(learner, id, entries.as_slice(), rows))
 }
 
 /// Returns whether the acknowledgement `expected` is due and no other, or none is.
@@ -117,7 +116,7 @@ fn makes(learner: &mut Learner, stream: &Stream, length: usize) -> Option<bool> 
     Some(
         are_answered(learner, stream, length)
             && learner.waiting() == stream.waiting
-            && has_rows(learner, stream)?
+            && has_rows(learner, stream.table.id, stream.rows)?
             && is_known(learner, stream)?
             && acknowledges(learner, stream.ack)?
             && acknowledges(learner, None)?,

@@ -7,6 +7,7 @@ pub mod batches;
 pub mod changes;
 pub mod decoders;
 pub mod definitions;
+pub mod exchanges;
 pub mod intakes;
 pub mod known_states;
 pub mod learners;
