@@ -5,7 +5,7 @@
 mod acks;
 mod cells;
 mod connection;
-mod moves;
+mod parts;
 mod step;
 mod way;
 mod world;

@@ -2,7 +2,7 @@
 
 use crate::cells::{index_of, open_in_each};
 use crate::connection::Connection;
-use crate::moves::Parts;
+use crate::parts::Parts;
 use crate::step::Step;
 use crate::way::Way;
 use known_state::Known;
