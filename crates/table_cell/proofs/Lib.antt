@@ -12,5 +12,6 @@ pub mod SomeStep
 pub mod BatchLaws
 pub mod CopyLaws
 pub mod LearnedLaws
+pub mod AscendingLaws
 pub mod RunLaws
 pub mod HistoryLaws

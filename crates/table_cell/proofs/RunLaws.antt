@@ -11,9 +11,11 @@ use Rattle.table_cell.specs.declared.events.CellEvent.TheVariants as events
 use Rattle.table_cell.specs.declared.events.CellReply.{CellReply}
 use Rattle.table_cell.specs.declared.events.CellReply.TheVariants as replies
 use Rattle.table_cell.specs.Machine.{TableState, Step, Replays, unacked}
-use Rattle.table_cell.specs.Histories.{CellState, IsSoundCell, IsReplayed, Kept, Made, events_of, is_history_full, new_cell, room_of}
-use Rattle.table_cell.specs.Soundness.{IsTimely}
-use Rattle.table_cell.proofs.StepLaws.{run_longer, step_sound, new_sound}
+use Rattle.table_cell.specs.Histories.{AreAscending, CellState, IsSoundCell, IsReplayed, Kept, Made, events_of, is_history_full, new_cell, room_of}
+use Rattle.table_cell.specs.Soundness.{AreTimely, IsSound, IsTimely}
+use Rattle.table_cell.proofs.AscendingLaws.{unacked_ascend}
+use Rattle.table_cell.proofs.RowsLaws.{all_end}
+use Rattle.table_cell.proofs.StepLaws.{all_take, run_longer, run_sound, step_sound, new_sound}
 
 pub made_longer : (c e : CellState) (event : CellEvent) (reply : CellReply) → IsReplayed c → Made c event reply e → IsReplayed e
 made_longer c e event reply run (step, is) =
@@ -51,6 +53,8 @@ made_sound c e event reply timely room sound (step, is) =
     let history : length e.history ≡ length (c.history ++ (event, reply) ∷ []) = ap (λ (x : CellState). length x.history) is in
     let dropped : e.dropped ≡ c.dropped = ap (λ (x : CellState). x.dropped) is in
     record {
+      base = subst IsSound (sym (ap (λ (x : CellState). x.base) is)) sound.base;
+      timely = subst AreTimely (sym (ap (λ (x : CellState). x.history) is)) (all_end (λ (h : CellEvent × CellReply). IsTimely h.0) (event, reply) c.history sound.timely timely);
       replayed = made_longer c e event reply sound.replayed (step, is);
       sound = step_sound c.state e.state event reply timely sound.sound step;
       within = omega arith;
@@ -58,4 +62,29 @@ made_sound c e event reply timely room sound (step, is) =
     }
 
 pub new_cell_sound : (d : Definition) (size first : ℕ) (nopurge : Bool) → is_definition d ≡ true → 1 ≤ size → 1 ≤ first → first ≤ 2 ^ 32 → IsSoundCell (new_cell d size nopurge first)
-new_cell_sound d size first nopurge is some least most = record { replayed = refl; sound = new_sound d size first nopurge is some least most; within = omega arith; few = omega arith }
+new_cell_sound d size first nopurge is some least most =
+    let new = new_sound d size first nopurge is some least most in
+    record { base = new; timely = tt; replayed = refl; sound = new; within = omega arith; few = omega arith }
+
+-- ---- what was before
+
+run_begins : (s e : TableState) (hs : List (CellEvent × CellReply)) (count : ℕ) → Replays s hs e → (mid : TableState) × Replays s (take count hs) mid
+run_begins s e hs zero run = (s, refl)
+run_begins s e [] (suc count) run = (e, run)
+run_begins s e (h ∷ hs) (suc count) (mid, step, rest) =
+    let more = run_begins mid e hs count rest in
+    (more.0, (mid, step, more.1))
+
+beginning_sound : (s mid : TableState) (hs : List (CellEvent × CellReply)) (count : ℕ) → IsSound s → AreTimely hs → Replays s (take count hs) mid → IsSound mid
+beginning_sound s mid hs count sound timely run = run_sound s mid (take count hs) (all_take (λ (h : CellEvent × CellReply). IsTimely h.0) count hs timely) sound run
+
+pub states_sound : (c : CellState) (count : ℕ) → IsSoundCell c → (mid : TableState) × Replays c.base (take count c.history) mid × IsSound mid
+states_sound c count cell =
+    let begun = run_begins c.base c.state c.history count cell.replayed in
+    (begun.0, begun.1, beginning_sound c.base begun.0 c.history count cell.base cell.timely begun.1)
+
+pub batches_ascend : (c : CellState) (index session limit now : ℕ) (kind : CopyKind) (us : List Update) → IsSoundCell c → slice_get c.history index ≡ Some (events.Copy session kind limit now, replies.Copy us) → AreAscending us
+batches_ascend c index session limit now kind us cell at =
+    let kept = runs_keep c cell.replayed index session limit now kind us at in
+    let sound = beginning_sound c.base kept.0 c.history index cell.base cell.timely kept.1 in
+    subst AreAscending (sym kept.2) (unacked_ascend kept.0 session kind limit now sound.numbers)

@@ -1,5 +1,7 @@
 -- A table with its history: each event and its reply, from the state at which the history begins (profile).
-use Rattle.std.specs.Prelude.{◌≡◌, ℕ, ◌+◌, ◌-◌, ◌≤◌, ◌^◌, Bool, false, nat_lt, ◌==◌, min, List, [], ◌∷◌, ◌++◌, length, take, slice_get, Option, Some, None, Result, Ok, Err, if◌then◌else◌}
+use Rattle.std.specs.Prelude.{◌≡◌, ℕ, ◌+◌, ◌-◌, ◌≤◌, ◌^◌, Bool, false, nat_lt, ◌==◌, min, List, [], ◌∷◌, ◌++◌, length, map, take, slice_get, Option, Some, None, Result, Ok, Err, if◌then◌else◌}
+use Rattle.std.specs.List.Sorted.{IsStrictlySortedBy}
+use Rattle.std.specs.Ordering.{nat_cmp}
 use Rattle.table_types.specs.declared.key.Key.{Key}
 use Rattle.table_types.specs.declared.update.Update.{Update}
 use Rattle.table_types.specs.Tables.{Definition}
@@ -7,7 +9,7 @@ use Rattle.table_cell.specs.Machine.{TableState, Step, Replays, new_table, unack
 use Rattle.table_types.specs.declared.change.Change.{Change}
 use Rattle.table_types.specs.declared.copies.CopyKind.{CopyKind}
 use Rattle.table_types.specs.declared.copies.Settled.{Settled}
-use Rattle.table_cell.specs.Soundness.{IsSound}
+use Rattle.table_cell.specs.Soundness.{AreTimely, IsSound}
 use Rattle.table_cell.specs.declared.events.Reply.{Reply}
 use Rattle.table_cell.specs.declared.events.CellEvent.{CellEvent}
 use Rattle.table_cell.specs.declared.events.CellEvent.TheVariants as events
@@ -49,6 +51,10 @@ Kept c =
     (index session limit now : ℕ) (kind : CopyKind) (us : List Update) →
     slice_get c.history index ≡ Some (events.Copy session kind limit now, replies.Copy us) →
     (mid : TableState) × Replays c.base (take index c.history) mid × (us ≡ unacked mid session kind now limit)
+
+-- the updates ascend in number
+abbrev pub AreAscending : List Update → Type 0
+AreAscending us = IsStrictlySortedBy nat_cmp (map (λ u. u.number) us)
 
 -- ---- room
 
@@ -152,9 +158,11 @@ new_cell d size nopurge first = record { base = new_table d size nopurge first; 
 
 -- ---- soundness
 
--- The invariant of a table with its history: the state is the replay of the history, it is sound, and the history keeps
--- to its bounds.
+-- The invariant of a table with its history: the state at which the history begins is sound, the moments of the history
+-- are below 2^63, the state is the replay of the history, it is sound, and the history keeps to its bounds.
 pub record IsSoundCell (c : CellState) : Type 0 where
+  pub base : IsSound c.base
+  pub timely : AreTimely c.history
   pub replayed : IsReplayed c
   pub sound : IsSound c.state
   pub within : length c.history ≤ 1000000

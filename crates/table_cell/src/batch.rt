@@ -36,7 +36,8 @@ impl Table {
         requires sound { IsSound self.now }
         requires later { self.now.latest ≤ now }
         requires limit { limit ≤ 512 }
-        ensures { IfOk result (λ batch. batch ≡ unacked self.now session kind now limit) }
+        ensures batch { IfOk result (λ batch. batch ≡ unacked self.now session kind now limit) }
+        ensures for_table { IfOk result (λ batch. IsBatchFor (self.now.definition ∷ []) batch) }
     {
         let updates = self.unacked(self.acknowledged(session), kind, limit, now)?;
         batch_of(self.alloc, &self.definition, updates)

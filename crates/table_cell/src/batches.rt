@@ -7,6 +7,7 @@ ghost use Rattle.table_cell.specs.declared.events.CellReply.TheVariants as repli
 ghost use Rattle.table_cell.specs.Histories.{Copies, IsLatestBatch, batch_in, first_of, latest_batch};
 ghost use Rattle.table_cell.specs.Machine.{Step, copy_refusal, unacked};
 ghost use Rattle.table_cell.specs.Soundness.{IsSound};
+ghost use Rattle.table_types.specs.Batches.{IsBatchFor};
 
 use crate::cell::TableCell;
 use crate::copying::last_number;
@@ -69,6 +70,7 @@ fn copy_pair(
     ensures step { IfOk result (λ pair. Step table.old (events.Copy session kind limit now) (replies.Copy pair.0) table.new) }
     ensures event { IfOk result (λ pair. history.new.items ≡ history.old.items ++ (events.Copy session kind limit now, replies.Copy pair.0) ∷ []) }
     ensures both { IfOk result (λ pair. pair.1 ≡ pair.0) }
+    ensures for_table { IfOk result (λ pair. IsBatchFor (table.old.definition ∷ []) pair.0) }
     ensures latest { AreLatestCopies latest_copies.new.entries history.new.items }
     ensures stays { OnErr result (table.new ≡ table.old) }
     ensures no_event { OnErr result (history.new.items ≡ history.old.items) }
@@ -111,7 +113,8 @@ impl TableCell {
         now: Moment,
     ) -> Result<Batch, CopyError>
         requires { (1 ≤ limit) × (limit ≤ 512) }
-        ensures { Copies self.old session kind limit now result self.new }
+        ensures call { Copies self.old session kind limit now result self.new }
+        ensures for_table { IfOk result (λ batch. IsBatchFor (self.old.state.definition ∷ []) batch) }
     {
         let (batch, _) = self.copy_pair(session, kind, limit, now)?;
         Ok(batch)
@@ -128,6 +131,7 @@ impl TableCell {
         requires { (1 ≤ limit) × (limit ≤ 512) }
         ensures call { Copies self.old session kind limit now (first_of result) self.new }
         ensures both { IfOk result (λ pair. pair.1 ≡ pair.0) }
+        ensures for_table { IfOk result (λ pair. IsBatchFor (self.old.state.definition ∷ []) pair.0) }
     {
         let full = self.is_history_full();
         if let Some(error) = self.table.copy_refusal(full, session, kind, limit, now) {

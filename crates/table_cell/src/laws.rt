@@ -1,14 +1,17 @@
 //! Laws of the definitions, whatever the program does.
 
-ghost use Rattle.std.specs.Prelude.{◌≡◌, ◌≤◌, ◌∷◌, ◌++◌, ◌^◌, [], Bool, ℕ, List, true, false};
+ghost use Rattle.std.specs.Prelude.{◌≡◌, ◌≤◌, ◌∷◌, ◌++◌, ◌^◌, [], Bool, ℕ, List, Some, true, false, slice_get, take};
 ghost use Rattle.table_types.specs.Tables.{Definition, is_definition};
 ghost use Rattle.table_types.specs.Batches.{IsBatchFor};
 ghost use Rattle.table_types.specs.declared.copies.CopyKind.{CopyKind};
+ghost use Rattle.table_types.specs.declared.update.Update.{Update};
 ghost use Rattle.table_cell.specs.declared.events.CellEvent.{CellEvent};
+ghost use Rattle.table_cell.specs.declared.events.CellEvent.TheVariants as events;
 ghost use Rattle.table_cell.specs.declared.events.CellReply.{CellReply};
+ghost use Rattle.table_cell.specs.declared.events.CellReply.TheVariants as replies;
 ghost use Rattle.table_cell.specs.Machine.{IsGranted, Replays, Step, TableState, new_table, unacked};
 ghost use Rattle.table_cell.specs.Soundness.{AreTimely, IsSound, IsTimely};
-ghost use Rattle.table_cell.specs.Histories.{CellState, IsReplayed, IsSoundCell, Kept, Made, is_history_full, new_cell};
+ghost use Rattle.table_cell.specs.Histories.{AreAscending, CellState, IsReplayed, IsSoundCell, Kept, Made, is_history_full, new_cell};
 
 /// A run continues by one step.
 pub fn a_run_goes_on()
@@ -62,4 +65,12 @@ pub fn a_cell_stays_sound()
         IsSoundCell c → Made c event reply e → IsSoundCell e }
     ensures new { (d : Definition) (size first : ℕ) (nopurge : Bool) → is_definition d ≡ true → 1 ≤ size → 1 ≤ first → first ≤ 2 ^ 32 →
         IsSoundCell (new_cell d size nopurge first) }
+{}
+
+/// After each beginning of its history, a sound table with its history was a sound table, and the updates of each batch
+/// that it keeps ascend in number.
+pub fn a_sound_cell_was_always_sound()
+    ensures states { (c : CellState) (count : ℕ) → IsSoundCell c → (mid : TableState) × Replays c.base (take count c.history) mid × IsSound mid }
+    ensures batches { (c : CellState) (index session limit now : ℕ) (kind : CopyKind) (us : List Update) → IsSoundCell c →
+        slice_get c.history index ≡ Some (events.Copy session kind limit now, replies.Copy us) → AreAscending us }
 {}

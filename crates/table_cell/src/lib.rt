@@ -25,7 +25,8 @@ pub use errors::{
 };
 pub use events::{CellEvent, CellReply, Reply};
 pub use laws::{
-    a_cell_stays_sound, a_history_goes_on, a_run_goes_on, a_step_exists, a_step_is_unique,
-    a_table_stays_sound, batches_are_kept, what_is_copied_is_a_batch,
+    a_cell_stays_sound, a_history_goes_on, a_run_goes_on, a_sound_cell_was_always_sound,
+    a_step_exists, a_step_is_unique, a_table_stays_sound, batches_are_kept,
+    what_is_copied_is_a_batch,
 };
 pub use table_types::{CopyKind, Settled};
