@@ -1,6 +1,6 @@
 -- The world (profile): tables, the sessions that teach from them, and what is on its way between a teacher and its
 -- learners.
-use Rattle.std.specs.Prelude.{ℕ, zero, suc, ◌==◌, List, [], ◌∷◌, map, set, slice_get, Option, Some, None, if◌then◌else◌}
+use Rattle.std.specs.Prelude.{ℕ, zero, suc, Bool, ◌==◌, List, [], ◌∷◌, map, set, slice_get, Option, Some, None, if◌then◌else◌}
 use Rattle.table_types.specs.declared.update.Update.{Update}
 use Rattle.table_types.specs.Tables.{Definition}
 use Rattle.known_state.specs.Known.{KnownState, fresh_of}
