@@ -1,5 +1,5 @@
 -- A learner that is fed a lesson made from what a teacher knows of it.
-use Rattle.std.proofs.Common.{◌≡◌, ◌≢◌, ℕ, false, List, [], ◌∷◌, ◌++◌, length, None, Result, Ok, Err, refl, sym, ap, subst, ◌∙◌, inl, inr, append_assoc}
+use Rattle.std.proofs.Common.{◌≡◌, ◌≢◌, ℕ, false, List, [], ◌∷◌, ◌++◌, length, None, Result, Ok, Err, refl, sym, ap, subst, ◌∙◌, append_assoc}
 use Rattle.std.specs.List.{AllByRecursion}
 use Rattle.peers_msg.specs.Integers.{IsBytes}
 use Rattle.table_types.specs.declared.update.Update.{Update}
@@ -18,7 +18,7 @@ use Rattle.known_state.proofs.LastNumbersRise.{rising-step}
 use Rattle.learner.specs.declared.fault.Fault.{Fault}
 use Rattle.learner.specs.declared.fault.Fault.TheVariants as faults
 use Rattle.learner.specs.Intake.{Taking, Stops}
-use Rattle.learner.specs.Learning.{Learning, AreLearned, IsCutShort, LearnerFeeds, AreFed, IsReadyIn, IsTaught, HasLearned, with_piece}
+use Rattle.learner.specs.Learning.{Learning, AreLearned, LearnerFeeds, AreFed, IsReadyIn, IsTaught, HasLearned, with_piece}
 use Rattle.learner.specs.Moments.{Piece, stream_in, AreFedInTime, AreTooFew, FallInto, HasLearnedInTime}
 use Rattle.learner.proofs.LegalStreamIsTaught.{once_named, taught, taught_in_pieces}
 use Rattle.learner.specs.OnItsWay.{IsOnItsWay}
@@ -39,12 +39,6 @@ stopped_state t e faults.Memory (is_open, takable, is) = ap (λ (x : Taking). x.
 stopped_state t e faults.Closed (shut, is) = ap (λ (x : Taking). x.state) is
 stopped_state t e (faults.Breach breach) (is_open, at, is) = ap (λ (x : Taking). x.state) is
 
-cut_rise : (l e : Learning) → AreRising l.intake.state.last_numbers → IsCutShort l e → AreRising e.intake.state.last_numbers
-cut_rise l e rise (takable, rows, left) = elim left [
-  | inl same ↦ subst (λ (x : Taking). AreRising x.state.last_numbers) (sym same) rise
-  | inr one ↦ rising-step l.intake.state e.intake.state one.0 one.2.3 rise one.2.4
-]
-
 -- whatever a learner is fed, they stay in order
 pub fed_rise : (now : ℕ) (l e : Learning) (piece : List ℕ) (result : Result ℕ Fault) → AreRising l.intake.state.last_numbers → LearnerFeeds now l piece result e → AreRising e.intake.state.last_numbers
 fed_rise now l e piece result rise = by result
@@ -56,12 +50,8 @@ fed_rise now l e piece result rise = by result
     by : (result : Result ℕ Fault) → LearnerFeeds now l piece result e → AreRising e.intake.state.last_numbers
     by (Ok count) (is_open, (ms, us, learned, waits, is)) = learned_rise now (with_piece l piece) e ms us rise learned
     by (Err faults.Closed) (shut, is) = subst (λ (x : Learning). AreRising x.intake.state.last_numbers) (sym is) rise
-    by (Err faults.Memory) (is_open, left, inl (ms, us, mid, learned, cut), is) =
-        subst (λ (x : Learning). AreRising x.intake.state.last_numbers) (sym is) (cut_rise mid left (learned_rise now (with_piece l piece) mid ms us rise learned) cut)
-    by (Err faults.Memory) (is_open, left, inr (inl (none, count, (ms, us, learned, waits, counted), some)), is) =
-        subst (λ (x : Learning). AreRising x.intake.state.last_numbers) (sym is) (learned_rise now (with_piece l piece) left ms us rise learned)
-    by (Err faults.Memory) (is_open, left, inr (inr (some, more, same)), is) =
-        subst (λ (x : Learning). AreRising x.intake.state.last_numbers) (sym is) (subst (λ (x : Learning). AreRising x.intake.state.last_numbers) (sym same) rise)
+    by (Err faults.Memory) (is_open, left, (ms, us, mid, learned, stops, rows), is) =
+        subst (λ (x : Learning). AreRising x.intake.state.last_numbers) (sym is) (subst (λ (x : State). AreRising x.last_numbers) (sym (stopped_state mid.intake left.intake faults.Memory stops)) (learned_rise now (with_piece l piece) mid ms us rise learned))
     by (Err faults.NoNumber) (is_open, all) = stopped faults.NoNumber all
     by (Err faults.EmptySlot) (is_open, all) = stopped faults.EmptySlot all
     by (Err (faults.Breach breach)) (is_open, all) = stopped (faults.Breach breach) all

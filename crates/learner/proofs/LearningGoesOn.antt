@@ -1,5 +1,5 @@
 -- Messages that are learned one after another.
-use Rattle.std.proofs.Common.{◌≡◌, ℕ, false, List, [], ◌∷◌, ◌++◌, Some, Ok, Err, refl, sym, ap, ◌∙◌, subst, append_assoc, inl, inr, length}
+use Rattle.std.proofs.Common.{◌≡◌, ℕ, false, List, [], ◌∷◌, ◌++◌, Some, Ok, refl, sym, ap, ◌∙◌, subst, append_assoc, length}
 use Rattle.std.proofs.lemmas.List.{append-nil}
 use Rattle.std.specs.Prelude.{map}
 use Rattle.table_types.specs.declared.key.Key.{Key}
@@ -7,12 +7,10 @@ use Rattle.table_types.specs.Tables.{Definition}
 use Rattle.table_types.specs.Rows.{StoredRow}
 use Rattle.table_types.specs.declared.update.Update.{Update}
 use Rattle.peers_msg.specs.declared.message.Message.{Message}
-use Rattle.learner.specs.declared.fault.Fault.{Fault}
-use Rattle.learner.specs.declared.fault.Fault.TheVariants as faults
-use Rattle.learner.specs.Intake.{Taking, IsTakable, Stops, Gives, rows_of, begun}
+use Rattle.learner.specs.Intake.{Taking, Gives, rows_of, begun}
 use Rattle.learner.specs.declared.taken.Taken.{Taken}
 use Rattle.learner.specs.Rows.{put_all}
-use Rattle.learner.specs.Learning.{Learning, unlearned, Learns, AreLearned, LearnsOne, LearnsAll}
+use Rattle.learner.specs.Learning.{Learning, unlearned, Learns, AreLearned, LearnsOne}
 
 -- one more message
 pub learned_more : (now : ℕ) (l mid e : Learning) (ms : List Message) (us one : List Update) (m : Message) → AreLearned now l ms us mid → Learns now mid m one e → AreLearned now l (ms ++ (m ∷ [])) (us ++ one) e
@@ -35,22 +33,6 @@ roster_stays now l e [] us (none, here) = ap (λ (x : Learning). x.intake.roster
 roster_stays now l e (m ∷ ms) us (first, rest, next, all, begins, later) =
     roster_stays now next e ms rest later ∙ ap (λ (x : Taking). x.roster) begins.0.6
 
--- a fault at the front, as learning one message reports it
-pub stops_one : (now : ℕ) (l e : Learning) (fault : Fault) → Stops l.intake fault e.intake → e.rows ≡ l.rows → LearnsOne now l (Err fault) e
-stops_one now l e faults.Memory stops rows = (stops.1, rows, inl stops.2)
-stops_one now l e faults.Closed stops rows = (stops, rows)
-stops_one now l e faults.NoNumber stops rows = (stops, rows)
-stops_one now l e faults.EmptySlot stops rows = (stops, rows)
-stops_one now l e (faults.Breach breach) stops rows = (stops, rows)
-
--- a fault after messages that are learned
-pub stops_all : (now : ℕ) (l mid e : Learning) (ms : List Message) (us : List Update) (fault : Fault) → AreLearned now l ms us mid → LearnsOne now mid (Err fault) e → LearnsAll now l (Err fault) e
-stops_all now l mid e ms us faults.Memory learned stops = (ms, us, mid, learned, stops)
-stops_all now l mid e ms us faults.Closed learned stops = (ms, us, mid, learned, stops.0, stops.1)
-stops_all now l mid e ms us faults.NoNumber learned stops = (ms, us, mid, learned, stops.0, stops.1)
-stops_all now l mid e ms us faults.EmptySlot learned stops = (ms, us, mid, learned, stops.0, stops.1)
-stops_all now l mid e ms us (faults.Breach breach) learned stops = (ms, us, mid, learned, stops.0, stops.1)
-
 -- a learner that has been fed nothing
 pub begins_so : (roster : List Definition) (t : Taking) (rows : List (List (Key × StoredRow))) → t ≡ begun roster → rows ≡ map (λ _. []) roster → record { intake = t; rows = rows } ≡ unlearned roster
 begins_so roster t rows is held =
@@ -62,11 +44,3 @@ begins_so roster t rows is held =
 pub gives_rows : (now : ℕ) (l : Learning) (e : Taking) (answer : Taken) (rows : List (List (Key × StoredRow))) (count : ℕ) → Gives l.intake (Ok answer) e → rows ≡ put_all now e.roster (rows_of answer) l.rows → count ≡ length (rows_of answer) → LearnsOne now l (Ok (Some count)) (record { intake = e; rows = rows })
 gives_rows now l e answer rows count (m, takes, says) is counted =
     (m, rows_of answer, (takes, is ∙ ap (λ (ds : List Definition). put_all now ds (rows_of answer) l.rows) (ap (λ (t : Taking). t.roster) takes.6)), counted)
-
--- memory runs out before anything changes
-pub cut_here : (now : ℕ) (l : Learning) → IsTakable l.intake → LearnsOne now l (Err faults.Memory) l
-cut_here now l takable = (takable, refl, inl refl)
-
--- memory runs out for a row
-pub gives_cut : (now : ℕ) (l : Learning) (e : Taking) (answer : Taken) → IsTakable l.intake → Gives l.intake (Ok answer) e → LearnsOne now l (Err faults.Memory) (record { intake = e; rows = l.rows })
-gives_cut now l e answer takable (m, takes, says) = (takable, refl, inr (m, rows_of answer, takes))

@@ -14,3 +14,5 @@ pub mod NoFaultOnTheWay
 pub mod SameInAnyOrderOfCalls
 pub mod MomentFaults
 pub mod ReadInPlace
+pub mod RoomForMessages
+pub mod JoinedPieces

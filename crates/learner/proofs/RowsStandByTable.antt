@@ -12,7 +12,7 @@ use Rattle.table_types.specs.Rosters.{table_at}
 use Rattle.table_types.specs.Rows.{StoredRow, row_of}
 use Rattle.table_types.specs.Keys.{key_cmp}
 use Rattle.std.specs.Prelude.{IfSome}
-use Rattle.learner.specs.declared.learner.NewRow.{NewRow}
+use Rattle.learner.specs.declared.keeper.NewRow.{NewRow}
 use Rattle.learner.specs.NewRows.{AreRowsOf}
 use Rattle.learner.specs.Rows.{put_row, put, put_all, rows_at, index_of}
 

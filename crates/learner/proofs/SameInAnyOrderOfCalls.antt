@@ -35,7 +35,7 @@ after_feeding t mid e piece others more answers (Err fault) fine feeds taken =
     subst (λ (x : Taking). AreTaken (fed x (others ++ more)) answers (fed e more)) (unfed fault (fine fault refl) feeds) taken
   where
     unfed : (f : Fault) → f ≡ faults.Memory → IntakeFeeds t piece (Err f) mid → mid ≡ t
-    unfed f memory feeds = (subst (λ (g : Fault). IntakeFeeds t piece (Err g) mid) memory feeds).1
+    unfed f memory feeds = (subst (λ (g : Fault). IntakeFeeds t piece (Err g) mid) memory feeds).2
 
 -- and after one that asked for a message
 asked : (t mid e : Taking) (bytes : List ℕ) (others : List Taken) (answer : Result (Option Taken) Fault) → IsBytes t.unread → IsFaultless answer → IntakeNext t answer mid → AreTaken (fed mid bytes) others e → AreTaken (fed t bytes) (answers_given answer ++ others) e
@@ -57,7 +57,7 @@ fed_good t mid piece others more (Err fault) good fine feeds =
     subst (λ (x : Taking). IsBytes (x.unread ++ (others ++ more))) (sym (unfed fault (fine fault refl) feeds)) good
   where
     unfed : (f : Fault) → f ≡ faults.Memory → IntakeFeeds t piece (Err f) mid → mid ≡ t
-    unfed f memory feeds = (subst (λ (g : Fault). IntakeFeeds t piece (Err g) mid) memory feeds).1
+    unfed f memory feeds = (subst (λ (g : Fault). IntakeFeeds t piece (Err g) mid) memory feeds).2
 
 asked_good : (t mid : Taking) (bytes : List ℕ) (answer : Result (Option Taken) Fault) → IsBytes (t.unread ++ bytes) → IsFaultless answer → IntakeNext t answer mid → IsBytes (mid.unread ++ bytes)
 asked_good t mid bytes (Ok None) good fine (is_open, none, is) = subst (λ (x : Taking). IsBytes (x.unread ++ bytes)) (sym is) good
@@ -95,7 +95,7 @@ fed_open t mid piece (Err fault) fine feeds = unfed fault (fine fault refl) feed
     unfed : (f : Fault) → f ≡ faults.Memory → IntakeFeeds t piece (Err f) mid → (t.closed ≡ false) × (mid.closed ≡ false)
     unfed f memory feeds =
         let stays : IntakeFeeds t piece (Err faults.Memory) mid = subst (λ (g : Fault). IntakeFeeds t piece (Err g) mid) memory feeds in
-        (stays.0, ap (λ (x : Taking). x.closed) stays.1 ∙ stays.0)
+        (stays.0, ap (λ (x : Taking). x.closed) stays.2 ∙ stays.0)
 
 asked_open : (t mid : Taking) (answer : Result (Option Taken) Fault) → IsFaultless answer → IntakeNext t answer mid → (t.closed ≡ false) × (mid.closed ≡ false)
 asked_open t mid (Ok None) fine (is_open, none, is) = (is_open, ap (λ (x : Taking). x.closed) is ∙ is_open)

@@ -16,7 +16,7 @@ use Rattle.learner.specs.declared.taken.Taken.TheVariants as taken
 use Rattle.learner.specs.declared.taken.TakenRef.{TakenRef}
 use Rattle.learner.specs.declared.taken.TakenRef.TheVariants as borrowed
 use Rattle.learner.specs.LocalTables.{local_updates}
-use Rattle.learner.specs.Intake.{Taking, Stops, Answers, rows_of, shut, with_due}
+use Rattle.learner.specs.Intake.{Taking, Stops, Answers, rows_of, shut, with_due, with_unread}
 
 -- a borrowed message as an owned one
 abbrev pub owned : TakenRef → Taken
@@ -57,6 +57,10 @@ due_made s (effects.Update r) due = with_due (Some r.table) due
 due_made s (effects.Define d) due = filter (λ id. is_some (last_of (made s (effects.Define d)).last_numbers id)) due
 due_made s effect due = due
 
+-- an effect is applied to the state and to what is due
+abbrev pub with_effect : Taking → Effect → Taking
+with_effect t effect = record t { state = made t.state effect; due = due_made t.state effect t.due }
+
 -- what is left of an intake that moves past the message at its front
 abbrev pub passed : Taking → Advance → Taking
-passed t a = record t { state = made t.state a.effect; due = due_made t.state a.effect t.due; unread = drop a.used t.unread }
+passed t a = with_unread (with_effect t a.effect) (drop a.used t.unread)

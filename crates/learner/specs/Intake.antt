@@ -1,5 +1,5 @@
 -- What an intake holds, and what it does with the bytes that it is fed (profile).
-use Rattle.std.specs.Prelude.{◌≡◌, ℕ, Bool, true, false, ◌&&◌, is_some, List, [], ◌∷◌, ◌++◌, filter, filter_map, Option, Some, None, option_map, Result, Ok, Err, if◌then◌else◌}
+use Rattle.std.specs.Prelude.{◌≡◌, ◌≢◌, ℕ, Bool, true, false, ◌&&◌, is_some, List, [], ◌∷◌, ◌++◌, filter, filter_map, Option, Some, None, option_map, Result, Ok, Err, if◌then◌else◌}
 use Rattle.table_types.specs.declared.update.Update.{Update}
 use Rattle.table_types.specs.Tables.{Definition}
 use Rattle.peers_msg.specs.declared.message.Message.{Message}
@@ -121,10 +121,10 @@ IntakeNext t (Ok None) e = (t.closed ≡ false) × (message_at t.state.received 
 IntakeNext t (Ok (Some answer)) e = Gives t (Ok answer) e
 IntakeNext t (Err fault) e = Gives t (Err fault) e
 
--- what feeding bytes does
+-- What feeding bytes does. Only bytes that aren't held yet need memory, and if it runs out, nothing changes.
 abbrev pub IntakeFeeds : Taking → List ℕ → Result (Unit {0}) Fault → Taking → Type 0
 IntakeFeeds t piece (Ok _) e = (t.closed ≡ false) × (e ≡ fed t piece)
-IntakeFeeds t piece (Err faults.Memory) e = (t.closed ≡ false) × (e ≡ t)
+IntakeFeeds t piece (Err faults.Memory) e = (t.closed ≡ false) × (piece ≢ []) × (e ≡ t)
 IntakeFeeds t piece (Err faults.Closed) e = (t.closed ≡ true) × (e ≡ t)
 IntakeFeeds t piece (Err fault) e = ⊥
 

@@ -1,5 +1,5 @@
 -- What a learner holds, and what it learns from the bytes that it is fed (profile).
-use Rattle.std.specs.Prelude.{◌≡◌, ◌≢◌, ◌⊎◌, ℕ, ◌+◌, true, false, List, [], ◌∷◌, ◌++◌, length, map, Option, Some, None, Result, Ok, Err}
+use Rattle.std.specs.Prelude.{◌≡◌, ℕ, ◌+◌, true, false, List, [], ◌∷◌, ◌++◌, length, map, Option, Some, None, Result, Ok, Err}
 use Rattle.table_types.specs.declared.key.Key.{Key}
 use Rattle.table_types.specs.declared.update.Update.{Update}
 use Rattle.table_types.specs.Tables.{Definition}
@@ -12,7 +12,7 @@ use Rattle.known_state.specs.Known.{KnownState, AreOwn, known_of}
 use Rattle.known_state.specs.LastNumbers.{AreRising}
 use Rattle.learner.specs.declared.fault.Fault.{Fault}
 use Rattle.learner.specs.declared.fault.Fault.TheVariants as faults
-use Rattle.learner.specs.Intake.{Taking, Takes, Stops, IsTakable, begun, fed, shut}
+use Rattle.learner.specs.Intake.{Taking, Takes, Stops, begun, fed, shut}
 use Rattle.learner.specs.Rows.{put_all}
 
 -- what was taken of the stream, and the rows of each local table, in the order of the roster
@@ -48,20 +48,11 @@ AreLearned now l (m ∷ ms) us e =
 abbrev pub IsWaiting : Taking → Type 0
 IsWaiting t = (t.closed ≡ false) × (message_at t.state.received t.unread ≡ Ok None)
 
--- nothing has changed, or the message at the front is taken
-abbrev pub IsAtMostOneOn : Taking → Taking → Type 0
-IsAtMostOneOn t e = (e ≡ t) ⊎ ((m : Message) × (local : List Update) × Takes t m local e)
-
--- What is left if memory runs out for the message at the front, which is whole and has no fault: the rows are
--- unchanged, whether or not that message was taken, so the rows are those of whole messages.
-abbrev pub IsCutShort : Learning → Learning → Type 0
-IsCutShort l e = IsTakable l.intake × (e.rows ≡ l.rows) × IsAtMostOneOn l.intake e.intake
-
--- what learning one message does; the answer is how many rows were put
+-- What learning one message does; the answer is how many rows were put. A fault changes no row, and memory that runs
+-- out for a message changes nothing at all.
 abbrev pub LearnsOne : ℕ → Learning → Result (Option ℕ) Fault → Learning → Type 0
 LearnsOne now l (Ok None) e = IsWaiting l.intake × (e ≡ l)
 LearnsOne now l (Ok (Some count)) e = (m : Message) × (us : List Update) × Learns now l m us e × (count ≡ length us)
-LearnsOne now l (Err faults.Memory) e = IsCutShort l e
 LearnsOne now l (Err fault) e = Stops l.intake fault e.intake × (e.rows ≡ l.rows)
 
 -- The whole messages are learned one after another, up to the first fault. The answer is how many rows were put.
@@ -72,12 +63,6 @@ LearnsAll now l (Ok count) e =
     × AreLearned now l ms us e
     × IsWaiting e.intake
     × (count ≡ length us)
-LearnsAll now l (Err faults.Memory) e =
-    (ms : List Message)
-    × (us : List Update)
-    × (mid : Learning)
-    × AreLearned now l ms us mid
-    × IsCutShort mid e
 LearnsAll now l (Err fault) e =
     (ms : List Message)
     × (us : List Update)
@@ -90,25 +75,14 @@ LearnsAll now l (Err fault) e =
 abbrev pub shut_off : Learning → Learning
 shut_off l = record { intake = shut l.intake; rows = l.rows }
 
--- Bytes can't be held: if nothing was unread, those of the unfinished message that is left after all whole messages
--- were learned; otherwise those of the piece, from which nothing is then learned.
-abbrev pub IsUnheld : ℕ → Learning → List ℕ → Learning → Type 0
-IsUnheld now l piece left =
-    ((l.intake.unread ≡ []) × (count : ℕ) × LearnsAll now (with_piece l piece) (Ok count) left × (left.intake.unread ≢ []))
-    ⊎ ((l.intake.unread ≢ []) × (piece ≢ []) × (left ≡ l))
-
--- what is left if memory runs out, for a whole message without a fault or for bytes to be held
-abbrev pub IsLeft : ℕ → Learning → List ℕ → Learning → Type 0
-IsLeft now l piece left = LearnsAll now (with_piece l piece) (Err faults.Memory) left ⊎ IsUnheld now l piece left
-
--- What feeding bytes at the moment now does: the messages that are then whole are learned. After a fault the learner is
--- closed, and so it is if memory runs out; a closed learner takes no bytes.
+-- What feeding bytes at the moment now does: the messages that are then whole are learned, up to the first fault. After
+-- a fault the learner is closed, and so it is if memory runs out for a message; a closed learner takes no bytes.
 abbrev pub LearnerFeeds : ℕ → Learning → List ℕ → Result ℕ Fault → Learning → Type 0
 LearnerFeeds now l piece (Err faults.Closed) e = (l.intake.closed ≡ true) × (e ≡ l)
 LearnerFeeds now l piece (Err faults.Memory) e =
     (l.intake.closed ≡ false)
     × (left : Learning)
-    × IsLeft now l piece left
+    × LearnsAll now (with_piece l piece) (Err faults.Memory) left
     × (e ≡ shut_off left)
 LearnerFeeds now l piece result e = (l.intake.closed ≡ false) × LearnsAll now (with_piece l piece) result e
 

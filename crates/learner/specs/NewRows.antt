@@ -4,7 +4,7 @@ use Rattle.table_types.specs.declared.update.Update.{Update}
 use Rattle.table_types.specs.Tables.{Definition}
 use Rattle.table_types.specs.Rosters.{table_at}
 use Rattle.table_types.specs.Rows.{row_of}
-use Rattle.learner.specs.declared.learner.NewRow.{NewRow}
+use Rattle.learner.specs.declared.keeper.NewRow.{NewRow}
 use Rattle.learner.specs.Rows.{index_of}
 
 -- the index of the update's table, its key, and the row; none if no table has its id

@@ -1,15 +1,15 @@
 //! Taking a stream message by message.
 
-ghost use Rattle.std.specs.Prelude.{◌≡◌, ◌≢◌, ◌<◌, ◌≤◌, [], true, IfOk, IfErr, OnOk, OnErr, IsSome, length};
+ghost use Rattle.std.specs.Prelude.{◌≡◌, ◌<◌, ◌≤◌, [], true, IfOk, IfErr, OnOk, OnErr, IsSome, length};
 ghost use Rattle.peers_msg.specs.declared.message.Message.TheVariants as messages;
 ghost use Rattle.peers_msg.specs.BorrowedMessages.{owned_message};
 ghost use Rattle.peers_msg.specs.Fitting.{fits};
-ghost use Rattle.known_state.specs.Effects.{IsEffect, made};
+ghost use Rattle.known_state.specs.Effects.{IsEffect};
 ghost use Rattle.known_state.specs.declared.effect.Effect.TheVariants as effects;
 ghost use Rattle.learner.specs.LocalTables.{selected_local};
 ghost use Rattle.learner.specs.Acks.{AreRisingAcks};
-ghost use Rattle.learner.specs.Intake.{begun, fed, shut, with_unread, IntakeFeeds, IntakeNext, IsRefused, ack_of, acks_of};
-ghost use Rattle.learner.specs.Front.{Looks, Shows, due_made, passed, stopped};
+ghost use Rattle.learner.specs.Intake.{begun, shut, with_unread, IntakeFeeds, IntakeNext, IsRefused, ack_of, acks_of};
+ghost use Rattle.learner.specs.Front.{Looks, Shows, passed, stopped, with_effect};
 
 use crate::advance::Advance;
 use crate::due::{add_due, is_ack_due, still_due};
@@ -20,7 +20,6 @@ use known_state::{Effect, ResolvedUpdate, State};
 use peers_msg::{Message, MessageRef, Received, Unread, UpdateRef, front};
 use std::alloc::Global;
 use std::marker::Model;
-use std::mem;
 use table_types::{Memory, Roster, TableDef};
 
 /// An intake takes the messages of a stream that arrives in pieces, cut anywhere, and resolves what they say of the
@@ -116,44 +115,18 @@ impl Intake {
         self.closed = true;
     }
 
-    /// Takes the next piece of the stream, and holds all of it. Returns `Closed` after a fault; after `Memory` nothing
-    /// has changed.
+    /// Takes the next piece of the stream, and holds all of it. Returns `Closed` after a fault. An empty piece needs no
+    /// memory; after `Memory` nothing has changed.
     pub fn feed(&mut self, piece: &[u8]) -> Result<(), Fault>
         ensures { IntakeFeeds self.old piece.now result self.new }
     {
         if self.closed {
             return Err(Fault::Closed);
         }
-        self.hold(piece)?;
-        Ok(())
-    }
-
-    /// Appends these bytes to the unread ones. Allocates only if there are bytes to hold. After `Memory` nothing has
-    /// changed.
-    pub(crate) fn hold(&mut self, bytes: &[u8]) -> Result<(), Memory>
-        ensures held { OnOk result (self.new ≡ fed self.old bytes.now) }
-        ensures stays { OnErr result (self.new ≡ self.old) }
-        ensures some { OnErr result (bytes.now ≢ []) }
-    {
-        if bytes.is_empty() {
-            return Ok(());
+        if !piece.is_empty() {
+            self.unread.append(piece)?;
         }
-        self.unread.append(bytes)
-    }
-
-    /// Takes the unread bytes out.
-    pub(crate) fn take_unread(&mut self) -> Unread
-        ensures taken { result ≡ self.old.unread }
-        ensures left { self.new ≡ with_unread self.old [] }
-    {
-        mem::replace(&mut self.unread, Unread::new(self.alloc))
-    }
-
-    /// Replaces the unread bytes.
-    pub(crate) fn put_unread(&mut self, unread: Unread)
-        ensures { self.new ≡ with_unread self.old unread }
-    {
-        self.unread = unread;
+        Ok(())
     }
 
     /// Does the same as `look_at`, with the unread bytes.
@@ -243,7 +216,7 @@ impl Intake {
 
     /// Applies an effect to the state and to what is due. After `Memory` nothing has changed.
     pub(crate) fn make(&mut self, effect: Effect) -> Result<(), Memory>
-        ensures made { OnOk result (self.new ≡ record self.old { state = made self.old.state effect; due = due_made self.old.state effect self.old.due }) }
+        ensures made { OnOk result (self.new ≡ with_effect self.old effect) }
         ensures stays { OnErr result (self.new ≡ self.old) }
     {
         match effect {
@@ -255,7 +228,7 @@ impl Intake {
     }
 
     fn define(&mut self, table: TableDef) -> Result<(), Memory>
-        ensures made { OnOk result (self.new ≡ record self.old { state = made self.old.state (effects.Define table); due = due_made self.old.state (effects.Define table) self.old.due }) }
+        ensures made { OnOk result (self.new ≡ with_effect self.old (effects.Define table)) }
         ensures stays { OnErr result (self.new ≡ self.old) }
     {
         self.state.make(Effect::Define(table))?;
@@ -265,7 +238,7 @@ impl Intake {
     }
 
     fn select(&mut self, id: u64) -> Result<(), Memory>
-        ensures made { OnOk result (self.new ≡ record self.old { state = made self.old.state (effects.Select id) }) }
+        ensures made { OnOk result (self.new ≡ with_effect self.old (effects.Select id)) }
         ensures stays { OnErr result (self.new ≡ self.old) }
     {
         self.state.make(Effect::Select(id))?;
@@ -276,7 +249,7 @@ impl Intake {
     /// Records the number of an update and the name that it writes, and makes its table due. After `Memory` nothing has
     /// changed.
     fn remember(&mut self, update: ResolvedUpdate) -> Result<(), Memory>
-        ensures made { OnOk result (self.new ≡ record self.old { state = made self.old.state (effects.Update update); due = due_made self.old.state (effects.Update update) self.old.due }) }
+        ensures made { OnOk result (self.new ≡ with_effect self.old (effects.Update update)) }
         ensures stays { OnErr result (self.new ≡ self.old) }
     {
         self.due.reserve(1)?;

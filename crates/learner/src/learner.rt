@@ -1,34 +1,28 @@
 //! Learners.
 
-ghost use Rattle.std.specs.Prelude.{◌≡◌, ◌≢◌, ◌↔◌, ◌<◌, ◌≤◌, ℕ, List, [], false, IfOk, OnOk, OnErr, IsNone, IfSome, Some, None, length, map, option_copied, option_map};
-ghost use Rattle.table_types.specs.declared.update.Update.{Update};
-ghost use Rattle.table_types.specs.Rosters.{table_at};
-ghost use Rattle.table_types.specs.Rows.{cell_of, row_of};
+ghost use Rattle.std.specs.Prelude.{◌≡◌, ◌≢◌, ◌↔◌, ◌≤◌, [], false, IfOk, OnOk, OnErr, IsNone, IfSome, None, Ok, length, option_copied};
 ghost use Rattle.std.specs.Map.{keys_of};
 ghost use Rattle.std.specs.List.Sorted.{IsStrictlySortedBy};
 ghost use Rattle.known_state.specs.Known.{known_of};
 ghost use Rattle.known_state.specs.LastNumbers.{AreRising};
 ghost use Rattle.learner.specs.Acks.{AreRisingAcks};
-ghost use Rattle.learner.specs.Intake.{acks_of, rows_of};
+ghost use Rattle.learner.specs.Intake.{acks_of};
 ghost use Rattle.table_types.specs.Keys.{key_cmp};
-ghost use Rattle.learner.specs.Rows.{row_at, rows_at, index_of, put_all};
-ghost use Rattle.learner.specs.Front.{owned};
-ghost use Rattle.learner.specs.NewRows.{AreRowsOf, IsRowOf};
-ghost use Rattle.learner.specs.Learning.{unlearned, LearnerFeeds};
-ghost use Rattle.learner.specs.InPlace.{LearnsFront, LearnsWhole, LearnsPiece};
+ghost use Rattle.learner.specs.Rows.{row_at, rows_at, index_of};
+ghost use Rattle.learner.specs.Learning.{unlearned, IsWaiting, LearnerFeeds};
+ghost use Rattle.learner.specs.InPlace.{LearnsPiece};
 
-use crate::advance::Advance;
 use crate::fault::Fault;
-use crate::intake::Intake;
-use crate::learned::Learned;
-use crate::table_rows::TableRows;
-use crate::taken::{LocalUpdateRef, TakenRef};
+use crate::keeper::Keeper;
 use known_state::Known;
-use peers_msg::{Message, ValuesRef};
+use peers_msg::Message;
 use std::alloc::Global;
 use std::collections::BTreeMap;
 use std::marker::Model;
-use table_types::{Cell, Key, Memory, Moment, Roster, Row, ShortList, TableDef};
+use table_types::{Key, Memory, Moment, Roster, Row};
+
+/// The bytes of the longest message: class and type, the length of its data in three bytes, and the data.
+const LONGEST_MESSAGE: usize = 2 + 3 + 16_384;
 
 /// A learner takes the bytes of a stream in any pieces, and keeps the rows of its local tables (HAProxy,
 /// doc/peers-v2.0.txt, "Update Messages").
@@ -38,119 +32,26 @@ use table_types::{Cell, Key, Memory, Moment, Roster, Row, ShortList, TableDef};
 #[derive(Drop)]
 pub struct Learner {
     alloc: Global,
-    intake: Intake,
-    /// One for each table of the roster, in its order.
-    rows_of_tables: Vec<TableRows>,
+    keeper: Keeper,
+    /// The bytes of an unfinished message; none after a fault. There is room for the longest, so holding them needs no
+    /// memory.
+    held: Vec<u8>,
 }
 
 impl Model for Learner {
-    ghost use Rattle.std.specs.Prelude.{◌≡◌, length};
+    ghost use Rattle.std.specs.Prelude.{◌≡◌, ◌≤◌, false, None, Ok, vec_capacity};
+    ghost use Rattle.peers_msg.specs.Integers.{IsBytes};
+    ghost use Rattle.peers_msg.specs.Reading.{message_at};
     ghost use Rattle.learner.specs.Learning.{Learning};
+    ghost use Rattle.learner.specs.InPlace.{over};
 
     ghost Value = { Learning };
 
-    ghost view = { λ l. record { intake = l.intake; rows = l.rows_of_tables.items } };
+    ghost view = { λ l. over l.keeper l.held.items };
 
-    ghost invariant = { λ l. length l.rows_of_tables.items ≡ length l.intake.roster };
-}
-
-/// Returns the table of `id`, with its index.
-fn find(tables: &[TableDef], id: u64) -> Option<(usize, &TableDef)>
-    ensures index { option_map (λ found. found.0) result ≡ index_of tables.now id }
-    ensures table { option_map (λ found. found.1.now) result ≡ table_at tables.now id }
-{
-    for (index, table) in tables.iter().enumerate() {
-        if table.id() == id {
-            return Some((index, table));
-        }
-    }
-    None
-}
-
-/// Returns the index of the table of `id`.
-fn index_of(tables: &[TableDef], id: u64) -> Option<usize>
-    ensures { result ≡ index_of tables.now id }
-{
-    match find(tables, id) {
-        Some((index, _)) => Some(index),
-        None => None,
-    }
-}
-
-/// Returns the cells of a row that an update with `values` teaches at `now`.
-fn cells_of(
-    alloc: Global,
-    mut values: ValuesRef<'_>,
-    now: Moment,
-) -> Result<ShortList<Cell>, Memory>
-    ensures { IfOk result (λ cells. cells ≡ map (cell_of now) values.entry) }
-{
-    let mut cells = ShortList::with_capacity(alloc, values.len())?;
-    while let Some(value) = values.next() {
-        cells = cells.with(alloc, Cell::of(value, now))?;
-    }
-    Ok(cells)
-}
-
-/// Returns the row that an update teaches at `now`, with its key, in a table whose rows expire after `expire`.
-fn learned(
-    alloc: Global,
-    update: &LocalUpdateRef<'_>,
-    expire: u32,
-    now: Moment,
-) -> Result<(Key, Row), Memory>
-    ensures { IfOk result (λ pair. (pair.0 ≡ update.now.key) × (pair.1 ≡ row_of now expire update.now)) }
-{
-    let cells = cells_of(alloc, update.values(), now)?;
-    let name = update.name(alloc)?;
-    let key = update.key().to_owned(alloc)?;
-    let ends = Row::end(update.life(), expire, now);
-    Ok((key, Row::learned_with(update.number(), ends, cells, name)))
-}
-
-/// A row to be put in the table at `index`.
-#[derive(Debug, Drop)]
-struct NewRow {
-    index: usize,
-    key: Key,
-    row: Row,
-}
-
-/// Returns the row that an update teaches at `now`; `None` if no table has its id.
-fn new_row(
-    alloc: Global,
-    tables: &[TableDef],
-    update: &LocalUpdateRef<'_>,
-    now: Moment,
-) -> Result<Option<NewRow>, Memory>
-    ensures { IfOk result (λ row. IsRowOf now tables.now update.now row) }
-{
-    let Some((index, table)) = find(tables, update.table()) else {
-        return Ok(None);
-    };
-    let (key, row) = learned(alloc, update, table.expire(), now)?;
-    Ok(Some(NewRow { index, key, row }))
-}
-
-/// Returns the row that `taken` teaches at `now`, if it is an update of a local table.
-fn taught(
-    alloc: Global,
-    tables: &[TableDef],
-    taken: &TakenRef<'_>,
-    now: Moment,
-) -> Result<Option<NewRow>, Memory>
-    ensures { IfOk result (λ row. AreRowsOf now tables.now (rows_of (owned taken.now)) row) }
-{
-    match taken {
-        TakenRef::Row(update) => new_row(alloc, tables, update, now),
-        TakenRef::Passed
-        | TakenRef::Said(_)
-        | TakenRef::Failed(_)
-        | TakenRef::Acked {
-            table: _,
-            number: _,
-        } => Ok(None),
-    }
+    ghost invariant = { λ l. (l.keeper.intake.closed ≡ false → message_at l.keeper.intake.state.received l.held.items ≡ Ok None)
+        × IsBytes l.held.items
+        × (16389 ≤ vec_capacity l.held) };
 }
 
 /// Returns copies of `rows` with their keys, in ascending order of key.
@@ -170,14 +71,10 @@ impl Learner {
     pub fn new(alloc: Global, roster: Roster) -> Result<Learner, Memory>
         ensures { IfOk result (λ learner. learner ≡ unlearned roster) }
     {
-        let mut rows_of_tables = Vec::with_capacity(alloc, roster.tables().len())?;
-        for _ in roster.tables() {
-            rows_of_tables.push(TableRows::new(alloc))?;
-        }
         Ok(Learner {
             alloc,
-            intake: Intake::new(alloc, roster),
-            rows_of_tables,
+            keeper: Keeper::new(alloc, roster)?,
+            held: Vec::with_capacity(alloc, LONGEST_MESSAGE)?,
         })
     }
 
@@ -185,34 +82,36 @@ impl Learner {
     pub fn roster(&self) -> &Roster
         ensures { result.now ≡ self.now.intake.roster }
     {
-        self.intake.roster()
+        self.keeper.intake().roster()
     }
 
     /// Returns how many bytes were fed and not read: those of an unfinished message, and none after a fault.
     pub fn waiting(&self) -> usize
-        ensures { result ≡ length self.now.intake.unread }
+        ensures bytes { result ≡ length self.now.intake.unread }
+        ensures unfinished { self.now.intake.closed ≡ false → IsWaiting self.now.intake }
     {
-        self.intake.waiting()
+        self.held.len()
     }
 
     /// Takes the next piece of the stream at the moment `now`, and returns how many rows were put.
     ///
-    /// * If no message is unfinished, the piece is read in place, and the bytes of the message that it leaves
-    ///   unfinished are held. If one is, the piece is held after it first.
-    /// * `Memory` is returned only if these bytes can't be held, or for a whole message without a fault. The rows are
-    ///   then those of whole messages.
-    /// * Rows that were put before a fault stay. After any fault, including `Memory`, every later call returns
-    ///   `Closed`, and no bytes are held.
+    /// * The first bytes of the piece are joined to an unfinished message. The others are read in place, and the bytes
+    ///   of the message that they leave unfinished are held.
+    /// * `Memory` is returned only for a whole message without a fault that comes before any fault. Holding bytes needs
+    ///   no memory.
+    /// * After any fault, including `Memory`, the rows, the state and the acknowledgements due are those of the
+    ///   messages before it. Every later call returns `Closed`, and no bytes are held.
     pub fn feed(&mut self, piece: &[u8], now: Moment) -> Result<usize, Fault>
-        ensures { LearnerFeeds now self.old piece.now result self.new }
+        ensures feeds { LearnerFeeds now self.old piece.now result self.new }
+        ensures empty { piece.now ≡ [] → self.old.intake.closed ≡ false → (result ≡ Ok 0) × (self.new ≡ self.old) }
     {
-        if self.intake.is_closed() {
+        if self.keeper.intake().is_closed() {
             return Err(Fault::Closed);
         }
         match self.learn_piece(piece, now) {
             Ok(count) => Ok(count),
             Err(fault) => {
-                self.intake.close();
+                self.held.clear();
                 Err(fault)
             }
         }
@@ -222,91 +121,40 @@ impl Learner {
         requires { self.old.intake.closed ≡ false }
         ensures { LearnsPiece now self.old piece.now result self.new }
     {
-        if self.waiting() == 0 {
+        if self.held.is_empty() {
             self.learn_in_place(piece, now)
         } else {
-            self.learn_held(piece, now)
+            self.learn_joined(piece, now)
         }
     }
 
     /// Takes the whole messages in the piece, and holds the bytes of the unfinished one after them.
     fn learn_in_place(&mut self, piece: &[u8], now: Moment) -> Result<usize, Fault>
         requires { (self.old.intake.closed ≡ false) × (self.old.intake.unread ≡ []) }
-        ensures { LearnsPiece now self.old piece.now result self.new }
+        ensures learns { LearnsPiece now self.old piece.now result self.new }
+        ensures few { IfOk result (λ count. count ≤ length piece.now) }
     {
-        let progress = self.learn_all(piece, now)?;
-        self.intake.hold(&piece[progress.used..])?;
+        let progress = self.keeper.learn_all(piece, now)?;
+        self.held
+            .extend_from_slice(&piece[progress.used..])
+            .unwrap();
         Ok(progress.rows)
     }
 
-    /// Holds the piece after an unfinished message, and takes the messages that are then whole.
-    fn learn_held(&mut self, piece: &[u8], now: Moment) -> Result<usize, Fault>
-        requires { (self.old.intake.closed ≡ false) × (self.old.intake.unread ≢ []) }
+    /// Joins the first bytes of the piece to the unfinished message, and takes the others in place once it is whole.
+    fn learn_joined(&mut self, piece: &[u8], now: Moment) -> Result<usize, Fault>
+        requires { self.old.intake.closed ≡ false }
         ensures { LearnsPiece now self.old piece.now result self.new }
     {
-        self.intake.hold(piece)?;
-        let mut unread = self.intake.take_unread();
-        let progress = self.learn_all(unread.as_slice(), now)?;
-        unread.advance(progress.used);
-        self.intake.put_unread(unread);
-        Ok(progress.rows)
-    }
-
-    /// Takes the whole messages in `bytes`.
-    fn learn_all(&mut self, bytes: &[u8], now: Moment) -> Result<Learned, Fault>
-        ensures learns { LearnsWhole now self.old bytes.now result self.new }
-        ensures within { IfOk result (λ progress. progress.used ≤ length bytes.now) }
-        ensures unread { OnOk result (self.new.intake.unread ≡ self.old.intake.unread) }
-    {
-        let mut count = 0;
-        let mut used = 0;
-        while let Some(progress) = self.learn_message(&bytes[used..], now)? {
-            count += progress.rows;
-            used += progress.used;
-        }
-        Ok(Learned { rows: count, used })
-    }
-
-    /// Takes the message at the front of `bytes`; `None` if it isn't whole yet.
-    fn learn_message(&mut self, bytes: &[u8], now: Moment) -> Result<Option<Learned>, Fault>
-        ensures learns { LearnsFront now self.old bytes.now result self.new }
-        ensures within { IfOk result (λ found. IfSome found (λ progress. (progress.rows ≤ 1) × (1 ≤ progress.used) × (progress.used ≤ length bytes.now))) }
-        ensures unread { OnOk result (self.new.intake.unread ≡ self.old.intake.unread) }
-    {
-        match self.intake.look_at(bytes) {
-            Ok(Some((taken, advance))) => {
-                let rows = taken.rows();
-                let row = taught(self.alloc, self.intake.roster().tables(), &taken, now)?;
-                let Advance { effect, used } = advance;
-                self.intake.make(effect)?;
-                self.put(row)?;
-                Ok(Some(Learned { rows, used }))
-            }
-            Ok(None) => Ok(None),
-            Err(fault) => Err(fault),
-        }
-    }
-
-    /// Puts `row` in its table, if there is one. After `Memory` nothing has changed.
-    fn put(&mut self, row: Option<NewRow>) -> Result<(), Memory>
-        requires { IfSome row (λ row. row.index < length self.old.intake.roster) }
-        ensures put { OnOk result ((us : List Update) (now : ℕ) → AreRowsOf now self.old.intake.roster us row →
-            self.new ≡ record self.old { rows = put_all now self.old.intake.roster us self.old.rows }) }
-        ensures stays { OnErr result (self.new ≡ self.old) }
-    {
-        match row {
-            Some(row) => self.put_at(row.index, row.key, row.row),
-            None => Ok(()),
-        }
-    }
-
-    fn put_at(&mut self, index: usize, key: Key, row: Row) -> Result<(), Memory>
-        requires { index < length self.old.intake.roster }
-        ensures put { OnOk result ((us : List Update) (now : ℕ) → AreRowsOf now self.old.intake.roster us (Some (record { index = index; key = key; row = row })) →
-            self.new ≡ record self.old { rows = put_all now self.old.intake.roster us self.old.rows }) }
-        ensures stays { OnErr result (self.new ≡ self.old) }
-    {
-        self.rows_of_tables[index].put(key, row)
+        let before = self.held.len();
+        let joined = piece.len().min(LONGEST_MESSAGE - before);
+        self.held.extend_from_slice(&piece[..joined]).unwrap();
+        let Some(first) = self.keeper.learn_message(self.held.as_slice(), now)? else {
+            return Ok(0);
+        };
+        self.held.clear();
+        let others = self.learn_in_place(&piece[first.used - before..], now)?;
+        Ok(first.rows + others)
     }
 
     /// Returns the acknowledgements that are due: one for each local table with a last number and an update since the
@@ -317,17 +165,14 @@ impl Learner {
         ensures done { OnOk result (self.new ≡ record self.old { intake = record self.old.intake { due = [] } }) }
         ensures stays { OnErr result (self.new ≡ self.old) }
     {
-        self.intake.acks()
+        self.keeper.acks()
     }
 
     /// Returns the row of `key` in the local table with the id `table`.
     pub fn row(&self, table: u64, key: &Key) -> Option<&Row>
         ensures { option_copied result ≡ row_at key.now (rows_at self.now.intake.roster table self.now.rows) }
     {
-        match index_of(self.roster().tables(), table) {
-            Some(index) => self.rows_of_tables[index].row(key),
-            None => None,
-        }
+        self.keeper.row(table, key)
     }
 
     /// Returns the rows of the local table with the id `table` by their keys; `None` if the roster lacks it.
@@ -336,10 +181,7 @@ impl Learner {
         ensures exactly { IsNone result ↔ (index_of self.now.intake.roster table ≡ None) }
         ensures absent { IsNone result → rows_at self.now.intake.roster table self.now.rows ≡ [] }
     {
-        match index_of(self.roster().tables(), table) {
-            Some(index) => Some(self.rows_of_tables[index].rows()),
-            None => None,
-        }
+        self.keeper.table(table)
     }
 
     /// Returns copies of the rows of the local table with the id `table`, with their keys, in ascending order of key;
@@ -362,6 +204,6 @@ impl Learner {
         ensures rising { IfOk result (λ _. AreRising self.now.intake.state.last_numbers) }
     {
         let roster = roster.copy(self.alloc)?;
-        Known::of_learner(self.alloc, roster, self.intake.state())
+        Known::of_learner(self.alloc, roster, self.keeper.intake().state())
     }
 }

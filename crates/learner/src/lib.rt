@@ -5,6 +5,7 @@ mod advance;
 mod due;
 mod fault;
 mod intake;
+mod keeper;
 mod laws;
 mod learned;
 mod learner;

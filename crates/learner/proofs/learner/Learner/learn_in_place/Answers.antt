@@ -1,20 +1,17 @@
-use Rattle.std.proofs.Common.{Err, sym, subst}
+use Rattle.std.proofs.Common.{◌≡◌, ◌<◌, ℕ, List, [], length, drop, ap, ◌∙◌, arith}
 use Rattle.std.proofs.lemmas.List.{take_rest}
-use Rattle.std.proofs.lemmas.Result.{err_from_is_err_and}
-use Rattle.learner.specs.declared.fault.Fault.TheVariants as faults
+use Rattle.peers_msg.proofs.FieldCanonical.{IsBytes-drop}
 use Rattle.learner.specs.Learning.{Learning}
-use Rattle.learner.specs.InPlace.{LearnsPiece}
-use Rattle.learner.proofs.ReadInPlace.{piece_stops, rest_unheld}
+use Rattle.learner.specs.InPlace.{over}
+use Rattle.learner.proofs.RoomForMessages.{few_unfinished}
+use Rattle.learner.proofs.JoinedPieces.{all_wait}
 use Rattle.learner.proofs.learner.Learner.learn_in_place.Goals as goal
 
-pub returns-in_err-progress : goal.returns-in_err-progress
-returns-in_err-progress c =
-    let p = err_from_is_err_and c.from_residual.result c.from_residual.ensures.1 in
-    rw (p.1, p.2) (piece_stops c.args.now c.args.self.now c.learn_all.new.self c.args.piece.now c.in_err-progress.field-0.0 c.requires.1 c.in_err-progress.ensures.learns)
-
-pub returns-in_err-hold : goal.returns-in_err-hold
-returns-in_err-hold c =
-    let p = err_from_is_err_and c.from_residual-in_err-hold.result c.from_residual-in_err-hold.ensures.1 in
-    let unheld = rest_unheld c.args.now c.args.self.now c.learn_all.new.self c.args.piece.now _ c.in_ok-progress.progress.used c.in_ok-progress.progress.rows c.requires.1 c.in_ok-progress.ensures.learns (take_rest c.args.piece.now c.in_ok-progress.progress.used) c.in_err-hold.ensures.some in
-    rw (p.1, p.2, c.in_err-hold.ensures.stays)
-    (subst (λ (l : Learning). LearnsPiece c.args.now c.args.self.now c.args.piece.now (Err faults.Memory) l) (sym c.self.view_is) unheld)
+pub unwrap-requires : goal.unwrap-requires
+unwrap-requires c =
+    let piece : List ℕ = c.args.piece.now in
+    let rest : List ℕ = drop c.in_ok-progress.progress.used piece in
+    let waits = all_wait c.args.now (over c.self.inside.keeper piece) (over c.learn_all.new.self rest) c.in_ok-progress.progress.rows c.in_ok-progress.ensures.learns in
+    let few : length rest < 16389 = few_unfinished c.learn_all.new.self.intake.state.received rest (IsBytes-drop c.in_ok-progress.progress.used piece (λ i. omega (arith, c.type_inv.piece i))) waits.1 in
+    let none : c.self.inside.held.items ≡ [] = ap (λ (l : Learning). l.intake.unread) c.self.view_is ∙ c.requires.1 in
+    c.extend_from_slice.ensures.succeeds (omega (arith, ap length (take_rest piece c.in_ok-progress.progress.used), ap length none, c.self.inside.held.ok.0, c.self.invariant.2))

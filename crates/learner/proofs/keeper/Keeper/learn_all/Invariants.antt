@@ -3,7 +3,7 @@ use Rattle.table_types.specs.declared.update.Update.{Update}
 use Rattle.peers_msg.specs.declared.message.Message.{Message}
 use Rattle.learner.specs.Learning.{AreLearned}
 use Rattle.learner.specs.InPlace.{over}
-use Rattle.learner.proofs.learner.Learner.learn_all.Given as goal
+use Rattle.learner.proofs.keeper.Keeper.learn_all.Given as goal
 
 abbrev pub invariant-loop-progress : goal.invariant-loop-progress
 invariant-loop-progress l = record {
@@ -13,7 +13,6 @@ invariant-loop-progress l = record {
       × (l.count ≡ length us);
   few : l.count ≤ l.used;
   within : l.used ≤ length l.bytes;
-  unread : l.self.intake.unread ≡ l.fn.self.intake.unread;
 }
 
 abbrev pub decreases-loop-progress : goal.decreases-loop-progress

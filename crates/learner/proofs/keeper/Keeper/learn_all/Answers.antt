@@ -1,8 +1,8 @@
-use Rattle.std.proofs.Common.{◌≡◌, ◌≤◌, ℕ, List, length, length-drop, drop, subst, ◌∙◌, arith}
+use Rattle.std.proofs.Common.{◌≡◌, ◌≤◌, ℕ, List, length, length-drop, drop, subst, arith}
 use Rattle.std.proofs.lemmas.List.{take_rest}
 use Rattle.std.proofs.lemmas.Result.{err_from_is_err_and}
 use Rattle.learner.proofs.ReadInPlace.{whole_more, whole_stops}
-use Rattle.learner.proofs.learner.Learner.learn_all.Goals as goal
+use Rattle.learner.proofs.keeper.Keeper.learn_all.Goals as goal
 
 pub returns-in_err-progress-clause-learns : goal.returns-in_err-progress-clause-learns
 returns-in_err-progress-clause-learns c =
@@ -27,5 +27,4 @@ loop-progress-preserved c =
       learned = (more.0, more.1, more.2, omega (arith, more.3));
       few = omega arith;
       within = omega (arith, length-drop c.loop-progress.used bytes);
-      unread = c.in_ok-progress.ensures.unread ∙ before.unread;
     }

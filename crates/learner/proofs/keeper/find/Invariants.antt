@@ -2,7 +2,7 @@ use Rattle.std.proofs.Common.{◌≡◌, ◌+◌, drop}
 use Rattle.std.specs.Prelude.{option_map}
 use Rattle.table_types.specs.Rosters.{table_at}
 use Rattle.learner.specs.Rows.{index_of}
-use Rattle.learner.proofs.learner.find.Given as goal
+use Rattle.learner.proofs.keeper.find.Given as goal
 
 abbrev pub invariant-loop-index : goal.invariant-loop-index
 invariant-loop-index l =
