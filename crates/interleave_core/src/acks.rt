@@ -1,5 +1,7 @@
 //! Acknowledgements that arrive at a teacher.
 
+ghost use Rattle.std.specs.Prelude.{◌≤◌, IfOk, length};
+
 use peers_msg::{MessageRef, Received, front};
 use std::alloc::Global;
 use table_types::{Memory, Roster};
@@ -33,7 +35,9 @@ fn acked(message: &MessageRef<'_>, roster: &Roster) -> Option<Acknowledgement> {
 }
 
 /// Reads the whole messages at the front of `bytes`.
-pub(crate) fn read_acks(alloc: Global, roster: &Roster, bytes: &[u8]) -> Result<Read, Memory> {
+pub(crate) fn read_acks(alloc: Global, roster: &Roster, bytes: &[u8]) -> Result<Read, Memory>
+    ensures { IfOk result (λ read. read.used ≤ length bytes.now) }
+{
     let received = Received::new(alloc);
     let mut acks = Vec::new(alloc);
     let mut used = 0;
@@ -50,12 +54,6 @@ pub(crate) fn read_acks(alloc: Global, roster: &Roster, bytes: &[u8]) -> Result<
 }
 
 /// Returns how many of the acknowledgements are of `table`.
-pub(crate) fn count_of(acks: &[Acknowledgement], table: u64) -> u64 {
-    let mut count = 0;
-    for acked in acks {
-        if acked.table == table {
-            count += 1;
-        }
-    }
-    count
+pub(crate) fn count_of(acks: &[Acknowledgement], table: u64) -> usize {
+    acks.iter().filter(|ack| ack.table == table).count()
 }

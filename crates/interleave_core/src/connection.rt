@@ -121,7 +121,7 @@ impl Connection {
         let Ok(rows) = self.learner.feed(&self.to_learner.as_slice()[..count], now) else {
             return Err(Memory);
         };
-        self.applied += rows;
+        self.applied = self.applied.saturating_add(rows);
         self.to_learner.advance(count);
         Ok(())
     }

@@ -89,9 +89,7 @@ impl Parts {
         kind: CopyKind,
         limit: usize,
         now: Moment,
-    ) -> Result<(), Memory>
-        ensures { OnOk result (Moves (world_of self.old) (steps.Copy session table kind limit now) (world_of self.new)) }
-    {
+    ) -> Result<(), Memory> {
         if limit == 0 || limit > Batch::MOST {
             return Ok(());
         }
@@ -106,7 +104,7 @@ impl Parts {
                 self.connections[place].copied.push(batch)?;
                 Ok(())
             }
-            Err(CopyError::Memory) => Err(Memory),
+            Err(error) if error == CopyError::Memory => Err(Memory),
             Err(_) => Ok(()),
         }
     }
@@ -189,7 +187,7 @@ impl Parts {
 /// Returns whether each table has room for its acknowledgements.
 fn has_room_for_each(cells: &[TableCell], acks: &[Acknowledgement]) -> bool {
     for cell in cells {
-        if cell.room() < count_of(acks, cell.definition().id()) {
+        if cell.room() < count_of(acks, cell.definition().id()) as u64 {
             return false;
         }
     }
