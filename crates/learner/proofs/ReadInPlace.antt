@@ -1,14 +1,16 @@
 -- Learning bytes in place gives the same as learning them from the unread bytes.
 use Rattle.std.proofs.Common.{◌≡◌, ℕ, ◌+◌, false, List, [], ◌∷◌, ◌++◌, length, length-append, drop, Some, Ok, Err, refl, sym, ap, subst, ◌∙◌, arith}
 use Rattle.std.proofs.lemmas.List.{drop-drop}
+use Rattle.table_types.specs.declared.key.Key.{Key}
+use Rattle.table_types.specs.Rows.{StoredRow}
 use Rattle.table_types.specs.declared.update.Update.{Update}
 use Rattle.peers_msg.specs.declared.message.Message.{Message}
 use Rattle.learner.specs.declared.fault.Fault.{Fault}
 use Rattle.learner.specs.declared.fault.Fault.TheVariants as faults
 use Rattle.learner.specs.declared.learned.Learned.{Learned}
 use Rattle.learner.specs.Front.{stopped}
-use Rattle.learner.specs.Intake.{Taking, IsTakable, shut, with_unread}
-use Rattle.learner.specs.Learning.{Learning, AreLearned, LearnsAll, LearnerFeeds, shut_off, with_piece}
+use Rattle.learner.specs.Intake.{Taking, IsTakable, Stops, shut, with_unread}
+use Rattle.learner.specs.Learning.{Learning, AreLearned, LearnsAll, LearnerFeeds, IsCutOff, shut_off, with_piece}
 use Rattle.learner.specs.InPlace.{FindsFront, LearnsFront, LearnsWhole, LearnsPiece, over}
 use Rattle.learner.proofs.LearningGoesOn.{learned_more, stays_open}
 use Rattle.learner.proofs.LegalStreamIsTaught.{apart}
@@ -89,3 +91,23 @@ feeds_fault now l x e piece fault is_open (left, all, ends) is = by fault all
         (is_open, (ms, us, mid, learned, (going, m, rest, at, refused, closes mid.intake ends), kept ∙ rows))
     by (faults.Breach breach) (ms, us, mid, learned, (going, at, ends), rows) =
         (is_open, (ms, us, mid, learned, (going, at, closes mid.intake ends), kept ∙ rows))
+
+-- and leaves what the whole messages before it made of the learner
+stops_shut : (t e : Taking) (fault : Fault) → Stops t fault e → shut e ≡ shut t
+stops_shut t e faults.Memory (is_open, takable, is) = ap shut is
+stops_shut t e faults.Closed (closed, is) = ap shut is
+stops_shut t e (faults.Breach breach) (is_open, at, is) = ap shut is
+stops_shut t e faults.NoNumber (is_open, m, rest, at, refused, is) = ap shut is
+stops_shut t e faults.EmptySlot (is_open, m, rest, at, refused, is) = ap shut is
+
+pub cut_off : (now : ℕ) (l x e : Learning) (piece : List ℕ) (fault : Fault) → LearnsPiece now l piece (Err fault) x → e ≡ over x [] → IsCutOff now l piece e
+cut_off now l x e piece fault (left, (ms, us, mid, learned, stops, rows), ends) is = (
+  ms,
+  us,
+  mid,
+  learned,
+  is
+      ∙ ends
+      ∙ ap (λ (t : Taking). record { intake = t; rows = left.rows }) (stops_shut mid.intake left.intake fault stops)
+      ∙ ap (λ (r : List (List (Key × StoredRow))). record { intake = shut mid.intake; rows = r }) rows,
+)

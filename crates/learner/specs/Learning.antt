@@ -86,6 +86,11 @@ LearnerFeeds now l piece (Err faults.Memory) e =
     × (e ≡ shut_off left)
 LearnerFeeds now l piece result e = (l.intake.closed ≡ false) × LearnsAll now (with_piece l piece) result e
 
+-- Whole messages at the front of what is then unread were learned, and the learner was closed: its state, what is due and
+-- its rows are those of these messages.
+abbrev pub IsCutOff : ℕ → Learning → List ℕ → Learning → Type 0
+IsCutOff now l piece e = (ms : List Message) × (us : List Update) × (mid : Learning) × AreLearned now (with_piece l piece) ms us mid × (e ≡ shut_off mid)
+
 -- ---- streams in pieces
 
 -- the pieces are fed one after another, all at one moment and without a fault, and this many rows are put

@@ -1,6 +1,6 @@
 //! Learners.
 
-ghost use Rattle.std.specs.Prelude.{◌≡◌, ◌≢◌, ◌↔◌, ◌≤◌, [], false, IfOk, OnOk, OnErr, IsNone, IfSome, None, Ok, length, option_copied};
+ghost use Rattle.std.specs.Prelude.{◌≡◌, ◌≢◌, ◌↔◌, ◌≤◌, [], false, IfOk, IfErr, OnOk, OnErr, IsNone, IfSome, None, Ok, length, option_copied};
 ghost use Rattle.std.specs.Map.{keys_of};
 ghost use Rattle.std.specs.List.Sorted.{IsStrictlySortedBy};
 ghost use Rattle.known_state.specs.Known.{known_of};
@@ -9,7 +9,8 @@ ghost use Rattle.learner.specs.Acks.{AreRisingAcks};
 ghost use Rattle.learner.specs.Intake.{acks_of};
 ghost use Rattle.table_types.specs.Keys.{key_cmp};
 ghost use Rattle.learner.specs.Rows.{row_at, rows_at, index_of};
-ghost use Rattle.learner.specs.Learning.{unlearned, IsWaiting, LearnerFeeds};
+ghost use Rattle.learner.specs.Learning.{unlearned, IsCutOff, IsWaiting, LearnerFeeds};
+ghost use Rattle.learner.specs.declared.fault.Fault.TheVariants as faults;
 ghost use Rattle.learner.specs.InPlace.{LearnsPiece};
 
 use crate::fault::Fault;
@@ -103,6 +104,7 @@ impl Learner {
     ///   messages before it. Every later call returns `Closed`, and no bytes are held.
     pub fn feed(&mut self, piece: &[u8], now: Moment) -> Result<usize, Fault>
         ensures feeds { LearnerFeeds now self.old piece.now result self.new }
+        ensures kept { IfErr result (λ fault. fault ≢ faults.Closed → IsCutOff now self.old piece.now self.new) }
         ensures empty { piece.now ≡ [] → self.old.intake.closed ≡ false → (result ≡ Ok 0) × (self.new ≡ self.old) }
     {
         if self.keeper.intake().is_closed() {

@@ -19,6 +19,7 @@ use Rattle.session_core.specs.declared.action.Action.{Action}
 use Rattle.session_core.specs.declared.action.Action.TheVariants as actions
 use Rattle.session_core.specs.Actions.{control_text, sends_acks, status_text, reopens}
 use Rattle.session_core.specs.Courses.{Course, message_received, said, requested, acknowledged, AreReceived}
+use Rattle.session_core.specs.Cutting.{without_acks}
 use Rattle.session_core.specs.Runs.{is_end, ends_resync, is_copy_of, copies}
 
 -- the actions neither end a resync nor copy
@@ -92,6 +93,21 @@ plain_acks_of id (messages.Other o ∷ ms) all = absurd all.0
 
 pub plain_acks : (id : ℕ) (t : Taking) → is_plain id (sends_acks (acks_of t))
 plain_acks id t = plain_acks_of id (acks_of t) (only_acks t t.state.received.tables)
+
+-- none of their bytes is resync confirmed
+silent_acks_of : (ms : List Message) → AllByRecursion IsAck ms → without_acks (sends_acks ms) ≡ []
+unfolding spelled
+silent_acks_of [] all = refl
+silent_acks_of (messages.Ack table number ∷ ms) all = refl
+silent_acks_of (messages.Control c ∷ ms) all = absurd all.0
+silent_acks_of (messages.Error e ∷ ms) all = absurd all.0
+silent_acks_of (messages.Define d ∷ ms) all = absurd all.0
+silent_acks_of (messages.Switch table ∷ ms) all = absurd all.0
+silent_acks_of (messages.Update u ∷ ms) all = absurd all.0
+silent_acks_of (messages.Other o ∷ ms) all = absurd all.0
+
+pub silent_acks : (t : Taking) → without_acks (sends_acks (acks_of t)) ≡ []
+silent_acks t = silent_acks_of (acks_of t) (only_acks t t.state.received.tables)
 
 -- ---- hello and status
 

@@ -12,3 +12,4 @@ mod IntakeGoesOn
 mod ReceivingGoesOn
 mod BytesStay
 mod SomeStep
+mod SameHoweverFed

@@ -125,11 +125,11 @@ all_received_once c m n (t ∷ ts) (u ∷ us) acts others a b (mid, rest, receiv
     (asked, all.1, all.2)
 
 -- bytes were received: which messages, up to which end, and what followed
-abbrev Received : SessionState → Course → List Action → Result (Unit {0}) Halt → List Action → List Action → SessionState → Type 0
+abbrev pub Received : SessionState → Course → List Action → Result (Unit {0}) Halt → List Action → List Action → SessionState → Type 0
 Received s c first end given acts e =
     (ts : List Taken) × (m : Course) × AreReceived c ts given m × Ends m end × Concludes s m end (first ++ given) acts e
 
-received : (s : SessionState) (c mid : Course) (first given acts : List Action) (e : SessionState) (end : Result (Unit {0}) Halt)
+pub received : (s : SessionState) (c mid : Course) (first given acts : List Action) (e : SessionState) (end : Result (Unit {0}) Halt)
     → ReceivesAll c end given mid → Concludes s mid end (first ++ given) acts e → Received s c first end given acts e
 received s c mid first given acts e (Ok _) (ts, receives, waits) concludes = (ts, mid, receives, waits, concludes)
 received s c mid first given acts e (Err halts.Failed) (ts, m, receives, halted) concludes = (ts, m, receives, halted, concludes)

@@ -4,3 +4,4 @@ pub mod Courses
 pub mod Phases
 pub mod Sessions
 pub mod Runs
+pub mod Cutting

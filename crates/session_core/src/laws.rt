@@ -1,11 +1,15 @@
 //! Laws of the definitions, which hold whatever the program does.
 
-ghost use Rattle.std.specs.Prelude.{◌≡◌, ◌⊎◌, None, ◌∷◌, ◌++◌, [], true, false, List};
+ghost use Rattle.std.specs.Prelude.{◌≡◌, ◌⊎◌, ℕ, None, ◌∷◌, ◌++◌, [], true, false, List};
 ghost use Rattle.std.specs.List.{AllByRecursion};
 ghost use Rattle.table_types.specs.Tables.{Definition};
 ghost use Rattle.session_core.specs.declared.action.Action.{Action};
 ghost use Rattle.session_core.specs.declared.event.Event.{Event};
+ghost use Rattle.peers_msg.specs.Integers.{IsBytes};
+ghost use Rattle.peers_msg.specs.Decoding.{together};
 ghost use Rattle.session_core.specs.Phases as phases;
+ghost use Rattle.session_core.specs.Courses.{Course};
+ghost use Rattle.session_core.specs.Cutting.{AreFed, IsFedOut, without_acks};
 ghost use Rattle.session_core.specs.Sessions.{SessionState, Goes, is_asked};
 ghost use Rattle.session_core.specs.Runs.{Runs, IsBegun, ends_resync, HasNothingLeft, HasNothingOut, HoldsBytes, BringsBytes, was_confirmed};
 
@@ -54,4 +58,17 @@ pub fn a_step_exists()
         is_asked s.phase event ≡ true → (acts : List Action) × (e : SessionState) × Goes s event acts e }
     ensures kept { (s e : SessionState) (event : Event) (acts : List Action) → HoldsBytes s.phase → BringsBytes event →
         Goes s event acts e → HoldsBytes e.phase }
+{}
+
+/// However the bytes of an open session are cut into events that follow one another directly, their messages ask for
+/// the same: the same rows to learn, the same acknowledgements to pass on, the same reopenings and confirmations, in the
+/// same order, and the same end if a message or a fault ends the session. The session is then the same too. This holds
+/// of two ways to cut a stream that each feed all of it or end the session. Only what this session sends to acknowledge
+/// rows depends on the cut, since it sends that once for each event.
+pub fn any_events()
+    ensures { (s e end : SessionState) (c : Course) (first piece more rest : List ℕ) (pieces others : List (List ℕ)) (acts given : List Action) →
+        s.phase ≡ phases.Open c → HoldsBytes s.phase → IsBytes (together (first ∷ pieces) ++ more) →
+        together (first ∷ pieces) ++ more ≡ together (piece ∷ others) ++ rest →
+        AreFed s (first ∷ pieces) acts e → AreFed s (piece ∷ others) given end → IsFedOut more e → IsFedOut rest end →
+        (without_acks acts ≡ without_acks given) × (e ≡ end) }
 {}

@@ -22,7 +22,7 @@ pub use action::Action;
 pub use error::SessionError;
 pub use event::Event;
 pub use laws::{
-    a_fault_ends_the_session, a_step_exists, a_step_is_unique, confirmed_is_sent,
+    a_fault_ends_the_session, a_step_exists, a_step_is_unique, any_events, confirmed_is_sent,
     resyncs_end_taught, unasked_is_no_step,
 };
 pub use session::Session;

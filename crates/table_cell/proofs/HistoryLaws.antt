@@ -44,6 +44,12 @@ is_made first s e history later event reply step longer = (
       ∙ ap (λ (hs : List (CellEvent × CellReply)). record { base = new_table s.definition s.size s.nopurge first; dropped = 0; history = hs; state = e }) longer,
 )
 
+-- what a call leaves that adds an event
+pub call_made : (first : ℕ) (s e : TableState) (history later : List (CellEvent × CellReply)) (c : CellState) (event : CellEvent) (reply : CellReply) → cell_of first s history ≡ c → is_history_full c ≡ false
+    → Step s event reply e → later ≡ history ++ (event, reply) ∷ [] → (is_history_full c ≡ false) × Made c event reply (cell_of first e later)
+call_made first s e history later c event reply view room step longer =
+    (room, subst (λ (x : CellState). Made x event reply (cell_of first e later)) view (is_made first s e history later event reply step longer))
+
 -- ---- the latest batches
 
 is_same : (a b : ℕ) → is_eq (nat_cmp a b) ≡ true → a ≡ b

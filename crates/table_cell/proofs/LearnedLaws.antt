@@ -1,69 +1,69 @@
--- Runs of learned rows: how they are found and joined, how a push uses them, and why they stay valid.
-use Rattle.std.proofs.Common.{◌≡◌, ℕ, ◌+◌, ◌-◌, ◌<◌, ◌≤◌, Bool, true, false, cond, not, ◌&&◌, List, [], ◌∷◌, ◌++◌, refl, sym, ap, ◌∙◌, subst, arith, inl, inr}
+-- Runs of rows that pushes pass: how they are found and joined, how a push uses them, and why they stay valid.
+use Rattle.std.proofs.Common.{◌≡◌, ℕ, ◌+◌, ◌-◌, ◌<◌, ◌≤◌, Bool, true, false, cond, not, ◌&&◌, ◌||◌, Option, Some, None, List, [], ◌∷◌, ◌++◌, refl, sym, ap, ◌∙◌, subst, arith, inl, inr, true≢false}
 use Rattle.std.specs.Prelude.{MatchBool, filter, nat_lt}
 use Rattle.std.specs.List.{AllByRecursion}
 use Rattle.std.specs.Ordering.{is_eq}
-use Rattle.std.proofs.lemmas.Bool.{cases_Bool, cond-true, cond-false, cond_both, lt-ltb, ltb-true, ltb-false}
+use Rattle.std.proofs.lemmas.Bool.{cases_Bool, cond-true, cond-false, cond_both, le-ltb, lt-ltb, ltb-true, ltb-false}
 use Rattle.table_types.specs.declared.key.Key.{Key}
 use Rattle.table_types.specs.Keys.{key_cmp}
 use Rattle.table_types.specs.Rows.{StoredRow}
 use Rattle.table_types.specs.declared.copies.CopyKind.TheVariants as kinds
-use Rattle.table_rows.specs.Rows.{IsFirstToEnd, is_live}
+use Rattle.table_rows.specs.Rows.{IsFirstToEnd, goes_past, is_live}
 use Rattle.table_cell.specs.Machine.{TableState, Leaves, has_room, is_copied, is_unacked, without}
 use Rattle.table_cell.specs.Soundness.{NumbersRise}
-use Rattle.table_cell.specs.LearnedRuns.{IsLearnedRun, IsLearnedWithin, last_learned}
+use Rattle.table_cell.specs.LearnedRuns.{IsLearnedRun, IsPassedWithin, is_passed, last_passed}
 use Rattle.table_cell.proofs.RowsLaws.{all_end, all_filter, all_so, rise_bound, rise_each}
 use Rattle.table_cell.proofs.UnackedLaws.{is_above}
 
 -- ---- finding a run
 
--- the rows above a number are learned up to the number found
-found_learned : (number least next : ℕ) (rows : List (Key × StoredRow)) → NumbersRise least next rows → AllByRecursion (IsLearnedWithin number (last_learned next (filter (is_above number) rows))) rows
-found_learned number least next [] rise = tt
-found_learned number least next (e ∷ es) (first, rest) = elim (cases_Bool (is_above number e)) [
-  | inl above ↦ elim (cases_Bool e.1.learned) [
-    | inl learned ↦
-        let is : last_learned next (filter (is_above number) (e ∷ es)) ≡ last_learned next (filter (is_above number) es) =
-        ap (last_learned next) (cond-true (is_above number e) (e ∷ filter (is_above number) es) (filter (is_above number) es) above)
-        ∙ cond-true e.1.learned (last_learned next (filter (is_above number) es)) (e.1.number - 1) learned in
-        subst (λ (n : ℕ). AllByRecursion (IsLearnedWithin number n) (e ∷ es)) (sym is) ((λ _ _. learned), found_learned number (e.1.number + 1) next es rest)
+-- pushes pass the rows above a number up to the number found
+found_passed : (number least next latest : ℕ) (rows : List (Key × StoredRow)) → NumbersRise least next rows → AllByRecursion (IsPassedWithin number (last_passed next latest (filter (is_above number) rows)) latest) rows
+found_passed number least next latest [] rise = tt
+found_passed number least next latest (e ∷ es) (first, rest) = elim (cases_Bool (is_above number e)) [
+  | inl above ↦ elim (cases_Bool (is_passed latest e.1)) [
+    | inl passed ↦
+        let is : last_passed next latest (filter (is_above number) (e ∷ es)) ≡ last_passed next latest (filter (is_above number) es) =
+        ap (last_passed next latest) (cond-true (is_above number e) (e ∷ filter (is_above number) es) (filter (is_above number) es) above)
+        ∙ cond-true (is_passed latest e.1) (last_passed next latest (filter (is_above number) es)) (e.1.number - 1) passed in
+        subst (λ (n : ℕ). AllByRecursion (IsPassedWithin number n latest) (e ∷ es)) (sym is) ((λ _ _. passed), found_passed number (e.1.number + 1) next latest es rest)
     | inr own ↦
-        let is : last_learned next (filter (is_above number) (e ∷ es)) ≡ e.1.number - 1 =
-        ap (last_learned next) (cond-true (is_above number e) (e ∷ filter (is_above number) es) (filter (is_above number) es) above)
-        ∙ cond-false e.1.learned (last_learned next (filter (is_above number) es)) (e.1.number - 1) own in
-        subst (λ (n : ℕ). AllByRecursion (IsLearnedWithin number n) (e ∷ es)) (sym is) (
+        let is : last_passed next latest (filter (is_above number) (e ∷ es)) ≡ e.1.number - 1 =
+        ap (last_passed next latest) (cond-true (is_above number e) (e ∷ filter (is_above number) es) (filter (is_above number) es) above)
+        ∙ cond-false (is_passed latest e.1) (last_passed next latest (filter (is_above number) es)) (e.1.number - 1) own in
+        subst (λ (n : ℕ). AllByRecursion (IsPassedWithin number n latest) (e ∷ es)) (sym is) (
           (λ over under. absurd (omega (arith, over, under))),
-          all_so (λ (x : Key × StoredRow). (e.1.number + 1 ≤ x.1.number) × (x.1.number < next)) (IsLearnedWithin number (e.1.number - 1)) (λ x bound over under. absurd (omega (arith, bound.0, under))) es (rise_each (e.1.number + 1) next es rest),
+          all_so (λ (x : Key × StoredRow). (e.1.number + 1 ≤ x.1.number) × (x.1.number < next)) (IsPassedWithin number (e.1.number - 1) latest) (λ x bound over under. absurd (omega (arith, bound.0, under))) es (rise_each (e.1.number + 1) next es rest),
         )
   ]
   | inr below ↦
-      let is : last_learned next (filter (is_above number) (e ∷ es)) ≡ last_learned next (filter (is_above number) es) =
-      ap (last_learned next) (cond-false (is_above number e) (e ∷ filter (is_above number) es) (filter (is_above number) es) below) in
+      let is : last_passed next latest (filter (is_above number) (e ∷ es)) ≡ last_passed next latest (filter (is_above number) es) =
+      ap (last_passed next latest) (cond-false (is_above number e) (e ∷ filter (is_above number) es) (filter (is_above number) es) below) in
       let least_number : e.1.number ≤ number = ltb-false number e.1.number below in
-      subst (λ (n : ℕ). AllByRecursion (IsLearnedWithin number n) (e ∷ es)) (sym is) ((λ over under. absurd (omega (arith, over, least_number))), found_learned number (e.1.number + 1) next es rest)
+      subst (λ (n : ℕ). AllByRecursion (IsPassedWithin number n latest) (e ∷ es)) (sym is) ((λ over under. absurd (omega (arith, over, least_number))), found_passed number (e.1.number + 1) next latest es rest)
 ]
 
 -- and the number found was assigned
-found_given : (p : Key × StoredRow → Bool) (least next : ℕ) (rows : List (Key × StoredRow)) → 1 ≤ least → NumbersRise least next rows → last_learned next (filter p rows) < next
-found_given p least next [] some rise = omega (arith, some, rise)
-found_given p least next (e ∷ es) some (first, rest) =
-    let kept : last_learned next (filter p es) < next = found_given p (e.1.number + 1) next es (omega arith) rest in
+found_given : (p : Key × StoredRow → Bool) (least next latest : ℕ) (rows : List (Key × StoredRow)) → 1 ≤ least → NumbersRise least next rows → last_passed next latest (filter p rows) < next
+found_given p least next latest [] some rise = omega (arith, some, rise)
+found_given p least next latest (e ∷ es) some (first, rest) =
+    let kept : last_passed next latest (filter p es) < next = found_given p (e.1.number + 1) next latest es (omega arith) rest in
     let bound = rise_bound (e.1.number + 1) next es rest in
-    cond_both (p e) (e ∷ filter p es) (filter p es) (λ (l : List (Key × StoredRow)). last_learned next l < next)
-    (λ _. cond_both e.1.learned (last_learned next (filter p es)) (e.1.number - 1) (λ (n : ℕ). n < next) (λ _. kept) (λ _. omega (arith, bound)))
+    cond_both (p e) (e ∷ filter p es) (filter p es) (λ (l : List (Key × StoredRow)). last_passed next latest l < next)
+    (λ _. cond_both (is_passed latest e.1) (last_passed next latest (filter p es)) (e.1.number - 1) (λ (n : ℕ). n < next) (λ _. kept) (λ _. omega (arith, bound)))
     (λ _. kept)
 
-pub run_found : (number next : ℕ) (rows : List (Key × StoredRow)) → NumbersRise 1 next rows → IsLearnedRun number (last_learned next (filter (is_above number) rows)) next rows
-run_found number next rows rise = record {
-  given = found_given (is_above number) 1 next rows (omega arith) rise;
-  learned = found_learned number 1 next rows rise;
+pub run_found : (number next latest : ℕ) (rows : List (Key × StoredRow)) → NumbersRise 1 next rows → IsLearnedRun number (last_passed next latest (filter (is_above number) rows)) next latest rows
+run_found number next latest rows rise = record {
+  given = found_given (is_above number) 1 next latest rows (omega arith) rise;
+  passed = found_passed number 1 next latest rows rise;
 }
 
 -- a run joined with the run that follows it
-pub run_joined : (after last further next : ℕ) (rows : List (Key × StoredRow)) → IsLearnedRun after last next rows → IsLearnedRun last further next rows → IsLearnedRun after further next rows
-run_joined after last further next rows near far = record { given = far.given; learned = joined rows near.learned far.learned }
+pub run_joined : (after last further next latest : ℕ) (rows : List (Key × StoredRow)) → IsLearnedRun after last next latest rows → IsLearnedRun last further next latest rows → IsLearnedRun after further next latest rows
+run_joined after last further next latest rows near far = record { given = far.given; passed = joined rows near.passed far.passed }
   where
-    joined : (es : List (Key × StoredRow)) → AllByRecursion (IsLearnedWithin after last) es → AllByRecursion (IsLearnedWithin last further) es → AllByRecursion (IsLearnedWithin after further) es
+    joined : (es : List (Key × StoredRow)) → AllByRecursion (IsPassedWithin after last latest) es → AllByRecursion (IsPassedWithin last further latest) es → AllByRecursion (IsPassedWithin after further latest) es
     joined [] low high = tt
     joined (e ∷ es) (low, lows) (high, highs) = (
       (λ over under. elim (cases_Bool (nat_lt last e.1.number)) [
@@ -75,8 +75,34 @@ run_joined after last further next rows near far = record { given = far.given; l
 
 -- ---- how a push uses a run
 
-one_passed : (after last number now : ℕ) (e : Key × StoredRow) → after ≤ number → number < last → IsLearnedWithin after last e → is_unacked kinds.Push number now e ≡ is_unacked kinds.Push last now e
-one_passed after last number now e from below learned = elim (cases_Bool (nat_lt last e.1.number)) [
+-- a row that isn't live stays so
+still_ended : (latest now : ℕ) (end : Option ℕ) → latest ≤ now → goes_past latest end ≡ false → goes_past now end ≡ false
+still_ended latest now None later ended = absurd (true≢false ended)
+still_ended latest now (Some end) later ended = let bound = ltb-false latest end ended in le-ltb now end (omega arith)
+
+passed_later : (latest now : ℕ) (e : Key × StoredRow) → latest ≤ now → is_passed latest e.1 ≡ true → is_passed now e.1 ≡ true
+passed_later latest now e later passed = by e.1.learned (is_live latest e.1) refl passed
+  where
+    by : (learned live : Bool) → is_live latest e.1 ≡ live → (learned || not live) ≡ true → (learned || not (is_live now e.1)) ≡ true
+    by true live at is = refl
+    by false true at is = absurd (true≢false (sym is))
+    by false false at is = ap not (still_ended latest now e.1.ends later at)
+
+none_and : (b : Bool) → (b && false) ≡ false
+none_and true = refl
+none_and false = refl
+
+-- no push includes it
+not_pushed : (now : ℕ) (e : Key × StoredRow) (over : Bool) → is_passed now e.1 ≡ true → (over && is_copied kinds.Push e.1 && is_live now e.1) ≡ false
+not_pushed now e over passed = by e.1.learned (is_live now e.1) passed over
+  where
+    by : (learned live : Bool) → (learned || not live) ≡ true → (b : Bool) → (b && not learned && live) ≡ false
+    by true live is b = ap (λ x. x && live) (none_and b)
+    by false true is b = absurd (true≢false (sym is))
+    by false false is b = none_and (b && true)
+
+one_passed : (after last latest number now : ℕ) (e : Key × StoredRow) → after ≤ number → number < last → latest ≤ now → IsPassedWithin after last latest e → is_unacked kinds.Push number now e ≡ is_unacked kinds.Push last now e
+one_passed after last latest number now e from below later passed = elim (cases_Bool (nat_lt last e.1.number)) [
   | inl past ↦
       let over : nat_lt number e.1.number ≡ true = lt-ltb number e.1.number (omega (arith, below, ltb-true last e.1.number past)) in
       ap (λ b. b && is_copied kinds.Push e.1 && is_live now e.1) (over ∙ sym past)
@@ -86,37 +112,64 @@ one_passed after last number now e from below learned = elim (cases_Bool (nat_lt
     none : nat_lt last e.1.number ≡ false → is_unacked kinds.Push number now e ≡ false
     none within = elim (cases_Bool (nat_lt number e.1.number)) [
       | inl over ↦
-          let is : e.1.learned ≡ true = learned (omega (arith, from, ltb-true number e.1.number over)) (ltb-false last e.1.number within) in
-          ap (λ b. b && is_copied kinds.Push e.1 && is_live now e.1) over ∙ ap (λ b. true && not b && is_live now e.1) is
+          not_pushed now e (nat_lt number e.1.number) (passed_later latest now e later (passed (omega (arith, from, ltb-true number e.1.number over)) (ltb-false last e.1.number within)))
       | inr under ↦ ap (λ b. b && is_copied kinds.Push e.1 && is_live now e.1) under
     ]
 
 -- a push may as well begin at the end of the run
-pub run_passed : (after last number now next : ℕ) (rows : List (Key × StoredRow)) → after ≤ number → number < last → IsLearnedRun after last next rows
+pub run_passed : (after last number next latest now : ℕ) (rows : List (Key × StoredRow)) → after ≤ number → number < last → latest ≤ now → IsLearnedRun after last next latest rows
     → filter (is_unacked kinds.Push number now) rows ≡ filter (is_unacked kinds.Push last now) rows
-run_passed after last number now next rows from below run = passed rows run.learned
+run_passed after last number next latest now rows from below later run = skipped rows run.passed
   where
-    passed : (es : List (Key × StoredRow)) → AllByRecursion (IsLearnedWithin after last) es → filter (is_unacked kinds.Push number now) es ≡ filter (is_unacked kinds.Push last now) es
-    passed [] all = refl
-    passed (e ∷ es) (learned, rest) =
-        rw (one_passed after last number now e from below learned) (ap (λ (l : List (Key × StoredRow)). cond (is_unacked kinds.Push last now e) (e ∷ l) l) (passed es rest))
+    skipped : (es : List (Key × StoredRow)) → AllByRecursion (IsPassedWithin after last latest) es → filter (is_unacked kinds.Push number now) es ≡ filter (is_unacked kinds.Push last now) es
+    skipped [] all = refl
+    skipped (e ∷ es) (passed, rest) =
+        rw (one_passed after last latest number now e from below later passed) (ap (λ (l : List (Key × StoredRow)). cond (is_unacked kinds.Push last now e) (e ∷ l) l) (skipped es rest))
 
 -- ---- a run stays valid
 
-pub run_kept : (p : Key × StoredRow → Bool) (after last next : ℕ) (rows : List (Key × StoredRow)) → IsLearnedRun after last next rows → IsLearnedRun after last next (filter p rows)
-run_kept p after last next rows run = record { given = run.given; learned = all_filter (IsLearnedWithin after last) p rows run.learned }
+pub run_kept : (p : Key × StoredRow → Bool) (after last next latest : ℕ) (rows : List (Key × StoredRow)) → IsLearnedRun after last next latest rows → IsLearnedRun after last next latest (filter p rows)
+run_kept p after last next latest rows run = record { given = run.given; passed = all_filter (IsPassedWithin after last latest) p rows run.passed }
 
-pub run_longer : (after last next : ℕ) (rows : List (Key × StoredRow)) (key : Key) (row : StoredRow) → row.number ≡ next → IsLearnedRun after last next rows → IsLearnedRun after last (next + 1) (rows ++ (key, row) ∷ [])
-run_longer after last next rows key row is run = record {
-  given = omega (arith, run.given);
-  learned = all_end (IsLearnedWithin after last) (key, row) rows run.learned (λ over under. absurd (omega (arith, is, under, run.given)));
+pub run_later : (after last next latest now : ℕ) (rows : List (Key × StoredRow)) → latest ≤ now → IsLearnedRun after last next latest rows → IsLearnedRun after last next now rows
+run_later after last next latest now rows later run = record {
+  given = run.given;
+  passed = all_so (IsPassedWithin after last latest) (IsPassedWithin after last now) (λ e passed over under. passed_later latest now e later (passed over under)) rows run.passed;
 }
 
-pub run_stored : (after last : ℕ) (s : TableState) (key : Key) (row : StoredRow) (rest : List (Key × StoredRow)) → row.number ≡ s.next → Leaves s key rest → IsLearnedRun after last s.next s.rows
-    → IsLearnedRun after last (s.next + 1) (without key rest ++ (key, row) ∷ [])
-run_stored after last s key row rest is leaves run =
-    run_longer after last s.next (without key rest) key row is (run_kept (λ e. not (is_eq (key_cmp key e.0))) after last s.next rest (left (has_room s key) leaves))
+run_longer : (after last next latest : ℕ) (rows : List (Key × StoredRow)) (key : Key) (row : StoredRow) → row.number ≡ next → IsLearnedRun after last next latest rows → IsLearnedRun after last (next + 1) latest (rows ++ (key, row) ∷ [])
+run_longer after last next latest rows key row is run = record {
+  given = omega (arith, run.given);
+  passed = all_end (IsPassedWithin after last latest) (key, row) rows run.passed (λ over under. absurd (omega (arith, is, under, run.given)));
+}
+
+-- what holds of all rows holds of those that remain when one is stored
+left_all : (P : Key × StoredRow → Type 0) (s : TableState) (key : Key) (rest : List (Key × StoredRow)) → Leaves s key rest → AllByRecursion P s.rows → AllByRecursion P (without key rest)
+left_all P s key rest leaves all = all_filter P (λ e. not (is_eq (key_cmp key e.0))) rest (left (has_room s key) leaves)
   where
-    left : (room : Bool) → MatchBool room (rest ≡ s.rows) ((first : Key) × IsFirstToEnd s.rows first × (rest ≡ without first s.rows)) → IsLearnedRun after last s.next rest
-    left true same = rw same run
-    left false (first, ends, same) = rw same (run_kept (λ e. not (is_eq (key_cmp first e.0))) after last s.next s.rows run)
+    left : (room : Bool) → MatchBool room (rest ≡ s.rows) ((first : Key) × IsFirstToEnd s.rows first × (rest ≡ without first s.rows)) → AllByRecursion P rest
+    left true same = subst (AllByRecursion P) (sym same) all
+    left false (first, ends, same) = subst (AllByRecursion P) (sym same) (all_filter P (λ e. not (is_eq (key_cmp first e.0))) s.rows all)
+
+run_left : (after last : ℕ) (s : TableState) (key : Key) (rest : List (Key × StoredRow)) → Leaves s key rest → IsLearnedRun after last s.next s.latest s.rows → IsLearnedRun after last s.next s.latest (without key rest)
+run_left after last s key rest leaves run = record { given = run.given; passed = left_all (IsPassedWithin after last s.latest) s key rest leaves run.passed }
+
+pub run_stored : (after last now : ℕ) (s : TableState) (key : Key) (row : StoredRow) (rest : List (Key × StoredRow)) → row.number ≡ s.next → s.latest ≤ now → Leaves s key rest → IsLearnedRun after last s.next s.latest s.rows
+    → IsLearnedRun after last (s.next + 1) now (without key rest ++ (key, row) ∷ [])
+run_stored after last now s key row rest is later leaves run =
+    run_longer after last s.next now (without key rest) key row is (run_later after last s.next s.latest now (without key rest) later (run_left after last s key rest leaves run))
+
+-- a run up to the last number assigned goes on to a learned row
+pub run_grown : (after last now : ℕ) (s : TableState) (key : Key) (row : StoredRow) (rest : List (Key × StoredRow)) → row.number ≡ s.next → s.latest ≤ now → last + 1 ≡ s.next → row.learned ≡ true → NumbersRise 1 s.next s.rows
+    → Leaves s key rest → IsLearnedRun after last s.next s.latest s.rows → IsLearnedRun after row.number (s.next + 1) now (without key rest ++ (key, row) ∷ [])
+run_grown after last now s key row rest is later reaches learned rise leaves run =
+    let old = run_later after last s.next s.latest now (without key rest) later (run_left after last s key rest leaves run) in
+    let below = left_all (λ (e : Key × StoredRow). (1 ≤ e.1.number) × (e.1.number < s.next)) s key rest leaves (rise_each 1 s.next s.rows rise) in
+    record {
+      given = omega (arith, is);
+      passed = all_end (IsPassedWithin after row.number now) (key, row) (without key rest) (each (without key rest) below old.passed) (λ over under. ap (λ b. b || not (is_live now row)) learned);
+    }
+  where
+    each : (es : List (Key × StoredRow)) → AllByRecursion (λ (e : Key × StoredRow). (1 ≤ e.1.number) × (e.1.number < s.next)) es → AllByRecursion (IsPassedWithin after last now) es → AllByRecursion (IsPassedWithin after row.number now) es
+    each [] below passed = tt
+    each (e ∷ es) (first, rest) (passed, others) = ((λ over under. passed over (omega (arith, first.1, reaches))), each es rest others)

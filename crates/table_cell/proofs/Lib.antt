@@ -15,3 +15,7 @@ pub mod LearnedLaws
 pub mod AscendingLaws
 pub mod RunLaws
 pub mod HistoryLaws
+pub mod HandingRows
+pub mod HandingSessions
+pub mod HandingSteps
+pub mod HandingTaken

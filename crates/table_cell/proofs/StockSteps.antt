@@ -7,6 +7,7 @@ use Rattle.std.specs.BTreeMap.{insert_entry}
 use Rattle.std.specs.Cmp.{nat_cmp_is}
 use Rattle.std.specs.declared.cmp.Ordering.TheVariants.{Greater}
 use Rattle.std.specs.Ordering.{is_eq, nat_cmp}
+use Rattle.std.proofs.lemmas.Bool.{lt-ltb}
 use Rattle.table_types.specs.declared.key.Key.{Key}
 use Rattle.table_types.specs.Keys.{key_cmp}
 use Rattle.table_types.specs.Rows.{StoredRow}
@@ -95,6 +96,12 @@ gone_live now key (e ∷ es) ended = by (is_eq (key_cmp key e.0)) refl (is_live 
 pub filter_live : (now : ℕ) (es : List (Key × StoredRow)) → AreLive now es → filter (λ e. is_live now e.1) es ≡ es
 filter_live now [] live = refl
 filter_live now (e ∷ es) live = rw live.0 (ap (λ (fs : List (Key × StoredRow)). e ∷ fs) (filter_live now es live.1))
+
+-- all numbers are above 0
+pub all_above : (least next : ℕ) (es : List (Key × StoredRow)) → 1 ≤ least → NumbersRise least next es → filter (λ e. nat_lt 0 e.1.number) es ≡ es
+all_above least next [] some rise = refl
+all_above least next (e ∷ es) some (first, rest) =
+    rw (lt-ltb 0 e.1.number (omega arith)) (ap (λ (fs : List (Key × StoredRow)). e ∷ fs) (all_above (e.1.number + 1) next es (omega arith) rest))
 
 pub both_parts : (p : Key × StoredRow → Bool) (es : List (Key × StoredRow)) → length (filter p es) + length (filter (λ e. not (p e)) es) ≡ length es
 both_parts p [] = refl

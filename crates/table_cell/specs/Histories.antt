@@ -80,10 +80,16 @@ Made c event reply e =
     Step c.state event reply e.state
     × (e ≡ record c { history = c.history ++ (event, reply) ∷ []; state = e.state })
 
--- the result of a call that returns its reply twice, with the reply once
-abbrev pub first_of : {A E : Type 0} → Result (A × A) E → Result A E
-first_of (Ok pair) = Ok pair.0
-first_of (Err error) = Err error
+-- What a call does that returns the entry of its event, which the history shares: what the call of that event does
+-- (`call`: with which result), and the entry is the event with the reply that this call's answer makes.
+abbrev pub Shares : {A E : Type 0} → (Result A E → Type 0) → CellEvent → (A → CellReply) → Result (CellEvent × CellReply) E → Type 0
+Shares {A} call event reply (Ok entry) = (answer : A) × (entry ≡ (event, reply answer)) × call (Ok answer)
+Shares call event reply (Err error) = call (Err error)
+
+-- the same for a call that returns the answer beside the entry
+abbrev pub SharesWith : {A E : Type 0} → (Result A E → Type 0) → CellEvent → (A → CellReply) → Result (A × (CellEvent × CellReply)) E → Type 0
+SharesWith call event reply (Ok pair) = (pair.1 ≡ (event, reply pair.0)) × call (Ok pair.0)
+SharesWith call event reply (Err error) = call (Err error)
 
 abbrev pub Tracks : CellState → ℕ → Key → Change → ℕ → Result Reply TrackError → CellState → Type 0
 Tracks c seat key change now (Ok r) e = (is_history_full c ≡ false) × Made c (events.Track seat key change now) (replies.Track r) e

@@ -6,3 +6,4 @@ pub mod LearnedRuns
 pub mod Parts
 pub mod Histories
 pub mod Cells
+pub mod Handing

@@ -1,104 +1,69 @@
 //! Batches: copied for sessions, kept in the history, and settled.
 
-ghost use Rattle.std.specs.Prelude.{◌≡◌, ◌↔◌, ◌≤◌, ◌∷◌, ◌++◌, [], IfOk, IsOk, None, OnErr, OnOk, false, option_and_then, option_copied, slice_get};
+ghost use Rattle.std.specs.Prelude.{◌≡◌, ◌↔◌, ◌≤◌, ◌∷◌, ◌++◌, [], IfOk, IfSome, IsOk, None, OnErr, false, option_and_then, option_copied, slice_get};
 ghost use Rattle.table_cell.specs.Cells.{AreLatestCopies};
+ghost use Rattle.table_cell.specs.declared.events.CellEvent.{CellEvent};
 ghost use Rattle.table_cell.specs.declared.events.CellEvent.TheVariants as events;
+ghost use Rattle.table_cell.specs.declared.events.CellReply.{CellReply};
 ghost use Rattle.table_cell.specs.declared.events.CellReply.TheVariants as replies;
-ghost use Rattle.table_cell.specs.Histories.{Copies, IsLatestBatch, batch_in, first_of, latest_batch};
-ghost use Rattle.table_cell.specs.Machine.{Step, copy_refusal, unacked};
+ghost use Rattle.table_cell.specs.Histories.{Copies, IsLatestBatch, Shares, SharesWith, batch_in, latest_batch};
+ghost use Rattle.table_cell.specs.Machine.{Step, copy_refusal};
 ghost use Rattle.table_cell.specs.Soundness.{IsSound};
 ghost use Rattle.table_types.specs.Batches.{IsBatchFor};
 
 use crate::cell::TableCell;
 use crate::copying::last_number;
+use crate::entry::{Entry, prepare};
 use crate::errors::{CopyError, StrangeBatch};
 use crate::events::{CellEvent, CellReply};
 use crate::table::Table;
 use std::collections::BTreeMap;
 use table_types::{Batch, CopyKind, Memory, Moment};
 
-/// Records that the session is taught `batch`, and adds the event to the history. If memory runs out, nothing has
-/// changed.
-fn keep(
+/// Copies: records that the session is taught the batch, and adds the event to the history. Returns the batch, and the
+/// event's entry. If memory runs out, nothing has changed.
+fn copy(
     table: &mut Table,
-    history: &mut Vec<(CellEvent, CellReply)>,
+    history: &mut Vec<Entry>,
     latest_copies: &mut BTreeMap<u32, usize>,
     session: u32,
     kind: CopyKind,
     limit: usize,
     now: Moment,
-    batch: &Batch,
-) -> Result<(), Memory>
-    requires latest { AreLatestCopies latest_copies.old.entries history.old.items }
-    requires granted { copy_refusal false table.old session kind limit now ≡ None }
-    requires batch { batch.now ≡ unacked table.old session kind now limit }
-    ensures step { OnOk result (Step table.old (events.Copy session kind limit now) (replies.Copy batch.now) table.new) }
-    ensures event { OnOk result (history.new.items ≡ history.old.items ++ (events.Copy session kind limit now, replies.Copy batch.now) ∷ []) }
-    ensures latest { AreLatestCopies latest_copies.new.entries history.new.items }
-    ensures stays { OnErr result (table.new ≡ table.old) }
-    ensures no_event { OnErr result (history.new.items ≡ history.old.items) }
-{
-    let kept = batch.copy()?;
-    history.reserve(1)?;
-    latest_copies.insert(session, history.len())?;
-    table.teach(session, last_number(batch.updates(), 0), now);
-    let event = CellEvent::Copy {
-        session,
-        kind,
-        limit,
-        moment: now,
-    };
-    history.push_reserved((event, CellReply::Copy(kept)));
-    Ok(())
-}
-
-/// Copies: teaches the batch, adds the event to the history, and returns the batch twice. If memory runs out, nothing
-/// has changed.
-fn copy_pair(
-    table: &mut Table,
-    history: &mut Vec<(CellEvent, CellReply)>,
-    latest_copies: &mut BTreeMap<u32, usize>,
-    session: u32,
-    kind: CopyKind,
-    limit: usize,
-    now: Moment,
-) -> Result<(Batch, Batch), Memory>
+) -> Result<(Batch, Entry), Memory>
     requires sound { IsSound table.old }
     requires latest { AreLatestCopies latest_copies.old.entries history.old.items }
     requires limit { limit ≤ 512 }
     requires granted { copy_refusal false table.old session kind limit now ≡ None }
     ensures step { IfOk result (λ pair. Step table.old (events.Copy session kind limit now) (replies.Copy pair.0) table.new) }
+    ensures entry { IfOk result (λ pair. pair.1 ≡ (events.Copy session kind limit now, replies.Copy pair.0)) }
     ensures event { IfOk result (λ pair. history.new.items ≡ history.old.items ++ (events.Copy session kind limit now, replies.Copy pair.0) ∷ []) }
-    ensures both { IfOk result (λ pair. pair.1 ≡ pair.0) }
     ensures for_table { IfOk result (λ pair. IsBatchFor (table.old.definition ∷ []) pair.0) }
     ensures latest { AreLatestCopies latest_copies.new.entries history.new.items }
     ensures stays { OnErr result (table.new ≡ table.old) }
     ensures no_event { OnErr result (history.new.items ≡ history.old.items) }
 {
     let batch = table.batch(session, kind, limit, now)?;
-    let second = batch.copy()?;
-    keep(
-        table,
-        history,
-        latest_copies,
+    let event = CellEvent::Copy {
         session,
         kind,
         limit,
-        now,
-        &batch,
-    )?;
-    Ok((batch, second))
+        moment: now,
+    };
+    let reply = CellReply::Copy(batch.copy()?);
+    let (kept, entry) = prepare(table.alloc(), history, event, reply)?;
+    latest_copies.insert(session, history.len())?;
+    table.teach(session, last_number(batch.updates(), 0), now);
+    history.push_reserved(kept);
+    Ok((batch, entry))
 }
 
 /// Returns the batch of the reply at `index`.
-fn batch_at(history: &[(CellEvent, CellReply)], index: usize) -> Option<&Batch>
+fn batch_at(history: &[Entry], index: usize) -> Option<&Batch>
     ensures { option_copied result ≡ option_and_then (λ h. batch_in h.1) (slice_get history.now index) }
 {
-    let (_, reply) = history.get(index)?;
-    match reply {
-        CellReply::Copy(batch) => Some(batch),
-        _ => None,
-    }
+    let entry = history.get(index)?;
+    entry.batch()
 }
 
 impl TableCell {
@@ -116,21 +81,37 @@ impl TableCell {
         ensures call { Copies self.old session kind limit now result self.new }
         ensures for_table { IfOk result (λ batch. IsBatchFor (self.old.state.definition ∷ []) batch) }
     {
-        let (batch, _) = self.copy_pair(session, kind, limit, now)?;
+        let (batch, _) = self.copy_with_reply(session, kind, limit, now)?;
         Ok(batch)
     }
 
-    /// Copies like `copy`, and returns the batch twice. Both copies are made before anything changes.
-    pub fn copy_pair(
+    /// Copies like `copy`, and returns the entry that the history shares.
+    pub fn copy_shared(
         &mut self,
         session: u32,
         kind: CopyKind,
         limit: usize,
         now: Moment,
-    ) -> Result<(Batch, Batch), CopyError>
+    ) -> Result<Entry, CopyError>
         requires { (1 ≤ limit) × (limit ≤ 512) }
-        ensures call { Copies self.old session kind limit now (first_of result) self.new }
-        ensures both { IfOk result (λ pair. pair.1 ≡ pair.0) }
+        ensures call { Shares (λ r. Copies self.old session kind limit now r self.new) (events.Copy session kind limit now) replies.Copy result }
+        ensures for_table { IfOk result (λ entry. IfSome (batch_in entry.1) (IsBatchFor (self.old.state.definition ∷ []))) }
+    {
+        let (_, entry) = self.copy_with_reply(session, kind, limit, now)?;
+        Ok(entry)
+    }
+
+    /// Copies like `copy`, and returns the entry that the history shares beside the batch, which shares its updates
+    /// with the entry.
+    pub fn copy_with_reply(
+        &mut self,
+        session: u32,
+        kind: CopyKind,
+        limit: usize,
+        now: Moment,
+    ) -> Result<(Batch, Entry), CopyError>
+        requires { (1 ≤ limit) × (limit ≤ 512) }
+        ensures call { SharesWith (λ r. Copies self.old session kind limit now r self.new) (events.Copy session kind limit now) replies.Copy result }
         ensures for_table { IfOk result (λ pair. IsBatchFor (self.old.state.definition ∷ []) pair.0) }
     {
         let full = self.is_history_full();
@@ -138,7 +119,7 @@ impl TableCell {
             self.table.pass_learned(session, kind, error);
             return Err(error);
         }
-        let Ok(pair) = copy_pair(
+        let Ok(copied) = copy(
             &mut self.table,
             &mut self.history,
             &mut self.latest_copies,
@@ -149,7 +130,7 @@ impl TableCell {
         ) else {
             return Err(CopyError::Memory);
         };
-        Ok(pair)
+        Ok(copied)
     }
 
     /// Returns the latest batch of `session`.

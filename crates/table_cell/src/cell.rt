@@ -5,6 +5,7 @@ ghost use Rattle.table_cell.specs.Machine.{has_out, progress_of};
 ghost use Rattle.table_cell.specs.Stock.{AreInRisingKey};
 ghost use Rattle.table_cell.specs.Histories.{IsSoundCell, Kept, events_of, event_in, is_history_full, new_cell, room_of};
 
+use crate::entry::Entry;
 use crate::events::{CellEvent, CellReply};
 use crate::table::Table;
 use std::alloc::Global;
@@ -22,7 +23,7 @@ pub struct TableCell {
     /// The first number that the table assigned, or will assign.
     pub(crate) first: u32,
     pub(crate) table: Table,
-    pub(crate) history: Vec<(CellEvent, CellReply)>,
+    pub(crate) history: Vec<Entry>,
     /// The index in the history of each session's latest copy. Closing a session keeps it.
     pub(crate) latest_copies: BTreeMap<u32, usize>,
 }
@@ -102,8 +103,8 @@ impl TableCell {
         ensures { option_map (λ e. (e.0.now, e.1.now)) result ≡ event_in self.now place }
     {
         let index = usize::try_from(place.checked_sub(1)?).ok()?;
-        let (event, reply) = self.history.get(index)?;
-        Some((event, reply))
+        let entry = self.history.get(index)?;
+        Some((entry.event(), entry.reply()))
     }
 
     /// Returns whether a batch of `session` is out: it was copied, and its last number isn't acknowledged yet. Doesn't

@@ -130,14 +130,15 @@ fn update_of(
 }
 
 impl Table {
-    /// Returns the first row above `number`, in ascending order of number, that a copy of `kind` includes. Doesn't
-    /// allocate.
+    /// Returns the first row above `number`, in ascending order of number, that a copy of `kind` at `now` includes.
+    /// Doesn't allocate.
     pub(crate) fn first_unacked(
         &self,
         number: u32,
         kind: CopyKind,
         now: Moment,
     ) -> Option<(&Key, &Row)>
+        requires { self.now.latest ≤ now }
         ensures { option_map (λ e. (e.0.now, e.1.now)) result ≡ slice_get (filter (is_unacked kind number now) self.now.rows) 0 }
     {
         for (key, row) in self.stock.above(self.copy_start(kind, number)) {

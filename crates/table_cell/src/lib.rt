@@ -8,8 +8,10 @@ mod batches;
 mod calls;
 mod cell;
 mod copying;
+mod entry;
 mod errors;
 mod events;
+mod handing;
 mod laws;
 mod learned_run;
 mod progress;
@@ -20,10 +22,12 @@ mod table;
 mod tracking;
 
 pub use cell::TableCell;
+pub use entry::Entry;
 pub use errors::{
     AckError, CloseError, CopyError, LearnError, OpenError, PurgeError, StrangeBatch, TrackError,
 };
 pub use events::{CellEvent, CellReply, Reply};
+pub use handing::{a_cell_keeps_up, acknowledged_rows_were_handed_out, other_events_hand_nothing};
 pub use laws::{
     a_cell_stays_sound, a_history_goes_on, a_run_goes_on, a_sound_cell_was_always_sound,
     a_step_exists, a_step_is_unique, a_table_stays_sound, batches_are_kept,

@@ -1,6 +1,6 @@
 //! The sessions of a table.
 
-ghost use Rattle.std.specs.Prelude.{◌≡◌, ◌==◌, ◌++◌, ◌∷◌, [], OnErr, OnOk, filter, not};
+ghost use Rattle.std.specs.Prelude.{◌≡◌, ◌≤◌, ◌==◌, ◌++◌, ◌∷◌, [], OnErr, OnOk, filter, not};
 ghost use Rattle.std.specs.Map.{lookup};
 ghost use Rattle.table_cell.specs.Parts.{index_of};
 ghost use Rattle.table_cell.specs.Machine.{acknowledged_by, acknowledging, no_progress, progress_of, settled_by, teaching, with_progress};
@@ -121,6 +121,7 @@ impl Table {
 
     /// Records that `session` was taught a batch whose last number is `last`. `now` becomes the latest moment.
     pub(crate) fn teach(&mut self, session: u32, last: u32, now: Moment)
+        requires { self.old.latest ≤ now }
         ensures { self.new ≡ record self.old { sessions = with_progress session (teaching last) self.old.sessions; latest = now } }
     {
         teach(&mut self.sessions, session, last);

@@ -15,7 +15,7 @@ ghost use Rattle.table_cell.specs.Stock.{IsStock, left_for, number_of};
 use crate::above::Above;
 use std::alloc::Global;
 use std::marker::Model;
-use table_rows::Rows;
+use table_rows::{Rows, is_live};
 use table_types::{Key, Memory, Moment, Row};
 use update_numbers::NumberedKeys;
 
@@ -156,7 +156,7 @@ impl<R: Rows> Stock<R> {
     }
 
     /// Removes the rows that aren't live at `now`. Doesn't allocate.
-    fn drop_ended(&mut self, now: Moment)
+    pub(crate) fn drop_ended(&mut self, now: Moment)
         ensures { self.new ≡ record { rows = filter (λ e. is_live now e.1) self.old.rows; next = self.old.next } }
     {
         let most = self.len();
@@ -167,14 +167,11 @@ impl<R: Rows> Stock<R> {
         }
     }
 
-    /// Removes the rows that aren't live at `now`, and returns their number. Doesn't allocate.
-    pub(crate) fn take_ended(&mut self, now: Moment) -> usize
-        ensures live { self.new ≡ record { rows = filter (λ e. is_live now e.1) self.old.rows; next = self.old.next } }
-        ensures count { result ≡ length (filter (λ e. not (is_live now e.1)) self.old.rows) }
+    /// Returns the rows with their keys, in ascending order of number. Doesn't allocate.
+    fn all(&self) -> Above<'_, R>
+        ensures { result ≡ self.now.rows }
     {
-        let before = self.len();
-        self.drop_ended(now);
-        before - self.len()
+        Above::new(self.numbers.above(0), &self.rows)
     }
 
     /// Returns the rows above `number` with their keys, in ascending order of number. Doesn't allocate.
@@ -182,6 +179,19 @@ impl<R: Rows> Stock<R> {
         ensures { result ≡ filter (λ e. nat_lt number e.1.number) self.now.rows }
     {
         Above::new(self.numbers.above(number), &self.rows)
+    }
+
+    /// Returns how many rows aren't live at `now`. Doesn't allocate.
+    pub(crate) fn count_ended(&self, now: Moment) -> usize
+        ensures { result ≡ length (filter (λ e. not (is_live now e.1)) self.now.rows) }
+    {
+        let mut ended = self.len();
+        for (_, row) in self.all() {
+            if is_live(row, now) {
+                ended -= 1;
+            }
+        }
+        ended
     }
 
     /// Returns copies of the rows with their keys, in ascending order of key.

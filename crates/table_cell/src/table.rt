@@ -5,9 +5,8 @@ ghost use Rattle.std.specs.List.{list_all};
 ghost use Rattle.table_types.specs.declared.key.Key.{Key};
 ghost use Rattle.table_types.specs.Rows.{StoredRow};
 ghost use Rattle.table_rows.specs.Rows.{IsFirstToEnd, is_live};
-ghost use Rattle.table_cell.specs.Stock.{AreInRisingKey};
 ghost use Rattle.table_cell.specs.Machine.{Leaves, has_room, is_full, learned, live_row, new_table, stored, tracked};
-ghost use Rattle.table_cell.specs.Stock.{left_for};
+ghost use Rattle.table_cell.specs.Stock.{AreInRisingKey, left_for};
 
 use crate::learned_run::LearnedRun;
 use crate::progress::Progress;
@@ -38,7 +37,7 @@ impl Model for Table {
 
     ghost view = { λ t. record { definition = t.definition; size = t.size; nopurge = t.nopurge; rows = t.stock.rows; next = t.stock.next; latest = t.latest; sessions = t.sessions.items } };
 
-    ghost invariant = { λ t. IsLearnedRun t.learned_run.after t.learned_run.last t.stock.next t.stock.rows };
+    ghost invariant = { λ t. IsLearnedRun t.learned_run.after t.learned_run.last t.stock.next t.latest t.stock.rows };
 }
 
 impl Table {
@@ -61,7 +60,10 @@ impl Table {
             stock: Stock::new(alloc, MapRows::new(alloc), first),
             latest: Moment::least(),
             sessions: Vec::new(alloc),
-            learned_run: LearnedRun { after: 0, last: 0 },
+            learned_run: LearnedRun {
+                after: 0,
+                last: first - 1,
+            },
         }
     }
 
@@ -180,21 +182,34 @@ impl Table {
         requires some { 1 ≤ self.old.size }
         requires number { row.number ≡ self.old.next }
         requires left { self.old.next < 2 ^ 32 }
+        requires later { self.old.latest ≤ now }
         ensures stored { OnOk result ((rest : List (Key × StoredRow)) × Leaves self.old key rest × (self.new ≡ stored self.old key row now rest)) }
         ensures stays { OnErr result (self.new ≡ self.old) }
     {
         let leaving = self.leaving()?;
+        let learned_run = self.run_with(&row, now);
         self.stock.put(key, row, leaving)?;
+        self.learned_run = learned_run;
         self.latest = now;
         Ok(())
     }
 
-    /// Removes the rows that aren't live at `now`, and returns their number. Doesn't allocate.
-    pub(crate) fn purge(&mut self, now: Moment) -> usize
-        ensures live { self.new ≡ record self.old { rows = filter (λ row. is_live now row.1) self.old.rows; latest = now } }
-        ensures count { result ≡ length (filter (λ row. not (is_live now row.1)) self.old.rows) }
+    /// Returns how many rows aren't live at `now`. Doesn't allocate.
+    pub(crate) fn count_ended(&self, now: Moment) -> usize
+        ensures { result ≡ length (filter (λ row. not (is_live now row.1)) self.now.rows) }
+    {
+        if self.are_live(now) {
+            return 0;
+        }
+        self.stock.count_ended(now)
+    }
+
+    /// Removes the rows that aren't live at `now`. Doesn't allocate.
+    pub(crate) fn purge(&mut self, now: Moment)
+        requires { self.old.latest ≤ now }
+        ensures { self.new ≡ record self.old { rows = filter (λ row. is_live now row.1) self.old.rows; latest = now } }
     {
         self.latest = now;
-        self.stock.take_ended(now)
+        self.stock.drop_ended(now);
     }
 }

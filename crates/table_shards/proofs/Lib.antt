@@ -7,3 +7,4 @@ pub mod CompareLaws
 pub mod FaultLaws
 pub mod RoundLaws
 pub mod EventLaws
+pub mod HeldLaws

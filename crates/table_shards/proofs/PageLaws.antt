@@ -1,5 +1,5 @@
 -- A seat's pages: how one is found, and how one more receipt changes them.
-use Rattle.std.proofs.Common.{◌≡◌, ℕ, ◌+◌, ◌-◌, ◌<◌, ◌==◌, Bool, true, false, List, [], ◌∷◌, ◌++◌, length, get_or, set, take, drop, Option, Some, None, refl, sym, ap, ◌∙◌, subst, arith, true≢false, append-nil, length-append, length-set, take-append-drop, get_or-set_same, eq-eqb, ne_eqb, inl, inr}
+use Rattle.std.proofs.Common.{◌≡◌, ℕ, ◌+◌, ◌<◌, ◌==◌, true, false, List, [], ◌∷◌, ◌++◌, length, get_or, set, take, drop, Option, Some, None, refl, sym, ap, ◌∙◌, subst, arith, true≢false, append-nil, length-set, take-append-drop, get_or-set_same, eq-eqb, ne_eqb, inl, inr}
 use Rattle.std.specs.List.{AllByRecursion}
 use Rattle.std.proofs.lemmas.List.{take-set, drop-set, drop_more, get_or_default, take_more}
 use Rattle.std.proofs.lemmas.Bool.{cases_Bool}
@@ -7,7 +7,7 @@ use Rattle.std.proofs.lemmas.Bool.Decides.{nat_tests}
 use Rattle.table_shards.specs.declared.pages.Page.{Page}
 use Rattle.table_shards.specs.declared.receipt.Receipt.{Receipt}
 use Rattle.table_shards.specs.Receipts.{PageState, SeatState, page_at, page_with, pages_with, receipts_of, receipts_on, seen_of, seen_on, with_receipt, PlacesRise}
-use Rattle.table_shards.specs.Pages.{page_state, page_states, TablesDiffer, ArePages, IsPageAt, empty_page, opened, closed}
+use Rattle.table_shards.specs.Pages.{page_state, page_states, TablesDiffer, ArePages, IsPageAt}
 
 pub some_none : {A : Type 0} (x : A) → ◌≡◌ {A = Option A} (Some x) None → ⊥
 some_none x e = cc
@@ -99,27 +99,16 @@ page_stays t q ps i here so = record {
 
 -- ---- a new page
 
-pub put_opened : (is_new : Bool) (t : ℕ) (r : Receipt) (ps : List PageState) → (is_new ≡ true → page_at t ps ≡ None) → pages_with t r (opened is_new t ps) ≡ pages_with t r ps
-put_opened false t r ps lacked = refl
-put_opened true t r ps lacked =
-    let none = lacked refl in
-    put_end t r ps (empty_page t ∷ []) none
-    ∙ ap (λ (s : List PageState). ps ++ s) (put_here t r (empty_page t) [] (eq-eqb t t refl))
-    ∙ sym (put_end t r ps [] none)
-    ∙ ap (λ (s : List PageState). pages_with t r s) (append-nil ps)
+abbrev empty_page : ℕ → PageState
+empty_page t = record { table = t; seen = 0; receipts = [] }
 
-pub closed_opened : (is_new : Bool) (t : ℕ) (ps : List PageState) → closed is_new (opened is_new t ps) ≡ ps
-closed_opened false t ps = refl
-closed_opened true t ps =
-    let long : length (ps ++ empty_page t ∷ []) - 1 ≡ length ps = omega (arith, length-append ps (empty_page t ∷ [])) in
-    ap (λ (n : ℕ). take n (ps ++ empty_page t ∷ [])) long ∙ take_left ps (empty_page t ∷ [])
-
-pub new_page : (t : ℕ) (p : Page) (ps : List Page) → p.table ≡ t → page_at t (page_states ps) ≡ None → IsPageAt t (ps ++ p ∷ []) (length ps)
-new_page t p ps is none = record {
-  below = omega (arith, length-append ps (p ∷ []));
-  table_is = λ d. ap (λ (q : Page). q.table) (get_middle ps p d) ∙ is;
-  first = ap (λ (qs : List Page). page_at t (page_states qs)) (take_left ps (p ∷ [])) ∙ none;
-}
+-- a receipt written on a new page
+pub put_new : (t : ℕ) (r : Receipt) (p : Page) (ps : List Page) → page_at t (page_states ps) ≡ None → page_state p ≡ page_with (empty_page t) r → page_states (ps ++ p ∷ []) ≡ pages_with t r (page_states ps)
+put_new t r p ps none is =
+    states_append ps (p ∷ [])
+    ∙ ap (λ (s : PageState). page_states ps ++ s ∷ []) is
+    ∙ sym (put_end t r (page_states ps) [] none)
+    ∙ ap (λ (s : List PageState). pages_with t r s) (append-nil (page_states ps))
 
 -- ---- ascending places
 

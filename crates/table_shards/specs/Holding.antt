@@ -1,5 +1,5 @@
 -- What the calls of the module `held` do (profile), under the lock of one table and for one seat.
-use Rattle.std.specs.Prelude.{◌≡◌, ◌≢◌, ℕ, ◌+◌, ◌≤◌, List, Option, Some, None, Result, Ok, Err}
+use Rattle.std.specs.Prelude.{◌≡◌, ◌≢◌, ℕ, ◌+◌, ◌≤◌, List, Some, Result, Ok, Err}
 use Rattle.table_types.specs.declared.update.Update.{Update}
 use Rattle.table_cell.specs.Histories.{CellState, IsLatestBatch, events_of}
 use Rattle.table_cell.specs.declared.errors.StrangeBatch.{StrangeBatch}
@@ -35,14 +35,14 @@ abbrev pub Looks : {A E : Type 0} → (CellState → Result A E → CellState �
 Looks call table c s (Err errors.Memory) c' s' = ⊥
 Looks call table c s r c' s' = Holds call (λ done. s) table c s r c' s'
 
--- why the call isn't made, apart from memory: `None` if it may be made
-abbrev pub MayNot : {E : Type 0} → ℕ → CellState → SeatState → Option (ShardError E) → Type 0
-MayNot table c s None = MayCall table c s
-MayNot table c s (Some errors.NoTable) = id_of c ≢ table
-MayNot table c s (Some (errors.SeatAhead seen found)) = (id_of c ≡ table) × (ahead_of s table (events_of c) ≡ Some (seen, found))
-MayNot table c s (Some error) = ⊥
+-- whether the call may be made, apart from memory, and why not
+abbrev pub Allows : {E : Type 0} → ℕ → CellState → SeatState → Result (Unit {0}) (ShardError E) → Type 0
+Allows table c s (Ok done) = MayCall table c s
+Allows table c s (Err errors.NoTable) = id_of c ≢ table
+Allows table c s (Err (errors.SeatAhead seen found)) = (id_of c ≡ table) × (ahead_of s table (events_of c) ≡ Some (seen, found))
+Allows table c s (Err error) = ⊥
 
--- the same, or memory ran out
+-- why the call isn't made
 abbrev pub Refuses : {E : Type 0} → ℕ → CellState → SeatState → ShardError E → Type 0
 Refuses table c s errors.Memory = MayCall table c s
 Refuses table c s errors.NoTable = id_of c ≢ table

@@ -1,6 +1,5 @@
 pub mod Receipts
 pub mod Pages
-pub mod Prepared
 pub mod Agreement
 pub mod Roll
 pub mod Holding

@@ -1,9 +1,14 @@
 -- How a seat keeps its receipts: a page for each table.
-use Rattle.std.specs.Prelude.{◌≡◌, ℕ, ◌-◌, ◌<◌, Bool, true, List, [], ◌∷◌, ◌++◌, length, take, map, None, HoldsAt, if◌then◌else◌}
+use Rattle.std.specs.Prelude.{◌≡◌, ℕ, ◌<◌, List, [], ◌∷◌, length, take, map, None, HoldsAt}
 use Rattle.std.specs.Vec.{vec_len, vec_capacity}
+use Rattle.std.specs.declared.alloc.Global.{Global}
+use Rattle.std.specs.declared.vec.Vec.{Vec}
 use Rattle.std.specs.List.{AllByRecursion}
+use Rattle.table_shards.specs.declared.book.Book.{Book}
 use Rattle.table_shards.specs.declared.pages.Page.{Page}
-use Rattle.table_shards.specs.Receipts.{PageState, page_at, PlacesRise}
+use Rattle.table_shards.specs.declared.pages.Room.{Room}
+use Rattle.table_shards.specs.declared.pages.Room.TheVariants as rooms
+use Rattle.table_shards.specs.Receipts.{PageState, SeatState, page_at, PlacesRise}
 
 abbrev pub page_state : Page → PageState
 page_state p = record { table = p.table; seen = p.seen; receipts = p.receipts.items }
@@ -31,20 +36,15 @@ pub record IsPageAt (table : ℕ) (ps : List Page) (index : ℕ) : Type 0 where
 abbrev pub HasRoom : Page → Type 0
 HasRoom p = vec_len p.receipts < vec_capacity p.receipts
 
-abbrev pub empty_page : ℕ → PageState
-empty_page table = record { table = table; seen = 0; receipts = [] }
+-- there is room for one more receipt of the table: on its page, or on a new one, for which the pages have room
+abbrev pub HasRoomIn : ℕ → Vec Page Global → Room → Type 0
+HasRoomIn table ps (rooms.OnPage index) = IsPageAt table ps.items index × HoldsAt HasRoom ps.items index
+HasRoomIn table ps (rooms.OnNewPage receipts) =
+    (page_at table (page_states ps.items) ≡ None)
+    × (receipts.items ≡ [])
+    × (vec_len receipts < vec_capacity receipts)
+    × (vec_len ps < vec_capacity ps)
 
--- the pages with a new one at the end if `is_new`, and the pages without it
-abbrev pub opened : Bool → ℕ → List PageState → List PageState
-opened is_new table ps = if is_new then ps ++ empty_page table ∷ [] else ps
-
-abbrev pub closed : Bool → List PageState → List PageState
-closed is_new ps = if is_new then take (length ps - 1) ps else ps
-
--- the pages have room for one more receipt of the table: on the page at `index`, which is new if the pages had none of
--- the table
-pub record HasSpace (table : ℕ) (before : List PageState) (ps : List Page) (index : ℕ) (is_new : Bool) : Type 0 where
-  pub here : IsPageAt table ps index
-  pub room : HoldsAt HasRoom ps index
-  pub after : page_states ps ≡ opened is_new table before
-  pub lacked : is_new ≡ true → page_at table before ≡ None
+-- the seat of a book
+abbrev pub seat_of : Book → SeatState
+seat_of b = record { number = b.number; pages = page_states b.pages.items }

@@ -1,5 +1,9 @@
 //! Why a call under a table's lock, or an audit, fails.
 
+ghost use Rattle.std.specs.Prelude.{◌≡◌};
+ghost use Rattle.table_shards.specs.declared.errors.ShardError.TheVariants as errors;
+
+use table_types::Memory;
 use thiserror::Error;
 
 /// Why a call under a table's lock fails: the first of these that applies. Nothing has changed, and there is no
@@ -23,6 +27,14 @@ pub enum ShardError<E> {
     /// The cell refused the call.
     #[error("the table refuses it")]
     Cell(E),
+}
+
+impl<E> From<Memory> for ShardError<E> {
+    ghost from_gives = { λ _ e. e ≡ errors.Memory };
+
+    fn from(_: Memory) -> ShardError<E> {
+        ShardError::Memory
+    }
 }
 
 /// What an audit finds wrong: the first of these that applies.

@@ -2,6 +2,7 @@
 //! made it, and an audit shows that the receipts are the tables' histories.
 #![tactic(auto)]
 
+mod book;
 mod comparing;
 mod counts;
 mod errors;

@@ -1,8 +1,9 @@
 //! What a seat has of each table.
 
-ghost use Rattle.std.specs.Prelude.{◌≡◌, None, cond, true, option_map, IfNone, IfOk, IfSome, OnErr, OnOk, HoldsAt};
+ghost use Rattle.std.specs.Prelude.{◌≡◌, ◌<◌, [], None, cond, option_map, IfNone, IfOk, IfSome, OnOk, HoldsAt};
+ghost use Rattle.std.specs.Vec.{vec_len, vec_capacity};
 ghost use Rattle.table_shards.specs.Receipts.{PlacesRise, page_at, page_with, pages_with, times};
-ghost use Rattle.table_shards.specs.Pages.{page_state, page_states, opened, closed, HasRoom, HasSpace, IsPageAt};
+ghost use Rattle.table_shards.specs.Pages.{page_state, page_states, HasRoom, HasRoomIn, IsPageAt};
 
 use crate::receipt::Receipt;
 use std::alloc::Global;
@@ -17,11 +18,13 @@ pub struct Page {
     pub receipts: Vec<Receipt>,
 }
 
-/// Where there is room for one more receipt: the index of the page, and whether the page is a new one at the end.
-#[derive(Clone, Copy, Debug)]
-pub struct Space {
-    pub index: usize,
-    pub is_new: bool,
+/// Where there is room for one more receipt of a table.
+#[derive(Debug, Drop)]
+pub enum Room {
+    /// On the table's page, which is at this index.
+    OnPage(usize),
+    /// In this empty list, for a new page.
+    OnNewPage(Vec<Receipt>),
 }
 
 /// Returns the page of `table`.
@@ -67,40 +70,6 @@ pub fn write(page: &mut Page, receipt: Receipt)
     page.receipts.push_reserved(receipt);
 }
 
-/// Finds the page of `table`, or adds an empty one at the end.
-fn open_page(alloc: Global, pages: &mut Vec<Page>, table: u64) -> Result<Space, Memory>
-    ensures here { IfOk result (λ space. IsPageAt table pages.new.items space.index) }
-    ensures after { IfOk result (λ space. page_states pages.new.items ≡ opened space.is_new table (page_states pages.old.items)) }
-    ensures lacked { IfOk result (λ space. space.is_new ≡ true → page_at table (page_states pages.old.items) ≡ None) }
-    ensures stays { OnErr result (page_states pages.new.items ≡ page_states pages.old.items) }
-{
-    if let Some(index) = index_of(pages.as_slice(), table) {
-        return Ok(Space {
-            index,
-            is_new: false,
-        });
-    }
-    let index = pages.len();
-    pages.push(Page {
-        table,
-        seen: 0,
-        receipts: Vec::new(alloc),
-    })?;
-    Ok(Space {
-        index,
-        is_new: true,
-    })
-}
-
-/// Removes the last page, if it is new.
-pub fn close_page(pages: &mut Vec<Page>, is_new: bool)
-    ensures { page_states pages.new.items ≡ closed is_new (page_states pages.old.items) }
-{
-    if is_new {
-        let _closed = pages.pop();
-    }
-}
-
 /// Makes room for one more receipt on the page at `index`.
 fn make_room_at(pages: &mut Vec<Page>, index: usize, table: u64) -> Result<(), Memory>
     requires { IsPageAt table pages.old.items index }
@@ -111,18 +80,21 @@ fn make_room_at(pages: &mut Vec<Page>, index: usize, table: u64) -> Result<(), M
     make_room(&mut pages[index])
 }
 
-/// Makes room for one more receipt of `table`. If memory runs out, nothing has changed.
-#[tactic(auto, using(crate::proofs::PageLaws::closed_opened))]
-pub fn prepare(alloc: Global, pages: &mut Vec<Page>, table: u64) -> Result<Space, Memory>
-    ensures space { IfOk result (λ space. HasSpace table (page_states pages.old.items) pages.new.items space.index space.is_new) }
-    ensures stays { OnErr result (page_states pages.new.items ≡ page_states pages.old.items) }
+/// Makes room for one more receipt of `table`, which changes no page.
+pub fn make_room_for(alloc: Global, pages: &mut Vec<Page>, table: u64) -> Result<Room, Memory>
+    ensures room { IfOk result (HasRoomIn table pages.new) }
+    ensures stays { page_states pages.new.items ≡ page_states pages.old.items }
 {
-    let space = open_page(alloc, pages, table)?;
-    if make_room_at(pages, space.index, table).is_err() {
-        close_page(pages, space.is_new);
-        return Err(Memory);
+    match index_of(pages.as_slice(), table) {
+        Some(index) => {
+            make_room_at(pages, index, table)?;
+            Ok(Room::OnPage(index))
+        }
+        None => {
+            pages.reserve(1)?;
+            Ok(Room::OnNewPage(Vec::with_capacity(alloc, 1)?))
+        }
     }
-    Ok(space)
 }
 
 /// Adds a receipt to the page at `index`.
@@ -132,6 +104,36 @@ pub fn write_at(pages: &mut Vec<Page>, index: usize, table: u64, receipt: Receip
     ensures { page_states pages.new.items ≡ pages_with table receipt (page_states pages.old.items) }
 {
     write(&mut pages[index], receipt);
+}
+
+/// Adds a page with one receipt, in the list `receipts`.
+#[tactic(auto, using(crate::proofs::PageLaws::put_new))]
+fn write_page(pages: &mut Vec<Page>, receipts: Vec<Receipt>, table: u64, receipt: Receipt)
+    requires lacked { page_at table (page_states pages.old.items) ≡ None }
+    requires none { receipts.items ≡ [] }
+    requires room { vec_len receipts < vec_capacity receipts }
+    requires space { vec_len pages.old < vec_capacity pages.old }
+    ensures { page_states pages.new.items ≡ pages_with table receipt (page_states pages.old.items) }
+{
+    let seen = receipt.place;
+    let mut receipts = receipts;
+    receipts.push_reserved(receipt);
+    pages.push_reserved(Page {
+        table,
+        seen,
+        receipts,
+    });
+}
+
+/// Adds a receipt of `table`, for which there is room.
+pub fn write_in(pages: &mut Vec<Page>, room: Room, table: u64, receipt: Receipt)
+    requires { HasRoomIn table pages.old room }
+    ensures { page_states pages.new.items ≡ pages_with table receipt (page_states pages.old.items) }
+{
+    match room {
+        Room::OnPage(index) => write_at(pages, index, table, receipt),
+        Room::OnNewPage(receipts) => write_page(pages, receipts, table, receipt),
+    }
 }
 
 /// Returns whether one of the receipts is of `place`.

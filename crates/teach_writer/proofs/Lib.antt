@@ -4,3 +4,4 @@ pub mod MarkedSteps
 pub mod UpdateStepsAreLegal
 pub mod SelectionsAreCheapest
 pub mod MarksAreReads
+pub mod WrittenLesson

@@ -431,18 +431,6 @@ way_step roster s mid after us left u rs keep next bytes more retained index fie
     length_after None flag = long_flags
     length_after (Some slot) flag = length-set retained (slot - 1) flag ∙ long_flags
 
--- the index of a request is an index of the flags
-pub way_index : (roster : List Definition) (s mid : State) (us left : List Update) (u : Update) (rs : List Asked) (keep next : List Bool) (bytes : List ℕ) (retained : List Bool) (index : ℕ) (field : NameField) (slot : ℕ) → IsUnderWay roster s us rs keep bytes mid retained index (u ∷ left) → IsNameField retained mid.slots (is_stored roster u) u.name field → slot_of field ≡ Some slot → length next ≡ length rs → index < length next
-way_index roster s mid us left u rs keep next bytes retained index field slot (ms, starts, k, done, kept, marks, bytes_are, rs_is, keep_is, so_far, kept_so_far, long, linked, begun, slots, are, long_flags, many, leads) named is flags =
-    let held = names_in s.slots in
-    let asking = after_requests (at_start held) done in
-    let rest : List Asked = requests_of roster (knowledge_after k u) left in
-    let slotted = slot_of_named retained mid.slots (is_stored roster u) u.name field named in
-    let ahead = advanced roster k u u.name (slot_of field) starts asking rest marks slotted.0 slotted.1 long linked begun slots in
-    let one : index + length (asked roster k u u.name) ≡ index + 1 = ahead.6 index ∙ ap (index_after index) is in
-    let whole : length rs ≡ length (done ++ (asked roster k u u.name ++ rest)) = ap (λ (l : List Asked). length l) rs_is in
-    omega (arith, length-append done (asked roster k u u.name ++ rest), length-append (asked roster k u u.name) rest)
-
 -- if a name is written, some slot is free
 pub way_room : (roster : List Definition) (s mid : State) (us left : List Update) (u : Update) (rs : List Asked) (keep : List Bool) (bytes : List ℕ) (retained : List Bool) (index : ℕ) → IsUnderWay roster s us rs keep bytes mid retained index (u ∷ left) → ((p : ℕ) → kept_over (links (names_in s.slots) rs keep) p ≤ 127) → HasRoomFor retained mid.slots u.name
 way_room roster s mid us left u rs keep bytes retained index (ms, starts, k, done, kept, marks, bytes_are, rs_is, keep_is, so_far, kept_so_far, long, linked, begun, slots, are, long_flags, many, leads) room = by u.name refl

@@ -41,7 +41,7 @@ use Rattle.price_checker.specs.declared.verdict.Verdict.TheVariants as verdicts
 use Rattle.price_checker.proofs.ShortestIsSaid.{accepted_said}
 use Rattle.teach_writer.specs.Naming.{IsNamed, starts_at_first, starts_after, marks_after}
 use Rattle.teach_writer.specs.Sending.{is_table, selection, slot_of, is_stored, update_sent, IsSent, AreSent}
-use Rattle.teach_writer.proofs.UpdateStepsAreLegal.{selection_selects, selection_none, listed_by_id, legal-append, legal-one}
+use Rattle.teach_writer.proofs.UpdateStepsAreLegal.{selection_selects, selection_none, listed_by_id, legal-append, own_selection, sent_legal}
 use Rattle.teach_writer.proofs.SelectionsAreCheapest.{selection_size, selected_received, knows_retained, selection_knows}
 
 -- ---- sizes by the name field
@@ -61,7 +61,7 @@ names_longer number life key values short long le =
 
 -- ---- what is known
 
-knows_more : (a b c : Knowledge) → KnowsLess a b → KnowsLess b c → KnowsLess a c
+pub knows_more : (a b c : Knowledge) → KnowsLess a b → KnowsLess b c → KnowsLess a c
 knows_more a b c first second = record {
   defined = λ id h. second.defined id (first.defined id h);
   selected = first.selected ∙ second.selected;
@@ -73,7 +73,7 @@ knows_more a b c first second = record {
     joined id (inl same) (inr none) = inr (same ∙ none)
     joined id (inr none) later = inr none
 
-with_selected_knows : (less more : Knowledge) (t : ℕ) → KnowsLess less more → KnowsLess (with_selected less t) (with_selected more t)
+pub with_selected_knows : (less more : Knowledge) (t : ℕ) → KnowsLess less more → KnowsLess (with_selected less t) (with_selected more t)
 with_selected_knows less more t knows = record {
   defined = λ id h. or-implied (eqb id t) (less.is_defined id) (more.is_defined id) (knows.defined id) h;
   selected = refl;
@@ -92,19 +92,11 @@ one_at_most h d = by (is_table (selected_table h) d.id) (is_some (table_at h.tab
     by false true = omega arith
     by false false = omega arith
 
-own_selection : (roster : List Definition) (h : Received) (d : Definition) → table_at roster d.id ≡ Some d → AllByRecursion (IsOwn roster) (selection h d)
-own_selection roster h d listed = by (is_table (selected_table h) d.id) (is_some (table_at h.tables d.id))
-  where
-    by : (a b : Bool) → AllByRecursion (IsOwn roster) (cond a [] (cond b (messages.Switch d.id ∷ []) (messages.Define d ∷ [])))
-    by true b = tt
-    by false true = (tt, tt)
-    by false false = (listed, tt)
-
 -- after a table is selected, it is the selected one, what is received is the roster's own, and nothing is lost
-abbrev IsSelected : List Definition → State → Definition → State → Type 0
+abbrev pub IsSelected : List Definition → State → Definition → State → Type 0
 IsSelected roster s d mid = (selected_table mid.received ≡ Some d) × AreOwn roster mid.received.tables × KnowsLess (with_selected (knowledge_of s) d.id) (knowledge_of mid)
 
-selected_so : (roster : List Definition) (s mid : State) (d : Definition) → roster_fault roster ≡ None → AreOwn roster s.received.tables → table_at roster d.id ≡ Some d → Teaches s (selection s.received d) [] mid → IsSelected roster s d mid
+pub selected_so : (roster : List Definition) (s mid : State) (d : Definition) → roster_fault roster ≡ None → AreOwn roster s.received.tables → table_at roster d.id ≡ Some d → Teaches s (selection s.received d) [] mid → IsSelected roster s d mid
 selected_so roster s mid d sound own listed taught = by (selection s.received d) refl taught
   where
     k : KnownState
@@ -120,9 +112,9 @@ selected_so roster s mid d sound own listed taught = by (selection s.received d)
     by (m ∷ (n ∷ ms)) is t = let short : length (m ∷ (n ∷ ms)) ≤ 1 = subst (λ (l : List Message). length l ≤ 1) (sym is) (one_at_most s.received d) in absurd (omega arith)
 
 -- an update sets its number, and nothing else is lost
-sent_knows : (mid e : State) (d : Definition) (u : Update) (field : NameField) (k : Knowledge) → KnowsLess (with_selected k u.table) (knowledge_of mid) → table_at mid.received.tables u.table ≡ Some d → Step mid (update_sent mid field u) (u ∷ []) e → KnowsLess (knowledge_after k u) (knowledge_of e)
-sent_knows mid e d u field k knows here (fit, table, on, number, numbered, name, named, carried, received, last_numbers) =
-    let same_update : u ≡ resolved (sent_as (last_of mid.last_numbers u.table) field u) table number name = cc in
+pub sent_knows : (mid e : State) (d : Definition) (u : Update) (last : Option ℕ) (field : NameField) (k : Knowledge) → KnowsLess (with_selected k u.table) (knowledge_of mid) → table_at mid.received.tables u.table ≡ Some d → Step mid (messages.Update (sent_as last field u)) (u ∷ []) e → KnowsLess (knowledge_after k u) (knowledge_of e)
+sent_knows mid e d u last field k knows here (fit, table, on, number, numbered, name, named, carried, received, last_numbers) =
+    let same_update : u ≡ resolved (sent_as last field u) table number name = cc in
     let table_is : table ≡ u.table = sym (ap (λ (x : Update). x.table) same_update) in
     let number_is : number ≡ u.number = sym (ap (λ (x : Update). x.number) same_update) in
     let put : e.last_numbers ≡ set_last u.table u.number mid.last_numbers = last_numbers ∙ ap (λ (t : ℕ). set_last t number mid.last_numbers) table_is ∙ ap (λ (n : ℕ). set_last u.table n mid.last_numbers) number_is in
@@ -231,9 +223,9 @@ one_within roster s e k u field ms sound own knows for (d, mid, listed, chosen, 
     let sum : size_of_all (selection s.received d ++ m ∷ []) ≡ size_of_all (selection s.received d) + size_of_all (m ∷ []) = sum_by-append size_of (selection s.received d) (m ∷ []) in
     let one : size_of_all (m ∷ []) ≡ size_of m + size_of_all [] = sum_by-cons size_of m [] in
     let whole : size_of_all ms ≡ size_of_all (selection s.received d) + size_of m = ap size_of_all is ∙ omega arith in (
-      subst (λ (l : List Message). Legal roster s l (u ∷ []) e) (sym is) (legal-append roster (selection s.received d) (m ∷ []) s mid e [] (u ∷ []) (own_selection roster s.received d by_id, chosen) (legal-one roster m mid e (u ∷ []) tt step)),
+      sent_legal roster s e u field ms (d, mid, listed, chosen, step, is),
       own_stays roster mid e m (u ∷ []) selected.1 tt step,
-      sent_knows mid e d u field k all here step,
+      sent_knows mid e d u (last_of mid.last_numbers u.table) field k all here step,
       λ starts us marks rs named. (let within = field_within roster k d u starts us marks (last_of mid.last_numbers u.table) field u.name rs refl listed fit field_fits less named in omega arith),
     )
 

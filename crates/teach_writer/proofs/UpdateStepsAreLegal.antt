@@ -1,5 +1,5 @@
 -- What is selected for an update, that the update is sent unchanged, and that both are legal.
-use Rattle.std.proofs.Common.{◌≡◌, ℕ, ◌+◌, ◌%◌, ◌^◌, ◌<◌, Bool, true, false, eqb, List, [], ◌∷◌, ◌++◌, Option, Some, None, refl, sym, ap, ◌∙◌, subst, inl, inr, arith, append_assoc}
+use Rattle.std.proofs.Common.{◌≡◌, ℕ, ◌+◌, ◌%◌, ◌^◌, ◌<◌, Bool, true, false, cond, eqb, List, [], ◌∷◌, ◌++◌, Option, Some, None, refl, sym, ap, ◌∙◌, subst, inl, inr, arith, append_assoc}
 use Rattle.std.specs.Prelude.{is_some, is_none}
 use Rattle.std.specs.List.{AllByRecursion}
 use Rattle.std.proofs.lemmas.Bool.{cases_eq, eq-eqb, ne_eqb}
@@ -24,7 +24,7 @@ use Rattle.known_state.proofs.FitsOrIsRefused.{has_id-table_at, selected-id, sel
 use Rattle.known_state.proofs.NamedAsResolved.{named_so}
 use Rattle.known_state.specs.Cost.{number_sent, sent_as}
 use Rattle.known_state.proofs.BatchIsOfRoster.{row_of_fits, life_of_fits}
-use Rattle.teach_writer.specs.Sending.{is_table, selection}
+use Rattle.teach_writer.specs.Sending.{is_table, selection, update_sent, IsSent}
 
 -- a received table is the roster's table of its id
 pub found_is_own : (roster ds : List Definition) (id : ℕ) (t d : Definition) → AreOwn roster ds → table_at ds id ≡ Some t → table_at roster id ≡ Some d → t ≡ d
@@ -78,7 +78,7 @@ pub define_taken : (k : KnownState) (d : Definition) → table_at k.roster d.id 
 define_taken k d listed = λ e refuses. refuses.0 listed
 
 -- the number sent resolves to the update's number
-sent_resolved : (last : Option ℕ) (number : ℕ) → resolved_number (number_sent last number) last ≡ Some number
+pub sent_resolved : (last : Option ℕ) (number : ℕ) → resolved_number (number_sent last number) last ≡ Some number
 sent_resolved None number = refl
 sent_resolved (Some last) number = elim (cases_eq ((last + 1) % 2 ^ 32) number) [
   | inl same ↦ rw (eq-eqb ((last + 1) % 2 ^ 32) number same) (ap (λ (n : ℕ). Some n) same)
@@ -94,7 +94,7 @@ expire_small : (d : Definition) → is_definition d ≡ true → d.expire < 2 ^ 
 expire_small d is = grind (arith, nat_tests)
 
 -- an update fits as it is sent if its name field does
-sent_fits : (last : Option ℕ) (field : NameField) (d : Definition) (u : Update) → is_definition d ≡ true → name_fits d field ≡ true → fits d u ≡ true → is_optional_word (number_sent last u.number) ≡ true → update_fits d (sent_as last field u) ≡ true
+pub sent_fits : (last : Option ℕ) (field : NameField) (d : Definition) (u : Update) → is_definition d ≡ true → name_fits d field ≡ true → fits d u ≡ true → is_optional_word (number_sent last u.number) ≡ true → update_fits d (sent_as last field u) ≡ true
 sent_fits last field d u is field_fits fit word = rw (word, life_word d u.life (expire_small d is) (life_of_fits d u fit), row_of_fits d u fit, field_fits) refl
 
 -- it is a step if its table is selected and it reads no empty slot
@@ -142,6 +142,15 @@ legal-one roster m s e us own step = ((own, tt), (us, [], e, sym (append-none us
     append-none : (xs : List Update) → xs ++ [] ≡ xs
     append-none [] = refl
     append-none (x ∷ xs) = ap (λ (l : List Update). x ∷ l) (append-none xs)
+
+-- what selects a table of the roster is the roster's own
+pub own_selection : (roster : List Definition) (h : Received) (d : Definition) → table_at roster d.id ≡ Some d → AllByRecursion (IsOwn roster) (selection h d)
+own_selection roster h d listed = by (is_table (selected_table h) d.id) (is_some (table_at h.tables d.id))
+  where
+    by : (a b : Bool) → AllByRecursion (IsOwn roster) (cond a [] (cond b (messages.Switch d.id ∷ []) (messages.Define d ∷ [])))
+    by true b = tt
+    by false true = (tt, tt)
+    by false false = (listed, tt)
 
 -- selecting a table of the roster is legal
 pub selection_taken : (k : KnownState) (d : Definition) (m : Message) → AreOwn k.roster k.state.received.tables → table_at k.roster d.id ≡ Some d → m ∷ [] ≡ selection k.state.received d → IsTakenBy k m
@@ -191,3 +200,24 @@ listed_by_id roster id d listed = subst (λ (n : ℕ). table_at roster n ≡ Som
 -- the bytes of messages one after another
 pub stream-append : (a b : List Message) → stream_of (a ++ b) ≡ stream_of a ++ stream_of b
 stream-append a b = flat_map-append spelled a b
+
+-- ---- what is sent
+
+-- what sends one update is legal, and carries it
+pub sent_legal : (roster : List Definition) (s e : State) (u : Update) (field : NameField) (ms : List Message) → IsSent roster s u field ms e → Legal roster s ms (u ∷ []) e
+sent_legal roster s e u field ms (d, mid, listed, chosen, step, is) =
+    let m : Message = update_sent mid field u in
+    let by_id : table_at roster d.id ≡ Some d = listed_by_id roster u.table d listed in
+    subst (λ (l : List Message). Legal roster s l (u ∷ []) e) (sym is) (legal-append roster (selection s.received d) (m ∷ []) s mid e [] (u ∷ []) (own_selection roster s.received d by_id, chosen) (legal-one roster m mid e (u ∷ []) tt step))
+
+-- these bytes spell messages that are legal from s, carry these updates and lead to e
+abbrev pub SpellsLegal : List Definition → State → List ℕ → List Update → State → Type 0
+SpellsLegal roster s bytes us e = (ms : List Message) × (bytes ≡ stream_of ms) × Legal roster s ms us e
+
+pub legal_start : (roster : List Definition) (s : State) → SpellsLegal roster s [] [] s
+legal_start roster s = ([], refl, (tt, (refl, refl)))
+
+-- and one more update
+pub legal_more : (roster : List Definition) (s mid e : State) (bytes more : List ℕ) (us : List Update) (u : Update) (field : NameField) (first : List Message) → SpellsLegal roster s bytes us mid → IsSent roster mid u field first e → more ≡ bytes ++ stream_of first → SpellsLegal roster s more (us ++ u ∷ []) e
+legal_more roster s mid e bytes more us u field first (ms, is, legal) sent grown =
+    (ms ++ first, grown ∙ ap (λ (l : List ℕ). l ++ stream_of first) is ∙ sym (stream-append ms first), legal-append roster ms first s mid e us (u ∷ []) legal (sent_legal roster mid e u field first sent))

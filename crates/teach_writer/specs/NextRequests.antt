@@ -44,6 +44,11 @@ abbrev pub HasRoomFor : List Bool → List (Option (List ℕ)) → Option (List 
 HasRoomFor retained slots None = Unit {0}
 HasRoomFor retained slots (Some name) = ((slot : ℕ) → Retains retained slots slot name → ⊥) → (slot : ℕ) × IsFree retained slot
 
+-- An update's name can be sent as its mark says: if it isn't kept, no slot retains it; and if no slot retains it, some
+-- slot is free.
+abbrev pub IsAsMarked : List Bool → List (Option (List ℕ)) → Bool → Option (List ℕ) → Type 0
+IsAsMarked retained slots kept name = (kept ≡ false → IsNotRetained retained slots name) × HasRoomFor retained slots name
+
 -- what is retained after an update whose name used a slot, if it has one
 abbrev pub retained_after : List Bool → Option ℕ → Bool → List Bool
 retained_after retained None flag = retained

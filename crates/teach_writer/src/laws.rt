@@ -1,15 +1,39 @@
 //! What holds of lessons, whatever the program does.
 
-ghost use Rattle.std.specs.Prelude.{◌≡◌, Bool, List, Option, ℕ};
-ghost use Rattle.table_types.specs.Tables.{Definition};
+ghost use Rattle.std.specs.Prelude.{◌≡◌, ◌≤◌, ◌<◌, ◌^◌, Bool, true, List, Option, None, ℕ, length};
+ghost use Rattle.std.specs.List.{AllByRecursion};
+ghost use Rattle.table_types.specs.Tables.{Definition, is_definition};
+ghost use Rattle.table_types.specs.Rosters.{roster_fault};
+ghost use Rattle.table_types.specs.Batches.{IsBatchFor};
 ghost use Rattle.table_types.specs.declared.update.Update.{Update};
 ghost use Rattle.peers_msg.specs.declared.message.Message.{Message};
+ghost use Rattle.peers_msg.specs.Spelling.{size_of_all, stream_of};
 ghost use Rattle.known_state.specs.State.{State};
+ghost use Rattle.known_state.specs.Known.{AreOwn, KnownState};
+ghost use Rattle.known_state.specs.Cost.{full, knowledge_of, written_lesson};
+ghost use Rattle.known_state.specs.Lessons.{IsLessonFor};
 ghost use Rattle.known_state.specs.Requests.{reads_of};
+ghost use Rattle.known_state.specs.Shortest.{Shortest};
 ghost use Rattle.teach_writer.specs.Sending.{AreSent};
 
 /// Messages that go through a batch read exactly the requests that are marked as kept.
 pub fn marks_are_reads()
     ensures { (roster : List Definition) (s e : State) (starts : List ℕ → Option ℕ) (us : List Update)
         (marks : List Bool) (ms : List Message) → AreSent roster s starts us marks ms e → reads_of ms ≡ marks }
+{}
+
+/// The lesson with every name written is a lesson, if the tables of the roster are well formed and the updates' numbers
+/// are below 2^32: it is legal from the known state and carries the batch. `full` is its size in bytes, so a shortest
+/// lesson has at most that many.
+pub fn names_may_all_be_written()
+    ensures lesson { (k : KnownState) (us : List Update) →
+        roster_fault k.roster ≡ None → AllByRecursion (λ d. is_definition d ≡ true) k.roster →
+        AreOwn k.roster k.state.received.tables → IsBatchFor k.roster us → AllByRecursion (λ u. u.number < 2 ^ 32) us →
+        (after : KnownState) × IsLessonFor k us (stream_of (written_lesson k.roster (knowledge_of k.state) us)) after }
+    ensures size { (roster : List Definition) (s : State) (us : List Update) →
+        length (stream_of (written_lesson roster (knowledge_of s) us)) ≡ full roster s us }
+    ensures most { (k : KnownState) (us : List Update) (ms : List Message) →
+        roster_fault k.roster ≡ None → AllByRecursion (λ d. is_definition d ≡ true) k.roster →
+        AreOwn k.roster k.state.received.tables → IsBatchFor k.roster us → AllByRecursion (λ u. u.number < 2 ^ 32) us →
+        Shortest k us ms → size_of_all ms ≤ full k.roster k.state us }
 {}

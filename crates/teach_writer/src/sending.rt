@@ -16,7 +16,7 @@ ghost use Rattle.known_state.specs.State.{Step, Teaches, IsOwn, name_of, reads_e
 ghost use Rattle.known_state.specs.Cost.{number_sent, sent_as};
 ghost use Rattle.known_state.specs.Requests.{IsUpdateOf};
 ghost use Rattle.teach_writer.specs.Retained.{IsNameField};
-ghost use Rattle.teach_writer.specs.NextRequests.{HasRoomFor, IsNotRetained};
+ghost use Rattle.teach_writer.specs.NextRequests.{IsAsMarked};
 ghost use Rattle.teach_writer.specs.Sending.{selection, slot_of, is_stored, IsSent};
 
 use crate::retained::Retained;
@@ -45,8 +45,8 @@ fn selection(
     }
 }
 
-/// Returns how the name of an update of `table` is sent: read from a slot that retains it, of which the likely slot is
-/// tried first, or written to a free slot.
+/// Returns how the name of an update of `table` is sent: if its request is kept, read from a slot that retains it, of
+/// which the likely slot is tried first, and otherwise written to the lowest free slot.
 fn name_field(
     alloc: Global,
     retained: &Retained,
@@ -57,10 +57,9 @@ fn name_field(
     likely_slot: Option<u8>,
 ) -> Result<NameField, Memory>
     requires fits { fits table.now update.now ≡ true }
-    requires kept { kept ≡ false → IsNotRetained retained.now slots.now update.now.name }
     requires likely_slot { IfSome likely_slot (λ slot. is_slot slot ≡ true) }
-    requires room { HasRoomFor retained.now slots.now update.now.name }
-    ensures field { IfOk result (λ field. IsNameField retained.now slots.now (stores_name table.now) update.now.name field) }
+    ensures field { IfOk result (λ field. IsAsMarked retained.now slots.now kept update.now.name →
+        IsNameField retained.now slots.now (stores_name table.now) update.now.name field) }
     ensures fits { IfOk result (λ field. name_fits table.now field ≡ true) }
     ensures reads { IfOk result (λ field. reads_empty slots.now field ≡ false) }
     ensures named { IfOk result (λ field. name_of slots.now field ≡ update.now.name) }
@@ -141,10 +140,9 @@ fn named(
     likely_slot: Option<u8>,
 ) -> Result<NameField, Memory>
     requires update { IsUpdateOf known.now.roster update.now }
-    requires kept { kept ≡ false → IsNotRetained retained.now known.now.state.slots update.now.name }
     requires likely_slot { IfSome likely_slot (λ slot. is_slot slot ≡ true) }
-    requires room { HasRoomFor retained.now known.now.state.slots update.now.name }
     ensures field { IfOk result (λ field. (d : Definition) → table_at known.now.roster update.now.table ≡ Some d →
+        IsAsMarked retained.now known.now.state.slots kept update.now.name →
         IsNameField retained.now known.now.state.slots (stores_name d) update.now.name field) }
     ensures fits { IfOk result (λ field. (d : Definition) → table_at known.now.roster update.now.table ≡ Some d → name_fits d field ≡ true) }
     ensures reads { IfOk result (λ field. reads_empty known.now.state.slots field ≡ false) }
@@ -176,7 +174,7 @@ fn slot_of(field: &NameField) -> Option<u8>
 }
 
 /// Writes one update of a table of the roster: what selects its table, if it isn't selected, and the update. Returns
-/// the slot that the update's name used, if it has one.
+/// the slot that the update's name used, if it has one. Whatever is retained, the name that is sent is the update's own.
 pub fn write_update(
     alloc: Global,
     known: &mut Known,
@@ -187,13 +185,12 @@ pub fn write_update(
     bytes: &mut Vec<u8>,
 ) -> Result<Option<u8>, Memory>
     requires update { IsUpdateOf known.old.roster update.now }
-    requires kept { kept ≡ false → IsNotRetained retained.now known.old.state.slots update.now.name }
     requires likely_slot { IfSome likely_slot (λ slot. is_slot slot ≡ true) }
-    requires room { HasRoomFor retained.now known.old.state.slots update.now.name }
     ensures order { IfOk result (λ slot. (field : NameField) × (ms : List Message) × (slot ≡ slot_of field)
         × (bytes.new.items ≡ bytes.old.items ++ stream_of ms)
         × IsSent known.old.roster known.old.state update.now field ms known.new.state
-        × IsNameField retained.now known.old.state.slots (is_stored known.old.roster update.now) update.now.name field) }
+        × (IsAsMarked retained.now known.old.state.slots kept update.now.name →
+        IsNameField retained.now known.old.state.slots (is_stored known.old.roster update.now) update.now.name field)) }
     ensures slot { IfOk result (λ slot. IfSome slot (λ id. is_slot id ≡ true)) }
     ensures roster { known.new.roster ≡ known.old.roster }
 {

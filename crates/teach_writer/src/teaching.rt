@@ -66,8 +66,10 @@ pub fn teach(alloc: Global, known: &Known, batch: &Batch) -> Result<Lesson, Teac
         ≡ full known.now.roster known.now.state batch.now) }
     ensures said { IfOk result (λ lesson. Says known.now batch.now lesson.bytes lesson.prices (verdicts.Shortest (length lesson.bytes))) }
 {
+    let (_tables, _count) = (known.roster().tables(), known.slots().len());
     let requests = known.costs(alloc, batch)?;
     let held = names_to_plan(alloc, known.slots(), requests.as_slice())?;
     let plan = plan(alloc, SLOT_COUNT, held.as_slice(), requests.as_slice())?;
-    Ok(teach_by(alloc, known, batch, requests.as_slice(), plan)?)
+    let lesson = teach_by(alloc, known, batch, requests.as_slice(), plan)?;
+    Ok(lesson)
 }

@@ -1,8 +1,8 @@
-//! Batches that a table returns twice.
+//! Batches that a table returns beside the entry of their event.
 
 use crate::cells::{added, cell, only};
 use std::alloc::Global;
-use table_cell::TableCell;
+use table_cell::{Entry, TableCell};
 use table_types::{Batch, CopyKind, Moment};
 use tests_play_data::parts::T1;
 
@@ -11,13 +11,14 @@ fn is_begun(cell: &mut TableCell) -> Option<bool> {
     Some(cell.open_session(1) == Ok(()) && added(cell, 7, 5, 0)? == (1, 5))
 }
 
-/// Returns whether both batches have the row, and equal the latest one of session 1.
-fn are_equal(cell: &mut TableCell, pair: &(Batch, Batch)) -> Option<bool> {
+/// Returns whether the batch and that of the entry have the row, and equal the latest one of session 1.
+fn are_equal(cell: &mut TableCell, copied: &(Batch, Entry)) -> Option<bool> {
+    let shared = copied.1.batch()?;
     Some(
-        only(&pair.0)? == (1, 30_000, 5)
-            && only(&pair.1)? == (1, 30_000, 5)
-            && cell.settle(1, &pair.0) == Ok(())
-            && cell.settle(1, &pair.1) == Ok(())
+        only(&copied.0)? == (1, 30_000, 5)
+            && only(shared)? == (1, 30_000, 5)
+            && cell.settle(1, &copied.0) == Ok(())
+            && cell.settle(1, shared) == Ok(())
             && cell.events() == 3,
     )
 }
@@ -26,10 +27,10 @@ fn comes_twice(cell: &mut TableCell) -> Option<bool> {
     if !is_begun(cell)? {
         return None;
     }
-    let pair = cell
-        .copy_pair(1, CopyKind::Push, 512, Moment::least())
+    let copied = cell
+        .copy_with_reply(1, CopyKind::Push, 512, Moment::least())
         .ok()?;
-    are_equal(cell, &pair)
+    are_equal(cell, &copied)
 }
 
 /// Returns whether a batch of one row of `t1` comes twice, as one event.

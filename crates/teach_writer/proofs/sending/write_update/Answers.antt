@@ -15,7 +15,7 @@ use Rattle.known_state.specs.LastNumbers.{last_of}
 use Rattle.peers_msg.proofs.DataLimits.{row_small}
 use Rattle.known_state.specs.Cost.{number_sent, sent_as, is_named_table}
 use Rattle.teach_writer.specs.Retained.{IsNameField}
-use Rattle.teach_writer.specs.NextRequests.{HasRoomFor, IsNotRetained}
+use Rattle.teach_writer.specs.NextRequests.{IsAsMarked}
 use Rattle.teach_writer.specs.Sending.{IsSent, is_stored, selection, update_sent}
 use Rattle.teach_writer.proofs.MarksAreReads.{selection_slots}
 use Rattle.teach_writer.proofs.UpdateStepsAreLegal.{sent_taken, sent_carries, stream-one, stream-append}
@@ -28,28 +28,6 @@ update_sent-requires c =
     let d = c.requires.update.0 in
     let defined : (d : Definition) → table_at c.args.known.now.roster c.args.update.now.table ≡ Some d → is_definition d ≡ true = search rules in
     row_small d c.args.update.now.key c.args.update.now.values (defined d c.requires.update.1) (row_of_fits d c.args.update.now c.requires.update.2)
-
-pub named-requires-clause-room : goal.named-requires-clause-room
-named-requires-clause-room c =
-    let k = c.select.new.known in
-    let u = c.args.update.now in
-    let roster = c.args.known.now.roster in
-    let s = c.args.known.now.state in
-    let d = c.requires.update.0 in
-    let each_chosen : (d : Definition) → table_at roster u.table ≡ Some d → (c.select.new.bytes.items ≡ c.args.bytes.now.items ++ stream_of (selection s.received d)) × Teaches s (selection s.received d) [] k.state = search rules in
-    let slots : k.state.slots ≡ s.slots = selection_slots s k.state d (each_chosen d c.requires.update.1).1 in
-    subst (λ (ss : List (Option (List ℕ))). HasRoomFor c.args.retained.now ss u.name) (sym slots) c.requires.room
-
-pub named-requires-clause-kept : goal.named-requires-clause-kept
-named-requires-clause-kept c = λ other.
-    let k = c.select.new.known in
-    let u = c.args.update.now in
-    let roster = c.args.known.now.roster in
-    let s = c.args.known.now.state in
-    let d = c.requires.update.0 in
-    let each_chosen : (d : Definition) → table_at roster u.table ≡ Some d → (c.select.new.bytes.items ≡ c.args.bytes.now.items ++ stream_of (selection s.received d)) × Teaches s (selection s.received d) [] k.state = search rules in
-    let slots : k.state.slots ≡ s.slots = selection_slots s k.state d (each_chosen d c.requires.update.1).1 in
-    subst (λ (ss : List (Option (List ℕ))). IsNotRetained c.args.retained.now ss u.name) (sym slots) (c.requires.kept other)
 
 pub write_message-requires : goal.write_message-requires
 write_message-requires c =
@@ -89,7 +67,8 @@ returns-clause-order c =
     let last_is : c.last.result ≡ last_of k.state.last_numbers d.id = subst (λ (n : ℕ). c.last.result ≡ last_of k.state.last_numbers n) (sym (table_at-id roster u.table d listed)) here in
     let same_roster : k.roster ≡ roster = search rules in
     let by_roster : table_at k.roster u.table ≡ Some d = ap (λ (r : List Definition). table_at r u.table) same_roster ∙ listed in
-    let each_field : (d : Definition) → table_at k.roster u.table ≡ Some d → IsNameField c.args.retained.now k.state.slots (stores_name d) u.name field = search rules in
+    let kept : Bool = c.args.kept in
+    let each_field : (d : Definition) → table_at k.roster u.table ≡ Some d → IsAsMarked c.args.retained.now k.state.slots kept u.name → IsNameField c.args.retained.now k.state.slots (stores_name d) u.name field = search rules in
     let named : name_of k.state.slots field ≡ u.name = search rules in
     let each_chosen : (d : Definition) → table_at roster u.table ≡ Some d → (c.select.new.bytes.items ≡ start ++ stream_of (selection s.received d)) × Teaches s (selection s.received d) [] k.state = search rules in
     let chosen = each_chosen d listed in
@@ -106,6 +85,7 @@ returns-clause-order c =
     let is_sent : IsSent roster s u field ms e = (d, k.state, listed, chosen.1, moved, refl) in
     let slots : k.state.slots ≡ s.slots = selection_slots s k.state d chosen.1 in
     let stored : stores_name d ≡ is_stored roster u = ap is_named_table (sym listed) in
-    let field_is : IsNameField c.args.retained.now s.slots (is_stored roster u) u.name field =
-    subst (λ (b : Bool). IsNameField c.args.retained.now s.slots b u.name field) stored (subst (λ (ss : List (Option (List ℕ))). IsNameField c.args.retained.now ss (stores_name d) u.name field) slots (each_field d by_roster)) in
+    let field_is : IsAsMarked c.args.retained.now s.slots kept u.name → IsNameField c.args.retained.now s.slots (is_stored roster u) u.name field =
+    subst (λ (b : Bool). IsAsMarked c.args.retained.now s.slots kept u.name → IsNameField c.args.retained.now s.slots b u.name field) stored
+    (subst (λ (ss : List (Option (List ℕ))). IsAsMarked c.args.retained.now ss kept u.name → IsNameField c.args.retained.now ss (stores_name d) u.name field) slots (each_field d by_roster)) in
     (field, ms, search rules, bytes, is_sent, field_is)

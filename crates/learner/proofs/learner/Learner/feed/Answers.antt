@@ -2,7 +2,7 @@ use Rattle.std.proofs.Common.{◌≡◌, false, [], List, ℕ, Ok, Err, sym, ap,
 use Rattle.learner.specs.Intake.{Taking}
 use Rattle.learner.specs.Learning.{Learning, IsWaiting, LearnerFeeds}
 use Rattle.learner.specs.InPlace.{over}
-use Rattle.learner.proofs.ReadInPlace.{feeds_fault}
+use Rattle.learner.proofs.ReadInPlace.{feeds_fault, cut_off}
 use Rattle.learner.proofs.JoinedPieces.{fed_none}
 use Rattle.learner.proofs.learner.Learner.feed.Goals as goal
 
@@ -32,3 +32,8 @@ returns-in-Err-clause-empty c =
     (ap (over c.self-2.inside.keeper) c.clear.ensures.items ∙ ap (λ (l : Learning). over l []) c.self-2.view_is) in
     fed_none c.args.now c.args.self.now closed (Err c.in-Err.fault) waits
     (subst (λ (piece : List ℕ). LearnerFeeds c.args.now c.args.self.now piece (Err c.in-Err.fault) closed) none feeds)
+
+pub returns-in-Err-clause-kept : goal.returns-in-Err-clause-kept
+returns-in-Err-clause-kept c =
+    λ _. cut_off c.args.now c.args.self.now c.learn_piece.new.self (over c.self-2.inside.keeper c.clear.new.self.items) c.args.piece.now c.in-Err.fault c.in-Err.ensures
+    (ap (over c.self-2.inside.keeper) c.clear.ensures.items ∙ ap (λ (l : Learning). over l []) c.self-2.view_is)

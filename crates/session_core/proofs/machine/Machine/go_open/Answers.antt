@@ -1,5 +1,4 @@
-use Rattle.std.proofs.Common.{rules, ◌≡◌}
-use Rattle.session_core.specs.Sessions.{seen, going, GoesOpen}
+use Rattle.session_core.specs.Sessions.{seen, going}
 use Rattle.session_core.proofs.machine.Machine.go_open.Goals as goal
 
 pub returns-in-Turn-clause-goes : goal.returns-in-Turn-clause-goes

@@ -10,4 +10,4 @@ pub loop-key-init : goal.loop-key-init
 loop-key-init c =
     let rows : c.above-key-items.result ≡ filter (is_above c.copy_start.result) c.args.self.now.rows =
     subst (λ (s : TableState). c.above-key-items.result ≡ filter (is_above c.copy_start.result) s.rows) c.self.view_is c.above-key-items.ensures in
-    ap (λ (l : List (Key × StoredRow)). slice_get l 0) (ap (filter (is_due c.args.kind c.args.now)) (c.into_iter-key-iterator.ensures.into_iter_gives ∙ rows) ∙ due_above c.args.kind c.copy_start.result c.args.now c.args.self.now.rows ∙ sym (c.copy_start.ensures c.args.now))
+    ap (λ (l : List (Key × StoredRow)). slice_get l 0) (ap (filter (is_due c.args.kind c.args.now)) (c.into_iter-key-iterator.ensures.into_iter_gives ∙ rows) ∙ due_above c.args.kind c.copy_start.result c.args.now c.args.self.now.rows ∙ sym (c.copy_start.ensures c.args.now c.requires))

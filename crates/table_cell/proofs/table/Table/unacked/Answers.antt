@@ -17,7 +17,7 @@ loop-key-init c =
     subst (λ (s : TableState). c.above-key-items.result ≡ filter (is_above c.copy_start.result) s.rows) c.self.view_is c.above-key-items.ensures in
     let is : c.into_iter-key-iterator.result ≡ filter (is_above c.copy_start.result) c.args.self.now.rows = c.into_iter-key-iterator.ensures.into_iter_gives ∙ rows in (
       none_done (update_of c.args.self.now.definition c.args.now) c.new-updates.result.items c.args.limit (filter (is_due c.args.kind c.args.now) c.into_iter-key-iterator.result)
-          (filter (is_unacked c.args.kind c.args.number c.args.now) c.args.self.now.rows) c.new-updates.ensures.items (ap (filter (is_due c.args.kind c.args.now)) is ∙ due_above c.args.kind c.copy_start.result c.args.now c.args.self.now.rows ∙ sym (c.copy_start.ensures c.args.now)),
+          (filter (is_unacked c.args.kind c.args.number c.args.now) c.args.self.now.rows) c.new-updates.ensures.items (ap (filter (is_due c.args.kind c.args.now)) is ∙ due_above c.args.kind c.copy_start.result c.args.now c.args.self.now.rows ∙ sym (c.copy_start.ensures c.args.now c.requires.later)),
       subst (λ (l : List (Key × StoredRow)). AllByRecursion (EntryFits c.args.self.now.definition c.args.now) l) (sym is)
           (all_filter (EntryFits c.args.self.now.definition c.args.now) (is_above c.copy_start.result) c.args.self.now.rows (later_sound c.args.self.now c.args.now c.requires.sound c.requires.later)),
     )

@@ -1,10 +1,10 @@
 use Rattle.std.proofs.Common.{subst}
 use Rattle.table_shards.specs.Receipts.{SeatState, PlacesRise, receipts_of, seen_of}
-use Rattle.table_shards.specs.Pages.{page_states}
+use Rattle.table_shards.specs.Pages.{seat_of}
 use Rattle.table_shards.proofs.PageLaws.{rise_of}
 use Rattle.table_shards.proofs.seat.Seat.receipts.Goals as goal
 
 pub returns-in-Some-clause-rising : goal.returns-in-Some-clause-rising
 returns-in-Some-clause-rising c =
     subst (λ (s : SeatState). PlacesRise 0 (receipts_of c.args.table s) (seen_of c.args.table s)) c.self.view_is
-    (rise_of c.args.table (record { number = c.self.inside.number; pages = page_states c.self.inside.pages.items }) c.self.invariant)
+    (rise_of c.args.table (seat_of c.self.inside.book) c.self.invariant)

@@ -1,0 +1,29 @@
+use Rattle.std.proofs.Common.{◌≡◌, ◌∷◌, ◌++◌, [], ℕ, false, List, Some, cond, length, ap, ◌∙◌, arith, rules}
+use Rattle.std.specs.Ordering.{is_eq, nat_cmp}
+use Rattle.std.specs.Map.{lookup}
+use Rattle.std.specs.BTreeMap.{is_at}
+use Rattle.table_cell.specs.declared.events.CellEvent.{CellEvent}
+use Rattle.table_cell.specs.declared.events.CellEvent.TheVariants as events
+use Rattle.table_cell.specs.declared.events.CellReply.{CellReply}
+use Rattle.table_cell.specs.declared.events.CellReply.TheVariants as replies
+use Rattle.table_cell.specs.Machine.{last_number, unacked}
+use Rattle.table_cell.proofs.StepLaws.{copy_granted}
+use Rattle.table_cell.proofs.CopyLaws.{taught_is}
+use Rattle.table_cell.proofs.HistoryLaws.{latest_copied}
+use Rattle.table_cell.proofs.batches.copy.Goals as goal
+
+pub returns-clause-step : goal.returns-clause-step
+returns-clause-step c =
+    let us = unacked c.args.table.now c.args.session c.args.kind c.args.now c.args.limit in
+    let is : c.in_ok-batch.batch ≡ us = c.in_ok-batch.ensures.batch in
+    let found = copy_granted false c.args.table.now c.args.session c.args.kind c.args.limit c.args.now c.requires.granted in
+    let last : c.last_number.result ≡ last_number 0 us = c.last_number.ensures ∙ ap (last_number 0) (c.updates.ensures.updates ∙ is) in
+    (c.requires.granted, ap replies.Copy is, taught_is c.args.table.now c.teach.new.self c.args.session c.args.now c.last_number.result us c.teach.ensures last found.1.some)
+
+pub returns-clause-latest : goal.returns-clause-latest
+returns-clause-latest c =
+    let event = events.Copy c.args.session c.args.kind c.args.limit c.args.now in
+    let size : c.len.result ≡ length c.args.history.now.items = omega (arith, c.len.ensures, c.prepare.new.history.ok.0, ap (λ (l : List (CellEvent × CellReply)). length l) c.prepare.ensures.stays) in
+    let longer : c.push_reserved.new.self.items ≡ c.args.history.now.items ++ (event, replies.Copy c.in_ok-batch.batch) ∷ [] = search rules in
+    latest_copied c.args.session c.args.limit c.args.now c.args.kind c.in_ok-batch.batch c.args.history.now.items c.push_reserved.new.self.items c.args.latest_copies.now.entries c.insert.new.self.entries longer
+    (λ k. c.in_ok-insert.ensures.updates.0 k ∙ ap (λ (n : ℕ). cond (is_eq (nat_cmp c.args.session k)) (Some n) (lookup (is_at (nat_cmp k)) c.args.latest_copies.now.entries)) size) c.requires.latest

@@ -1,0 +1,24 @@
+use Rattle.std.proofs.Common.{◌≡◌, ◌<◌, ◌^◌, Option, None, false, sym, ap, subst, ◌∙◌}
+use Rattle.std.specs.Prelude.{IfNone}
+use Rattle.table_cell.specs.declared.errors.CopyError.{CopyError}
+use Rattle.table_cell.specs.declared.events.CellEvent.TheVariants as events
+use Rattle.table_cell.specs.declared.events.CellReply.TheVariants as replies
+use Rattle.table_cell.specs.Cells.{cell_of}
+use Rattle.table_cell.specs.Histories.{is_history_full}
+use Rattle.table_cell.specs.Machine.{copy_refusal}
+use Rattle.table_cell.proofs.CopyLaws.{copy_free}
+use Rattle.table_cell.proofs.RunLaws.{made_sound}
+use Rattle.table_cell.proofs.HistoryLaws.{is_made}
+use Rattle.table_cell.proofs.cell.TableCell.copy_with_reply.Goals as goal
+
+pub invariant_of-self-2 : goal.invariant_of-self-2
+invariant_of-self-2 c =
+    let none : copy_refusal c.is_history_full-full.result c.self.inside.table c.args.session c.args.kind c.args.limit c.args.now ≡ None = sym c.copy_refusal.ensures.refusal ∙ c.in_default.is in
+    let granted = copy_free c.is_history_full-full.result c.self.inside.table c.args.session c.args.kind c.args.limit c.args.now none in
+    let room : is_history_full (cell_of c.self.inside.first c.self.inside.table c.self.inside.history.items) ≡ false = ap is_history_full c.self.view_is ∙ sym c.is_history_full-full.ensures ∙ granted.0 in
+    let timely = subst (λ (r : Option CopyError). IfNone r (c.args.now < 2 ^ 63)) c.in_default.is c.copy_refusal.ensures.timely in
+    record {
+      sound = made_sound (cell_of c.self.inside.first c.self.inside.table c.self.inside.history.items) (cell_of c.self.inside.first c.copy.new.table c.copy.new.history.items) (events.Copy c.args.session c.args.kind c.args.limit c.args.now) (replies.Copy c.in-Ok.copied.0) timely room c.self.invariant.sound
+          (is_made c.self.inside.first c.self.inside.table c.copy.new.table c.self.inside.history.items c.copy.new.history.items (events.Copy c.args.session c.args.kind c.args.limit c.args.now) (replies.Copy c.in-Ok.copied.0) c.in-Ok.ensures.step c.in-Ok.ensures.event);
+      latest = c.in-Ok.ensures.latest;
+    }

@@ -1,0 +1,16 @@
+use Rattle.std.proofs.Common.{◌∙◌, ap, arith}
+use Rattle.table_cell.specs.Stock.{rows_of}
+use Rattle.table_cell.proofs.StockSteps.{all_above, have_above, seen_above}
+use Rattle.table_cell.proofs.stock.Stock.all.Goals as goal
+
+-- each key that has a number has a row
+pub new-requires : goal.new-requires
+new-requires g c = rw c.above.ensures (have_above (g.R.Rows.content c.self.inside.rows) c.self.inside.numbers c.self.invariant 0)
+
+pub returns : goal.returns
+returns g c =
+    let content = g.R.Rows.content c.self.inside.rows in
+    let numbers = c.self.inside.numbers in
+    let kept = c.self.invariant in
+    rw (← c.self.view_is)
+    (c.new.ensures ∙ ap (rows_of content) c.above.ensures ∙ seen_above content numbers kept 0 ∙ all_above 1 numbers.next (rows_of content numbers.pairs) (omega arith) kept.sound.numbers)
