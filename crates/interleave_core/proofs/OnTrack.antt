@@ -1,11 +1,12 @@
 -- A connection stays on track.
-use Rattle.std.proofs.Common.{◌≡◌, ◌≢◌, ◌≤◌, ℕ, ◌+◌, List, [], ◌∷◌, ◌++◌, length, take, drop, None, Result, Ok, Err, refl, sym, ap, subst, ◌∙◌, append_assoc, take-append-drop}
+use Rattle.std.proofs.Common.{◌≡◌, ◌≢◌, ◌≤◌, ℕ, ◌+◌, List, [], ◌∷◌, ◌++◌, length, take, drop, None, Result, Ok, Err, refl, sym, ap, subst, ◌∙◌, arith, append_assoc, append-nil, take-append-drop}
 use Rattle.std.specs.List.{AllByRecursion}
 use Rattle.peers_msg.specs.Integers.{IsBytes}
 use Rattle.peers_msg.specs.declared.message.Message.{Message}
 use Rattle.peers_msg.specs.Spelling.{stream_of}
 use Rattle.table_types.specs.declared.update.Update.{Update}
 use Rattle.table_types.specs.Batches.{IsBatchFor}
+use Rattle.table_types.specs.Rosters.{roster_fault}
 use Rattle.table_types.specs.Tables.{Definition}
 use Rattle.known_state.specs.Known.{KnownState}
 use Rattle.known_state.specs.Lessons.{IsLessonFor}
@@ -16,8 +17,9 @@ use Rattle.learner.specs.Learning.{Learning, LearnerFeeds}
 use Rattle.learner.specs.OnItsWay.{IsOnItsWay}
 use Rattle.interleave_core.specs.Kept.{IsOnTrack}
 use Rattle.interleave_core.specs.Moves.{IsFed, acknowledges}
-use Rattle.interleave_core.specs.Worlds.{ConnectionState}
-use Rattle.interleave_core.proofs.OnItsWay.{fed, longer}
+use Rattle.learner.proofs.LegalStreamIsTaught.{once_named}
+use Rattle.interleave_core.specs.Worlds.{ConnectionState, new_connection}
+use Rattle.interleave_core.proofs.OnItsWay.{at_the_end, fed, longer}
 
 -- a lesson of the oldest batch goes into the pipe
 pub taught : (roster : List Definition) (s : ConnectionState) (batch : List Update) (rest : List (List Update)) (bytes : List ℕ) (after : KnownState)
@@ -82,3 +84,29 @@ copied roster s batch track good = record { known = track.known; learner = track
     more : (xs : List (List Update)) → AllByRecursion (IsBatchFor roster) xs → AllByRecursion (IsBatchFor roster) (xs ++ batch ∷ [])
     more [] all = (good, tt)
     more (x ∷ xs) (one, rest) = (one, more xs rest)
+
+-- ---- the beginning and the end
+
+-- nothing is on its way
+pub begun : (roster : List Definition) → roster_fault roster ≡ None → IsOnTrack roster (new_connection roster)
+begun roster sound =
+    record {
+      known = refl;
+      learner = refl;
+      batches = tt;
+      way = ([], [], (once_named roster sound, tt, tt, (refl, refl), refl, refl, λ i. omega arith), refl);
+    }
+
+-- fed everything, the learner has put all that was taught
+pub arrived : (roster : List Definition) (s : ConnectionState) (now : ℕ) (answer : Result ℕ Fault) (l : Learning)
+    → IsOnTrack roster s → LearnerFeeds now s.learner s.to_learner answer l → answer ≢ Err faults.Memory
+    → (us : List Update) × (answer ≡ Ok (length us)) × (s.taught ≡ s.applied ++ us) × (l.intake.state ≡ s.known.state) × (l.intake.unread ≡ [])
+arrived roster s now answer l track feeds unless =
+    let ms = track.way.0 in
+    let to_come = track.way.1 in
+    let way : IsOnItsWay s.learner (s.to_learner ++ []) ms to_come s.known.state =
+    subst (λ (x : List ℕ). IsOnItsWay s.learner x ms to_come s.known.state) (sym (append-nil s.to_learner)) track.way.2 in
+    let learned = fed now s.learner l s.to_learner [] ms to_come s.known.state answer way feeds unless in
+    let ended = at_the_end l learned.1 learned.3 s.known.state learned.9 learned.7 in
+    let all : to_come ≡ learned.2 = learned.4 ∙ ap (λ (x : List Update). learned.2 ++ x) ended.0 ∙ append-nil learned.2 in
+    (learned.2, learned.5, track.way.3 ∙ ap (λ (x : List Update). s.applied ++ x) all, ended.1, ended.2)

@@ -5,11 +5,13 @@
 mod acks;
 mod cells;
 mod connection;
+mod laws;
 mod parts;
 mod step;
 mod way;
 mod world;
 
+pub use laws::a_connection_stays_on_track;
 pub use step::Step;
 pub use way::Way;
 pub use world::{World, run};
