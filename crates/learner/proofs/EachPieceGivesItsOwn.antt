@@ -30,6 +30,7 @@ use Rattle.learner.specs.declared.fault.Fault.TheVariants as faults
 use Rattle.learner.specs.Intake.{Taking, Stops}
 use Rattle.learner.specs.Rows.{put_all}
 use Rattle.learner.specs.Learning.{Learning, Learns, AreLearned, IsWaiting, LearnerFeeds, with_piece}
+use Rattle.learner.specs.OnItsWay.{IsOnItsWay}
 use Rattle.learner.specs.Moments.{Piece, stream_in, AreFedInTime, AreTooFew, FallInto, put_parts}
 use Rattle.learner.proofs.LegalStreamIsTaught.{step_fits, kept_own, takes_legal, put_all-append, waits_at_end, goes_on, waits_on, apart, is_memory}
 
@@ -68,18 +69,6 @@ nothing_first [] b e = refl
 nothing_first (x ∷ a) b e = absurd cc
 
 -- ---- a learner on its way through a legal stream
-
--- the unread bytes and those to come are the stream of these messages, which are legal for the learner, carry these
--- updates, and lead it to that state
-abbrev pub IsOnItsWay : Learning → List ℕ → List Message → List Update → State → Type 0
-IsOnItsWay l more ms us after =
-    (repeats_name l.intake.roster ≡ false)
-    × AreOwn l.intake.roster l.intake.state.received.tables
-    × AllByRecursion (IsOwn l.intake.roster) ms
-    × Teaches l.intake.state ms us after
-    × (l.intake.closed ≡ false)
-    × (l.intake.unread ++ more ≡ stream_of ms)
-    × IsBytes (l.intake.unread ++ more)
 
 -- a message that is learned on the way is the next one
 abbrev IsNextOf : Learning → List ℕ → List Message → List Update → State → Message → List Update → Learning → Type 0
@@ -145,7 +134,7 @@ AreNextOf now l more ms us after ns vs mid =
     × (mid.rows ≡ put_all now l.intake.roster vs l.rows)
     × IsOnItsWay mid more later rest after
 
-on_way : (now : ℕ) (l mid : Learning) (more : List ℕ) (ms ns : List Message) (us vs : List Update) (after : State) → IsOnItsWay l more ms us after → AreLearned now l ns vs mid → AreNextOf now l more ms us after ns vs mid
+pub on_way : (now : ℕ) (l mid : Learning) (more : List ℕ) (ms ns : List Message) (us vs : List Update) (after : State) → IsOnItsWay l more ms us after → AreLearned now l ns vs mid → AreNextOf now l more ms us after ns vs mid
 on_way now l mid more ms [] us vs after way (none, here) = (
   ms,
   us,
@@ -182,7 +171,7 @@ on_way now l mid more ms (n ∷ ns) us vs after way (first, rest, next, all, beg
 -- ---- bytes that wait
 
 -- while no message is whole, fewer bytes are left than the next message has
-too_few : (l : Learning) (more : List ℕ) (ms : List Message) (us : List Update) (after : State) → IsOnItsWay l more ms us after → IsWaiting l.intake → AreTooFew (length l.intake.unread) ms
+pub too_few : (l : Learning) (more : List ℕ) (ms : List Message) (us : List Update) (after : State) → IsOnItsWay l more ms us after → IsWaiting l.intake → AreTooFew (length l.intake.unread) ms
 too_few l more [] us after way waits = ap (λ (x : List ℕ). length x) (nothing_first l.intake.unread more way.5)
 too_few l more (m ∷ ms) us after (once, owns, all, (one, others, mid, joined, legal, later), going, cut, good) waits =
     elim (cases_lt (length l.intake.unread) (length (spelled m))) [
@@ -229,7 +218,7 @@ AreTaughtInTime l ms pieces us counts after e =
     × (e.intake.closed ≡ false)
 
 -- feeding a piece continues with what comes after it
-fed_on_way : (l : Learning) (piece more : List ℕ) (ms : List Message) (us : List Update) (after : State) → IsOnItsWay l (piece ++ more) ms us after → IsOnItsWay (with_piece l piece) more ms us after
+pub fed_on_way : (l : Learning) (piece more : List ℕ) (ms : List Message) (us : List Update) (after : State) → IsOnItsWay l (piece ++ more) ms us after → IsOnItsWay (with_piece l piece) more ms us after
 fed_on_way l piece more ms us after (once, owns, all, teaches, going, cut, good) =
     let grouped : (l.intake.unread ++ piece) ++ more ≡ l.intake.unread ++ (piece ++ more) = simp append_assoc in
     (once, owns, all, teaches, going, grouped ∙ cut, subst IsBytes (sym grouped) good)

@@ -21,7 +21,8 @@ use Rattle.learner.specs.Intake.{Taking, Stops}
 use Rattle.learner.specs.Learning.{Learning, AreLearned, LearnerFeeds, AreFed, IsReadyIn, IsTaught, HasLearned, with_piece}
 use Rattle.learner.specs.Moments.{Piece, stream_in, AreFedInTime, AreTooFew, FallInto, HasLearnedInTime}
 use Rattle.learner.proofs.LegalStreamIsTaught.{once_named, taught, taught_in_pieces}
-use Rattle.learner.proofs.EachPieceGivesItsOwn.{IsOnItsWay, some_bytes, taught_in_time, fed_along, only_memory}
+use Rattle.learner.specs.OnItsWay.{IsOnItsWay}
+use Rattle.learner.proofs.EachPieceGivesItsOwn.{some_bytes, taught_in_time, fed_along, only_memory}
 
 -- ---- last numbers stay in ascending order of id
 

@@ -10,7 +10,8 @@ use Rattle.learner.specs.declared.fault.Fault.TheVariants as faults
 use Rattle.learner.specs.Learning.{Learning, LearnerFeeds, IsReady}
 use Rattle.learner.specs.Moments.{Piece, stream_in, AreFedInTime}
 use Rattle.learner.proofs.LegalStreamIsTaught.{once_named}
-use Rattle.learner.proofs.EachPieceGivesItsOwn.{IsOnItsWay, fed_along, only_memory}
+use Rattle.learner.specs.OnItsWay.{IsOnItsWay}
+use Rattle.learner.proofs.EachPieceGivesItsOwn.{fed_along, only_memory}
 
 pub stream_faultless : (now : ℕ) (l mid e : Learning) (ms : List Message) (us : List Update) (after : State) (before : List Piece) (piece more : List ℕ) (counts : List ℕ) (fault : Fault) → IsReady l → Legal l.intake.roster l.intake.state ms us after → IsBytes (stream_of ms) → stream_in before ++ (piece ++ more) ≡ stream_of ms → AreFedInTime l before counts mid → LearnerFeeds now mid piece (Err fault) e → fault ≡ faults.Memory
 stream_faultless now l mid e ms us after before piece more counts fault (sound, owns, is_open, unread) legal good cut fed faulty =

@@ -3,6 +3,7 @@ pub mod LocalTables
 pub mod Intake
 pub mod Rows
 pub mod Learning
+pub mod OnItsWay
 pub mod Moments
 pub mod Acks
 pub mod Cutting

@@ -103,6 +103,11 @@ progress_of session s = lookup (λ id. id == session) s.sessions
 abbrev pub is_out : Progress → Bool
 is_out progress = nat_lt progress.acknowledged progress.taught
 
+-- whether a batch of a session with that progress is out; none is out of a session that isn't open
+abbrev pub has_out : Option Progress → Bool
+has_out None = false
+has_out (Some progress) = is_out progress
+
 abbrev pub acknowledged_by : Option Progress → ℕ
 acknowledged_by None = 0
 acknowledged_by (Some progress) = progress.acknowledged

@@ -1,6 +1,7 @@
 //! Stick tables with their history.
 
 ghost use Rattle.std.specs.Prelude.{◌≡◌, ◌≤◌, IfOk, IsOk, option_map};
+ghost use Rattle.table_cell.specs.Machine.{has_out, progress_of};
 ghost use Rattle.table_cell.specs.Stock.{AreInRisingKey};
 ghost use Rattle.table_cell.specs.Histories.{IsSoundCell, Kept, events_of, event_in, is_history_full, new_cell, room_of};
 
@@ -104,6 +105,17 @@ impl TableCell {
         let index = usize::try_from(place.checked_sub(1)?).ok()?;
         let entry = self.history.get(index)?;
         Some((entry.event(), entry.reply()))
+    }
+
+    /// Returns whether a batch of `session` is out: it was copied, and its last number isn't acknowledged yet. Doesn't
+    /// allocate.
+    pub fn is_out(&self, session: u32) -> bool
+        ensures { result ≡ has_out (progress_of session self.now.state) }
+    {
+        match self.table.progress(session) {
+            Some(progress) => progress.acknowledged < progress.taught,
+            None => false,
+        }
     }
 
     /// Returns copies of the rows with their keys, in ascending order of key.

@@ -1,0 +1,19 @@
+-- What holds of a connection after each step (profile).
+use Rattle.std.specs.Prelude.{◌≡◌, List, ◌++◌}
+use Rattle.std.specs.List.{AllByRecursion}
+use Rattle.table_types.specs.declared.update.Update.{Update}
+use Rattle.table_types.specs.Batches.{IsBatchFor}
+use Rattle.table_types.specs.Tables.{Definition}
+use Rattle.peers_msg.specs.declared.message.Message.{Message}
+use Rattle.learner.specs.OnItsWay.{IsOnItsWay}
+use Rattle.interleave_core.specs.Worlds.{ConnectionState}
+
+-- Teacher and learner have the same tables, and what waits are batches for them. The bytes that the learner hasn't read
+-- and those on their way to it are a legal stream that leads to the known state, and carries what was taught and not put
+-- yet.
+pub record IsOnTrack (roster : List Definition) (s : ConnectionState) : Type 0 where
+  pub known : s.known.roster ≡ roster
+  pub learner : s.learner.intake.roster ≡ roster
+  pub batches : AllByRecursion (IsBatchFor roster) s.copied
+  pub way : (ms : List Message) × (to_come : List Update)
+      × IsOnItsWay s.learner s.to_learner ms to_come s.known.state × (s.taught ≡ s.applied ++ to_come)

@@ -1,0 +1,4 @@
+pub mod Worlds
+pub mod Moves
+pub mod Parts
+pub mod Kept

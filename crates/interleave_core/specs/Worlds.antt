@@ -1,0 +1,61 @@
+-- The world (profile): tables, the sessions that teach from them, and what is on its way between a teacher and its
+-- learners.
+use Rattle.std.specs.Prelude.{ℕ, zero, suc, Bool, ◌==◌, List, [], ◌∷◌, map, set, slice_get, Option, Some, None, if◌then◌else◌}
+use Rattle.table_types.specs.declared.update.Update.{Update}
+use Rattle.table_types.specs.Tables.{Definition}
+use Rattle.known_state.specs.Known.{KnownState, fresh_of}
+use Rattle.learner.specs.Learning.{Learning, unlearned}
+use Rattle.table_cell.specs.Histories.{CellState}
+
+-- What belongs to a session: what its teacher knows of the learner once all that is on its way has arrived; the batches
+-- that were copied and not taught yet, the oldest first; the updates taught since the connection began, and those of
+-- them that the learner has put; the bytes on their way to the learner, and to the teacher; the bytes that arrived at
+-- the teacher and aren't a whole message yet; and the learner.
+pub record ConnectionState : Type 0 where
+  pub known : KnownState
+  pub copied : List (List Update)
+  pub taught : List Update
+  pub applied : List Update
+  pub to_learner : List ℕ
+  pub to_teacher : List ℕ
+  pub unread : List ℕ
+  pub learner : Learning
+
+-- the tables, and the connections of the sessions 1, 2 and so on
+pub record WorldState : Type 0 where
+  pub cells : List CellState
+  pub connections : List ConnectionState
+
+-- the definitions of the tables
+abbrev pub roster_of : List CellState → List Definition
+roster_of cells = map (λ c. c.state.definition) cells
+
+-- nothing was copied, taught or sent, and the learner has received nothing
+abbrev pub new_connection : List Definition → ConnectionState
+new_connection roster =
+    record { known = fresh_of roster; copied = []; taught = []; applied = []; to_learner = []; to_teacher = []; unread = []; learner = unlearned roster }
+
+-- ---- tables by id
+
+abbrev pub is_table : ℕ → CellState → Bool
+is_table table c = c.state.definition.id == table
+
+-- the table with that id
+abbrev pub cell_at : ℕ → List CellState → Option CellState
+cell_at table [] = None
+cell_at table (c ∷ cs) = if is_table table c then Some c else cell_at table cs
+
+-- the tables with another in place of the one with that id
+abbrev pub with_cell : ℕ → CellState → List CellState → List CellState
+with_cell table new [] = []
+with_cell table new (c ∷ cs) = if is_table table c then new ∷ cs else c ∷ with_cell table new cs
+
+-- ---- connections by session, from 1
+
+abbrev pub connection_at : ℕ → List ConnectionState → Option ConnectionState
+connection_at zero connections = None
+connection_at (suc before) connections = slice_get connections before
+
+abbrev pub with_connection : ℕ → ConnectionState → List ConnectionState → List ConnectionState
+with_connection zero new connections = connections
+with_connection (suc before) new connections = set connections before new

@@ -1,0 +1,82 @@
+//! The steps of a world.
+
+use crate::way::Way;
+use table_types::{Change, CopyKind, Key, Moment, Update};
+
+/// A step of a world. A step that can't be made changes nothing: it names a table or a session that isn't there, lacks its
+/// batch or its bytes, or a table refuses one of its events.
+#[derive(Debug, Drop)]
+pub enum Step {
+    /// The teacher changes a row of a table.
+    Track {
+        /// The table's id.
+        table: u64,
+        /// The row's key.
+        key: Key,
+        /// The change.
+        change: Change,
+        /// When it is made.
+        moment: Moment,
+    },
+    /// The teacher's table learns a row from a peer outside the world.
+    Learn {
+        /// The session with the peer.
+        session: u32,
+        /// The update that the peer sent.
+        update: Update,
+        /// When it is learned.
+        moment: Moment,
+    },
+    /// A batch of a table is copied for a session. It waits to be taught.
+    Copy {
+        /// The session.
+        session: u32,
+        /// The table's id.
+        table: u64,
+        /// Which rows are copied.
+        kind: CopyKind,
+        /// The most rows that are copied, 1 to 512.
+        limit: usize,
+        /// When they are copied.
+        moment: Moment,
+    },
+    /// The oldest batch that waits is taught: its lesson goes into the pipe to the learner.
+    Teach {
+        /// The session.
+        session: u32,
+    },
+    /// The first bytes of a pipe arrive at its end.
+    Deliver {
+        /// The session.
+        session: u32,
+        /// The direction of the pipe.
+        way: Way,
+        /// The number of bytes.
+        count: usize,
+        /// When they arrive.
+        moment: Moment,
+    },
+    /// The learner's due acknowledgements go into the pipe to the teacher.
+    Ack {
+        /// The session.
+        session: u32,
+    },
+    /// The connection breaks, and a new one begins with a new learner: the session is closed and opened in each table.
+    Break {
+        /// The session.
+        session: u32,
+    },
+    /// The session is closed and opened in each table, so that all rows are taught again. It can't be made while a batch is
+    /// out.
+    Reopen {
+        /// The session.
+        session: u32,
+    },
+    /// A table removes the rows that aren't live.
+    Purge {
+        /// The table's id.
+        table: u64,
+        /// When it removes them.
+        moment: Moment,
+    },
+}
