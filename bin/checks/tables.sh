@@ -1,27 +1,31 @@
-# Checks of the subcommands that change a table: scripts and rounds. They stand in a file of their own, which bin/test reads.
+# Checks of the subcommands that change tables: scripts, worlds and rounds. They stand in a file of their own, which bin/test reads.
 
 # --- Scripts
 
-answers_of() {
-    run table <"$1.script"
-    slurp "$1.answers"
-    ends "table of $1.script" 0 "$text" ''
-}
-
-# Each file of answers must have its script.
-scripts() {
+# scripts_in DIRECTORY SUBCOMMAND ENDING: runs its scripts NAME.script; each prints NAME.ENDING. Each file of what one prints must
+# have its script.
+scripts_in() {
     local file name
-    for file in examples/scripts/*; do
+    for file in "$1"/*; do
         name=${file%.*}
         case $file in
-            *.script) needs "$file" "$name.answers"; answers_of "$name" ;;
-            *.answers) needs "$file" "$name.script" ;;
+            *.script)
+                needs "$file" "$name.$3"
+                run "$2" <"$file"
+                slurp "$name.$3"
+                ends "$2 of $file" 0 "$text" ''
+                ;;
+            *."$3") needs "$file" "$name.script" ;;
             *) fail "$file is no part of an example" ;;
         esac
     done
 }
 
-short_scripts() {
+scripts() { scripts_in examples/scripts table answers; }
+worlds() { scripts_in examples/worlds world world; }
+
+# short_scripts_in FILE SUBCOMMAND: runs the scripts in the lines of a table.
+short_scripts_in() {
     local begin= answer lines
     while IFS=$'\t' read -r answer lines; do
         case $answer in
@@ -30,9 +34,12 @@ short_scripts() {
         esac
         [ "$lines" != - ] || lines=
         printf '%b' "$begin$lines" >"$scene"
-        answers table "$answer" "$begin$lines"
-    done <examples/script-lines.tsv
+        answers "$2" "$answer" "$begin$lines"
+    done <"$1"
 }
+
+short_scripts() { short_scripts_in examples/script-lines.tsv table; }
+short_worlds() { short_scripts_in examples/world-lines.tsv world; }
 
 # last_of_a_million COUNT: prints how many answers a million changes get, in 1 GB, and the last COUNT of them.
 last_of_a_million() {

@@ -11,8 +11,10 @@ pub mod Numbers
 pub mod Refusals
 pub mod Replies
 pub mod Rows
+pub mod ScriptTables
 pub mod Scripts
 pub mod Updates
 pub mod Values
 pub mod Verdicts
 pub mod Words
+pub mod Worlds

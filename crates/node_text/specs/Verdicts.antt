@@ -1,5 +1,5 @@
 -- How a verdict is printed (profile).
-use Rattle.std.specs.Prelude.{◌++◌, ℕ, List, [], ◌∷◌, codes}
+use Rattle.std.specs.Prelude.{◌++◌, ℕ, List, codes}
 use Rattle.std.specs.Fmt.{decimal}
 use Rattle.price_checker.specs.Verdicts.{illegal_name}
 use Rattle.price_checker.specs.declared.verdict.Verdict.{Verdict}

@@ -141,30 +141,64 @@ fn call_with_session(kind: &[u8], session: &[u8], word: &[u8]) -> Option<Call>
 fn track_of(alloc: Global, table: &TableDef, words: &[&[u8]]) -> Result<Call, LineError>
     ensures { IfOk result IsCall }
 {
-    let [seat, word, key, change @ ..] = words else {
+    let [seat, words @ ..] = words else {
         return Err(LineError::Refused);
     };
+    let (moment, key, change) = tracked_of(alloc, table.kind(), words)?;
     Ok(Call::Track {
         seat: number32(seat).ok_or(LineError::Refused)?,
-        moment: moment(word).ok_or(LineError::Refused)?,
-        key: any_key_of(alloc, table.kind(), key)?,
-        change: change_of(alloc, change)?,
+        key,
+        change,
+        moment,
     })
+}
+
+/// Reads `MOMENT KEY` and a change. The key may be of another kind than `kind`.
+pub(crate) fn tracked_of(
+    alloc: Global,
+    kind: KeyKind,
+    words: &[&[u8]],
+) -> Result<(Moment, Key, Change), LineError> {
+    let [word, key, change @ ..] = words else {
+        return Err(LineError::Refused);
+    };
+    Ok((
+        moment(word).ok_or(LineError::Refused)?,
+        any_key_of(alloc, kind, key)?,
+        change_of(alloc, change)?,
+    ))
 }
 
 /// Reads a call `learn SESSION MOMENT NUMBER LIFE KEY VALUES.. NAME`, from the words after the first.
 fn learn_of(alloc: Global, table: &TableDef, words: &[&[u8]]) -> Result<Call, LineError>
     ensures { IfOk result IsCall }
 {
-    let [session, word, number, life, key, values @ ..] = words else {
+    let [session, words @ ..] = words else {
+        return Err(LineError::Refused);
+    };
+    let (moment, update) = learned_of(alloc, table, words)?;
+    Ok(Call::Learn {
+        session: number32(session).ok_or(LineError::Refused)?,
+        update,
+        moment,
+    })
+}
+
+/// Reads `MOMENT NUMBER LIFE KEY VALUES.. NAME`: an update, and when it is learned. Its key may be of another kind than the
+/// table's.
+pub(crate) fn learned_of(
+    alloc: Global,
+    table: &TableDef,
+    words: &[&[u8]],
+) -> Result<(Moment, Update), LineError> {
+    let [word, number, life, key, values @ ..] = words else {
         return Err(LineError::Refused);
     };
     let key = any_key_of(alloc, table.kind(), key)?;
-    Ok(Call::Learn {
-        session: number32(session).ok_or(LineError::Refused)?,
-        moment: moment(word).ok_or(LineError::Refused)?,
-        update: update_with(alloc, table, number, life, key, values)?,
-    })
+    Ok((
+        moment(word).ok_or(LineError::Refused)?,
+        update_with(alloc, table, number, life, key, values)?,
+    ))
 }
 
 /// Reads a key of `kind`, or else a string or an integer, so that a script can use a key of another kind than its table's.

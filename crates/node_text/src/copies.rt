@@ -27,7 +27,7 @@ pub(crate) fn copy_of(words: &[&[u8]]) -> Option<Call>
 }
 
 /// Returns the kind of copies that `word` names.
-fn copy_kind_of(word: &[u8]) -> Option<CopyKind> {
+pub(crate) fn copy_kind_of(word: &[u8]) -> Option<CopyKind> {
     match word {
         b"push" => Some(CopyKind::Push),
         b"resync" => Some(CopyKind::Resync),

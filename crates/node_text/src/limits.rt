@@ -24,6 +24,7 @@ pub(crate) fn push_within<T: Drop>(
 ) -> Result<(), LineError>
     ensures pushed { OnOk result ((items.new.items ≡ items.old.items ++ item ∷ []) × (vec_len items.new ≤ most)) }
     ensures refused { result ≡ Err LineError.Refused → most ≤ vec_len items.old }
+    ensures stays { OnErr result (items.new.items ≡ items.old.items) }
 {
     if items.len() >= most {
         return Err(LineError::Refused);

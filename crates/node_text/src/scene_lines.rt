@@ -9,7 +9,7 @@ use crate::limits::{push_within, set_once};
 use crate::names::name;
 use crate::numbers::{moment, number, number_from_one, number32};
 use crate::scenes::Scene;
-use crate::tables::table_of;
+use crate::tables::{are_alike, table_of};
 use crate::updates::update_of;
 use std::alloc::Global;
 use table_types::{Batch, Roster, SLOT_COUNT, TableDef};
@@ -46,7 +46,7 @@ impl Scene {
         }
         let table = table_of(alloc, words)?;
         for other in &self.tables {
-            if other.id() == table.id() || other.name() == table.name() {
+            if are_alike(&table, other) {
                 return Err(LineError::Refused);
             }
         }

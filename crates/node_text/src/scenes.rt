@@ -1,6 +1,7 @@
 //! Scenes: what `lesson`, `check`, `learn` and a node read.
 use crate::error::{LineError, SceneError};
-use crate::words::{cut, words_of};
+use crate::lines::{LineReader, read_lines};
+use crate::words::words_of;
 use dict_slots::Slots;
 use std::alloc::Global;
 use table_types::{Moment, TableDef, Update};
@@ -36,20 +37,7 @@ pub struct Scene {
 /// rule or a limit; `Scene` means that the scene has no table.
 pub fn read_scene(alloc: Global, text: &[u8]) -> Result<Scene, SceneError> {
     let mut scene = Scene::new(alloc);
-    let mut rest = text;
-    let mut number = 1;
-    while let Some((line, after)) = cut(rest, b'\n') {
-        match scene.read_line(alloc, line) {
-            Ok(()) => {}
-            Err(LineError::Memory) => return Err(SceneError::Memory),
-            Err(LineError::Refused) => return Err(SceneError::Line(number)),
-        }
-        rest = after;
-        number += 1;
-    }
-    if !rest.is_empty() {
-        return Err(SceneError::Line(number));
-    }
+    read_lines(alloc, text, &mut scene)?;
     if scene.tables.is_empty() {
         return Err(SceneError::Scene);
     }
@@ -72,9 +60,13 @@ impl Scene {
             tables_ended: false,
         }
     }
+}
 
-    /// Reads a line, without its LF, into the scene. After a refusal the scene must not be used.
-    fn read_line(&mut self, alloc: Global, line: &[u8]) -> Result<(), LineError> {
+impl LineReader for Scene {
+    ghost is_sound = { λ _ _. Unit {0} };
+
+    /// Reads a line into the scene. After a refusal the scene must not be used.
+    fn read_line(&mut self, alloc: Global, _number: usize, line: &[u8]) -> Result<(), LineError> {
         let words = words_of(alloc, line)?;
         match words.as_slice() {
             [] => Ok(()),

@@ -4,25 +4,18 @@ ghost use Rattle.node_text.specs.Scripts.{IsLineOf, IsScript, line_count};
 
 use crate::calls::{Call, call_of};
 use crate::error::{LineError, SceneError};
-use crate::limits::set_once;
-use crate::numbers::number_from_one;
+use crate::lines::{LineReader, read_lines};
+use crate::script_tables::{ScriptTable, is_setting};
 use crate::tables::table_of;
-use crate::words::{cut, words_of};
+use crate::words::words_of;
 use std::alloc::Global;
-use table_cell::TableCell;
 use table_types::TableDef;
 
 /// What a script says.
 #[derive(Debug, Drop)]
 pub struct Script {
     /// The table.
-    pub table: TableDef,
-    /// The greatest number of rows that the table stores, if a line says so: 1 to 1,000,000.
-    pub size: Option<u32>,
-    /// Whether a live row stays even if the table is full, if a line says so.
-    pub nopurge: Option<()>,
-    /// The number that the first update gets, if a line says so: 1 or more.
-    pub first: Option<u32>,
+    pub table: ScriptTable,
     /// The calls in the order of their lines, each with the number of its line, from 1.
     pub calls: Vec<(usize, Call)>,
     /// The number of the line after these calls that is refused, if one is. A call may still refuse an earlier line.
@@ -38,19 +31,11 @@ pub fn read_script(alloc: Global, text: &[u8]) -> Result<Script, SceneError>
     ensures line { (number : ℕ) → result ≡ Err (SceneError.Line number) → IsLineOf (line_count text.now) number }
 {
     let mut script: Option<Script> = None;
-    let mut rest = text;
-    let mut number = 1;
-    while let Some((line, after)) = cut(rest, b'\n') {
-        match read_line(alloc, &mut script, number, line) {
-            Ok(()) => {}
-            Err(LineError::Memory) => return Err(SceneError::Memory),
-            Err(LineError::Refused) => return up_to(script, Some(number)),
-        }
-        rest = after;
-        number += 1;
+    match read_lines(alloc, text, &mut script) {
+        Ok(()) => up_to(script, None),
+        Err(SceneError::Line(number)) => up_to(script, Some(number)),
+        Err(error) => Err(error),
     }
-    let refused = if rest.is_empty() { None } else { Some(number) };
-    up_to(script, refused)
 }
 
 /// Returns what was read before the refused line of this number, or before the end if there is none.
@@ -68,26 +53,23 @@ fn up_to(script: Option<Script>, refused: Option<usize>) -> Result<Script, Scene
     }
 }
 
-/// Reads a line, without its LF, into `script`. If it is refused, `script` keeps what was read before.
-fn read_line(
-    alloc: Global,
-    script: &mut Option<Script>,
-    number: usize,
-    line: &[u8],
-) -> Result<(), LineError>
-    ensures { (count : ℕ) → IfSome script.old (IsScript count) → IsLineOf count number → IfSome script.new (IsScript count) }
-{
-    let words = words_of(alloc, line)?;
-    let [kind, words @ ..] = words.as_slice() else {
-        return Ok(());
-    };
-    match script {
-        Some(script) => script.read_words(alloc, number, kind, words),
-        None if *kind == b"table".as_slice() => {
-            *script = Some(Script::new(alloc, table_of(alloc, words)?));
-            Ok(())
+impl LineReader for Option<Script> {
+    ghost is_sound = { λ count script. IfSome script (IsScript count) };
+
+    /// Reads a line. If it is refused, the script keeps what was read before.
+    fn read_line(&mut self, alloc: Global, number: usize, line: &[u8]) -> Result<(), LineError> {
+        let words = words_of(alloc, line)?;
+        let [kind, words @ ..] = words.as_slice() else {
+            return Ok(());
+        };
+        match self {
+            Some(script) => script.read_words(alloc, number, kind, words),
+            None if *kind == b"table".as_slice() => {
+                *self = Some(Script::new(alloc, table_of(alloc, words)?));
+                Ok(())
+            }
+            None => Err(LineError::Refused),
         }
-        None => Err(LineError::Refused),
     }
 }
 
@@ -97,10 +79,7 @@ impl Script {
         ensures { (count : ℕ) → IsScript count result }
     {
         Script {
-            table,
-            size: None,
-            nopurge: None,
-            first: None,
+            table: ScriptTable::new(table),
             calls: Vec::new(alloc),
             refused: None,
         }
@@ -116,34 +95,21 @@ impl Script {
     ) -> Result<(), LineError>
         ensures { (count : ℕ) → IsScript count self.old → IsLineOf count number → IsScript count self.new }
     {
-        if matches!(kind, b"size" | b"nopurge" | b"first") {
+        if is_setting(kind) {
             return self.read_setting(kind, words);
         }
-        let call = call_of(alloc, &self.table, kind, words)?;
+        let call = call_of(alloc, &self.table.definition, kind, words)?;
         self.calls.push((number, call))?;
         Ok(())
     }
 
-    /// Reads a line `size ROWS`, `nopurge` or `first NUMBER`.
+    /// Reads a line that sets something of the table.
     fn read_setting(&mut self, kind: &[u8], words: &[&[u8]]) -> Result<(), LineError>
         ensures { (count : ℕ) → IsScript count self.old → IsScript count self.new }
     {
         if !self.calls.is_empty() {
             return Err(LineError::Refused);
         }
-        match (kind, words) {
-            (b"size", [size]) => {
-                let size = number_from_one(size, TableCell::MOST_ROWS as u32).ok_or(
-                    LineError::Refused,
-                )?;
-                set_once(&mut self.size, size)
-            }
-            (b"first", [first]) => {
-                let first = number_from_one(first, u32::MAX).ok_or(LineError::Refused)?;
-                set_once(&mut self.first, first)
-            }
-            (b"nopurge", []) => set_once(&mut self.nopurge, ()),
-            _ => Err(LineError::Refused),
-        }
+        self.table.read_setting(kind, words)
     }
 }

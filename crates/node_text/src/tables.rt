@@ -1,11 +1,14 @@
 //! Definitions of tables.
+ghost use Rattle.std.specs.Prelude.{◌≡◌};
+ghost use Rattle.node_text.specs.Worlds.{are_alike};
+
 use crate::error::LineError;
 use crate::keys::kind_named;
 use crate::names::may_name;
 use crate::numbers::{number, number32};
 use crate::words::cut;
 use std::alloc::Global;
-use table_types::{DataType, TableDef};
+use table_types::{DataType, TableDef, is_same_name};
 
 /// Reads the table of a line `table ID NAME KIND L EXPIRE TYPES..`, from the words after the first.
 pub(crate) fn table_of(alloc: Global, words: &[&[u8]]) -> Result<TableDef, LineError> {
@@ -22,6 +25,13 @@ pub(crate) fn table_of(alloc: Global, words: &[&[u8]]) -> Result<TableDef, LineE
     let name = Vec::from_slice(alloc, name)?;
     let types = types_of(alloc, types)?;
     Ok(TableDef::new(alloc, id, name, kind, key_length, expire, types)?)
+}
+
+/// Returns whether two tables have one id or one name.
+pub(crate) fn are_alike(one: &TableDef, other: &TableDef) -> bool
+    ensures { result ≡ are_alike one.now other.now }
+{
+    one.id() == other.id() || is_same_name(one.name(), other.name())
 }
 
 /// Reads data types, one from each word.

@@ -68,9 +68,13 @@ teaching = with_subcommand (with_subcommand top (new_app (codes "lesson")).top) 
 abbrev pub scenes : App
 scenes = with_subcommand teaching (new_app (codes "learn")).top
 
--- and with the one that reads a script
+-- and with the one that reads a script of one table
+abbrev pub tables : App
+tables = with_subcommand scenes (new_app (codes "table")).top
+
+-- and with the one that reads a script of a world
 abbrev pub scripts : App
-scripts = with_subcommand scenes (new_app (codes "table")).top
+scripts = with_subcommand tables (new_app (codes "world")).top
 
 -- a required option, with a number from 1 to `most`
 abbrev pub number_option : List ℕ → ℕ → Rule

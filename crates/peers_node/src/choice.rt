@@ -25,6 +25,8 @@ pub enum Options {
     Learn,
     /// Read a script and write what a table answers to its calls.
     Table,
+    /// Read a script, make its world's steps, and write the answers to its questions.
+    World,
     /// Run a round.
     Round {
         /// The number of threads: 1 to 8.

@@ -129,6 +129,7 @@ fn named(name: &str) -> Option<Options>
         "check" => Some(Options::Check),
         "learn" => Some(Options::Learn),
         "table" => Some(Options::Table),
+        "world" => Some(Options::World),
         _ => None,
     }
 }

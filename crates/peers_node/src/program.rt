@@ -2,7 +2,7 @@
 ghost use Rattle.std.specs.Prelude.{◌≡◌, IfOk, false};
 ghost use Rattle.clap.specs.Words.{app_of, new_app, rule_of};
 ghost use Rattle.clap.specs.declared.builder.command.Command.TheViews.{out-Command as fields_of};
-ghost use Rattle.peers_node.specs.CommandLine.{alone, meeting, name_option, number_option, numbered, program, rounds, scenes, scripts, teaching, top};
+ghost use Rattle.peers_node.specs.CommandLine.{alone, meeting, name_option, number_option, numbered, program, rounds, scenes, scripts, tables, teaching, top};
 
 use crate::choice::{LAST_PORT, MOST_THREADS, MOST_TRACKS, MOST_TURNS};
 use crate::settings::{
@@ -25,7 +25,7 @@ fn top<'a>(alloc: Global) -> Command<'a>
     );
     let program = with_after_help(
         program,
-        "A scene, or for table a script, is read on standard input; docs/FORMATS.md says how they are written.",
+        "A scene, or for table and world a script, is read on standard input; docs/FORMATS.md says how they are written.",
     );
     with_help_by_default(requiring_subcommand(program))
 }
@@ -60,8 +60,8 @@ fn scenes<'a>(alloc: Global) -> Result<Command<'a>, AllocError>
 }
 
 /// Makes the program with `lesson`, `check`, `learn` and `table`.
-fn scripts<'a>(alloc: Global) -> Result<Command<'a>, AllocError>
-    ensures { IfOk result (λ command. app_of command ≡ scripts) }
+fn tables<'a>(alloc: Global) -> Result<Command<'a>, AllocError>
+    ensures { IfOk result (λ command. app_of command ≡ tables) }
 {
     let table = bare(
         alloc,
@@ -69,6 +69,18 @@ fn scripts<'a>(alloc: Global) -> Result<Command<'a>, AllocError>
         "Reads a script, and writes what a table answers to each of its calls",
     );
     scenes(alloc)?.subcommand(table)
+}
+
+/// Makes the program with all subcommands that read a scene or a script.
+fn scripts<'a>(alloc: Global) -> Result<Command<'a>, AllocError>
+    ensures { IfOk result (λ command. app_of command ≡ scripts) }
+{
+    let world = bare(
+        alloc,
+        "world",
+        "Reads a script, and writes what becomes of tables and their learners in its steps",
+    );
+    tables(alloc)?.subcommand(world)
 }
 
 /// Makes a required option with a text as its value.

@@ -5,3 +5,4 @@ pub mod Learning
 pub mod Running
 pub mod Settings
 pub mod Teaching
+pub mod Worlds

@@ -19,6 +19,7 @@ use Rattle.table_cell.specs.Stock.{AreInRisingKey}
 use Rattle.table_cell.specs.Histories.{Acknowledges, CellState, Closes, Copies, IsLatestBatch, Learns, Opens, Purges, Tracks, event_in, events_of, new_cell, room_of}
 use Rattle.node_text.specs.declared.calls.Call.{Call}
 use Rattle.node_text.specs.declared.calls.Call.TheVariants as calls
+use Rattle.node_text.specs.declared.script_tables.ScriptTable.{ScriptTable}
 use Rattle.node_text.specs.declared.scripts.Script.{Script}
 use Rattle.text_commands.specs.Answers.{acknowledged, closed, copied, event_line, events_line, learned, opened, purged, rows_lines, settled, tracked}
 use Rattle.text_commands.specs.Endings.{IsEarly}
@@ -81,12 +82,12 @@ PrintAll c given (call ∷ calls) text e =
     × (text ≡ one ++ rest) × Prints c given call.1 one mid more × PrintAll mid more calls rest e
 
 -- the new table of a script: of at most 1,000,000 rows, and with the first number 1, unless a line says otherwise
-abbrev pub table_of : Script → CellState
-table_of s = new_cell s.table (unwrap_or s.size 1000000) (is_some s.nopurge) (unwrap_or s.first 1)
+abbrev pub cell_of : ScriptTable → CellState
+cell_of t = new_cell t.definition (unwrap_or t.size 1000000) (is_some t.nopurge) (unwrap_or t.first 1)
 
 -- no line of the script is refused, and its calls print the text
 unfoldable pub IsPrinted : Script → List ℕ → Type 0
-IsPrinted s text = (e : CellState) × (s.refused ≡ None) × PrintAll (table_of s) [] s.calls.items text e
+IsPrinted s text = (e : CellState) × (s.refused ≡ None) × PrintAll (cell_of s.table) [] s.calls.items text e
 
 -- how `table` may end: with Done, and some script without a refused line is run to its end; at a refused line, whose number is at
 -- least 1; or early for another reason

@@ -1,8 +1,9 @@
-//! The subcommands `lesson`, `check`, `learn` and `table`. Each reads a scene or a script from a reader, writes its output and
+//! The subcommands `lesson`, `check`, `learn`, `table` and `world`. Each reads a scene or a script from a reader, writes its output and
 //! its errors to two writers, and returns how it ended.
 #![tactic(auto)]
 
 mod answers;
+mod cells;
 mod checking;
 mod endings;
 mod laws;
@@ -13,6 +14,9 @@ mod running;
 mod settings;
 mod tabling;
 mod teaching;
+mod world_answers;
+mod world_running;
+mod worlds;
 
 pub use checking::check;
 pub use endings::Ending;
@@ -20,3 +24,4 @@ pub use laws::taught_lessons_are_shortest;
 pub use learning::{learn, rising_roster};
 pub use tabling::table;
 pub use teaching::lesson;
+pub use worlds::world;

@@ -112,10 +112,21 @@ pub(crate) fn push_rows(alloc: Global, cell: &TableCell, text: &mut Vec<u8>) -> 
         × (text.new.items ≡ text.old.items ++ rows_lines (definition_of cell.now) rows)) }
 {
     let rows = cell.rows()?;
+    push_listed(alloc, text, cell.definition(), rows.as_slice())
+}
+
+/// Appends the line with the number of rows, and a line for each row, in their order.
+pub(crate) fn push_listed(
+    alloc: Global,
+    text: &mut Vec<u8>,
+    table: &TableDef,
+    rows: &[(Key, Row)],
+) -> Result<(), Memory>
+    ensures { OnOk result (text.new.items ≡ text.old.items ++ rows_lines table.now rows.now) }
+{
     let count = rows.len();
     text.extend_from_slice(format!(in alloc; "rows {count}\n")?.as_bytes())?;
-    push_entries(text, cell.definition(), rows.as_slice())?;
-    Ok(())
+    push_entries(text, table, rows)
 }
 
 /// Appends a line for each row.

@@ -7,15 +7,13 @@ ghost use Rattle.text_commands.specs.Endings.{IsEarly};
 ghost use Rattle.text_commands.specs.Running.{IsPrinted, PrintAll, Prints, batch_at};
 
 use crate::answers::{acknowledge, close, learn, open, purge, settle, track};
+use crate::cells::cell_of;
 use crate::endings::Ending;
 use crate::listing::{copy, push_event_at, push_events, push_rows};
 use node_text::{Call, Script};
 use std::alloc::Global;
 use table_cell::TableCell;
 use table_types::Batch;
-
-/// The greatest number of rows that a table stores unless the script says otherwise.
-const MOST_ROWS: u32 = TableCell::MOST_ROWS as u32;
 
 /// A script's run: its table, the batches that the table has returned, and the text printed so far.
 #[derive(Drop)]
@@ -34,16 +32,11 @@ pub(crate) fn printed(alloc: Global, script: Script) -> Result<Vec<u8>, Ending>
 {
     let Script {
         table,
-        size,
-        nopurge,
-        first,
         calls,
         refused,
     } = script;
-    let size = size.unwrap_or(MOST_ROWS) as usize;
-    let cell = TableCell::new(alloc, table, size, nopurge.is_some(), first.unwrap_or(1))?;
     let mut run = Run {
-        cell,
+        cell: cell_of(alloc, table)?,
         given: Vec::new(alloc),
         text: Vec::new(alloc),
     };

@@ -1,0 +1,6 @@
+use Rattle.std.proofs.Common.{◌≡◌, drop}
+use Rattle.node_text.specs.Worlds.{definitions, has_like}
+use Rattle.node_text.proofs.worlds.has_like.Given as goal
+
+abbrev pub invariant-loop-other : goal.invariant-loop-other
+invariant-loop-other l = has_like l.table (definitions (drop l.other-index l.tables)) ≡ has_like l.table (definitions l.tables)
