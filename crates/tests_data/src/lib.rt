@@ -9,6 +9,8 @@ mod changes;
 #[cfg(test)]
 mod decoders;
 #[cfg(test)]
+mod exchanges;
+#[cfg(test)]
 mod intakes;
 #[cfg(test)]
 mod known_states;
