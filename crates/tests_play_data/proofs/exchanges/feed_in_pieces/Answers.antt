@@ -20,7 +20,7 @@ loop-length-preserved c =
     let others : List ℕ = c.split_at.result.1.now in
     let cut : c.loop-length.rest.now ≡ piece ++ others = search rules in
     let all : bytes ≡ (way.0 ++ piece) ++ others = way.1 ∙ ap (λ (x : List ℕ). way.0 ++ x) cut ∙ sym (append_assoc way.0 piece others) in
-    (way.0 ++ piece, all, inr (fed_more c.args.now c.args.learner.now c.loop-length.learner c.feed.new.self way.0 piece c.in_ok-feed.field-0 c.requires (front_good (way.0 ++ piece) others (subst IsBytes all good)) way.2 c.in_ok-feed.ensures))
+    (way.0 ++ piece, all, inr (fed_more c.args.now c.args.learner.now c.loop-length.learner c.feed.new.self way.0 piece c.in_ok-feed.field-0 c.requires (front_good (way.0 ++ piece) others (subst IsBytes all good)) way.2 c.in_ok-feed.ensures.feeds))
 
 pub returns-in_err-feed-clause-memory : goal.returns-in_err-feed-clause-memory
 returns-in_err-feed-clause-memory c =
@@ -32,7 +32,7 @@ returns-in_err-feed-clause-memory c =
     let others : List ℕ = c.split_at.result.1.now in
     let cut : c.loop-length.rest.now ≡ piece ++ others = search rules in
     let all : bytes ≡ way.0 ++ (piece ++ others) = way.1 ∙ ap (λ (x : List ℕ). way.0 ++ x) cut in
-    rw (p.1, p.2) (λ k after us lesson ready. fed_faultless c.args.now k after us c.args.learner.now c.loop-length.learner c.feed.new.self way.0 piece others c.in_err-feed.field-0.0 (subst (λ (x : List ℕ). IsLessonFor k us x after) all lesson) (subst IsBytes all good) ready way.2 c.in_err-feed.ensures)
+    rw (p.1, p.2) (λ k after us lesson ready. fed_faultless c.args.now k after us c.args.learner.now c.loop-length.learner c.feed.new.self way.0 piece others c.in_err-feed.field-0.0 (subst (λ (x : List ℕ). IsLessonFor k us x after) all lesson) (subst IsBytes all good) ready way.2 c.in_err-feed.ensures.feeds)
 
 pub returns-in_err-feed-2-clause-memory : goal.returns-in_err-feed-2-clause-memory
 returns-in_err-feed-2-clause-memory c =
@@ -42,7 +42,7 @@ returns-in_err-feed-2-clause-memory c =
     let way = c.loop-length.invariant in
     let rest : List ℕ = c.loop-length.rest.now in
     let all : bytes ≡ way.0 ++ (rest ++ []) = way.1 ∙ ap (λ (x : List ℕ). way.0 ++ x) (sym (append-nil rest)) in
-    rw (p.1, p.2) (λ k after us lesson ready. fed_faultless c.args.now k after us c.args.learner.now c.loop-length.learner c.feed-2.new.self way.0 rest [] c.in_err-feed-2.field-0.0 (subst (λ (x : List ℕ). IsLessonFor k us x after) all lesson) (subst IsBytes all good) ready way.2 c.in_err-feed-2.ensures)
+    rw (p.1, p.2) (λ k after us lesson ready. fed_faultless c.args.now k after us c.args.learner.now c.loop-length.learner c.feed-2.new.self way.0 rest [] c.in_err-feed-2.field-0.0 (subst (λ (x : List ℕ). IsLessonFor k us x after) all lesson) (subst IsBytes all good) ready way.2 c.in_err-feed-2.ensures.feeds)
 
 pub returns-clause-learned : goal.returns-clause-learned
 returns-clause-learned c = λ k after us lesson ready.
@@ -50,5 +50,5 @@ returns-clause-learned c = λ k after us lesson ready.
     let good : IsBytes bytes = λ i. omega (arith, c.type_inv.bytes i) in
     let way = c.loop-length.invariant in
     let rest : List ℕ = c.loop-length.rest.now in
-    let fed = fed_more c.args.now c.args.learner.now c.loop-length.learner c.feed-2.new.self way.0 rest c.in_ok-feed-2.field-0 c.requires (subst IsBytes way.1 good) way.2 c.in_ok-feed-2.ensures in
+    let fed = fed_more c.args.now c.args.learner.now c.loop-length.learner c.feed-2.new.self way.0 rest c.in_ok-feed-2.field-0 c.requires (subst IsBytes way.1 good) way.2 c.in_ok-feed-2.ensures.feeds in
     fed_learned c.args.now k after us c.args.learner.now c.feed-2.new.self bytes fed.0 lesson ready (subst (λ (x : List ℕ). LearnerFeeds c.args.now c.args.learner.now x (Ok fed.0) c.feed-2.new.self) (sym way.1) fed.1)
