@@ -30,7 +30,7 @@ with_here t new c cs same = rw same refl
 with_there : (t : ℕ) (new c : CellState) (cs : List CellState) → is_table t c ≡ false → with_cell t new (c ∷ cs) ≡ c ∷ with_cell t new cs
 with_there t new c cs other = rw other refl
 
--- a table of that id stands there if none before it has the id
+-- if no table before the place has the id, the table of that id is the one at the place
 pub cell_here : (t : ℕ) (cells : List CellState) (i : ℕ) (x : CellState) → i < length cells → x ≡ get_or cells i x → is_table t x ≡ true
     → cell_at t (take i cells) ≡ None → IsCellAt t cells i
 cell_here t [] i x below is same none = absurd (omega arith)

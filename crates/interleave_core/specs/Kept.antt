@@ -1,4 +1,4 @@
--- What holds of a connection after each step (profile).
+-- What holds of a connection as long as it is on track (profile).
 use Rattle.std.specs.Prelude.{◌≡◌, List, ◌++◌}
 use Rattle.std.specs.List.{AllByRecursion}
 use Rattle.table_types.specs.declared.update.Update.{Update}

@@ -41,7 +41,7 @@ pub fn acknowledged_rows_were_handed_out()
         IsLastOfItsKey (handed_since session c.history) e) c.state.rows }
 {}
 
-/// An event that isn't about a session leaves its progress, what it was handed, and whether that was by resyncs alone.
+/// An event that isn't about a session changes neither its progress, nor what it was handed, nor whether that was by resyncs alone.
 pub fn other_events_hand_nothing()
     ensures { (c e : CellState) (event : CellEvent) (reply : CellReply) (session : ℕ) →
         is_about session event ≡ false → Made c event reply e →

@@ -1,4 +1,4 @@
-//! Runs of worlds: steps that are made, and questions that are answered, in turn.
+//! Runs a world: makes the steps of a script in turn, and answers the questions in between.
 ghost use Rattle.std.specs.Prelude.{◌≡◌, IfOk, map};
 ghost use Rattle.std.specs.List.{AllByRecursion};
 ghost use Rattle.node_text.specs.ScriptTables.{IsScriptTable};
