@@ -1,7 +1,7 @@
 //! Stick tables with their history.
 
-ghost use Rattle.std.specs.Prelude.{◌≡◌, ◌≤◌, IfOk, IsOk, option_map};
-ghost use Rattle.table_cell.specs.Machine.{has_out, progress_of};
+ghost use Rattle.std.specs.Prelude.{◌≡◌, ◌≤◌, ◌↔◌, IfOk, IsOk, IsTrue, false, is_none, option_map};
+ghost use Rattle.table_cell.specs.Machine.{ack_refusal, has_out, new_table, progress_of};
 ghost use Rattle.table_cell.specs.Stock.{AreInRisingKey};
 ghost use Rattle.table_cell.specs.Histories.{IsSoundCell, Kept, events_of, event_in, is_history_full, new_cell, room_of};
 
@@ -76,6 +76,13 @@ impl TableCell {
         self.table.definition()
     }
 
+    /// Returns whether the history begins with a new table, as `new` makes it with this `size`, `nopurge` and `first`.
+    pub fn begins_new(&self, size: usize, nopurge: bool, first: u32) -> bool
+        ensures { IsTrue result ↔ (self.now.base ≡ new_table self.now.state.definition size nopurge first) }
+    {
+        self.table.size == size && self.table.nopurge == nopurge && self.first == first
+    }
+
     /// Returns the number of all events so far.
     pub fn events(&self) -> u64
         ensures events { result ≡ events_of self.now }
@@ -116,6 +123,14 @@ impl TableCell {
             Some(progress) => progress.acknowledged < progress.taught,
             None => false,
         }
+    }
+
+    /// Returns whether `session` is open and was taught `number` or a later one, so that `ack` takes `number` as long as
+    /// there is room for an event. Doesn't allocate.
+    pub fn can_ack(&self, session: u32, number: u32) -> bool
+        ensures { result ≡ is_none (ack_refusal false self.now.state session number) }
+    {
+        self.table.ack_refusal(false, session, number).is_none()
     }
 
     /// Returns copies of the rows with their keys, in ascending order of key.
