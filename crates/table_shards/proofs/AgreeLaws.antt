@@ -13,13 +13,13 @@ use Rattle.table_shards.proofs.PageLaws.{eqb_is, some_none}
 use Rattle.table_shards.proofs.ReceiptLaws.{times_here, times_other}
 
 -- the receipts of other places
-abbrev elsewhere : ℕ → List ReceiptState → List ReceiptState
+abbrev pub elsewhere : ℕ → List ReceiptState → List ReceiptState
 elsewhere place rs = filter (λ r. not (r.place == place)) rs
 
-elsewhere_here : (place : ℕ) (r : ReceiptState) (rs : List ReceiptState) → (r.place == place) ≡ true → elsewhere place (r ∷ rs) ≡ elsewhere place rs
+pub elsewhere_here : (place : ℕ) (r : ReceiptState) (rs : List ReceiptState) → (r.place == place) ≡ true → elsewhere place (r ∷ rs) ≡ elsewhere place rs
 elsewhere_here place r rs same = rw same refl
 
-elsewhere_other : (place : ℕ) (r : ReceiptState) (rs : List ReceiptState) → (r.place == place) ≡ false → elsewhere place (r ∷ rs) ≡ r ∷ elsewhere place rs
+pub elsewhere_other : (place : ℕ) (r : ReceiptState) (rs : List ReceiptState) → (r.place == place) ≡ false → elsewhere place (r ∷ rs) ≡ r ∷ elsewhere place rs
 elsewhere_other place r rs other = rw other refl
 
 parted : (place : ℕ) (rs : List ReceiptState) → length (elsewhere place rs) + times place rs ≡ length rs
@@ -34,7 +34,7 @@ parted place (r ∷ rs) = elim (cases_Bool (r.place == place)) [
 ]
 
 -- the counts of other places stay
-still : (place other : ℕ) (rs : List ReceiptState) → (place ≡ other → ⊥) → times other (elsewhere place rs) ≡ times other rs
+pub still : (place other : ℕ) (rs : List ReceiptState) → (place ≡ other → ⊥) → times other (elsewhere place rs) ≡ times other rs
 still place other [] apart = refl
 still place other (r ∷ rs) apart = elim (cases_Bool (r.place == place)) [
   | inl same ↦

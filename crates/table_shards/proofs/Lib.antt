@@ -3,8 +3,10 @@ pub mod AllLaws
 pub mod ReceiptLaws
 pub mod RollLaws
 pub mod AgreeLaws
+pub mod MatchLaws
 pub mod CompareLaws
 pub mod FaultLaws
 pub mod RoundLaws
 pub mod EventLaws
 pub mod HeldLaws
+pub mod NotedLaws

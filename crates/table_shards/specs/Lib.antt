@@ -3,6 +3,7 @@ pub mod Pages
 pub mod Agreement
 pub mod Roll
 pub mod Holding
+pub mod Noting
 pub mod Audits
 pub mod Rounds
 pub mod Locks

@@ -47,4 +47,4 @@ HasRoomIn table ps (rooms.OnNewPage receipts) =
 
 -- the seat of a book
 abbrev pub seat_of : Book → SeatState
-seat_of b = record { number = b.number; pages = page_states b.pages.items }
+seat_of b = record { number = b.number; pages = page_states b.pages.items; answers = b.answers; latest = b.latest }

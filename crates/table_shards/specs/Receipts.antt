@@ -1,8 +1,9 @@
--- Receipts (profile): what a seat keeps of each event that its thread made.
-use Rattle.std.specs.Prelude.{ℕ, ◌<◌, ◌≤◌, ◌==◌, List, [], ◌∷◌, ◌++◌, Option, Some, None, if◌then◌else◌, nat_lt}
+-- Receipts (profile): what a seat keeps of each event that its thread made, and of its latest call that made none.
+use Rattle.std.specs.Prelude.{ℕ, ◌+◌, ◌%◌, ◌^◌, ◌<◌, ◌≤◌, ◌==◌, List, [], ◌∷◌, ◌++◌, Option, Some, None, if◌then◌else◌, nat_lt}
 use Rattle.std.specs.List.{count_by, flat_map}
 use Rattle.table_cell.specs.declared.events.CellEvent.{CellEvent}
 use Rattle.table_cell.specs.declared.events.CellReply.{CellReply}
+use Rattle.table_shards.specs.declared.answers.Answered.{Answered}
 
 -- an event's place among all events of its table, from 1, the event, and the table's reply
 pub record ReceiptState : Type 0 where
@@ -16,14 +17,17 @@ pub record PageState : Type 0 where
   pub seen : ℕ
   pub receipts : List ReceiptState
 
--- a seat's number, and what it has of each table for which it made an event
+-- a seat's number, what it has of each table for which it made an event, how many of its calls were answered without an
+-- event, and the latest of these answers
 pub record SeatState : Type 0 where
   pub number : ℕ
   pub pages : List PageState
+  pub answers : ℕ
+  pub latest : Option Answered
 
 -- a seat that has seen nothing yet
 abbrev pub fresh_seat : ℕ → SeatState
-fresh_seat number = record { number = number; pages = [] }
+fresh_seat number = record { number = number; pages = []; answers = 0; latest = None }
 
 abbrev pub page_at : ℕ → List PageState → Option PageState
 page_at table [] = None
@@ -59,7 +63,11 @@ pages_with table r [] = page_with (record { table = table; seen = 0; receipts = 
 pages_with table r (p ∷ ps) = if p.table == table then page_with p r ∷ ps else p ∷ pages_with table r ps
 
 abbrev pub with_receipt : SeatState → ℕ → ReceiptState → SeatState
-with_receipt s table r = record { number = s.number; pages = pages_with table r s.pages }
+with_receipt s table r = record s { pages = pages_with table r s.pages }
+
+-- the seat with one more answer; the count starts again after 2^64 - 1
+abbrev pub with_answer : SeatState → Answered → SeatState
+with_answer s a = record s { answers = (s.answers + 1) % 2 ^ 64; latest = Some a }
 
 -- if a seat has seen more events than the table has: how many it has seen, and how many there are
 abbrev pub ahead_of : SeatState → ℕ → ℕ → Option (ℕ × ℕ)

@@ -4,17 +4,21 @@ ghost use Rattle.std.specs.Prelude.{◌≡◌, ◌<◌, IfOk};
 ghost use Rattle.table_shards.specs.Receipts.{ahead_of, seen_of, with_receipt};
 ghost use Rattle.table_shards.specs.Pages.{page_states, seat_of, ArePages, HasRoomIn};
 
+use crate::answers::Answered;
 use crate::pages::{Page, Room, make_room_for, page_of, write_in};
 use crate::receipt::Receipt;
 use std::alloc::Global;
 use table_types::Memory;
 
-/// A seat's number, and its page for each table of which it has receipts.
+/// A seat's number, its page for each table of which it has receipts, the number of its calls that were answered without
+/// an event, and the latest of these answers.
 #[derive(Debug, Drop)]
 pub struct Book {
     pub alloc: Global,
     pub number: u32,
     pub pages: Vec<Page>,
+    pub answers: u64,
+    pub latest: Option<Answered>,
 }
 
 impl Book {

@@ -1,6 +1,7 @@
 //! The calls that change a table, each under the table's lock and for a seat. A call that makes an event adds a receipt
 //! of it to the seat while the lock is still held. Each call takes the seat, and returns it with the result; the calls
-//! of the module `lent` borrow it. If a call fails, nothing has changed, and there is no receipt.
+//! of the modules `lent` and `noted` borrow it. If a call fails, nothing has changed, and there is no receipt; a call of
+//! `noted` may then leave the table's answer at the seat.
 
 ghost use Rattle.std.specs.Prelude.{◌≡◌, ◌≤◌};
 ghost use Rattle.table_cell.specs.Histories.{Acknowledges, Closes, Copies, Learns, Opens, Purges, Tracks};
@@ -9,6 +10,7 @@ ghost use Rattle.table_cell.specs.declared.events.CellReply.TheVariants as repli
 ghost use Rattle.table_shards.specs.Holding.{Holds, Looks, Settles, receipted};
 
 pub mod lent;
+pub mod noted;
 
 use crate::errors::ShardError;
 use crate::locked::Locked;

@@ -2,15 +2,18 @@
 
 ghost use Rattle.std.specs.Prelude.{◌≡◌};
 ghost use Rattle.table_shards.specs.Receipts.{PlacesRise, ahead_of, fresh_seat, receipts_of, seen_of};
+ghost use Rattle.table_shards.specs.Noting.{noted};
 
+use crate::answers::{Answer, Answered};
 use crate::book::Book;
 use crate::pages::page_of;
 use crate::receipt::Receipt;
 use std::alloc::Global;
 use std::marker::Model;
 
-/// A thread's seat at the tables: its number, its receipts of the events that it made, and the place up to which it has
-/// seen the events of each table. The places of its receipts of one table ascend, up to what it has seen.
+/// A thread's seat at the tables: its number, its receipts of the events that it made, the place up to which it has seen
+/// the events of each table, and the latest answer without an event. The places of its receipts of one table ascend, up
+/// to what it has seen.
 #[derive(Debug, Drop)]
 pub struct Seat {
     pub(crate) book: Book,
@@ -37,6 +40,8 @@ impl Seat {
                 alloc,
                 number,
                 pages: Vec::new(alloc),
+                answers: 0,
+                latest: None,
             },
         }
     }
@@ -71,5 +76,27 @@ impl Seat {
         ensures { result ≡ ahead_of self.now table events }
     {
         self.book.ahead(table, events)
+    }
+
+    /// Returns the latest answer without an event that a call of `held::noted` added.
+    pub fn latest(&self) -> Option<Answered>
+        ensures { result ≡ self.now.latest }
+    {
+        self.book.latest
+    }
+
+    /// Adds the answer, if there is one, to a call of the session when the table had `events` events. Doesn't allocate.
+    pub(crate) fn note(&mut self, table: u64, session: u32, events: u64, answer: Option<Answer>)
+        ensures { self.new ≡ noted table session events answer self.old }
+    {
+        if let Some(answer) = answer {
+            self.book.answers = self.book.answers.wrapping_add(1);
+            self.book.latest = Some(Answered {
+                table,
+                session,
+                events,
+                answer,
+            });
+        }
     }
 }
