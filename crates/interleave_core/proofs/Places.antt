@@ -15,19 +15,19 @@ use Rattle.interleave_core.specs.Moves.{CopiesFor, InConnection, with_batch}
 use Rattle.interleave_core.specs.Parts.{IsCellAt, IsConnectionAt, connection_of, connections_of}
 use Rattle.interleave_core.specs.Worlds.{ConnectionState, WorldState, is_table, cell_at, connection_at, with_cell, with_connection}
 
-some_none : {A : Type 0} (x : A) → ◌≡◌ {A = Option A} (Some x) None → ⊥
+pub some_none : {A : Type 0} (x : A) → ◌≡◌ {A = Option A} (Some x) None → ⊥
 some_none x e = cc
 
-at_here : (t : ℕ) (c : CellState) (cs : List CellState) → is_table t c ≡ true → cell_at t (c ∷ cs) ≡ Some c
+pub at_here : (t : ℕ) (c : CellState) (cs : List CellState) → is_table t c ≡ true → cell_at t (c ∷ cs) ≡ Some c
 at_here t c cs same = rw same refl
 
-at_there : (t : ℕ) (c : CellState) (cs : List CellState) → is_table t c ≡ false → cell_at t (c ∷ cs) ≡ cell_at t cs
+pub at_there : (t : ℕ) (c : CellState) (cs : List CellState) → is_table t c ≡ false → cell_at t (c ∷ cs) ≡ cell_at t cs
 at_there t c cs other = rw other refl
 
-with_here : (t : ℕ) (new c : CellState) (cs : List CellState) → is_table t c ≡ true → with_cell t new (c ∷ cs) ≡ new ∷ cs
+pub with_here : (t : ℕ) (new c : CellState) (cs : List CellState) → is_table t c ≡ true → with_cell t new (c ∷ cs) ≡ new ∷ cs
 with_here t new c cs same = rw same refl
 
-with_there : (t : ℕ) (new c : CellState) (cs : List CellState) → is_table t c ≡ false → with_cell t new (c ∷ cs) ≡ c ∷ with_cell t new cs
+pub with_there : (t : ℕ) (new c : CellState) (cs : List CellState) → is_table t c ≡ false → with_cell t new (c ∷ cs) ≡ c ∷ with_cell t new cs
 with_there t new c cs other = rw other refl
 
 -- if no table before the place has the id, the table of that id is the one at the place
@@ -76,7 +76,7 @@ none_more t cells i x below is other none = subst (λ (n : ℕ). cell_at t (take
 plus_one : (n : ℕ) → n + 1 ≡ suc n
 plus_one n = omega arith
 
-connection_found : (session : ℕ) (cs : List Connection) (i : ℕ) (old : Connection) → IsConnectionAt session cs i → old ≡ get_or cs i old
+pub connection_found : (session : ℕ) (cs : List Connection) (i : ℕ) (old : Connection) → IsConnectionAt session cs i → old ≡ get_or cs i old
     → connection_at session (connections_of cs) ≡ Some (connection_of old)
 connection_found session cs i old here is =
     ap (λ (n : ℕ). connection_at n (connections_of cs)) (here.number ∙ plus_one i)
@@ -84,7 +84,7 @@ connection_found session cs i old here is =
     ∙ ap (λ (o : Option Connection). option_map connection_of o) (slice_get-get_or cs i old here.below)
     ∙ ap (λ (x : Connection). Some (connection_of x)) (sym is)
 
-connection_changed : (session : ℕ) (cs : List Connection) (i : ℕ) (new : Connection) → IsConnectionAt session cs i
+pub connection_changed : (session : ℕ) (cs : List Connection) (i : ℕ) (new : Connection) → IsConnectionAt session cs i
     → connections_of (set cs i new) ≡ with_connection session (connection_of new) (connections_of cs)
 connection_changed session cs i new here =
     map-set connection_of cs i new ∙ ap (λ (n : ℕ). with_connection n (connection_of new) (connections_of cs)) (sym (here.number ∙ plus_one i))

@@ -1,4 +1,10 @@
 pub mod Worlds
 pub mod Moves
 pub mod Parts
+pub mod Acks
 pub mod Kept
+pub mod Opened
+pub mod Sound
+pub mod Ties
+pub mod SoundWorlds
+pub mod Core

@@ -1,5 +1,5 @@
 -- What each step does to the world (profile). A step that can't be made changes nothing.
-use Rattle.std.specs.Prelude.{◌≡◌, ◌≢◌, ℕ, Bool, ◌&&◌, ◌==◌, not, nat_le, MatchBool, is_none, List, [], ◌∷◌, ◌++◌, drop, filter, filter_map, length, take, Option, Some, None, option_and_then, option_map, Result, Ok, Err, if◌then◌else◌}
+use Rattle.std.specs.Prelude.{◌≡◌, ◌≢◌, ℕ, ◌&&◌, nat_le, MatchBool, is_none, List, [], ◌∷◌, ◌++◌, drop, filter_map, length, take, Option, Some, None, option_and_then, option_map, Result, Ok, Err, if◌then◌else◌}
 use Rattle.std.specs.List.{list_any}
 use Rattle.table_types.specs.declared.copies.CopyKind.{CopyKind}
 use Rattle.table_types.specs.declared.update.Update.{Update}
@@ -24,11 +24,11 @@ use Rattle.table_cell.specs.declared.errors.TrackError.TheVariants as untracked
 use Rattle.table_cell.specs.declared.events.CellEvent.TheVariants as events
 use Rattle.table_cell.specs.declared.events.CellReply.TheVariants as replies
 use Rattle.table_cell.specs.Histories.{CellState, Copies, Learns, Purges, Tracks, is_history_full}
-use Rattle.table_cell.specs.Machine.{ack_refusal, acknowledging, close_refusal, has_out, no_progress, open_refusal, progress_of, settled_by, with_progress}
+use Rattle.table_cell.specs.Machine.{ack_refusal, acknowledging, close_refusal, has_out, open_refusal, progress_of, settled_by, with_progress}
 use Rattle.interleave_core.specs.declared.step.Step.{Step}
 use Rattle.interleave_core.specs.declared.step.Step.TheVariants as steps
 use Rattle.interleave_core.specs.declared.way.Way.TheVariants as ways
-use Rattle.interleave_core.specs.Worlds.{ConnectionState, WorldState, cell_at, connection_at, new_connection, roster_of, with_cell, with_connection}
+use Rattle.interleave_core.specs.Worlds.{ConnectionState, WorldState, cell_at, connection_at, new_connection, roster_of, with_cell, with_connection, with_session, without_session}
 
 -- ---- one table
 
@@ -147,15 +147,11 @@ acknowledges s =
 -- the table after the session is closed, unless it refuses that, and after it is opened
 abbrev pub closed : ℕ → CellState → Option CellState
 closed session c =
-    if is_none (close_refusal (is_history_full c) c.state session)
-    then Some (record c { history = c.history ++ (events.Close session, replies.Close) ∷ []; state = record c.state { sessions = filter (λ entry. not (entry.0 == session)) c.state.sessions } })
-    else None
+    if is_none (close_refusal (is_history_full c) c.state session) then Some (without_session session c) else None
 
 abbrev pub opened : ℕ → CellState → Option CellState
 opened session c =
-    if is_none (open_refusal (is_history_full c) c.state session)
-    then Some (record c { history = c.history ++ (events.Open session, replies.Open) ∷ []; state = record c.state { sessions = c.state.sessions ++ (session, no_progress) ∷ [] } })
-    else None
+    if is_none (open_refusal (is_history_full c) c.state session) then Some (with_session session c) else None
 
 -- the tables after the session is closed and opened in each, unless one refuses that
 abbrev pub reopened_all : ℕ → List CellState → Option (List CellState)

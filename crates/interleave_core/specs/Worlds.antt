@@ -1,11 +1,16 @@
 -- The world (profile): tables, the sessions that teach from them, and what is on its way between a teacher and its
 -- learners.
-use Rattle.std.specs.Prelude.{ℕ, zero, suc, Bool, ◌==◌, List, [], ◌∷◌, map, set, slice_get, Option, Some, None, if◌then◌else◌}
+use Rattle.std.specs.Prelude.{ℕ, zero, suc, Bool, not, ◌==◌, List, [], ◌∷◌, ◌++◌, filter, map, replicate, set, slice_get, Option, Some, None, if◌then◌else◌}
 use Rattle.table_types.specs.declared.update.Update.{Update}
 use Rattle.table_types.specs.Tables.{Definition}
 use Rattle.known_state.specs.Known.{KnownState, fresh_of}
 use Rattle.learner.specs.Learning.{Learning, unlearned}
+use Rattle.table_cell.specs.declared.events.CellEvent.TheVariants as events
+use Rattle.table_cell.specs.declared.events.CellReply.TheVariants as replies
 use Rattle.table_cell.specs.Histories.{CellState}
+use Rattle.table_cell.specs.Machine.{no_progress}
+use Rattle.interleave_core.specs.declared.way.Way.{Way}
+use Rattle.interleave_core.specs.declared.way.Way.TheVariants as ways
 
 -- What belongs to a session: what its teacher knows of the learner once all that is on its way has arrived; the batches
 -- that were copied and not taught yet, the oldest first; the updates taught since the connection began, and those of
@@ -59,3 +64,36 @@ connection_at (suc before) connections = slice_get connections before
 abbrev pub with_connection : ℕ → ConnectionState → List ConnectionState → List ConnectionState
 with_connection zero new connections = connections
 with_connection (suc before) new connections = set connections before new
+
+-- the bytes on their way in that direction
+abbrev pub pipe_of : Way → ConnectionState → List ℕ
+pipe_of ways.ToLearner s = s.to_learner
+pipe_of ways.ToTeacher s = s.to_teacher
+
+-- ---- the sessions of a table
+
+-- the table after the session is opened in it
+abbrev pub with_session : ℕ → CellState → CellState
+with_session session c =
+    record c { history = c.history ++ (events.Open session, replies.Open) ∷ []; state = record c.state { sessions = c.state.sessions ++ (session, no_progress) ∷ [] } }
+
+-- the table after the session is closed in it
+abbrev pub without_session : ℕ → CellState → CellState
+without_session session c =
+    record c { history = c.history ++ (events.Close session, replies.Close) ∷ []; state = record c.state { sessions = filter (λ entry. not (entry.0 == session)) c.state.sessions } }
+
+-- the table after the session is closed in it and opened again
+abbrev pub with_session_anew : ℕ → CellState → CellState
+with_session_anew session c = with_session session (without_session session c)
+
+-- the table after the sessions 1 to `count` are opened in it
+abbrev pub with_sessions : ℕ → CellState → CellState
+with_sessions zero c = c
+with_sessions (suc before) c = with_session (suc before) (with_sessions before c)
+
+-- ---- a new world
+
+-- the sessions 1 to `count` are open in each table, nothing is on its way, and no learner has received anything
+abbrev pub new_world : List CellState → ℕ → WorldState
+new_world cells count =
+    record { cells = map (with_sessions count) cells; connections = replicate count (new_connection (roster_of cells)) }

@@ -1,9 +1,13 @@
 //! What belongs to one session of a world.
 
-ghost use Rattle.std.specs.Prelude.{◌≡◌, ◌++◌, IfNone, IfOk, IfSome, None, OnOk};
+ghost use Rattle.std.specs.Prelude.{◌≡◌, ◌≤◌, ◌∷◌, ◌++◌, [], IfNone, IfOk, IfSome, List, None, OnOk, drop, length, take};
 ghost use Rattle.table_types.specs.declared.update.Update.{Update};
+ghost use Rattle.table_types.specs.Batches.{IsBatchFor};
+ghost use Rattle.table_types.specs.Tables.{Definition};
+ghost use Rattle.peers_msg.specs.Integers.{IsBytes};
 ghost use Rattle.peers_msg.specs.Spelling.{stream_of};
-ghost use Rattle.interleave_core.specs.Moves.{acknowledges};
+ghost use Rattle.interleave_core.specs.Kept.{IsOnTrack};
+ghost use Rattle.interleave_core.specs.Moves.{ArrivesAtLearner, IsShortestLesson, TeachesOldest, acknowledges};
 ghost use Rattle.interleave_core.specs.Parts.{IsConnectionAt, connection_of, connections_of};
 ghost use Rattle.interleave_core.specs.Worlds.{connection_at, new_connection};
 
@@ -12,7 +16,7 @@ use learner::Learner;
 use peers_msg::{Message, Unread, append};
 use std::alloc::Global;
 use table_types::{Batch, Memory, Moment, Roster, Update};
-use teach_writer::teach;
+use teach_writer::{Lesson, teach};
 
 /// A session's connection: what its teacher knows and has still to do, what is on its way, and its learner. All but the
 /// batches counts from when the connection began.
@@ -69,6 +73,28 @@ fn stream_of(alloc: Global, messages: &[Message]) -> Result<Vec<u8>, Memory>
     Ok(bytes)
 }
 
+/// Returns a shortest lesson of the batch, if it is one for the roster of the known state.
+fn lesson_of(alloc: Global, known: &Known, batch: &Batch) -> Result<Option<Lesson>, Memory>
+    ensures lesson { IfOk result (λ found. IfSome found (λ lesson. IsShortestLesson known.now batch.now lesson.bytes lesson.known)) }
+    ensures none { IfOk result (λ found. IfNone found (IsBatchFor known.now.roster batch.now → ⊥)) }
+{
+    if !batch.is_for(known.roster()) {
+        return Ok(None);
+    }
+    match teach(alloc, known, batch) {
+        Ok(lesson) => Ok(Some(lesson)),
+        Err(_) => Err(Memory),
+    }
+}
+
+/// Puts the bytes on their way.
+fn send(pipe: &mut Unread, bytes: &[u8]) -> Result<(), Memory>
+    ensures sent { OnOk result (pipe.new ≡ pipe.old ++ bytes.now) }
+    ensures bytes { IsBytes bytes.now }
+{
+    pipe.append(bytes)
+}
+
 impl Connection {
     /// Returns a new connection: the learner has received nothing, and nothing is on its way.
     pub(crate) fn new(alloc: Global, roster: &Roster) -> Result<Connection, Memory>
@@ -95,26 +121,39 @@ impl Connection {
         self.to_teacher.append(bytes.as_slice())
     }
 
+    /// Lets the batch wait until it is taught.
+    pub(crate) fn let_wait(&mut self, batch: Batch) -> Result<(), Memory>
+        ensures { OnOk result (connection_of self.new ≡ record (connection_of self.old) { copied = (connection_of self.old).copied ++ batch ∷ [] }) }
+    {
+        self.copied.push(batch)?;
+        Ok(())
+    }
+
     /// Teaches the oldest batch that waits, if there is one.
-    pub(crate) fn teach(&mut self, alloc: Global) -> Result<(), Memory> {
+    pub(crate) fn teach(&mut self, alloc: Global) -> Result<(), Memory>
+        ensures taught { (roster : List Definition) → IsOnTrack roster (connection_of self.old) → OnOk result (TeachesOldest (connection_of self.old).copied (connection_of self.old) (connection_of self.new)) }
+        ensures kept { (roster : List Definition) → IsOnTrack roster (connection_of self.old) → OnOk result (IsOnTrack roster (connection_of self.new)) }
+    {
         let Some(batch) = self.copied.first() else {
             return Ok(());
         };
-        if !batch.is_for(self.known.roster()) {
+        let Some(lesson) = lesson_of(alloc, &self.known, batch)? else {
             return Ok(());
-        }
-        let Ok(lesson) = teach(alloc, &self.known, batch) else {
-            return Err(Memory);
         };
+        // The learner has put none of what is taught now.
+        self.applied = self.applied.min(self.taught.len());
         append_copies(alloc, &mut self.taught, batch.updates())?;
-        self.to_learner.append(lesson.bytes.as_slice())?;
+        send(&mut self.to_learner, lesson.bytes.as_slice())?;
         self.known = lesson.known;
         self.copied.remove(0);
         Ok(())
     }
 
-    /// Feeds the learner the first `count` bytes on their way, if there are as many.
-    pub(crate) fn deliver_to_learner(&mut self, count: usize, now: Moment) -> Result<(), Memory> {
+    /// Feeds the learner the first `count` bytes on their way, if there are as many. If the connection is on track, the
+    /// updates that it puts are the next of those taught.
+    pub(crate) fn deliver_to_learner(&mut self, count: usize, now: Moment) -> Result<(), Memory>
+        ensures { (roster : List Definition) → IsOnTrack roster (connection_of self.old) → OnOk result (ArrivesAtLearner count now (connection_of self.old) (connection_of self.new)) }
+    {
         if self.to_learner.len() < count {
             return Ok(());
         }
@@ -123,6 +162,29 @@ impl Connection {
         };
         self.applied = self.applied.saturating_add(rows);
         self.to_learner.advance(count);
+        Ok(())
+    }
+
+    /// Returns the bytes that the teacher hasn't read, followed by the next `count` on their way to it.
+    pub(crate) fn arriving(&self, alloc: Global, count: usize) -> Result<Vec<u8>, Memory>
+        requires { count ≤ length self.now.to_teacher }
+        ensures { IfOk result (λ bytes. bytes.items ≡ self.now.unread ++ take count self.now.to_teacher) }
+    {
+        let mut bytes = Vec::new(alloc);
+        bytes.extend_from_slice(self.unread.as_slice())?;
+        bytes.extend_from_slice(&self.to_teacher.as_slice()[..count])?;
+        Ok(bytes)
+    }
+
+    /// Moves the next `count` bytes to the teacher, which then reads the first `used`.
+    pub(crate) fn arrive(&mut self, count: usize, used: usize) -> Result<(), Memory>
+        requires there { count ≤ length self.old.to_teacher }
+        requires within { used ≤ length (self.old.unread ++ take count self.old.to_teacher) }
+        ensures { OnOk result (connection_of self.new ≡ record (connection_of self.old) { to_teacher = drop count self.old.to_teacher; unread = drop used (self.old.unread ++ take count self.old.to_teacher) }) }
+    {
+        self.unread.append(&self.to_teacher.as_slice()[..count])?;
+        self.unread.advance(used);
+        self.to_teacher.advance(count);
         Ok(())
     }
 }

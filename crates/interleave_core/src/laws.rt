@@ -1,6 +1,7 @@
 //! What holds of the definitions, whatever the program does.
 
-ghost use Rattle.std.specs.Prelude.{◌≡◌, ◌≢◌, ◌∷◌, ◌++◌, [], ℕ, List, Result, Ok, Err, None, drop, length, take};
+ghost use Rattle.std.specs.Prelude.{◌≡◌, ◌≢◌, ◌≤◌, ◌∷◌, ◌++◌, [], ℕ, List, Result, Ok, Err, None, drop, length, take};
+ghost use Rattle.std.specs.List.{AllByRecursion};
 ghost use Rattle.peers_msg.specs.Integers.{IsBytes};
 ghost use Rattle.table_types.specs.declared.update.Update.{Update};
 ghost use Rattle.table_types.specs.Batches.{IsBatchFor};
@@ -11,9 +12,12 @@ ghost use Rattle.known_state.specs.Lessons.{IsLessonFor};
 ghost use Rattle.learner.specs.declared.fault.Fault.{Fault};
 ghost use Rattle.learner.specs.declared.fault.Fault.TheVariants as faults;
 ghost use Rattle.learner.specs.Learning.{Learning, LearnerFeeds};
+ghost use Rattle.table_cell.specs.Histories.{CellState};
+ghost use Rattle.interleave_core.specs.declared.step.Step.{Step};
 ghost use Rattle.interleave_core.specs.Kept.{IsOnTrack};
-ghost use Rattle.interleave_core.specs.Moves.{IsFed, acknowledges};
-ghost use Rattle.interleave_core.specs.Worlds.{ConnectionState, new_connection};
+ghost use Rattle.interleave_core.specs.Moves.{IsFed, Moves, RunsTo, acknowledges};
+ghost use Rattle.interleave_core.specs.Opened.{CanBegin, IsOpenWorld};
+ghost use Rattle.interleave_core.specs.Worlds.{ConnectionState, WorldState, new_connection, new_world};
 
 /// A connection stays on track: the bytes that its learner hasn't read and those on their way to it are a legal stream that
 /// leads to the known state, and carries what was taught and not put yet. A new connection is on track, and it stays so when
@@ -35,4 +39,12 @@ pub fn a_connection_stays_on_track()
     ensures arrived { (roster : List Definition) (s : ConnectionState) (now : ℕ) (answer : Result ℕ Fault) (l : Learning) →
         IsOnTrack roster s → LearnerFeeds now s.learner s.to_learner answer l → answer ≢ Err faults.Memory →
         (us : List Update) × (answer ≡ Ok (length us)) × (s.taught ≡ s.applied ++ us) × (l.intake.state ≡ s.known.state) × (l.intake.unread ≡ []) }
+{}
+
+/// In a new world the session of each connection is open in each table. So it is after each step and after each run, since a
+/// session that is closed is opened again.
+pub fn sessions_stay_open()
+    ensures new { (cells : List CellState) (count : ℕ) → count ≤ 16 → AllByRecursion (CanBegin count) cells → IsOpenWorld (new_world cells count) }
+    ensures step { (w e : WorldState) (step : Step) → IsOpenWorld w → Moves w step e → IsOpenWorld e }
+    ensures run { (w e : WorldState) (steps : List Step) → IsOpenWorld w → RunsTo w steps e → IsOpenWorld e }
 {}

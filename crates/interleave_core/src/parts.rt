@@ -1,25 +1,29 @@
 //! The steps of a world, one function each.
 
-ghost use Rattle.std.specs.Prelude.{◌≡◌, OnOk};
+ghost use Rattle.std.specs.Prelude.{◌≡◌, ◌<◌, ◌^◌, ℕ, OnOk, true};
 ghost use Rattle.interleave_core.specs.declared.step.Step.TheVariants as steps;
+ghost use Rattle.interleave_core.specs.declared.way.Way.TheVariants as ways;
+ghost use Rattle.interleave_core.specs.Kept.{AreOnTrack, copies_or_teaches};
 ghost use Rattle.interleave_core.specs.Moves.{Moves};
 ghost use Rattle.interleave_core.specs.Parts.{world_of};
+ghost use Rattle.interleave_core.specs.Opened.{IsInOrder, IsOpenWorld};
+ghost use Rattle.interleave_core.specs.SoundWorlds.{IsTimelyStep};
 
-use crate::acks::{Acknowledgement, count_of, read_acks};
-use crate::cells::{has_room_for, index_of, is_any_out, learn, purge, reopen_in_each, track};
+use crate::acks::{are_taken, make_each, read_acks};
+use crate::cells::{
+    copy, has_room_for, index_of, is_any_out, learn, purge, reopen_in_each, roster_of, track,
+};
 use crate::connection::{Connection, index_of as connection_index};
 use crate::step::Step;
 use crate::way::Way;
 use std::alloc::Global;
-use table_cell::{AckError, CopyError, TableCell};
-use table_types::{Batch, Change, CopyKind, Key, Memory, Moment, Roster, Update};
+use table_cell::TableCell;
+use table_types::{Batch, Change, CopyKind, Key, Memory, Moment, Update};
 
 /// What a world has.
 #[derive(Drop)]
 pub(crate) struct Parts {
     pub(crate) alloc: Global,
-    /// The definitions of the tables, in their order.
-    pub(crate) roster: Roster,
     pub(crate) cells: Vec<TableCell>,
     /// The connections of the sessions 1, 2 and so on.
     pub(crate) connections: Vec<Connection>,
@@ -27,7 +31,12 @@ pub(crate) struct Parts {
 
 impl Parts {
     /// Makes one step. A step that can't be made changes nothing.
-    pub(crate) fn make(&mut self, step: &Step) -> Result<(), Memory> {
+    pub(crate) fn make(&mut self, step: &Step) -> Result<(), Memory>
+        requires order { IsInOrder (world_of self.old) }
+        ensures moves { OnOk result (Moves (world_of self.old) step.now (world_of self.new)) }
+        ensures kept { copies_or_teaches step.now ≡ true → OnOk result (AreOnTrack (world_of self.new)) }
+        ensures timely { IsTimelyStep step.now }
+    {
         match step {
             Step::Track {
                 table,
@@ -65,19 +74,22 @@ impl Parts {
     }
 
     fn track(&mut self, table: u64, key: &Key, change: &Change, now: Moment) -> Result<(), Memory>
-        ensures { OnOk result (Moves (world_of self.old) (steps.Track table key.now change.now now) (world_of self.new)) }
+        ensures moves { OnOk result (Moves (world_of self.old) (steps.Track table key.now change.now now) (world_of self.new)) }
+        ensures timely { now < 2 ^ 63 }
     {
         track(self.alloc, &mut self.cells, table, key, change, now)
     }
 
     fn learn(&mut self, session: u32, update: &Update, now: Moment) -> Result<(), Memory>
-        ensures { OnOk result (Moves (world_of self.old) (steps.Learn session update.now now) (world_of self.new)) }
+        ensures moves { OnOk result (Moves (world_of self.old) (steps.Learn session update.now now) (world_of self.new)) }
+        ensures timely { now < 2 ^ 63 }
     {
         learn(self.alloc, &mut self.cells, session, update, now)
     }
 
     fn purge(&mut self, table: u64, now: Moment) -> Result<(), Memory>
-        ensures { OnOk result (Moves (world_of self.old) (steps.Purge table now) (world_of self.new)) }
+        ensures moves { OnOk result (Moves (world_of self.old) (steps.Purge table now) (world_of self.new)) }
+        ensures timely { now < 2 ^ 63 }
     {
         purge(&mut self.cells, table, now)
     }
@@ -89,7 +101,11 @@ impl Parts {
         kind: CopyKind,
         limit: usize,
         now: Moment,
-    ) -> Result<(), Memory> {
+    ) -> Result<(), Memory>
+        ensures moves { OnOk result (Moves (world_of self.old) (steps.Copy session table kind limit now) (world_of self.new)) }
+        ensures kept { AreOnTrack (world_of self.old) → OnOk result (AreOnTrack (world_of self.new)) }
+        ensures timely { now < 2 ^ 63 }
+    {
         if limit == 0 || limit > Batch::MOST {
             return Ok(());
         }
@@ -99,58 +115,50 @@ impl Parts {
         let Some(index) = index_of(self.cells.as_slice(), table) else {
             return Ok(());
         };
-        match self.cells[index].copy(session, kind, limit, now) {
-            Ok(batch) => {
-                self.connections[place].copied.push(batch)?;
-                Ok(())
-            }
-            Err(error) if error == CopyError::Memory => Err(Memory),
-            Err(_) => Ok(()),
+        match copy(&mut self.cells[index], session, kind, limit, now)? {
+            Some(batch) => self.connections[place].let_wait(batch),
+            None => Ok(()),
         }
     }
 
-    fn teach(&mut self, session: u32) -> Result<(), Memory> {
+    fn teach(&mut self, session: u32) -> Result<(), Memory>
+        ensures moves { AreOnTrack (world_of self.old) → OnOk result (Moves (world_of self.old) (steps.Teach session) (world_of self.new)) }
+        ensures kept { AreOnTrack (world_of self.old) → OnOk result (AreOnTrack (world_of self.new)) }
+    {
         match connection_index(self.connections.as_slice(), session) {
             Some(place) => self.connections[place].teach(self.alloc),
             None => Ok(()),
         }
     }
 
-    fn deliver_to_learner(
-        &mut self,
-        session: u32,
-        count: usize,
-        now: Moment,
-    ) -> Result<(), Memory> {
+    fn deliver_to_learner(&mut self, session: u32, count: usize, now: Moment) -> Result<(), Memory>
+        ensures { AreOnTrack (world_of self.old) → OnOk result (Moves (world_of self.old) (steps.Deliver session ways.ToLearner count now) (world_of self.new)) }
+    {
         match connection_index(self.connections.as_slice(), session) {
             Some(place) => self.connections[place].deliver_to_learner(count, now),
             None => Ok(()),
         }
     }
 
-    /// Delivers to the teacher, and makes the acknowledgements that are then whole, unless a table would refuse one of them.
-    fn deliver_to_teacher(&mut self, session: u32, count: usize) -> Result<(), Memory> {
+    /// Delivers to the teacher, and makes the acknowledgements that are then whole. If a table refuses one of them, nothing
+    /// is delivered.
+    fn deliver_to_teacher(&mut self, session: u32, count: usize) -> Result<(), Memory>
+        ensures { OnOk result ((now : ℕ) → Moves (world_of self.old) (steps.Deliver session ways.ToTeacher count now) (world_of self.new)) }
+    {
         let Some(place) = connection_index(self.connections.as_slice(), session) else {
             return Ok(());
         };
-        let connection = &mut self.connections[place];
+        let connection = &self.connections[place];
         if connection.to_teacher.len() < count {
             return Ok(());
         }
-        let mut bytes = Vec::new(self.alloc);
-        bytes.extend_from_slice(connection.unread.as_slice())?;
-        bytes.extend_from_slice(&connection.to_teacher.as_slice()[..count])?;
-        let read = read_acks(self.alloc, &self.roster, bytes.as_slice())?;
-        if !has_room_for_each(self.cells.as_slice(), read.acks.as_slice()) {
+        let bytes = connection.arriving(self.alloc, count)?;
+        let read = read_acks(self.alloc, self.cells.as_slice(), bytes.as_slice())?;
+        if !are_taken(self.cells.as_slice(), session, read.acks.as_slice()) {
             return Ok(());
         }
         make_each(&mut self.cells, session, read.acks.as_slice())?;
-        connection
-            .unread
-            .append(&connection.to_teacher.as_slice()[..count])?;
-        connection.unread.advance(read.used);
-        connection.to_teacher.advance(count);
-        Ok(())
+        self.connections[place].arrive(count, read.used)
     }
 
     fn acknowledge(&mut self, session: u32) -> Result<(), Memory>
@@ -162,50 +170,32 @@ impl Parts {
         }
     }
 
-    fn break_off(&mut self, session: u32) -> Result<(), Memory> {
+    fn break_off(&mut self, session: u32) -> Result<(), Memory>
+        ensures { OnOk result (IsOpenWorld (world_of self.old) → Moves (world_of self.old) (steps.Break session) (world_of self.new)) }
+    {
         let Some(place) = connection_index(self.connections.as_slice(), session) else {
             return Ok(());
         };
         if !has_room_for(self.cells.as_slice(), 2) {
             return Ok(());
         }
-        self.connections[place] = Connection::new(self.alloc, &self.roster)?;
+        let roster = roster_of(self.alloc, self.cells.as_slice())?;
+        self.connections[place] = Connection::new(self.alloc, &roster)?;
         reopen_in_each(self.cells.as_mut_slice(), session)
     }
 
-    fn reopen(&mut self, session: u32) -> Result<(), Memory> {
-        if connection_index(self.connections.as_slice(), session).is_none() {
+    fn reopen(&mut self, session: u32) -> Result<(), Memory>
+        ensures { OnOk result (IsOpenWorld (world_of self.old) → Moves (world_of self.old) (steps.Reopen session) (world_of self.new)) }
+    {
+        let Some(_place) = connection_index(self.connections.as_slice(), session) else {
+            return Ok(());
+        };
+        if is_any_out(self.cells.as_slice(), session) {
             return Ok(());
         }
-        if is_any_out(self.cells.as_slice(), session) || !has_room_for(self.cells.as_slice(), 2) {
+        if !has_room_for(self.cells.as_slice(), 2) {
             return Ok(());
         }
         reopen_in_each(self.cells.as_mut_slice(), session)
     }
-}
-
-/// Returns whether each table has room for its acknowledgements.
-fn has_room_for_each(cells: &[TableCell], acks: &[Acknowledgement]) -> bool {
-    for cell in cells {
-        if cell.room() < count_of(acks, cell.definition().id()) as u64 {
-            return false;
-        }
-    }
-    true
-}
-
-/// Makes the acknowledgements one after another.
-fn make_each(
-    cells: &mut Vec<TableCell>,
-    session: u32,
-    acks: &[Acknowledgement],
-) -> Result<(), Memory> {
-    for acked in acks {
-        if let Some(index) = index_of(cells.as_slice(), acked.table) {
-            if let Err(AckError::Memory) = cells[index].ack(session, acked.number) {
-                return Err(Memory);
-            }
-        }
-    }
-    Ok(())
 }

@@ -1,39 +1,55 @@
 //! The world, and its runs.
 
-use crate::cells::{index_of, open_in_each};
-use crate::connection::Connection;
+ghost use Rattle.std.specs.Prelude.{◌≡◌, ◌≤◌, IfOk, None, option_map};
+ghost use Rattle.std.specs.List.{AllByRecursion};
+ghost use Rattle.table_types.specs.Rosters.{roster_fault};
+ghost use Rattle.interleave_core.specs.Core.{IsCore};
+ghost use Rattle.interleave_core.specs.Moves.{RunsTo};
+ghost use Rattle.interleave_core.specs.Opened.{CanBegin};
+ghost use Rattle.interleave_core.specs.Parts.{connection_of};
+ghost use Rattle.interleave_core.specs.Worlds.{cell_at, connection_at, new_world, pipe_of, roster_of};
+
+use crate::cells::{are_sound, index_of, open_in_each, roster_of};
+use crate::connection::{Connection, index_of as connection_index};
 use crate::parts::Parts;
 use crate::step::Step;
 use crate::way::Way;
 use known_state::Known;
 use learner::Learner;
 use std::alloc::Global;
+use std::marker::Model;
 use table_cell::TableCell;
-use table_types::{Batch, Memory, Roster, Update};
+use table_types::{Batch, Memory, Update};
 
-/// Tables, the sessions that teach from them, and the learner of each session.
+/// Tables, the sessions that teach from them, and the learner of each session. Each session is open in each table.
 #[derive(Drop)]
 pub struct World {
     parts: Parts,
 }
 
-/// Returns the roster of the tables.
-fn roster_of(alloc: Global, cells: &[TableCell]) -> Result<Roster, Memory> {
-    let mut tables = Vec::with_capacity(alloc, cells.len())?;
-    for cell in cells {
-        tables.push(cell.definition().copy(alloc)?)?;
-    }
-    match Roster::new(tables) {
-        Ok(roster) => Ok(roster),
-        Err(_) => Err(Memory),
-    }
+impl Model for World {
+    ghost use Rattle.interleave_core.specs.Opened.{IsInOrder};
+    ghost use Rattle.interleave_core.specs.Parts.{world_of};
+    ghost use Rattle.interleave_core.specs.Worlds.{WorldState};
+
+    ghost Value = { WorldState };
+
+    ghost view = { λ w. world_of w.parts };
+
+    ghost invariant = { λ w. IsInOrder (world_of w.parts) };
 }
 
 impl World {
     /// Returns a world of these tables, in which the sessions 1 to `sessions` are open in each table, nothing is on its way,
     /// and each learner has received nothing. There are 1 to 64 tables with distinct ids and names, in which no session is
     /// open and all can be opened, and 1 to 16 sessions.
-    pub fn new(alloc: Global, mut cells: Vec<TableCell>, sessions: u32) -> Result<World, Memory> {
+    pub fn new(alloc: Global, mut cells: Vec<TableCell>, sessions: u32) -> Result<World, Memory>
+        requires tables { roster_fault (roster_of cells.items) ≡ None }
+        requires begin { AllByRecursion (CanBegin sessions) cells.items }
+        requires sessions { (1 ≤ sessions) × (sessions ≤ 16) }
+        ensures { IfOk result (λ world. world ≡ new_world cells.items sessions) }
+    {
+        are_sound(cells.as_slice());
         let roster = roster_of(alloc, cells.as_slice())?;
         let mut connections = Vec::new(alloc);
         for before in 0..sessions {
@@ -42,36 +58,45 @@ impl World {
         }
         let parts = Parts {
             alloc,
-            roster,
             cells,
             connections,
         };
         Ok(World { parts })
     }
 
-    fn connection(&self, session: u32) -> Option<&Connection> {
-        let index = (session as usize).checked_sub(1)?;
-        self.parts.connections.get(index)
+    fn connection(&self, session: u32) -> Option<&Connection>
+        ensures { option_map (λ c. connection_of c.now) result ≡ connection_at session self.now.connections }
+    {
+        let index = connection_index(self.parts.connections.as_slice(), session)?;
+        Some(&self.parts.connections[index])
     }
 
     /// Returns the table of this id.
-    pub fn cell(&self, table: u64) -> Option<&TableCell> {
+    pub fn cell(&self, table: u64) -> Option<&TableCell>
+        ensures { option_map (λ c. c.now) result ≡ cell_at table self.now.cells }
+    {
         let index = index_of(self.parts.cells.as_slice(), table)?;
         self.parts.cells.get(index)
     }
 
     /// Returns what the teacher of `session` knows of its learner, once all that is on its way has arrived.
-    pub fn known(&self, session: u32) -> Option<&Known> {
+    pub fn known(&self, session: u32) -> Option<&Known>
+        ensures { option_map (λ k. k.now) result ≡ option_map (λ s. s.known) (connection_at session self.now.connections) }
+    {
         Some(&self.connection(session)?.known)
     }
 
     /// Returns the learner of `session`.
-    pub fn learner(&self, session: u32) -> Option<&Learner> {
+    pub fn learner(&self, session: u32) -> Option<&Learner>
+        ensures { option_map (λ l. l.now) result ≡ option_map (λ s. s.learner) (connection_at session self.now.connections) }
+    {
         Some(&self.connection(session)?.learner)
     }
 
     /// Returns the bytes on their way in a session.
-    pub fn pipe(&self, session: u32, way: Way) -> Option<&[u8]> {
+    pub fn pipe(&self, session: u32, way: Way) -> Option<&[u8]>
+        ensures { option_map (λ bytes. bytes.now) result ≡ option_map (pipe_of way) (connection_at session self.now.connections) }
+    {
         let connection = self.connection(session)?;
         match way {
             Way::ToLearner => Some(connection.to_learner.as_slice()),
@@ -80,25 +105,35 @@ impl World {
     }
 
     /// Returns the batches of `session` that were copied and not taught yet, the oldest first.
-    pub fn copied(&self, session: u32) -> Option<&[Batch]> {
+    pub fn copied(&self, session: u32) -> Option<&[Batch]>
+        ensures { option_map (λ batches. batches.now) result ≡ option_map (λ s. s.copied) (connection_at session self.now.connections) }
+    {
         Some(self.connection(session)?.copied.as_slice())
     }
 
     /// Returns the updates taught in `session` since its connection began, in order.
-    pub fn taught(&self, session: u32) -> Option<&[Update]> {
+    pub fn taught(&self, session: u32) -> Option<&[Update]>
+        ensures { option_map (λ updates. updates.now) result ≡ option_map (λ s. s.taught) (connection_at session self.now.connections) }
+    {
         Some(self.connection(session)?.taught.as_slice())
     }
 
     /// Returns the updates that the learner of `session` has put since its connection began, in order: the first of those
     /// that were taught.
-    pub fn applied(&self, session: u32) -> Option<&[Update]> {
+    pub fn applied(&self, session: u32) -> Option<&[Update]>
+        ensures { option_map (λ updates. updates.now) result ≡ option_map (λ s. s.applied) (connection_at session self.now.connections) }
+    {
         let connection = self.connection(session)?;
-        connection.taught.as_slice().get(..connection.applied)
+        let taught = connection.taught.as_slice();
+        Some(&taught[..connection.applied.min(taught.len())])
     }
 }
 
-/// Makes the steps one after another. After `Memory` the world is gone.
-pub fn run(world: World, steps: &[Step]) -> Result<World, Memory> {
+/// Makes the steps one after another, each as the world then stands. After `Memory` the world is gone.
+pub fn run(world: World, steps: &[Step]) -> Result<World, Memory>
+    ensures runs { IfOk result (λ after. RunsTo world steps.now after) }
+    ensures core { IfOk result IsCore }
+{
     let World { mut parts } = world;
     for step in steps {
         parts.make(step)?;

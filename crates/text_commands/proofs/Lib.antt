@@ -1,2 +1,4 @@
 mod Printing
 mod SceneLaws
+mod NewWorlds
+mod WorldPrinting

@@ -1,9 +1,11 @@
 //! Runs a world: makes the steps of a script in turn, and answers the questions in between.
-ghost use Rattle.std.specs.Prelude.{◌≡◌, IfOk, map};
+ghost use Rattle.std.specs.Prelude.{◌≡◌, ◌++◌, IfOk, List, OnOk, map, ℕ};
 ghost use Rattle.std.specs.List.{AllByRecursion};
+ghost use Rattle.interleave_core.specs.Worlds.{WorldState};
 ghost use Rattle.node_text.specs.ScriptTables.{IsScriptTable};
 ghost use Rattle.node_text.specs.Worlds.{IsWorldScript};
 ghost use Rattle.text_commands.specs.Running.{cell_of};
+ghost use Rattle.text_commands.specs.Worlds.{Answers, IsWorldPrinted, PrintLines, PrintsLine, step_of};
 
 use crate::cells::cell_of;
 use crate::world_answers::{push_learner, push_session, push_table_events, push_table_rows};
@@ -16,6 +18,7 @@ use table_types::Memory;
 /// Returns what the script of a world prints.
 pub(crate) fn printed(alloc: Global, script: WorldScript) -> Result<Vec<u8>, Memory>
     requires { IsWorldScript script }
+    ensures { IfOk result (λ text. IsWorldPrinted script text.items) }
 {
     let sessions = script.session_count();
     let WorldScript { tables, lines, .. } = script;
@@ -43,15 +46,32 @@ fn run_lines(
     world: World,
     lines: Vec<WorldLine>,
     text: &mut Vec<u8>,
-) -> Result<(), Memory> {
+) -> Result<(), Memory>
+    ensures { OnOk result ((more : List ℕ) × (e : WorldState) × PrintLines world lines.items more e × (text.new.items ≡ text.old.items ++ more)) }
+{
     let mut world = world;
     for line in lines {
-        match line {
-            WorldLine::Step(step) => world = run(world, &[step_of(step)])?,
-            WorldLine::Question(question) => push_answer(alloc, &world, text, question)?,
-        }
+        world = run_line(alloc, world, line, text)?;
     }
     Ok(())
+}
+
+/// Makes a step, or appends the answer to a question. Returns the world after it.
+fn run_line(
+    alloc: Global,
+    world: World,
+    line: WorldLine,
+    text: &mut Vec<u8>,
+) -> Result<World, Memory>
+    ensures { IfOk result (λ after. (more : List ℕ) × PrintsLine world line more after × (text.new.items ≡ text.old.items ++ more)) }
+{
+    match line {
+        WorldLine::Step(step) => run(world, &[step_of(step)]),
+        WorldLine::Question(question) => {
+            push_answer(alloc, &world, text, question)?;
+            Ok(world)
+        }
+    }
 }
 
 /// Appends the answer to a question.
@@ -60,7 +80,9 @@ fn push_answer(
     world: &World,
     text: &mut Vec<u8>,
     question: WorldQuestion,
-) -> Result<(), Memory> {
+) -> Result<(), Memory>
+    ensures { OnOk result ((more : List ℕ) × Answers world.now question more × (text.new.items ≡ text.old.items ++ more)) }
+{
     match question {
         WorldQuestion::Session(session) => push_session(alloc, world, text, session),
         WorldQuestion::Rows(table) => push_table_rows(alloc, world, text, table),
@@ -72,7 +94,9 @@ fn push_answer(
 }
 
 /// Returns the world's step that a line says.
-fn step_of(step: WorldStep) -> Step {
+fn step_of(step: WorldStep) -> Step
+    ensures { result ≡ step_of step }
+{
     match step {
         WorldStep::Track {
             table,

@@ -1,8 +1,9 @@
 //! The subcommand `world`.
-ghost use Rattle.std.specs.Prelude.{◌≡◌, ◌≢◌, ◌≤◌, ℕ, Err, IfErr};
+ghost use Rattle.std.specs.Prelude.{◌≡◌, ◌≢◌, ◌≤◌, ℕ, Err, IfErr, IfOk, List};
 ghost use Rattle.std.specs.Io.KnownBytes.{Appends};
+ghost use Rattle.node_text.specs.declared.worlds.WorldScript.{WorldScript};
 ghost use Rattle.text_commands.specs.Endings.{IsEarly, line_of};
-ghost use Rattle.text_commands.specs.Worlds.{EndsWorld};
+ghost use Rattle.text_commands.specs.Worlds.{EndsWorld, IsWorldPrinted};
 
 use crate::endings::Ending;
 use crate::world_running::printed;
@@ -21,6 +22,8 @@ pub fn world<R: Read + Faults, W: Write + Faults, E: Write + Faults>(
     output: &mut W,
     errors: &mut E,
 ) -> Ending
+    ensures done { result ≡ Ending.Done → (script : WorldScript) × (text : List ℕ) × IsWorldPrinted script text
+        × Appends (W.contents output.old) (W.contents output.new) text }
     ensures silent { result ≢ Ending.Done → result ≢ Ending.Device → output.new ≡ output.old }
     ensures ends { EndsWorld result }
     ensures said { result ≢ Ending.Device → Appends (E.contents errors.old) (E.contents errors.new) (line_of result) }
@@ -37,6 +40,7 @@ pub fn world<R: Read + Faults, W: Write + Faults, E: Write + Faults>(
 
 /// Returns what is printed for the script that `input` has.
 fn answers<R: Read + Faults>(alloc: Global, input: &mut R) -> Result<Vec<u8>, Ending>
+    ensures printed { IfOk result (λ text. (script : WorldScript) × IsWorldPrinted script text.items) }
     ensures early { IfErr result IsEarly }
     ensures line { (number : ℕ) → result ≡ Err (Ending.Line number) → 1 ≤ number }
 {

@@ -1,0 +1,14 @@
+use Rattle.std.proofs.Common.{[], sym}
+use Rattle.interleave_core.proofs.TiePairs.{open_tied}
+use Rattle.interleave_core.proofs.WorldSteps.{step_sound}
+use Rattle.interleave_core.proofs.WorldTold.{new_sound}
+use Rattle.interleave_core.proofs.world_laws.a_world_stays_sound.Goals as goal
+
+pub returns-clause-new : goal.returns-clause-new
+returns-clause-new c = new_sound
+
+pub returns-clause-step : goal.returns-clause-step
+returns-clause-step c = step_sound
+
+pub returns-clause-opened : goal.returns-clause-opened
+returns-clause-opened x session c e reply made = let tie = open_tied session [] c e reply made tt in (tie.progress, sym tie.same)
