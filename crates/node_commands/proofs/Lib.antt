@@ -1,3 +1,4 @@
+mod CountLaws
 mod EndingLaws
 mod Lists
 mod LoadingLaws

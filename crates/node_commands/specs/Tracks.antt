@@ -1,9 +1,10 @@
 -- What a thread of a round does to the table (profile).
-use Rattle.std.specs.Prelude.{◌≡◌, ℕ, List, ◌++◌, length}
+use Rattle.std.specs.Prelude.{◌≡◌, ℕ, ◌<◌, ◌≤◌, Bool, true, false, List, ◌++◌, length}
 use Rattle.std.specs.List.{AllByRecursion}
 use Rattle.table_types.specs.declared.change.Change.TheVariants as changes
 use Rattle.table_types.specs.declared.data_type.DataType.TheVariants as types
 use Rattle.table_types.specs.declared.key.Key.TheVariants as keys
+use Rattle.table_cell.specs.declared.events.CellEvent.{CellEvent}
 use Rattle.table_cell.specs.declared.events.CellEvent.TheVariants as events
 use Rattle.table_shards.specs.Receipts.{ReceiptState, SeatState, receipts_of}
 
@@ -14,6 +15,19 @@ IsTrack seat key r = r.event ≡ events.Track seat (keys.Int key) (changes.Add t
 -- the seat has exactly `tracks` receipts of table 1, and each is of a track of the key that is the seat's number
 abbrev pub HasTracked : ℕ → SeatState → Type 0
 HasTracked tracks s = (length (receipts_of 1 s) ≡ tracks) × AllByRecursion (IsTrack s.number s.number) (receipts_of 1 s)
+
+-- the event changes no row: it is a copy or an acknowledgement, or opens or closes a session
+abbrev pub keeps_rows : CellEvent → Bool
+keeps_rows (events.Copy session kind limit now) = true
+keeps_rows (events.Ack session number) = true
+keeps_rows (events.Open session) = true
+keeps_rows (events.Close session) = true
+keeps_rows event = false
+
+-- the seat of a thread has tracked as often as the thread was asked to, and any other seat has changed no row
+abbrev pub HasDoneItsPart : ℕ → ℕ → SeatState → Type 0
+HasDoneItsPart threads tracks s =
+    (s.number ≤ threads → HasTracked tracks s) × (threads < s.number → AllByRecursion (λ r. keeps_rows r.event ≡ true) (receipts_of 1 s))
 
 -- the seat has exactly `tracks` more receipts of table 1, and each of these is of a track of the key
 abbrev pub GainsTracks : ℕ → ℕ → SeatState → SeatState → Type 0

@@ -50,7 +50,7 @@ abbrev pub Takes : Worker → Result Turned EngineError → List ℕ → List �
 Takes w (Ok gave) received sent e =
     ((event : Option Event) × IsRead (received ≡ []) event received × TakesTurn (received ≡ []) w event sent e) × ((gave ≡ turned.Closed) ↔ (state_of e.session.phase ≡ states.Ended))
 Takes w (Err error) received sent e =
-    ((event : Option Event) × IsRead (received ≡ []) event received × StopsTurn (received ≡ []) w event error sent e.session) × (state_of e.session.phase ≡ states.Ended)
+    ((event : Option Event) × IsRead (received ≡ []) event received × StopsTurn (received ≡ []) w event error sent e.session e.seat) × (state_of e.session.phase ≡ states.Ended)
 
 -- nothing more is received or sent, and the session stays as it is
 abbrev pub Rests : SessionState → List ℕ → List ℕ → SessionState → Type 0

@@ -12,5 +12,7 @@ mod rounds;
 mod sockets;
 
 pub use link::Link;
-pub use rounds::{RoundSize, Worker, round, track_all, work};
+pub use rounds::{
+    RoundSize, StartGate, Worker, a_round_counts_its_tracks, gated_round, round, track_all, work,
+};
 pub use sockets::{join, serve};

@@ -1,27 +1,33 @@
 //! The subcommand `round`: threads change a table while a session's worker copies, plans, settles and acknowledges, and an audit
 //! compares the table with what each of them did.
 
+mod laws;
+mod starting;
 mod table;
 mod tracking;
 mod worker;
 
-ghost use Rattle.std.specs.Prelude.{◌≡◌, ◌≢◌, ◌≤◌, ◌⊎◌, ℕ, List, IfOk};
+ghost use Rattle.std.specs.Prelude.{◌≡◌, ◌≢◌, ◌≤◌, ◌⊎◌, ℕ, List, IfOk, IsTrue};
+ghost use Rattle.std.specs.List.{AllByRecursion};
 ghost use Rattle.std.specs.Io.KnownBytes.{Appends};
 ghost use Rattle.text_commands.specs.Endings.{line_of};
-ghost use Rattle.node_commands.specs.Rounds.{IsCleanAudit, IsCutShort, IsTextOf};
+ghost use Rattle.node_commands.specs.Rounds.{IsAsAsked, IsCleanAudit, IsCutShort, IsRoundTable, IsTextOf};
 
 use crate::printing::round_text;
-use crate::rounds::table::{SESSION, TABLE, new_table, refused, roster};
-use crate::rounds::tracking::have_tracked;
+use crate::rounds::starting::{Tracked, track_from_gate, work_from_gate};
+use crate::rounds::table::{SESSION, TABLE, is_round_table, new_table, refused, roster};
+use crate::rounds::tracking::have_done_their_parts;
 use known_state::Known;
+pub use laws::a_round_counts_its_tracks;
 use peers_devices::{Faults, write_all};
 use peers_engine::AlwaysOpen;
+pub use starting::StartGate;
 use std::alloc::Global;
 use std::io::Write;
 use std::sync::Wait;
 use std::thread;
 use std::thread::{JoinHandle, Threads};
-use table_cell::{OpenError, Reply};
+use table_cell::OpenError;
 use table_shards::{Audit, Seat, Shards, held};
 use table_types::Memory;
 use text_commands::Ending;
@@ -61,7 +67,24 @@ pub fn round<R: Threads + Wait + Sync, W: Write + Faults, E: Write + Faults>(
     ensures ends { (result ≡ Ending.Done) ⊎ ((result ≡ Ending.Memory) ⊎ (result ≡ Ending.Device)) }
     ensures said { result ≢ Ending.Device → Appends (E.contents errors.old) (E.contents errors.new) (line_of result) }
 {
-    let text = match audited_text(rt, alloc, asked) {
+    gated_round(rt, alloc, &AlwaysOpen, asked, output, errors)
+}
+
+/// Runs a round as `round` does, but each of its threads, the worker's too, first stops at the gate.
+pub fn gated_round<
+    R: Threads + Wait + Sync,
+    G: StartGate + Sync,
+    W: Write + Faults,
+    E: Write + Faults,
+>(rt: &R, alloc: Global, gate: &G, asked: RoundSize, output: &mut W, errors: &mut E) -> Ending
+    requires { asked.threads ≤ 8 }
+    ensures done { result ≡ Ending.Done → (text : List ℕ) × IsTextOf asked.threads asked.tracks text × Appends (W.contents output.old) (W.contents output.new) text }
+    ensures silent { result ≢ Ending.Done → (output.new ≡ output.old)
+        ⊎ ((result ≡ Ending.Device) × IsCutShort asked.threads asked.tracks (W.contents output.old) (W.contents output.new)) }
+    ensures ends { (result ≡ Ending.Done) ⊎ ((result ≡ Ending.Memory) ⊎ (result ≡ Ending.Device)) }
+    ensures said { result ≢ Ending.Device → Appends (E.contents errors.old) (E.contents errors.new) (line_of result) }
+{
+    let text = match audited_text(rt, alloc, gate, asked) {
         Ok(text) => text,
         Err(Ending::Memory) => return Ending::Memory.said(alloc, errors),
         Err(_) => return Ending::device(errors),
@@ -72,18 +95,39 @@ pub fn round<R: Threads + Wait + Sync, W: Write + Faults, E: Write + Faults>(
     }
 }
 
-/// Runs a round, audits it, and returns its text. Fails with `Device` unless each thread has tracked as often as it was asked to:
-/// the receipts prove that it has, since the contract of `join` doesn't pass on the one of `track_all`.
-fn audited_text<R: Threads + Wait + Sync>(
+/// Returns whether the only table is the round's.
+fn has_round_table(alloc: Global, audit: &Audit) -> Result<bool, Ending>
+    ensures { IfOk result (λ has. IsTrue has → AllByRecursion (λ t. IsRoundTable t.cell) audit.now.unlocked.tables) }
+{
+    match audit.tables() {
+        [table] => is_round_table(alloc, &table.cell),
+        _ => Ok(false),
+    }
+}
+
+/// Returns whether the audited table is the round's, each thread has tracked as often as it was asked to, and nobody else has
+/// changed a row.
+fn is_as_asked(alloc: Global, asked: RoundSize, audit: &Audit) -> Result<bool, Ending>
+    ensures { IfOk result (λ is. IsTrue is → IsAsAsked asked.threads asked.tracks audit.now) }
+{
+    let is_its_own = has_round_table(alloc, audit)?;
+    Ok(is_its_own && have_done_their_parts(asked.threads, asked.tracks, audit.seats()))
+}
+
+/// Runs a round, audits it, and returns its text. Fails with `Device` unless the audited round is as it was asked to be: no contract
+/// of a lock says which cell it holds, and the one of `join` doesn't pass on what `track_all` ensures. So the audited table and the
+/// receipts prove it.
+fn audited_text<R: Threads + Wait + Sync, G: StartGate + Sync>(
     rt: &R,
     alloc: Global,
+    gate: &G,
     asked: RoundSize,
 ) -> Result<Vec<u8>, Ending>
     requires { asked.threads ≤ 8 }
     ensures { IfOk result (λ text. IsTextOf asked.threads asked.tracks text.items) }
 {
-    let audit = run(rt, alloc, asked)?;
-    if have_tracked(asked.threads, asked.tracks, audit.seats()) {
+    let audit = run(rt, alloc, gate, asked)?;
+    if is_as_asked(alloc, asked, &audit)? {
         round_text(alloc, &audit)
     } else {
         Err(Ending::Device)
@@ -91,7 +135,12 @@ fn audited_text<R: Threads + Wait + Sync>(
 }
 
 /// Runs a round, and audits it.
-fn run<R: Threads + Wait + Sync>(rt: &R, alloc: Global, asked: RoundSize) -> Result<Audit, Ending>
+fn run<R: Threads + Wait + Sync, G: StartGate + Sync>(
+    rt: &R,
+    alloc: Global,
+    gate: &G,
+    asked: RoundSize,
+) -> Result<Audit, Ending>
     requires { asked.threads ≤ 8 }
     ensures { IfOk result (λ audit. IsCleanAudit asked.threads audit) }
 {
@@ -99,7 +148,7 @@ fn run<R: Threads + Wait + Sync>(rt: &R, alloc: Global, asked: RoundSize) -> Res
     cells.push(new_table(alloc)?).map_err(Memory::from)?;
     let (shards, seats) = Shards::new(alloc, cells, asked.threads + 2)?;
     let known = Known::fresh(alloc, roster(alloc)?);
-    let seats = seats_after(rt, alloc, &shards, asked.tracks, seats, known)?;
+    let seats = seats_after(rt, alloc, gate, &shards, asked.tracks, seats, known)?;
     let Ok(unlocked) = shards.unlock(alloc) else {
         return Err(Ending::Memory);
     };
@@ -111,9 +160,10 @@ fn run<R: Threads + Wait + Sync>(rt: &R, alloc: Global, asked: RoundSize) -> Res
 
 /// Opens the session, runs the threads, and continues as the worker until there is nothing to copy. Returns all seats: the last
 /// two are the worker's and this thread's.
-fn seats_after<R: Threads + Wait + Sync>(
+fn seats_after<R: Threads + Wait + Sync, G: StartGate + Sync>(
     rt: &R,
     alloc: Global,
+    gate: &G,
     shards: &Shards,
     tracks: u32,
     mut seats: Vec<Seat>,
@@ -124,7 +174,7 @@ fn seats_after<R: Threads + Wait + Sync>(
     };
     let own = opened(rt, shards, own)?;
     let worker = Worker { seat, known };
-    let (seats, worker) = run_threads(rt, alloc, shards, tracks, seats, worker)?;
+    let (seats, worker) = run_threads(rt, alloc, gate, shards, tracks, seats, worker)?;
     seats_at_last(rt, alloc, shards, own, seats, worker)
 }
 
@@ -157,9 +207,6 @@ fn opened<R: Wait>(rt: &R, shards: &Shards, seat: Seat) -> Result<Seat, Ending> 
     }
 }
 
-/// The result of a thread that changes the table: its seat, and the reply to its last change.
-type Tracked = (Seat, Result<Option<Reply>, Ending>);
-
 /// Joins the threads that change the table, and returns their seats. Stops at the first one that failed: the scope then joins the
 /// others.
 fn joined<R: Threads + Wait>(
@@ -176,11 +223,12 @@ fn joined<R: Threads + Wait>(
     Ok(seats)
 }
 
-/// Starts a thread for each of `seats`, which changes the key that is the seat's number, and one for the worker, and joins them
-/// all. If a thread can't be started, returns `Device` once those that run have ended.
-fn run_threads<R: Threads + Wait + Sync>(
+/// Starts a thread for each of `seats`, which changes the key that is the seat's number, and one for the worker. Each stops at the
+/// gate first. Once all have started, joins them. If a thread can't be started, returns `Device` once those that run have ended.
+fn run_threads<R: Threads + Wait + Sync, G: StartGate + Sync>(
     rt: &R,
     alloc: Global,
+    gate: &G,
     shards: &Shards,
     tracks: u32,
     seats: Vec<Seat>,
@@ -189,13 +237,13 @@ fn run_threads<R: Threads + Wait + Sync>(
     thread::scope(thread::scope_env(), rt, move |scope| {
         let mut trackers = Vec::new(alloc);
         for seat in seats {
-            let key = seat.number();
-            match scope.spawn(move || track_all(rt, shards, seat, key, tracks)) {
+            match scope.spawn(move || track_from_gate(rt, gate, shards, seat, tracks)) {
                 Ok(tracker) => trackers.push(tracker).map_err(Memory::from)?,
                 Err(_) => return Err(Ending::Device),
             }
         }
-        let Ok(teaching) = scope.spawn(move || work(rt, alloc, &AlwaysOpen, shards, worker)) else {
+        let Ok(teaching) = scope.spawn(move || work_from_gate(rt, alloc, gate, shards, worker))
+        else {
             return Err(Ending::Device);
         };
         let seats = joined(rt, alloc, trackers)?;

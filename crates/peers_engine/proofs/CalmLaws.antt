@@ -130,7 +130,7 @@ done_answered n now k s t (actions.Ack table number) out answer (none, inr (is, 
 done_answered n now k s t (actions.Reopen table) out answer (written, none, reopened) = ap is_answered none
 done_answered n now k s t (actions.Copy table kind) out answer (none, inl (batch, is, call)) = ap is_answered is
 done_answered n now k s t (actions.Copy table kind) out answer (none, inr (is, call)) = ap is_answered is
-done_answered n now k s t (actions.Teach batch) out answer (after, lesson, is, settled, same) = ap is_answered is
+done_answered n now k s t (actions.Teach batch) out answer (after, lesson, is, settled) = ap is_answered is
 done_answered n now k s t (actions.Part kind) out answer (written, none, same) = ap is_answered none
 done_answered n now k s t actions.Close out answer (written, none, same) = ap is_answered none
 
@@ -140,7 +140,7 @@ done_last n now k s t (actions.Learn u) out answer calm (written, none, learned)
 done_last n now k s t (actions.Ack table number) out answer calm done = absurd (false≢true calm)
 done_last n now k s t (actions.Reopen table) out answer calm (written, none, reopened) = ap is_last none
 done_last n now k s t (actions.Copy table kind) out answer calm done = absurd (false≢true calm)
-done_last n now k s t (actions.Teach batch) out answer calm (after, lesson, is, settled, same) = ap is_last is
+done_last n now k s t (actions.Teach batch) out answer calm (after, lesson, is, settled) = ap is_last is
 done_last n now k s t (actions.Part kind) out answer calm (written, none, same) = ap is_last none
 done_last n now k s t actions.Close out answer calm (written, none, same) = ap is_last none
 

@@ -1,5 +1,5 @@
 -- From one action to a whole turn.
-use Rattle.std.proofs.Common.{◌≡◌, ℕ, Bool, List, [], ◌∷◌, ◌++◌, Option, Some, None, Result, Ok, Err, IfOk, IfErr, refl, sym, ap, ◌∙◌, subst, inl, inr}
+use Rattle.std.proofs.Common.{◌≡◌, ℕ, Bool, List, [], ◌∷◌, ◌++◌, Option, Some, None, Result, Ok, Err, refl, sym, ap, ◌∙◌, subst, inl, inr}
 use Rattle.std.specs.Prelude.{◌≢◌, true, false}
 use Rattle.std.specs.List.{list_all}
 use Rattle.std.specs.Io.KnownBytes.{Appends, Consumes}
@@ -8,22 +8,21 @@ use Rattle.std.proofs.lemmas.List.Concat.{flat_map-append}
 use Rattle.table_shards.specs.Receipts.{SeatState}
 use Rattle.known_state.specs.Known.{KnownState}
 use Rattle.session_core.specs.declared.action.Action.{Action}
+use Rattle.session_core.specs.declared.error.SessionError.{SessionError}
+use Rattle.session_core.specs.declared.error.SessionError.TheVariants as refusals
 use Rattle.session_core.specs.declared.event.Event.{Event}
 use Rattle.session_core.specs.declared.state.State.TheVariants as states
-use Rattle.session_core.specs.Sessions.{SessionState, Goes, ended, state_of}
+use Rattle.session_core.specs.Phases.{Phase}
+use Rattle.session_core.specs.Phases as phases
+use Rattle.session_core.specs.Courses.{state_of_course}
+use Rattle.session_core.specs.Sessions.{SessionState, Goes, Refuses, ended, state_of}
 use Rattle.peers_engine.specs.declared.errors.EngineError.{EngineError}
+use Rattle.peers_engine.specs.declared.errors.EngineError.TheVariants as errors
 use Rattle.peers_engine.specs.Doing.{Done, Fails}
 use Rattle.peers_engine.specs.Acting.{Acts, DoesNotGoOn, Stops, IsGiven, Worker, asked, stands}
 use Rattle.peers_engine.specs.Reading.{IsRead}
 use Rattle.peers_engine.specs.Turns.{Breaks, Halts, HaltsAt, Receives, Idles, Reacts, StopsTurn, TakesTurn, Turns, first_event, is_push}
 use Rattle.peers_engine.proofs.HaltLaws.{act_more, act_stops, breaks_of, halted, idle_done, react_done, react_stops, react_stops_later, give_stops, turns_of}
-
--- what is known of a result, given its variant
-pub of_ok : {X : Type 0} (P : X → Type 0) (result : Result X EngineError) (x : X) → IfOk result P → result ≡ Ok x → P x
-of_ok {X} P result x given is = subst (λ (r : Result X EngineError). IfOk r P) is given
-
-pub of_err : {X : Type 0} (P : EngineError → Type 0) (result : Result X EngineError) (error : EngineError) → IfErr result P → result ≡ Err error → P error
-of_err {X} P result error given is = subst (λ (r : Result X EngineError). IfErr r P) is given
 
 -- ---- the actions so far, and one more
 
@@ -33,58 +32,47 @@ AreDone s acts given e old new =
     (answers : List (Event × List Action)) × (out : List ℕ) × Acts s acts answers out e × (given ≡ asked answers) × Appends old new out
 
 -- the same, up to an error
-abbrev pub AreStopped : Worker → List Action → EngineError → SessionState → Option (List ℕ) → Option (List ℕ) → Type 0
-AreStopped s acts error e old new =
-    (answers : List (Event × List Action)) × (out : List ℕ) × Stops s acts error answers out e × Appends old new out
+abbrev pub AreStopped : Worker → List Action → EngineError → SessionState → SeatState → Option (List ℕ) → Option (List ℕ) → Type 0
+AreStopped s acts error e seat old new =
+    (answers : List (Event × List Action)) × (out : List ℕ) × Stops s acts error answers out e seat × Appends old new out
 
 -- one action is performed
 abbrev pub OneDone : ℕ → ℕ → KnownState → SeatState → SeatState → Action → Option (List ℕ) → Option (List ℕ) → Option Event → Type 0
 OneDone n now k s t act old new answer = (out : List ℕ) × Done n now k s act out answer t × Appends old new out
 
 -- one action fails
-abbrev pub OneFails : ℕ → ℕ → KnownState → SeatState → Action → Option (List ℕ) → Option (List ℕ) → EngineError → Type 0
-OneFails n now k s act old new error = (out : List ℕ) × Fails n now k s act error out × Appends old new out
+abbrev pub OneFails : ℕ → ℕ → KnownState → SeatState → SeatState → Action → Option (List ℕ) → Option (List ℕ) → EngineError → Type 0
+OneFails n now k s t act old new error = (out : List ℕ) × Fails n now k s act error out t × Appends old new out
 
 -- a session that isn't over doesn't go on after an answer
 abbrev pub IsNotGiven : SessionState → Option Event → SessionState → EngineError → Type 0
 IsNotGiven s answer e error = (event : Event) × (answer ≡ Some event) × (state_of s.phase ≢ states.Ended) × DoesNotGoOn s event error e
 
-fails_known : (s mid : Worker) (k : KnownState) (all before rest given : List Action) (act : Action) (error : EngineError) (a b d : Option (List ℕ))
-    → all ≡ before ++ (act ∷ rest) → k ≡ mid.session.known → AreDone s before given mid a b → OneFails mid.number mid.now k mid.seat act b d error → AreStopped s all error mid.session a d
-fails_known s mid k all before rest given act error a b d is same (answers, out, acted, kept, appended) (last, fails, more) = (
+-- the next action fails
+pub next_fails : (s mid : Worker) (seat : SeatState) (k : KnownState) (all before rest given : List Action) (act : Action) (error : EngineError) (a b d : Option (List ℕ))
+    → all ≡ before ++ (act ∷ rest) → k ≡ mid.session.known → AreDone s before given mid a b → OneFails mid.number mid.now k mid.seat seat act b d error → AreStopped s all error mid.session seat a d
+next_fails s mid seat k all before rest given act error a b d is same (answers, out, acted, kept, appended) (last, fails, more) = (
   answers,
   out ++ last,
-  act_stops s mid all before rest act error answers out last is acted (subst (λ (x : KnownState). Fails mid.number mid.now x mid.seat act error last) same fails),
+  act_stops s mid seat all before rest act error answers out last is acted (subst (λ (x : KnownState). Fails mid.number mid.now x mid.seat act error last seat) same fails),
   Appends-trans a b d out last appended more,
 )
 
--- the next action fails
-pub next_fails : (s mid : Worker) (k : KnownState) (all before rest given : List Action) (act : Action) (error : EngineError) (result : Result (Option Event) EngineError) (a b d : Option (List ℕ))
-    → all ≡ before ++ (act ∷ rest) → k ≡ mid.session.known → AreDone s before given mid a b → IfErr result (OneFails mid.number mid.now k mid.seat act b d) → result ≡ Err error
-    → AreStopped s all error mid.session a d
-next_fails s mid k all before rest given act error result a b d is same done fails err =
-    fails_known s mid k all before rest given act error a b d is same done (of_err (OneFails mid.number mid.now k mid.seat act b d) result error fails err)
-
-give_known : (s mid : Worker) (e : SessionState) (seat : SeatState) (k : KnownState) (all before rest given : List Action) (act : Action) (answer : Option Event) (error : EngineError) (a b d : Option (List ℕ))
+-- the session doesn't go on after the answer of the next action
+pub give_fails : (s mid : Worker) (e : SessionState) (seat : SeatState) (k : KnownState) (all before rest given : List Action) (act : Action) (answer : Option Event) (error : EngineError) (a b d : Option (List ℕ))
     → all ≡ before ++ (act ∷ rest) → k ≡ mid.session.known → AreDone s before given mid a b → OneDone mid.number mid.now k mid.seat seat act b d answer → IsNotGiven mid.session answer e error
-    → AreStopped s all error e a d
-give_known s mid e seat k all before rest given act answer error a b d is same (answers, out, acted, kept, appended) (bytes, done, more) (event, some, going, stuck) =
+    → AreStopped s all error e seat a d
+give_fails s mid e seat k all before rest given act answer error a b d is same (answers, out, acted, kept, appended) (bytes, done, more) (event, some, going, stuck) =
     let stops = give_stops s mid e seat all before rest act answer event error answers out bytes is acted
     (subst (λ (x : KnownState). Done mid.number mid.now x mid.seat act bytes answer seat) same done) some going stuck in
     (stops.0, out ++ bytes, stops.1, Appends-trans a b d out bytes appended more)
 
--- the session doesn't go on after the answer of the next action
-pub give_fails : (s mid : Worker) (e : SessionState) (seat : SeatState) (k : KnownState) (all before rest given : List Action) (act : Action) (answer : Option Event) (error : EngineError) (result : Result (Option Event) EngineError) (a b d : Option (List ℕ))
-    → all ≡ before ++ (act ∷ rest) → k ≡ mid.session.known → AreDone s before given mid a b → IfOk result (OneDone mid.number mid.now k mid.seat seat act b d) → result ≡ Ok answer
-    → IsNotGiven mid.session answer e error → AreStopped s all error e a d
-give_fails s mid e seat k all before rest given act answer error result a b d is same done does ok not_given =
-    give_known s mid e seat k all before rest given act answer error a b d is same done (of_ok (OneDone mid.number mid.now k mid.seat seat act b d) result answer does ok) not_given
-
-more_known : (s mid : Worker) (e : SessionState) (seat : SeatState) (k : KnownState) (before given more : List Action) (act : Action) (answer : Option Event) (a b d : Option (List ℕ))
+-- the next action is performed, and its answer received
+pub one_more : (s mid : Worker) (e : SessionState) (seat : SeatState) (k : KnownState) (before given more : List Action) (act : Action) (answer : Option Event) (a b d : Option (List ℕ))
     → k ≡ mid.session.known → AreDone s before given mid a b → OneDone mid.number mid.now k mid.seat seat act b d answer
     → ((steps : List (Event × List Action)) × IsGiven mid.session answer steps e × (more ≡ given ++ asked steps))
     → AreDone s (before ++ (act ∷ [])) more (stands mid e seat) a d
-more_known s mid e seat k before given more act answer a b d same (answers, out, acted, kept, appended) (bytes, done, then) (steps, gives, is) = (
+one_more s mid e seat k before given more act answer a b d same (answers, out, acted, kept, appended) (bytes, done, then) (steps, gives, is) = (
   answers ++ steps,
   out ++ bytes,
   act_more s mid e seat before act answer answers steps out bytes acted (subst (λ (x : KnownState). Done mid.number mid.now x mid.seat act bytes answer seat) same done) gives,
@@ -92,45 +80,27 @@ more_known s mid e seat k before given more act answer a b d same (answers, out,
   Appends-trans a b d out bytes appended then,
 )
 
--- the next action is performed, and its answer received
-pub one_more : (s mid : Worker) (e : SessionState) (seat : SeatState) (k : KnownState) (before given more : List Action) (act : Action) (answer : Option Event) (result : Result (Option Event) EngineError) (a b d : Option (List ℕ))
-    → k ≡ mid.session.known → AreDone s before given mid a b → IfOk result (OneDone mid.number mid.now k mid.seat seat act b d) → result ≡ Ok answer
-    → ((steps : List (Event × List Action)) × IsGiven mid.session answer steps e × (more ≡ given ++ asked steps))
-    → AreDone s (before ++ (act ∷ [])) more (stands mid e seat) a d
-one_more s mid e seat k before given more act answer result a b d same done does ok answers =
-    more_known s mid e seat k before given more act answer a b d same done (of_ok (OneDone mid.number mid.now k mid.seat seat act b d) result answer does ok) answers
-
 -- ---- one event
 
 abbrev pub HasReacted : Worker → Event → Worker → Option (List ℕ) → Option (List ℕ) → Type 0
 HasReacted s event e old new = (out : List ℕ) × Reacts s event out e × Appends old new out
 
-abbrev pub HasHalted : Worker → Event → SessionState → Option (List ℕ) → Option (List ℕ) → EngineError → Type 0
-HasHalted s event e old new error = (out : List ℕ) × Halts s event error out e × Appends old new out
-
-first_known : (s : Worker) (mid e : SessionState) (event : Event) (acts : List Action) (error : EngineError) (a b : Option (List ℕ))
-    → Goes s.session event acts mid → AreStopped (stands s mid s.seat) acts error e a b → HasHalted s event e a b error
-first_known s mid e event acts error a b goes (answers, out, stops, appended) = (out, react_stops s mid e event acts error answers out goes stops, appended)
+abbrev pub HasHalted : Worker → Event → SessionState → SeatState → Option (List ℕ) → Option (List ℕ) → EngineError → Type 0
+HasHalted s event e seat old new error = (out : List ℕ) × Halts s event error out e seat × Appends old new out
 
 -- an error among what the event asked for
-pub first_fails : {X : Type 0} (s : Worker) (mid e : SessionState) (event : Event) (acts : List Action) (error : EngineError) (result : Result X EngineError) (a b : Option (List ℕ))
-    → Goes s.session event acts mid → IfErr result (λ (x : EngineError). AreStopped (stands s mid s.seat) acts x e a b) → result ≡ Err error → HasHalted s event e a b error
-first_fails s mid e event acts error result a b goes fails err =
-    first_known s mid e event acts error a b goes (of_err (λ (x : EngineError). AreStopped (stands s mid s.seat) acts x e a b) result error fails err)
-
-second_known : (s next : Worker) (mid e : SessionState) (event : Event) (acts given : List Action) (error : EngineError) (a b d : Option (List ℕ))
-    → Goes s.session event acts mid → AreDone (stands s mid s.seat) acts given next a b → AreStopped next given error e b d → HasHalted s event e a d error
-second_known s next mid e event acts given error a b d goes (answers, out, acted, kept, appended) (more, rest, stops, then) = (
-  out ++ rest,
-  react_stops_later s next mid e event acts error answers more out rest goes acted (subst (λ (x : List Action). Stops next x error more rest e) kept stops),
-  Appends-trans a b d out rest appended then,
-)
+pub first_fails : (s : Worker) (mid e : SessionState) (seat : SeatState) (event : Event) (acts : List Action) (error : EngineError) (a b : Option (List ℕ))
+    → Goes s.session event acts mid → AreStopped (stands s mid s.seat) acts error e seat a b → HasHalted s event e seat a b error
+first_fails s mid e seat event acts error a b goes (answers, out, stops, appended) = (out, react_stops s mid e seat event acts error answers out goes stops, appended)
 
 -- an error among what the answers asked for
-pub second_fails : {Y : Type 0} (s next : Worker) (mid e : SessionState) (event : Event) (acts given : List Action) (error : EngineError) (second : Result Y EngineError) (a b d : Option (List ℕ))
-    → Goes s.session event acts mid → AreDone (stands s mid s.seat) acts given next a b → IfErr second (λ (x : EngineError). AreStopped next given x e b d) → second ≡ Err error → HasHalted s event e a d error
-second_fails s next mid e event acts given error second a b d goes done fails err =
-    second_known s next mid e event acts given error a b d goes done (of_err (λ (x : EngineError). AreStopped next given x e b d) second error fails err)
+pub second_fails : (s next : Worker) (mid e : SessionState) (seat : SeatState) (event : Event) (acts given : List Action) (error : EngineError) (a b d : Option (List ℕ))
+    → Goes s.session event acts mid → AreDone (stands s mid s.seat) acts given next a b → AreStopped next given error e seat b d → HasHalted s event e seat a d error
+second_fails s next mid e seat event acts given error a b d goes (answers, out, acted, kept, appended) (more, rest, stops, then) = (
+  out ++ rest,
+  react_stops_later s next mid e seat event acts error answers more out rest goes acted (subst (λ (x : List Action). Stops next x error more rest e seat) kept stops),
+  Appends-trans a b d out rest appended then,
+)
 
 -- everything is performed, and nothing more is asked for
 pub both_done : (s next e : Worker) (mid : SessionState) (event : Event) (acts given last : List Action) (a b d : Option (List ℕ))
@@ -166,15 +136,15 @@ abbrev pub HasTurned : Type 0 → Type 0 → Worker → Worker → Option (List 
 HasTurned at_end untouched s e from to a b =
     (received : Option Event) × (read out : List ℕ) × IsRead at_end received read × TakesTurn untouched s received out e × Consumes from to read × Appends a b out
 
-abbrev pub HasStopped : Type 0 → Type 0 → Worker → SessionState → Option (List ℕ) → Option (List ℕ) → Option (List ℕ) → Option (List ℕ) → EngineError → Type 0
-HasStopped at_end untouched s e from to a b error =
-    (received : Option Event) × (read out : List ℕ) × IsRead at_end received read × StopsTurn untouched s received error out e × Consumes from to read × Appends a b out
+abbrev pub HasStopped : Type 0 → Type 0 → Worker → SessionState → SeatState → Option (List ℕ) → Option (List ℕ) → Option (List ℕ) → Option (List ℕ) → EngineError → Type 0
+HasStopped at_end untouched s e seat from to a b error =
+    (received : Option Event) × (read out : List ℕ) × IsRead at_end received read × StopsTurn untouched s received error out e seat × Consumes from to read × Appends a b out
 
 -- the event that was read is received, up to an error
-pub read_fails : {at_end : Type 0} (s : Worker) (e : SessionState) (found : Option Event) (event : Event) (error : EngineError) (from to a b : Option (List ℕ))
-    → found ≡ Some event → ((read : List ℕ) × IsRead at_end found read × Consumes from to read) → HasHalted s event e a b error
-    → (received : Option Event) × (read out : List ℕ) × IsRead at_end received read × HaltsAt s received error out e × Consumes from to read × Appends a b out
-read_fails {at_end} s e found event error from to a b is (read, reads, consumed) (out, halts, appended) =
+pub read_fails : {at_end : Type 0} (s : Worker) (e : SessionState) (seat : SeatState) (found : Option Event) (event : Event) (error : EngineError) (from to a b : Option (List ℕ))
+    → found ≡ Some event → ((read : List ℕ) × IsRead at_end found read × Consumes from to read) → HasHalted s event e seat a b error
+    → (received : Option Event) × (read out : List ℕ) × IsRead at_end received read × HaltsAt s received error out e seat × Consumes from to read × Appends a b out
+read_fails {at_end} s e seat found event error from to a b is (read, reads, consumed) (out, halts, appended) =
     (Some event, read, out, subst (λ (x : Option Event). IsRead at_end x read) is reads, halts, consumed, appended)
 
 -- the first event leaves nothing to do, and then the turn reads
@@ -184,10 +154,10 @@ pub then_done : {at_end untouched : Type 0} (s mid e : Worker) (event : Event) (
 then_done s mid e event from to a b d is (idles, silent) (received, read, out, reads, receives, consumed, more) =
     (received, read, out, reads, inr (mid, subst (λ (x : Event). Idles s x mid) is idles, receives), consumed, Appends-trans a b d [] out silent more)
 
-pub then_fails : {at_end untouched : Type 0} (s mid : Worker) (e : SessionState) (event : Event) (error : EngineError) (from to a b d : Option (List ℕ)) → event ≡ first_event (state_of s.session.phase) → HasIdled s event mid a b
-    → ((received : Option Event) × (read out : List ℕ) × IsRead at_end received read × HaltsAt mid received error out e × Consumes from to read × Appends b d out)
-    → HasStopped at_end untouched s e from to a d error
-then_fails s mid e event error from to a b d is (idles, silent) (received, read, out, reads, halts, consumed, more) =
+pub then_fails : {at_end untouched : Type 0} (s mid : Worker) (e : SessionState) (seat : SeatState) (event : Event) (error : EngineError) (from to a b d : Option (List ℕ)) → event ≡ first_event (state_of s.session.phase) → HasIdled s event mid a b
+    → ((received : Option Event) × (read out : List ℕ) × IsRead at_end received read × HaltsAt mid received error out e seat × Consumes from to read × Appends b d out)
+    → HasStopped at_end untouched s e seat from to a d error
+then_fails s mid e seat event error from to a b d is (idles, silent) (received, read, out, reads, halts, consumed, more) =
     (received, read, out, reads, inr (mid, subst (λ (x : Event). Idles s x mid) is idles, halts), consumed, Appends-trans a b d [] out silent more)
 
 -- the first event alone, without using the reader
@@ -195,18 +165,41 @@ pub alone_done : {at_end untouched : Type 0} (s e : Worker) (event : Event) (kno
 alone_done s e event known a b is (out, reacts, appended) still =
     (None, [], out, refl, inl (still, refl, subst (λ (x : Event). Reacts s x out e) is reacts), Consumes-nil known, appended)
 
-pub alone_fails : {at_end untouched : Type 0} (s : Worker) (e : SessionState) (event : Event) (error : EngineError) (known a b : Option (List ℕ)) → event ≡ first_event (state_of s.session.phase) → HasHalted s event e a b error
-    → untouched → HasStopped at_end untouched s e known known a b error
-alone_fails s e event error known a b is (out, halts, appended) still =
-    (None, [], out, refl, inl (still, refl, subst (λ (x : Event). Halts s x error out e) is halts), Consumes-nil known, appended)
+pub alone_fails : {at_end untouched : Type 0} (s : Worker) (e : SessionState) (seat : SeatState) (event : Event) (error : EngineError) (known a b : Option (List ℕ)) → event ≡ first_event (state_of s.session.phase) → HasHalted s event e seat a b error
+    → untouched → HasStopped at_end untouched s e seat known known a b error
+alone_fails s e seat event error known a b is (out, halts, appended) still =
+    (None, [], out, refl, inl (still, refl, subst (λ (x : Event). Halts s x error out e seat) is halts), Consumes-nil known, appended)
 
 -- the session after a turn
 pub turned : {at_end untouched : Type 0} (s e : Worker) (from to a b : Option (List ℕ)) → HasTurned at_end untouched s e from to a b → Turns s.session e.session
 turned s e from to a b (received, read, out, reads, all, consumed, appended) = turns_of s e received out all
 
-pub broken : {at_end untouched : Type 0} (s : Worker) (e new : SessionState) (error : EngineError) (from to a b : Option (List ℕ)) → HasStopped at_end untouched s e from to a b error → new ≡ ended e → Breaks s.session new
-broken s e new error from to a b (received, read, out, reads, stops, consumed, appended) is = breaks_of s e new received error out stops is
+pub broken : {at_end untouched : Type 0} (s : Worker) (e new : SessionState) (seat : SeatState) (error : EngineError) (from to a b : Option (List ℕ)) → HasStopped at_end untouched s e seat from to a b error → new ≡ ended e → Breaks s.session new
+broken s e new seat error from to a b (received, read, out, reads, stops, consumed, appended) is = breaks_of s e new seat received error out stops is
 
-pub stopped : {at_end untouched : Type 0} (s : Worker) (e new : SessionState) (error : EngineError) (from to a b : Option (List ℕ)) → HasStopped at_end untouched s e from to a b error → new ≡ ended e → HasStopped at_end untouched s new from to a b error
-stopped s e new error from to a b (received, read, out, reads, stops, consumed, appended) is =
-    (received, read, out, reads, halted s e new received error out stops is, consumed, appended)
+pub stopped : {at_end untouched : Type 0} (s : Worker) (e new : SessionState) (seat : SeatState) (error : EngineError) (from to a b : Option (List ℕ)) → HasStopped at_end untouched s e seat from to a b error → new ≡ ended e → HasStopped at_end untouched s new seat from to a b error
+stopped s e new seat error from to a b (received, read, out, reads, stops, consumed, appended) is =
+    (received, read, out, reads, halted s e new seat received error out stops is, consumed, appended)
+
+-- ---- a session that is over
+
+open_going : (teaching : Bool) → state_of_course teaching ≢ states.Ended
+open_going true is = cc is
+open_going false is = cc is
+
+refuses_over : (phase : Phase) (event : Event) → state_of phase ≡ states.Ended → Refuses phase event refusals.Ended
+refuses_over phases.Ended event is = refl
+refuses_over (phases.New hello c) event is = absurd (cc is)
+refuses_over (phases.Hello greeter bytes c) event is = absurd (cc is)
+refuses_over (phases.Open c) event is = absurd (open_going c.teaching is)
+
+abbrev error_of : {X : Type 0} → EngineError → Result X EngineError → EngineError
+error_of other (Ok x) = other
+error_of other (Err error) = error
+
+-- it refuses the first event, and nothing else happens
+pub over_stops : {X : Type 0} (P Q : Type 0) (phase : Phase) (event : Event) (result : Result X EngineError) (error : EngineError) → state_of phase ≡ states.Ended
+    → ((why : SessionError) → why ≢ refusals.Memory → Refuses phase event why → (result ≡ Err (errors.Session why)) × P × Q) → result ≡ Err error → (error ≡ errors.Session refusals.Ended) × P × Q
+over_stops {X} P Q phase event result error is refused err =
+    let stops = refused refusals.Ended (λ same. cc same) (refuses_over phase event is) in
+    (ap (λ (r : Result X EngineError). error_of error r) (sym err ∙ stops.0), stops.1, stops.2)

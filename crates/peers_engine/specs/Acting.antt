@@ -69,28 +69,28 @@ DoesNotGoOn s event error e =
     (IsRefused s event error × (e ≡ ended s))
     ⊎ ((acts : List Action) × Goes s event acts e × (error ≡ errors.Memory))
 
--- Why the first of the remaining actions was the last, and what was written for it: it failed; or it succeeded, and the
--- session refused its answer.
-abbrev pub IsCut : Worker → List Action → EngineError → List ℕ → Type 0
-IsCut w [] error out = ⊥
-IsCut w (act ∷ rest) error out =
-    Fails w.number w.now w.session.known w.seat act error out
-    ⊎ ((answer : Event) × (seat : SeatState) × Done w.number w.now w.session.known w.seat act out (Some answer) seat
+-- Why the first of the remaining actions was the last, what was written for it, and how it left the seat: it failed; or
+-- it succeeded, and the session refused its answer.
+abbrev pub IsCut : Worker → List Action → EngineError → List ℕ → SeatState → Type 0
+IsCut w [] error out seat = ⊥
+IsCut w (act ∷ rest) error out seat =
+    Fails w.number w.now w.session.known w.seat act error out seat
+    ⊎ ((answer : Event) × Done w.number w.now w.session.known w.seat act out (Some answer) seat
     × (state_of w.session.phase ≢ states.Ended) × IsRefused w.session answer error)
 
 -- memory ran out for what an answer that was received asks for
 abbrev pub IsLost : List (Event × List Action) → EngineError → List ℕ → Type 0
 IsLost answers error out = (answers ≢ []) × (error ≡ errors.Memory) × (out ≡ [])
 
--- The actions up to one were performed, and then an error came: what was written, and the session, except that it is
--- then over.
-abbrev pub Stops : Worker → List Action → EngineError → List (Event × List Action) → List ℕ → SessionState → Type 0
-Stops w acts error answers out e =
+-- The actions up to one were performed, and then an error came: what was written, the session, except that it is then
+-- over, and the seat as it is then.
+abbrev pub Stops : Worker → List Action → EngineError → List (Event × List Action) → List ℕ → SessionState → SeatState → Type 0
+Stops w acts error answers out e seat =
     (before rest : List Action)
     × (first last : List ℕ)
     × (mid : Worker)
     × (acts ≡ before ++ rest)
     × Acts w before answers first mid
-    × (IsCut mid rest error last ⊎ IsLost answers error last)
+    × (IsCut mid rest error last seat ⊎ (IsLost answers error last × (seat ≡ mid.seat)))
     × (out ≡ first ++ last)
     × (ended e ≡ ended mid.session)

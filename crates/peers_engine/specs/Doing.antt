@@ -17,7 +17,7 @@ use Rattle.session_core.specs.declared.action.Action.{Action}
 use Rattle.session_core.specs.declared.action.Action.TheVariants as actions
 use Rattle.session_core.specs.declared.event.Event.{Event}
 use Rattle.session_core.specs.declared.event.Event.TheVariants as events
-use Rattle.peers_engine.specs.Calls.{CallsAck, CallsCopy, IsLearned, IsReopened, IsSettled}
+use Rattle.peers_engine.specs.Calls.{CallsAck, CallsClose, CallsCopy, IsLearned, IsReopened, IsSettled}
 use Rattle.peers_engine.specs.declared.errors.EngineError.{EngineError}
 use Rattle.peers_engine.specs.declared.errors.EngineError.TheVariants as errors
 
@@ -46,7 +46,7 @@ Done n now k s (actions.Copy table kind) out answer t = (out ≡ [])
     × (((batch : List Update) × (answer ≡ Some (events.Copied table batch)) × CallsCopy n now s table kind (Ok batch) t)
     ⊎ ((answer ≡ Some (events.Nothing table)) × CallsCopy n now s table kind (Err (shards.Cell copies.Nothing)) t))
 Done n now k s (actions.Teach batch) out answer t =
-    (after : KnownState) × IsShortestLesson k batch out after × (answer ≡ Some (events.Written after)) × IsSettled n s batch × (t ≡ s)
+    (after : KnownState) × IsShortestLesson k batch out after × (answer ≡ Some (events.Written after)) × IsSettled n s batch t
 Done n now k s (actions.Part kind) out answer t = (out ≡ error_text kind) × (answer ≡ None) × (t ≡ s)
 Done n now k s actions.Close out answer t = (out ≡ []) × (answer ≡ None) × (t ≡ s)
 
@@ -68,9 +68,15 @@ abbrev pub Falls : List ℕ → EngineError → Option (List ℕ) → Option (Li
 Falls bytes (errors.Write sent) old new = (sent < length bytes) × Appends old new (take sent bytes)
 Falls bytes error old new = ⊥
 
--- An action fails: a write failed after some of its bytes; or a table refused it or memory ran out, and nothing was
--- written.
-abbrev pub Fails : ℕ → ℕ → KnownState → SeatState → Action → EngineError → List ℕ → Type 0
-Fails n now k s act (errors.Write sent) out =
-    (bytes : List ℕ) × (answer : Option Event) × Done n now k s act bytes answer s × (sent < length bytes) × (out ≡ take sent bytes)
-Fails n now k s act error out = IsRefusal error × IsAtTable act × (out ≡ [])
+-- How an action that a table refuses leaves the seat: as it was; or with the receipt of the close, if the session was
+-- closed in the table and not opened anew.
+abbrev pub IsLeft : ℕ → SeatState → Action → SeatState → Type 0
+IsLeft n s (actions.Reopen table) t = (t ≡ s) ⊎ CallsClose n s table (Ok tt) t
+IsLeft n s act t = t ≡ s
+
+-- An action fails, and leaves the seat: a write failed after some of its bytes, and the seat is as the action leaves it;
+-- or a table refused it or memory ran out, and nothing was written.
+abbrev pub Fails : ℕ → ℕ → KnownState → SeatState → Action → EngineError → List ℕ → SeatState → Type 0
+Fails n now k s act (errors.Write sent) out t =
+    (bytes : List ℕ) × (answer : Option Event) × Done n now k s act bytes answer t × (sent < length bytes) × (out ≡ take sent bytes)
+Fails n now k s act error out t = IsRefusal error × IsAtTable act × (out ≡ []) × IsLeft n s act t

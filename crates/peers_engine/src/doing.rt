@@ -1,16 +1,13 @@
 //! Performing a session's actions.
 
-ghost use Rattle.std.specs.Prelude.{◌≡◌, ◌≢◌, ◌⊎◌, Ok, Err, Some, None, IsOk, IfErr, IfOk, OnOk, List, ℕ};
+ghost use Rattle.std.specs.Prelude.{◌≡◌, ◌≢◌, Ok, Err, Some, None, IsOk, IfErr, IfOk, OnErr, OnOk, List, ℕ};
 ghost use Rattle.std.specs.Io.KnownBytes.{Appends};
-ghost use Rattle.table_types.specs.declared.update.Update.{Update};
 ghost use Rattle.known_state.specs.Known.{KnownState};
 ghost use Rattle.session_core.specs.declared.action.Action.TheVariants as actions;
 ghost use Rattle.session_core.specs.declared.event.Event.{Event};
 ghost use Rattle.session_core.specs.declared.event.Event.TheVariants as events;
 ghost use Rattle.peers_engine.specs.declared.errors.EngineError.TheVariants as errors;
-ghost use Rattle.table_cell.specs.declared.errors.CopyError.TheVariants as copies;
-ghost use Rattle.table_shards.specs.declared.errors.ShardError.TheVariants as shards;
-ghost use Rattle.peers_engine.specs.Calls.{CallsCopy, IsSettled};
+ghost use Rattle.peers_engine.specs.Calls.{IsCopied, IsSettled};
 ghost use Rattle.peers_engine.specs.Doing.{Done, Fails, Falls, IsRefusal, IsShortestLesson, error_text};
 
 use crate::context::Context;
@@ -53,20 +50,20 @@ fn part<W: Write + Faults>(output: &mut W, kind: ErrorKind) -> Result<(), Engine
 /// Copies a batch and, if there is one, stops at the gate.
 fn copy_batch<H: Wait, G: Gate>(
     context: &Context<H, G>,
-    seat: Seat,
+    seat: &mut Seat,
     table: u64,
     kind: CopyKind,
-) -> (Seat, Result<Event, EngineError>)
-    ensures seat { result.0.number ≡ seat.number }
-    ensures answer { IfOk result.1 (λ event. ((batch : List Update) × (event ≡ events.Copied table batch) × CallsCopy context.now.number context.now.moment seat table kind (Ok batch) result.0)
-        ⊎ ((event ≡ events.Nothing table) × CallsCopy context.now.number context.now.moment seat table kind (Err (shards.Cell copies.Nothing)) result.0)) }
-    ensures refused { IfErr result.1 IsRefusal }
+) -> Result<Event, EngineError>
+    ensures seat { seat.new.number ≡ seat.old.number }
+    ensures answer { IfOk result (IsCopied context.now.number context.now.moment seat.old table kind seat.new) }
+    ensures refused { IfErr result IsRefusal }
+    ensures stays { OnErr result (seat.new ≡ seat.old) }
 {
-    let (seat, copied) = copy(context, seat, table, kind);
-    if let Ok(Event::Copied(_, _)) = &copied {
+    let copied = copy(context, seat, table, kind)?;
+    if let Event::Copied(_, _) = &copied {
         context.gate.at(context.rt, Stage::Copied);
     }
-    (seat, copied)
+    Ok(copied)
 }
 
 /// Plans the lesson of a batch. No table's lock is held.
@@ -89,84 +86,73 @@ fn teach_batch<H: Wait, G: Gate, W: Write + Faults>(
     context: &Context<H, G>,
     known: &Known,
     output: &mut W,
-    seat: Seat,
+    seat: &mut Seat,
     batch: &Batch,
-) -> (Seat, Result<Event, EngineError>)
-    ensures seat { result.0 ≡ seat }
-    ensures taught { IfOk result.1 (λ event. (out : List ℕ) × (after : KnownState) × IsShortestLesson known.now batch.now out after
-        × (event ≡ events.Written after) × IsSettled context.now.number seat batch.now × Appends (W.contents output.old) (W.contents output.new) out) }
-    ensures failed { IfErr result.1 (λ e. (out : List ℕ) × Fails context.now.number context.now.moment known.now seat (actions.Teach batch.now) e out
+) -> Result<Event, EngineError>
+    ensures seat { seat.new.number ≡ seat.old.number }
+    ensures taught { IfOk result (λ event. (out : List ℕ) × (after : KnownState) × IsShortestLesson known.now batch.now out after
+        × (event ≡ events.Written after) × IsSettled context.now.number seat.old batch.now seat.new × Appends (W.contents output.old) (W.contents output.new) out) }
+    ensures failed { IfErr result (λ e. (out : List ℕ) × Fails context.now.number context.now.moment known.now seat.old (actions.Teach batch.now) e out seat.new
         × Appends (W.contents output.old) (W.contents output.new) out) }
-    ensures unread { IfErr result.1 (λ e. e ≢ errors.Read) }
+    ensures unread { IfErr result (λ e. e ≢ errors.Read) }
 {
-    let lesson = match plan(context, known, batch) {
-        Ok(lesson) => lesson,
-        Err(error) => return (seat, Err(error)),
-    };
+    let lesson = plan(context, known, batch)?;
     context.gate.at(context.rt, Stage::Planned);
-    let (seat, settled) = settle(context, seat, batch);
-    if let Err(error) = settled {
-        return (seat, Err(error));
-    }
-    if let Err(error) = send(output, lesson.bytes.as_slice()) {
-        return (seat, Err(error));
-    }
+    settle(context, seat, batch)?;
+    send(output, lesson.bytes.as_slice())?;
     context.gate.at(context.rt, Stage::Written);
-    (seat, Ok(Event::Written(lesson.known)))
+    Ok(Event::Written(lesson.known))
 }
 
 /// Returns the answer of an action that has one.
-fn answered(done: (Seat, Result<Event, EngineError>)) -> (Seat, Result<Option<Event>, EngineError>)
-    ensures seat { result.0 ≡ done.0 }
-    ensures answer { IfOk result.1 (λ answer. (event : Event) × (done.1 ≡ Ok event) × (answer ≡ Some event)) }
-    ensures failed { IfErr result.1 (λ e. done.1 ≡ Err e) }
+fn answered(done: Result<Event, EngineError>) -> Result<Option<Event>, EngineError>
+    ensures answer { IfOk result (λ answer. (event : Event) × (done ≡ Ok event) × (answer ≡ Some event)) }
+    ensures failed { IfErr result (λ e. done ≡ Err e) }
 {
-    let (seat, answer) = done;
-    match answer {
-        Ok(event) => (seat, Ok(Some(event))),
-        Err(error) => (seat, Err(error)),
+    match done {
+        Ok(event) => Ok(Some(event)),
+        Err(error) => Err(error),
     }
 }
 
 /// Returns the answer of an action that has none.
-fn unanswered(done: (Seat, Result<(), EngineError>)) -> (Seat, Result<Option<Event>, EngineError>)
-    ensures seat { result.0 ≡ done.0 }
-    ensures answer { IfOk result.1 (λ answer. IsOk done.1 × (answer ≡ None)) }
-    ensures failed { IfErr result.1 (λ e. done.1 ≡ Err e) }
+fn unanswered(done: Result<(), EngineError>) -> Result<Option<Event>, EngineError>
+    ensures answer { IfOk result (λ answer. IsOk done × (answer ≡ None)) }
+    ensures failed { IfErr result (λ e. done ≡ Err e) }
 {
-    let (seat, result) = done;
-    match result {
-        Ok(()) => (seat, Ok(None)),
-        Err(error) => (seat, Err(error)),
+    match done {
+        Ok(()) => Ok(None),
+        Err(error) => Err(error),
     }
 }
 
 /// Performs one action of a session whose known state is `known`, and returns its answer, if it has one.
 ///
-/// Fails with `Write` if not all of its bytes are written, and with `Memory` or `Strange` before any are. Returns the
-/// seat in any case.
+/// Fails with `Write` if not all of its bytes are written, and leaves the seat as the action does. Fails with `Memory`
+/// or `Strange` before any are. The seat is then as it was, but for the receipt of the close if a table was closed and
+/// not opened anew.
 pub(crate) fn do_action<H: Wait, G: Gate, W: Write + Faults>(
     context: &Context<H, G>,
     known: &Known,
     output: &mut W,
-    seat: Seat,
+    seat: &mut Seat,
     action: Action,
-) -> (Seat, Result<Option<Event>, EngineError>)
-    ensures seat { result.0.number ≡ seat.number }
-    ensures done { IfOk result.1 (λ answer. (out : List ℕ) × Done context.now.number context.now.moment known.now seat action out answer result.0
+) -> Result<Option<Event>, EngineError>
+    ensures seat { seat.new.number ≡ seat.old.number }
+    ensures done { IfOk result (λ answer. (out : List ℕ) × Done context.now.number context.now.moment known.now seat.old action out answer seat.new
         × Appends (W.contents output.old) (W.contents output.new) out) }
-    ensures failed { IfErr result.1 (λ e. (out : List ℕ) × Fails context.now.number context.now.moment known.now seat action e out
+    ensures failed { IfErr result (λ e. (out : List ℕ) × Fails context.now.number context.now.moment known.now seat.old action e out seat.new
         × Appends (W.contents output.old) (W.contents output.new) out) }
-    ensures unread { IfErr result.1 (λ e. e ≢ errors.Read) }
+    ensures unread { IfErr result (λ e. e ≢ errors.Read) }
 {
     match action {
-        Action::Send(bytes) => unanswered((seat, send(output, bytes.as_slice()))),
+        Action::Send(bytes) => unanswered(send(output, bytes.as_slice())),
         Action::Learn(update) => unanswered(learn(context, seat, update)),
         Action::Ack { table, number } => answered(acknowledge(context, seat, table, number)),
         Action::Reopen(table) => unanswered(reopen(context, seat, table)),
         Action::Copy { table, kind } => answered(copy_batch(context, seat, table, kind)),
         Action::Teach(batch) => answered(teach_batch(context, known, output, seat, &batch)),
-        Action::Part(kind) => unanswered((seat, part(output, kind))),
-        Action::Close => (seat, Ok(None)),
+        Action::Part(kind) => unanswered(part(output, kind)),
+        Action::Close => Ok(None),
     }
 }

@@ -11,6 +11,7 @@ mod reading;
 mod tables;
 mod turned;
 mod turning;
+mod worker;
 mod writing;
 
 pub use errors::EngineError;
@@ -19,4 +20,5 @@ pub use gate::{AlwaysOpen, Gate, Stage};
 pub use peers_devices::{Counting, Faults};
 pub use turned::Turned;
 pub use turning::turn;
+pub use worker::Worker;
 pub use writing::{WriteFault, write_lesson};

@@ -82,32 +82,24 @@ fn do_all<H: Wait, G: Gate, W: Write + Faults>(
     context: &Context<H, G>,
     session: &mut Session,
     output: &mut W,
-    seat: Seat,
+    seat: &mut Seat,
     actions: Vec<Action>,
-) -> (Seat, Result<Vec<Action>, EngineError>)
-    ensures seat { result.0.number ≡ seat.number }
-    ensures done { IfOk result.1 (λ given. (answers : List (Event × List Action)) × (out : List ℕ)
-        × Acts (worker session.old seat context.now.number context.now.moment) actions.items answers out (worker session.new result.0 context.now.number context.now.moment) × (given.items ≡ asked answers)
+) -> Result<Vec<Action>, EngineError>
+    ensures seat { seat.new.number ≡ seat.old.number }
+    ensures done { IfOk result (λ given. (answers : List (Event × List Action)) × (out : List ℕ)
+        × Acts (worker session.old seat.old context.now.number context.now.moment) actions.items answers out (worker session.new seat.new context.now.number context.now.moment) × (given.items ≡ asked answers)
         × Appends (W.contents output.old) (W.contents output.new) out) }
-    ensures failed { IfErr result.1 (λ e. (answers : List (Event × List Action)) × (out : List ℕ)
-        × Stops (worker session.old seat context.now.number context.now.moment) actions.items e answers out session.new
+    ensures failed { IfErr result (λ e. (answers : List (Event × List Action)) × (out : List ℕ)
+        × Stops (worker session.old seat.old context.now.number context.now.moment) actions.items e answers out session.new seat.new
         × Appends (W.contents output.old) (W.contents output.new) out) }
-    ensures unread { IfErr result.1 (λ e. e ≢ errors.Read) }
+    ensures unread { IfErr result (λ e. e ≢ errors.Read) }
 {
-    let mut seat = seat;
     let mut given = Vec::new(context.alloc);
     for action in actions {
-        let (back, done) = do_action(context, session.known(), output, seat, action);
-        seat = back;
-        let answer = match done {
-            Ok(answer) => answer,
-            Err(error) => return (seat, Err(error)),
-        };
-        if let Err(error) = give_answer(session, context.moment, answer, &mut given) {
-            return (seat, Err(error));
-        }
+        let answer = do_action(context, session.known(), output, seat, action)?;
+        give_answer(session, context.moment, answer, &mut given)?;
     }
-    (seat, Ok(given))
+    Ok(given)
 }
 
 /// Returns whether the actions only copy this node's own rows.
@@ -130,35 +122,25 @@ fn react<H: Wait, G: Gate, W: Write + Faults>(
     context: &Context<H, G>,
     session: &mut Session,
     output: &mut W,
-    seat: Seat,
+    seat: &mut Seat,
     event: Event,
-) -> (Seat, Result<bool, EngineError>)
-    ensures seat { result.0.number ≡ seat.number }
-    ensures done { OnOk result.1 ((out : List ℕ) × Reacts (worker session.old seat context.now.number context.now.moment) event out (worker session.new result.0 context.now.number context.now.moment)
+) -> Result<bool, EngineError>
+    ensures seat { seat.new.number ≡ seat.old.number }
+    ensures done { OnOk result ((out : List ℕ) × Reacts (worker session.old seat.old context.now.number context.now.moment) event out (worker session.new seat.new context.now.number context.now.moment)
         × Appends (W.contents output.old) (W.contents output.new) out) }
-    ensures failed { IfErr result.1 (λ e. (out : List ℕ) × Halts (worker session.old seat context.now.number context.now.moment) event e out session.new
+    ensures failed { IfErr result (λ e. (out : List ℕ) × Halts (worker session.old seat.old context.now.number context.now.moment) event e out session.new seat.new
         × Appends (W.contents output.old) (W.contents output.new) out) }
-    ensures unread { IfErr result.1 (λ e. e ≢ errors.Read) }
-    ensures idle { result.1 ≡ Ok true → Idles (worker session.old seat context.now.number context.now.moment) event (worker session.new result.0 context.now.number context.now.moment) × Appends (W.contents output.old) (W.contents output.new) [] }
+    ensures unread { IfErr result (λ e. e ≢ errors.Read) }
+    ensures idle { result ≡ Ok true → Idles (worker session.old seat.old context.now.number context.now.moment) event (worker session.new seat.new context.now.number context.now.moment) × Appends (W.contents output.old) (W.contents output.new) [] }
     ensures refused { (e : SessionError) → e ≢ refusals.Memory → Refuses session.old.phase event e
-        → (result.1 ≡ Err (errors.Session e)) × (output.new ≡ output.old) }
+        → (result ≡ Err (errors.Session e)) × (output.new ≡ output.old) }
 {
-    let actions = match session.on(event, context.moment) {
-        Ok(actions) => actions,
-        Err(error) => return (seat, Err(EngineError::Session(error))),
-    };
+    let actions = session.on(event, context.moment)?;
     let may_idle = are_pushes(actions.as_slice());
-    let (seat, done) = do_all(context, session, output, seat, actions);
-    let next = match done {
-        Ok(next) => next,
-        Err(error) => return (seat, Err(error)),
-    };
+    let next = do_all(context, session, output, seat, actions)?;
     let is_idle = may_idle && next.is_empty();
-    let (seat, done) = do_all(context, session, output, seat, next);
-    if let Err(error) = done {
-        return (seat, Err(error));
-    }
-    (seat, Ok(is_idle))
+    do_all(context, session, output, seat, next)?;
+    Ok(is_idle)
 }
 
 /// Reads once, and reacts to what was read. Returns whether there was nothing to do.
@@ -167,23 +149,22 @@ fn receive<H: Wait, G: Gate, R: Read + Faults, W: Write + Faults>(
     session: &mut Session,
     input: &mut R,
     output: &mut W,
-    seat: Seat,
-) -> (Seat, Result<bool, EngineError>)
-    ensures seat { result.0.number ≡ seat.number }
-    ensures done { OnOk result.1 ((received : Option Event) × (read out : List ℕ) × IsRead (IsAtEnd (R.remaining input.new)) received read
-        × Receives (worker session.old seat context.now.number context.now.moment) received out (worker session.new result.0 context.now.number context.now.moment)
+    seat: &mut Seat,
+) -> Result<bool, EngineError>
+    ensures seat { seat.new.number ≡ seat.old.number }
+    ensures done { OnOk result ((received : Option Event) × (read out : List ℕ) × IsRead (IsAtEnd (R.remaining input.new)) received read
+        × Receives (worker session.old seat.old context.now.number context.now.moment) received out (worker session.new seat.new context.now.number context.now.moment)
         × Consumes (R.remaining input.old) (R.remaining input.new) read
         × Appends (W.contents output.old) (W.contents output.new) out) }
-    ensures failed { IfErr result.1 (λ e. (received : Option Event) × (read out : List ℕ) × IsRead (IsAtEnd (R.remaining input.new)) received read
-        × HaltsAt (worker session.old seat context.now.number context.now.moment) received e out session.new
+    ensures failed { IfErr result (λ e. (received : Option Event) × (read out : List ℕ) × IsRead (IsAtEnd (R.remaining input.new)) received read
+        × HaltsAt (worker session.old seat.old context.now.number context.now.moment) received e out session.new seat.new
         × Consumes (R.remaining input.old) (R.remaining input.new) read
         × Appends (W.contents output.old) (W.contents output.new) out) }
-    ensures read { result.1 ≡ Err errors.Read → Rose (R.failed input.old) (R.failed input.new) }
+    ensures read { result ≡ Err errors.Read → Rose (R.failed input.old) (R.failed input.new) }
 {
-    match read_event(context.alloc, input) {
-        Ok(Some(event)) => react(context, session, output, seat, event),
-        Ok(None) => (seat, Ok(true)),
-        Err(error) => (seat, Err(error)),
+    match read_event(context.alloc, input)? {
+        Some(event) => react(context, session, output, seat, event),
+        None => Ok(true),
     }
 }
 
@@ -194,34 +175,32 @@ fn take_turn<H: Wait, G: Gate, R: Read + Faults, W: Write + Faults>(
     session: &mut Session,
     input: &mut R,
     output: &mut W,
-    seat: Seat,
-) -> (Seat, Result<bool, EngineError>)
-    ensures seat { result.0.number ≡ seat.number }
-    ensures done { OnOk result.1 ((received : Option Event) × (read out : List ℕ) × IsRead (IsAtEnd (R.remaining input.new)) received read
-        × TakesTurn (input.new ≡ input.old) (worker session.old seat context.now.number context.now.moment) received out (worker session.new result.0 context.now.number context.now.moment)
+    seat: &mut Seat,
+) -> Result<bool, EngineError>
+    ensures seat { seat.new.number ≡ seat.old.number }
+    ensures done { OnOk result ((received : Option Event) × (read out : List ℕ) × IsRead (IsAtEnd (R.remaining input.new)) received read
+        × TakesTurn (input.new ≡ input.old) (worker session.old seat.old context.now.number context.now.moment) received out (worker session.new seat.new context.now.number context.now.moment)
         × Consumes (R.remaining input.old) (R.remaining input.new) read
         × Appends (W.contents output.old) (W.contents output.new) out) }
-    ensures failed { IfErr result.1 (λ e. (received : Option Event) × (read out : List ℕ) × IsRead (IsAtEnd (R.remaining input.new)) received read
-        × StopsTurn (input.new ≡ input.old) (worker session.old seat context.now.number context.now.moment) received e out session.new
+    ensures failed { IfErr result (λ e. (received : Option Event) × (read out : List ℕ) × IsRead (IsAtEnd (R.remaining input.new)) received read
+        × StopsTurn (input.new ≡ input.old) (worker session.old seat.old context.now.number context.now.moment) received e out session.new seat.new
         × Consumes (R.remaining input.old) (R.remaining input.new) read
         × Appends (W.contents output.old) (W.contents output.new) out) }
-    ensures read { result.1 ≡ Err errors.Read → Rose (R.failed input.old) (R.failed input.new) }
+    ensures read { result ≡ Err errors.Read → Rose (R.failed input.old) (R.failed input.new) }
     ensures refused { (e : SessionError) → e ≢ refusals.Memory → Refuses session.old.phase (first_event (state_of session.old.phase)) e
-        → (result.1 ≡ Err (errors.Session e)) × (input.new ≡ input.old) × (output.new ≡ output.old) }
+        → (result ≡ Err (errors.Session e)) × (input.new ≡ input.old) × (output.new ≡ output.old) }
 {
     let event = first_event(session.state());
-    let (seat, done) = react(context, session, output, seat, event);
-    match done {
-        Ok(true) => receive(context, session, input, output, seat),
-        Ok(false) => (seat, Ok(false)),
-        Err(error) => (seat, Err(error)),
+    if react(context, session, output, seat, event)? {
+        receive(context, session, input, output, seat)
+    } else {
+        Ok(false)
     }
 }
 
-/// Ends the session after an error, and returns the seat.
-fn end<H, G>(context: &Context<H, G>, session: &mut Session, seat: Seat, error: EngineError) -> Seat
-    ensures session { session.new ≡ ended session.old }
-    ensures seat { result ≡ seat }
+/// Ends the session after an error.
+fn end<H, G>(context: &Context<H, G>, session: &mut Session, error: EngineError)
+    ensures { session.new ≡ ended session.old }
 {
     let event = match error {
         EngineError::Read => Event::ReadFault,
@@ -229,7 +208,6 @@ fn end<H, G>(context: &Context<H, G>, session: &mut Session, seat: Seat, error: 
         EngineError::Session(_) | EngineError::Memory | EngineError::Strange => Event::End,
     };
     let _closing = session.on(event, context.moment);
-    seat
 }
 
 /// Returns the outcome of a turn without an error.
@@ -240,6 +218,42 @@ fn outcome(session: &Session) -> Turned
         Turned::Closed
     } else {
         Turned::Going
+    }
+}
+
+/// Takes a turn, and ends the session after an error.
+pub(crate) fn turn_and_end<H: Wait, G: Gate, R: Read + Faults, W: Write + Faults>(
+    context: &Context<H, G>,
+    session: &mut Session,
+    input: &mut R,
+    output: &mut W,
+    seat: &mut Seat,
+) -> Result<Turned, EngineError>
+    ensures run { OnOk result (Turns session.old session.new) }
+    ensures closed { IfOk result (λ turned. (turned ≡ turns.Closed) ↔ (state_of session.new.phase ≡ states.Ended)) }
+    ensures broken { OnErr result (Breaks session.old session.new) }
+    ensures ended { OnErr result (state_of session.new.phase ≡ states.Ended) }
+    ensures seat { seat.new.number ≡ seat.old.number }
+    ensures written { OnOk result ((received : Option Event) × (read out : List ℕ) × IsRead (IsAtEnd (R.remaining input.new)) received read
+        × TakesTurn (input.new ≡ input.old) (worker session.old seat.old context.now.number context.now.moment) received out (worker session.new seat.new context.now.number context.now.moment)
+        × Consumes (R.remaining input.old) (R.remaining input.new) read
+        × Appends (W.contents output.old) (W.contents output.new) out) }
+    ensures stopped { IfErr result (λ e. (received : Option Event) × (read out : List ℕ) × IsRead (IsAtEnd (R.remaining input.new)) received read
+        × StopsTurn (input.new ≡ input.old) (worker session.old seat.old context.now.number context.now.moment) received e out session.new seat.new
+        × Consumes (R.remaining input.old) (R.remaining input.new) read
+        × Appends (W.contents output.old) (W.contents output.new) out) }
+    ensures read { result ≡ Err errors.Read → Rose (R.failed input.old) (R.failed input.new) }
+    ensures refused { (e : SessionError) → e ≢ refusals.Memory → Refuses session.old.phase (first_event (state_of session.old.phase)) e
+        → (result ≡ Err (errors.Session e)) × (input.new ≡ input.old) × (output.new ≡ output.old) }
+    ensures over { state_of session.old.phase ≡ states.Ended
+        → (result ≡ Err (errors.Session refusals.Ended)) × (input.new ≡ input.old) × (output.new ≡ output.old) }
+{
+    match take_turn(context, session, input, output, seat) {
+        Ok(_) => Ok(outcome(session)),
+        Err(error) => {
+            end(context, session, error);
+            Err(error)
+        }
     }
 }
 
@@ -254,10 +268,10 @@ fn outcome(session: &Session) -> Turned
 /// gate, at which it stops after a copy, after the plan, and after the lesson is written. It waits as long as a lock,
 /// the gate, a read or a write does.
 ///
-/// After an error the session is over; the seat is returned in any case. `Read` is returned only if the reader's count
-/// of failures rose. `Write` is returned only if the writer's count rose, a write took no byte, or more than a million
-/// writes failed without being counted; `sent` is below the length of what was being written. The turn skips a read
-/// that fails without being counted.
+/// After an error the session is over. The seat is returned in any case, with the receipts of what was done before the
+/// error, and with the latest answer that made no event. `Read` is returned only if the reader's count of failures rose. `Write` is returned only if the writer's
+/// count rose, a write took no byte, or more than a million writes failed without being counted; `sent` is below the
+/// length of what was being written. The turn skips a read that fails without being counted.
 pub fn turn<H: Wait, R: Read + Faults, W: Write + Faults, G: Gate>(
     rt: &H,
     alloc: Global,
@@ -266,7 +280,7 @@ pub fn turn<H: Wait, R: Read + Faults, W: Write + Faults, G: Gate>(
     output: &mut W,
     gate: &G,
     shards: &Shards,
-    seat: Seat,
+    mut seat: Seat,
     number: u32,
     now: Moment,
 ) -> (Seat, Result<Turned, EngineError>)
@@ -280,7 +294,7 @@ pub fn turn<H: Wait, R: Read + Faults, W: Write + Faults, G: Gate>(
         × Consumes (R.remaining input.old) (R.remaining input.new) read
         × Appends (W.contents output.old) (W.contents output.new) out) }
     ensures stopped { IfErr result.1 (λ e. (received : Option Event) × (read out : List ℕ) × IsRead (IsAtEnd (R.remaining input.new)) received read
-        × StopsTurn (input.new ≡ input.old) (worker session.old seat number now) received e out session.new
+        × StopsTurn (input.new ≡ input.old) (worker session.old seat number now) received e out session.new result.0
         × Consumes (R.remaining input.old) (R.remaining input.new) read
         × Appends (W.contents output.old) (W.contents output.new) out) }
     ensures read { result.1 ≡ Err errors.Read → Rose (R.failed input.old) (R.failed input.new) }
@@ -297,12 +311,6 @@ pub fn turn<H: Wait, R: Read + Faults, W: Write + Faults, G: Gate>(
         number,
         moment: now,
     };
-    let (seat, done) = take_turn(&context, session, input, output, seat);
-    match done {
-        Ok(_) => (seat, Ok(outcome(session))),
-        Err(error) => {
-            let seat = end(&context, session, seat, error);
-            (seat, Err(error))
-        }
-    }
+    let done = turn_and_end(&context, session, input, output, &mut seat);
+    (seat, done)
 }

@@ -1,19 +1,22 @@
-//! The worker of a round's session at the gate: the lock of its table is free there.
+//! The worker of a round's session at the gate: the lock of its table is free there. All threads of a round at theirs: none waits
+//! for another to end.
 
 use crate::gates::Held;
 use crate::sides::SESSION;
 use known_state::Known;
-use node_commands::{Worker, work};
+use node_commands::{RoundSize, StartGate, Worker, gated_round, work};
+use peers_devices::Counting;
 use peers_engine::Stage;
 use std::alloc::Global;
 use std::sync::Wait;
-use std::sync::atomic::{AtomicBool, Ordering};
+use std::sync::atomic::{AtomicBool, AtomicU32, Ordering};
 use std::thread;
 use std::thread::Threads;
-use std::time::Clock;
+use std::time::{Clock, Duration};
 use table_shards::{Seat, Shards, held};
 use tests_play_data::parts::{T1, alone};
 use tests_play_tables::{TwoSeats, comes, track};
+use text_commands::Ending;
 
 /// Opens the worker's session in `t1`. Returns whether it is open.
 fn opens<R: Wait>(rt: &R, shards: &Shards, seat: &mut Option<Seat>) -> Option<bool> {
@@ -138,4 +141,64 @@ pub fn first_locked<R: Threads + Wait + Clock + Sync>(
         }
     }
     None
+}
+
+/// How often a thread at the gate looks whether the others have come, 1 ms apart.
+const TURNS: u32 = 10_000;
+
+/// A gate that holds each thread until `threads` of them have come, at most about 10 s.
+#[derive(Drop)]
+struct Meeting<'a, C> {
+    clock: &'a C,
+    threads: u32,
+    /// The number of threads that have come.
+    came: AtomicU32,
+    /// Whether one went on before all had come.
+    gave_up: AtomicBool,
+}
+
+/// Waits until `threads` threads have come, at most about 10 s. Returns whether they have.
+fn all_come<C: Clock>(clock: &C, came: &AtomicU32, threads: u32) -> bool {
+    for _ in 0..TURNS {
+        if came.load(Ordering::SeqCst) >= threads {
+            return true;
+        }
+        thread::sleep(clock, Duration::from_millis(1));
+    }
+    false
+}
+
+impl<C: Clock> StartGate for Meeting<'_, C> {
+    fn at_start<R: Wait>(&self, _: &R) {
+        self.came.fetch_add(1, Ordering::SeqCst);
+        if !all_come(self.clock, &self.came, self.threads) {
+            self.gave_up.store(true, Ordering::SeqCst);
+        }
+    }
+}
+
+/// Runs a round of which each thread, the worker's too, waits at the gate until all have started. Returns whether they did, and the
+/// round ended well and printed `text`.
+pub fn runs_at_once<R: Threads + Wait + Clock + Sync>(
+    rt: &R,
+    alloc: Global,
+    threads: u32,
+    tracks: u32,
+    text: &[u8],
+) -> bool {
+    if threads > 8 {
+        return false;
+    }
+    let gate = Meeting {
+        clock: rt,
+        threads: threads + 1,
+        came: AtomicU32::new(0),
+        gave_up: AtomicBool::new(false),
+    };
+    let size = RoundSize { threads, tracks };
+    let mut output = Counting::new(Vec::new(alloc));
+    let mut errors = Counting::new(Vec::new(alloc));
+    let ended = gated_round(rt, alloc, &gate, size, &mut output, &mut errors);
+    let all_came = !gate.gave_up.load(Ordering::SeqCst);
+    ended == Ending::Done && all_came && output.into_inner().as_slice() == text
 }

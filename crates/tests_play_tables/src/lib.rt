@@ -4,6 +4,7 @@
 //! returns `None` also if memory runs out, so that a test of what it returns fails.
 #![tactic(auto)]
 
+pub mod answers;
 pub mod audits;
 mod cells;
 pub mod copies;

@@ -1,5 +1,6 @@
 //! Tables under their locks, what a seat has seen, and what an audit finds.
 
+use tests_play_tables::answers::keeps_answers;
 use tests_play_tables::audits::{misses_one_of_two, wants_its_own_seats};
 use tests_play_tables::locks::are_apart;
 use tests_play_tables::seats::{
@@ -44,4 +45,9 @@ fn another_table_gives_no_receipt(rt: HostRuntime) {
 #[test]
 fn a_refused_call_gives_no_receipt(rt: HostRuntime) {
     assert!(rt; refuses_a_text(&rt, rt.alloc()) == Some(true));
+}
+
+#[test]
+fn a_seat_keeps_answers_without_an_event(rt: HostRuntime) {
+    assert!(rt; keeps_answers(&rt, rt.alloc()) == Some(true));
 }

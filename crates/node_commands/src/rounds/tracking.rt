@@ -1,8 +1,8 @@
 //! The threads of a round that change the table.
 
-ghost use Rattle.std.specs.Prelude.{◌≡◌, ◌≤◌, IfOk, IsTrue};
+ghost use Rattle.std.specs.Prelude.{◌≡◌, IfOk, IsTrue, true};
 ghost use Rattle.std.specs.List.{AllByRecursion};
-ghost use Rattle.node_commands.specs.Tracks.{GainsTracks, HasTracked, IsTrack};
+ghost use Rattle.node_commands.specs.Tracks.{GainsTracks, HasDoneItsPart, HasTracked, IsTrack, keeps_rows};
 
 use crate::rounds::table::{TABLE, refused};
 use std::sync::Wait;
@@ -106,12 +106,48 @@ fn has_tracked(tracks: u32, seat: &Seat) -> bool
     receipts.len() == tracks as usize && are_tracks(seat.number(), receipts)
 }
 
-/// Returns whether `has_tracked` is true of each of the seats 1 to `threads` among `seats`.
-pub(crate) fn have_tracked(threads: u32, tracks: u32, seats: &[Seat]) -> bool
-    ensures { IsTrue result → AllByRecursion (λ s. s.number ≤ threads → HasTracked tracks s) seats.now }
+/// Returns whether the receipt is of an event that changes no row.
+fn keeps_rows(receipt: &Receipt) -> bool
+    ensures { result ≡ keeps_rows receipt.now.event }
+{
+    matches!(
+        receipt.event(),
+        CellEvent::Copy { .. }
+            | CellEvent::Ack { .. }
+            | CellEvent::Open { .. }
+            | CellEvent::Close { .. }
+    )
+}
+
+/// Returns whether `keeps_rows` is true of all the receipts.
+fn keep_rows(receipts: &[Receipt]) -> bool
+    ensures { IsTrue result → AllByRecursion (λ r. keeps_rows r.event ≡ true) receipts.now }
+{
+    for receipt in receipts {
+        if !keeps_rows(receipt) {
+            return false;
+        }
+    }
+    true
+}
+
+/// Returns whether a seat of one of `threads` threads has tracked `tracks` times, or any other seat has changed no row.
+fn has_done_its_part(threads: u32, tracks: u32, seat: &Seat) -> bool
+    ensures { IsTrue result → HasDoneItsPart threads tracks seat.now }
+{
+    if seat.number() <= threads {
+        has_tracked(tracks, seat)
+    } else {
+        keep_rows(seat.receipts(TABLE))
+    }
+}
+
+/// Returns whether `has_done_its_part` is true of all `seats`.
+pub(crate) fn have_done_their_parts(threads: u32, tracks: u32, seats: &[Seat]) -> bool
+    ensures { IsTrue result → AllByRecursion (HasDoneItsPart threads tracks) seats.now }
 {
     for seat in seats {
-        if seat.number() <= threads && !has_tracked(tracks, seat) {
+        if !has_done_its_part(threads, tracks, seat) {
             return false;
         }
     }

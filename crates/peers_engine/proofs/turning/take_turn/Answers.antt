@@ -1,46 +1,34 @@
 use Rattle.std.proofs.Common.{Ok, ◌∙◌, ap, refl}
-use Rattle.std.proofs.lemmas.Result.{IfErr-weaker, on_ok_weaker}
+use Rattle.std.proofs.lemmas.Result.{IfErr-weaker, err_from_is_err_and, on_ok_weaker}
 use Rattle.peers_engine.specs.Acting.{worker}
 use Rattle.peers_engine.specs.Turns.{first_event}
-use Rattle.peers_engine.proofs.TurnLaws.{HasHalted, HasReacted, alone_done, alone_fails, of_err, of_ok, then_done, then_fails}
+use Rattle.peers_engine.proofs.TurnLaws.{alone_fails, then_done, then_fails}
 use Rattle.peers_engine.proofs.turning.take_turn.Goals as goal
 
-pub returns-in-Ok-true-clause-done : goal.returns-in-Ok-true-clause-done
-returns-in-Ok-true-clause-done g c =
+pub returns-then-branch-clause-done : goal.returns-then-branch-clause-done
+returns-then-branch-clause-done g c =
     let contents = g.W.Write.contents in
-    on_ok_weaker c.receive.result.1
-    (then_done (worker c.args.session.now c.args.seat c.args.context.now.number c.args.context.now.moment) (worker c.react-seat.new.session c.react-seat.result.0 c.args.context.now.number c.args.context.now.moment) (worker c.receive.new.session c.receive.result.0 c.args.context.now.number c.args.context.now.moment) c.first_event-event.result
+    on_ok_weaker c.receive.result
+    (then_done (worker c.args.session.now c.args.seat.now c.args.context.now.number c.args.context.now.moment) (worker c.react.new.session c.react.new.seat c.args.context.now.number c.args.context.now.moment) (worker c.receive.new.session c.receive.new.seat c.args.context.now.number c.args.context.now.moment) c.first_event-event.result
     (g.R.Read.remaining c.args.input.now) (g.R.Read.remaining c.receive.new.input)
-    (contents c.args.output.now) (contents c.react-seat.new.output) (contents c.receive.new.output)
-    (c.first_event-event.ensures ∙ ap first_event c.state.ensures) (c.react-seat.ensures.idle (c.in-Ok-true.is ∙ ap Ok c.in-Ok-true.field-0-test)))
+    (contents c.args.output.now) (contents c.react.new.output) (contents c.receive.new.output)
+    (c.first_event-event.ensures ∙ ap first_event c.state.ensures) (c.react.ensures.idle (c.in_ok-react.was ∙ ap Ok c.if-branch.true)))
     c.receive.ensures.done
 
-pub returns-in-Ok-true-clause-failed : goal.returns-in-Ok-true-clause-failed
-returns-in-Ok-true-clause-failed g c =
+pub returns-then-branch-clause-failed : goal.returns-then-branch-clause-failed
+returns-then-branch-clause-failed g c =
     let contents = g.W.Write.contents in
-    IfErr-weaker c.receive.result.1 _ _
-    (λ error. then_fails (worker c.args.session.now c.args.seat c.args.context.now.number c.args.context.now.moment) (worker c.react-seat.new.session c.react-seat.result.0 c.args.context.now.number c.args.context.now.moment) c.receive.new.session c.first_event-event.result error
+    IfErr-weaker c.receive.result _ _
+    (λ error. then_fails (worker c.args.session.now c.args.seat.now c.args.context.now.number c.args.context.now.moment) (worker c.react.new.session c.react.new.seat c.args.context.now.number c.args.context.now.moment) c.receive.new.session c.receive.new.seat c.first_event-event.result error
     (g.R.Read.remaining c.args.input.now) (g.R.Read.remaining c.receive.new.input)
-    (contents c.args.output.now) (contents c.react-seat.new.output) (contents c.receive.new.output)
-    (c.first_event-event.ensures ∙ ap first_event c.state.ensures) (c.react-seat.ensures.idle (c.in-Ok-true.is ∙ ap Ok c.in-Ok-true.field-0-test)))
+    (contents c.args.output.now) (contents c.react.new.output) (contents c.receive.new.output)
+    (c.first_event-event.ensures ∙ ap first_event c.state.ensures) (c.react.ensures.idle (c.in_ok-react.was ∙ ap Ok c.if-branch.true)))
     c.receive.ensures.failed
 
-pub returns-in-Ok-false-clause-done : goal.returns-in-Ok-false-clause-done
-returns-in-Ok-false-clause-done g c =
-    let s = worker c.args.session.now c.args.seat c.args.context.now.number c.args.context.now.moment in
+pub returns-in_err-react-clause-failed : goal.returns-in_err-react-clause-failed
+returns-in_err-react-clause-failed g c =
     let contents = g.W.Write.contents in
-    alone_done s (worker c.react-seat.new.session c.react-seat.result.0 c.args.context.now.number c.args.context.now.moment) c.first_event-event.result (g.R.Read.remaining c.args.input.now)
-    (contents c.args.output.now) (contents c.react-seat.new.output) (c.first_event-event.ensures ∙ ap first_event c.state.ensures)
-    (of_ok (λ idle. HasReacted s c.first_event-event.result (worker c.react-seat.new.session c.react-seat.result.0 c.args.context.now.number c.args.context.now.moment) (contents c.args.output.now) (contents c.react-seat.new.output))
-    c.react-seat.result.1 _ c.react-seat.ensures.done c.in-Ok-false.is)
-    refl
-
-pub returns-in-Err-clause-failed : goal.returns-in-Err-clause-failed
-returns-in-Err-clause-failed g c =
-    let s = worker c.args.session.now c.args.seat c.args.context.now.number c.args.context.now.moment in
-    let contents = g.W.Write.contents in
-    alone_fails s c.react-seat.new.session c.first_event-event.result c.in-Err.error (g.R.Read.remaining c.args.input.now)
-    (contents c.args.output.now) (contents c.react-seat.new.output) (c.first_event-event.ensures ∙ ap first_event c.state.ensures)
-    (of_err (HasHalted s c.first_event-event.result c.react-seat.new.session (contents c.args.output.now) (contents c.react-seat.new.output))
-    c.react-seat.result.1 c.in-Err.error c.react-seat.ensures.failed c.in-Err.is)
-    refl
+    let p = err_from_is_err_and c.from_residual.result c.from_residual.ensures.1 in
+    rw (p.1, p.2)
+    (alone_fails (worker c.args.session.now c.args.seat.now c.args.context.now.number c.args.context.now.moment) c.react.new.session c.react.new.seat c.first_event-event.result c.in_err-react.field-0.0 (g.R.Read.remaining c.args.input.now)
+    (contents c.args.output.now) (contents c.react.new.output) (c.first_event-event.ensures ∙ ap first_event c.state.ensures) c.in_err-react.ensures.failed refl)

@@ -1,0 +1,48 @@
+//! The gate at which the threads of a round stop when they have started.
+
+use crate::rounds::tracking::track_all;
+use crate::rounds::worker::{Worker, work};
+use peers_engine::AlwaysOpen;
+use std::alloc::Global;
+use std::sync::Wait;
+use table_cell::Reply;
+use table_shards::{Seat, Shards};
+use text_commands::Ending;
+
+/// A gate at which each thread of a round stops once it has started, before its first call of the table.
+pub trait StartGate {
+    /// Stops the thread that calls it; it goes on once the call returns.
+    fn at_start<R: Wait>(&self, rt: &R);
+}
+
+impl StartGate for AlwaysOpen {
+    fn at_start<R: Wait>(&self, _: &R) {}
+}
+
+/// The result of a thread that changes the table: its seat, and the reply to its last change.
+pub(crate) type Tracked = (Seat, Result<Option<Reply>, Ending>);
+
+/// Stops at the gate, and then calls `track_all`.
+pub(crate) fn track_from_gate<R: Wait, G: StartGate>(
+    rt: &R,
+    gate: &G,
+    shards: &Shards,
+    seat: Seat,
+    tracks: u32,
+) -> Tracked {
+    gate.at_start(rt);
+    let key = seat.number();
+    track_all(rt, shards, seat, key, tracks)
+}
+
+/// Stops at the gate, and then calls `work`, which stops at no gate.
+pub(crate) fn work_from_gate<R: Wait, G: StartGate>(
+    rt: &R,
+    alloc: Global,
+    gate: &G,
+    shards: &Shards,
+    worker: Worker,
+) -> (Worker, Result<(), Ending>) {
+    gate.at_start(rt);
+    work(rt, alloc, &AlwaysOpen, shards, worker)
+}

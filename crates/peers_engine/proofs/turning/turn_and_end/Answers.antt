@@ -1,0 +1,35 @@
+use Rattle.std.proofs.Common.{◌≡◌, Err, ap}
+use Rattle.session_core.specs.Sessions.{state_of}
+use Rattle.peers_engine.specs.declared.errors.EngineError.{EngineError}
+use Rattle.peers_engine.specs.Acting.{worker}
+use Rattle.peers_engine.specs.Turns.{first_event}
+use Rattle.peers_engine.proofs.TurnLaws.{broken, over_stops, stopped, turned}
+use Rattle.peers_engine.proofs.turning.turn_and_end.Goals as goal
+
+pub returns-in-Err-clause-broken : goal.returns-in-Err-clause-broken
+returns-in-Err-clause-broken g c =
+    broken (worker c.args.session.now c.args.seat.now c.args.context.now.number c.args.context.now.moment) c.take_turn.new.session c.end.new.session c.take_turn.new.seat c.in-Err.error
+    (g.R.Read.remaining c.args.input.now) (g.R.Read.remaining c.take_turn.new.input)
+    (g.W.Write.contents c.args.output.now) (g.W.Write.contents c.take_turn.new.output)
+    c.in-Err.ensures.failed c.end.ensures
+
+pub returns-in-Err-clause-stopped : goal.returns-in-Err-clause-stopped
+returns-in-Err-clause-stopped g c =
+    stopped (worker c.args.session.now c.args.seat.now c.args.context.now.number c.args.context.now.moment) c.take_turn.new.session c.end.new.session c.take_turn.new.seat c.in-Err.error
+    (g.R.Read.remaining c.args.input.now) (g.R.Read.remaining c.take_turn.new.input)
+    (g.W.Write.contents c.args.output.now) (g.W.Write.contents c.take_turn.new.output)
+    c.in-Err.ensures.failed c.end.ensures
+
+pub returns-in-Ok-clause-run : goal.returns-in-Ok-clause-run
+returns-in-Ok-clause-run g c =
+    turned (worker c.args.session.now c.args.seat.now c.args.context.now.number c.args.context.now.moment) (worker c.take_turn.new.session c.take_turn.new.seat c.args.context.now.number c.args.context.now.moment)
+    (g.R.Read.remaining c.args.input.now) (g.R.Read.remaining c.take_turn.new.input)
+    (g.W.Write.contents c.args.output.now) (g.W.Write.contents c.take_turn.new.output)
+    c.in-Ok.ensures.done
+
+pub returns-in-Err-clause-over : goal.returns-in-Err-clause-over
+returns-in-Err-clause-over g c = λ over.
+    let phase = c.args.session.now.phase in
+    let stops = over_stops (c.take_turn.new.input ≡ c.args.input.now) (c.take_turn.new.output ≡ c.args.output.now) phase (first_event (state_of phase)) c.take_turn.result c.in-Err.error
+    over c.take_turn.ensures.refused c.in-Err.is in
+    (ap (λ (e : EngineError). Err e) stops.0, stops.1, stops.2)
