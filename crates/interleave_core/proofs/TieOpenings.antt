@@ -61,7 +61,7 @@ parts n c cs after all = by (option_and_then (opened n) (closed n c)) refl all
 reopened_id : (n : ℕ) (c e : CellState) → IsReopenedFrom n c e → e.state.definition.id ≡ c.state.definition.id
 reopened_id n c e (mid, closing, opening) = same_id mid e (events.Open n) replies.Open opening ∙ same_id c mid (events.Close n) replies.Close closing
 
--- each table then was one of that id before
+-- each table of `after` was opened anew from the table of `cells` with its id
 pub each_reopened : (n : ℕ) (cells after : List CellState) → reopened_all n cells ≡ Some after → (t : ℕ) (e : CellState) → cell_at t after ≡ Some e
     → (c : CellState) × (cell_at t cells ≡ Some c) × IsReopenedFrom n c e
 each_reopened n [] after all t e at = absurd (none_there e (ap (cell_at t) (same_cells [] after all) ∙ at))

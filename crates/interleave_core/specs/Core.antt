@@ -42,8 +42,8 @@ AreRefusedIfFull session (ack ∷ acks) cells =
     × ((e : CellState) → acked session ack.1 c ≡ Some e → AreRefusedIfFull session acks (with_cell ack.0 e cells))
 
 -- What holds of a session of a world:
---   A learner that is fed all that is on its way has no fault unless memory runs out. It then has put all that was taught,
---   leaves nothing unread, and is as the teacher knows it.
+--   A learner that is fed all that is on its way has no fault unless memory runs out. It then puts as many rows as were taught
+--   and not put yet, leaves nothing unread, and is as the teacher knows it.
 --   The number acknowledged in a table is 0 or that of an update that the learner has put, and whatever was taught of the table
 --   and isn't put yet has a higher one.
 --   The acknowledgements among the bytes that arrive at the teacher are refused only by a full history, so none is ahead.

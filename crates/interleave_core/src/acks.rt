@@ -61,8 +61,8 @@ fn append_ack(
     }
 }
 
-/// Returns the next message, or `None` while it isn't whole. A breach, which no acknowledgement has, is answered like
-/// `Memory`.
+/// Returns the next message, or `None` while it isn't whole. Fails with `Memory` at a breach too; the bytes of
+/// acknowledgements have none.
 fn next(decoder: &mut Decoder) -> Result<Option<Message>, Memory>
     ensures { IfOk result (λ found. DecoderNext decoder.old (Ok found) decoder.new) }
 {
@@ -105,6 +105,7 @@ fn is_taught(cells: &[TableCell], session: u32, ack: Acknowledgement) -> bool
     }
 }
 
+/// Returns whether the table of each of `acks` was taught its number, or a later one, in `session`.
 fn are_taught(cells: &[TableCell], session: u32, acks: &[Acknowledgement]) -> bool
     ensures { MatchBool result (AreTaught session cells.now (pairs_of acks.now)) (AreTaught session cells.now (pairs_of acks.now) → ⊥) }
 {
@@ -126,6 +127,7 @@ fn has_room(cells: &[TableCell], acks: &[Acknowledgement], table: u64) -> bool
     }
 }
 
+/// Returns whether each table has room for its acknowledgements.
 fn have_room(cells: &[TableCell], acks: &[Acknowledgement]) -> bool
     ensures { MatchBool result (HaveRoom cells.now (pairs_of acks.now)) (HaveRoom cells.now (pairs_of acks.now) → ⊥) }
 {

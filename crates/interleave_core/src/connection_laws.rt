@@ -63,8 +63,8 @@ pub fn due_tables_are_owed()
         × ((is_in table s.learner.intake.due ≡ true) ⊎ (is_some (last_number_of table us) ≡ true)) }
 {}
 
-/// A learner that is fed all that is on its way to it has no fault unless memory runs out. It has then put all that was
-/// taught, has nothing unread, and is as the teacher knows it.
+/// A learner that is fed all that is on its way to it has no fault unless memory runs out. It then puts as many rows as were
+/// taught and not put yet, leaves nothing unread, and is as the teacher knows it.
 pub fn the_learner_ends_as_known()
     ensures { (roster : List Definition) (s : ConnectionState) (acks : List (ℕ × ℕ)) (now : ℕ) (answer : Result ℕ Fault) (l : Learning) →
         IsSoundConnection roster s acks → LearnerFeeds now s.learner s.to_learner answer l → answer ≢ Err faults.Memory →

@@ -268,10 +268,10 @@ pub(crate) fn turn_and_end<H: Wait, G: Gate, R: Read + Faults, W: Write + Faults
 /// gate, at which it stops after a copy, after the plan, and after the lesson is written. It waits as long as a lock,
 /// the gate, a read or a write does.
 ///
-/// After an error the session is over. The seat is returned in any case, with the receipts of what was done before the
-/// error, and with the latest answer that made no event. `Read` is returned only if the reader's count of failures rose. `Write` is returned only if the writer's
-/// count rose, a write took no byte, or more than a million writes failed without being counted; `sent` is below the
-/// length of what was being written. The turn skips a read that fails without being counted.
+/// After an error the session is over. `turn` returns the seat in any case, with the receipts of what was done before the
+/// error, and with the latest answer that made no event. It returns `Read` only if the reader's count of failures rose,
+/// and `Write` only if the writer's count rose, a write took no byte, or more than a million writes failed without being
+/// counted; `sent` is below the length of what was being written. The turn skips a read that fails without being counted.
 pub fn turn<H: Wait, R: Read + Faults, W: Write + Faults, G: Gate>(
     rt: &H,
     alloc: Global,

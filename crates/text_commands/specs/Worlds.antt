@@ -1,5 +1,5 @@
--- What `world` prints: the script's steps are made in turn, and each question is answered as the world then stands; and how
--- it ends (profile).
+-- What `world` prints, and how it ends (profile). It makes the script's steps in turn, and answers each question about the
+-- world as the steps before it left it.
 use Rattle.std.specs.Prelude.{◌≡◌, ◌≤◌, ◌++◌, ℕ, List, [], ◌∷◌, Option, Some, None, codes, length, map}
 use Rattle.std.specs.Fmt.{decimal}
 use Rattle.table_types.specs.declared.key.Key.{Key}
@@ -83,7 +83,7 @@ Answers w (questions.Events table) text = AnswersEvents (cell_at table w.cells) 
 
 -- ---- a script
 
--- a step is made, and prints nothing; a question is answered
+-- a step changes the world and prints nothing; a question prints its answer and leaves the world as it was
 abbrev pub PrintsLine : WorldState → WorldLine → List ℕ → WorldState → Type 0
 PrintsLine w (lines.Step step) text e = (text ≡ []) × Moves w (step_of step) e
 PrintsLine w (lines.Question question) text e = Answers w question text × (e ≡ w)
