@@ -1,5 +1,5 @@
 // Baseline of the codec: timed updates of the peers protocol 2.1, in plain
-// Rust with std alone, as the number that a verified codec is set beside.
+// Rust with std alone, with whose number that of a verified codec is compared.
 //
 //   build   rustc -O --edition 2021 codec.rs
 //   run     ./codec [MESSAGES] [ROUNDS]   (default 200000 20)
@@ -110,7 +110,7 @@ fn encode(u: &Update) -> Vec<u8> {
 #[derive(Clone, Copy, PartialEq)]
 struct View<'a> { number: Option<u32>, life: Option<u32>, int: u32, text: &'a [u8], value: u64, slot: u8, name: Option<&'a [u8]> }
 
-/// One whole message, or None where more bytes are needed.
+/// One whole message, or None if more bytes are needed.
 fn view(b: &[u8], shape: Shape) -> Result<Option<(View<'_>, usize)>, Fault> {
     if b.len() < 3 { return Ok(None); }
     if b[0] != 10 { return Err(Fault::Unknown); }

@@ -1,4 +1,4 @@
-// Baseline of the learner: the same two streams as bench/ (100,000 timed updates of rising keys), or random keys with
+// Baseline of the learner: the same two streams as bench/ (100,000 timed updates of ascending keys), or random keys with
 // `random`, decoded in plain Rust (std alone) and put into a BTreeMap of owned keys and rows, names copied out of slots.
 //   rustc -O --edition 2021 learner.rs && ./learner [random]
 use std::collections::BTreeMap;

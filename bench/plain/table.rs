@@ -5,7 +5,7 @@
 //   run     ./table [OPS] [ROUNDS]          (default 1000000 3)
 //
 // Four tables with the same rules (docs/FORMATS.md, section 7):
-//   list   a Vec of rows in rising key, everything else by looking through it
+//   list   a Vec of rows in ascending order of key, everything else by search
 //   btree  BTreeMap by key, BTreeMap by number, BTreeSet by end, number, key
 //   hash   HashMap by key (std's hasher), the same two ordered indexes
 //   lazy   HashMap by key, VecDeque of numbers and a heap of ends from which
@@ -32,7 +32,7 @@ struct Row { number: u32, ends: u64, gpc0: u32 }
 trait Table<K: Key> {
     fn new(size: usize) -> Self;
     fn track(&mut self, key: &K, add: u32, moment: u64) -> Row;
-    /// The rows above `n` in rising number, at most `limit`.
+    /// The rows above `n` in ascending order of number, at most `limit`.
     fn copy(&mut self, n: u32, limit: usize) -> Vec<(u32, K, Row)>;
     fn len(&self) -> usize;
 }

@@ -41,7 +41,7 @@ follows (Some last) number = (last + 1) % 2 ^ 32 == number
 abbrev pub number_sent : Option ℕ → ℕ → Option ℕ
 number_sent last number = if follows last number then None else Some number
 
--- an update in its shortest number form, with that name field
+-- an update in its shortest number form, with the name field `field`
 abbrev pub sent_as : Option ℕ → NameField → Update → UpdateFields
 sent_as last field u = record { number = number_sent last u.number; life = u.life; key = u.key; values = u.values; name = field }
 
@@ -129,7 +129,7 @@ IsOfRoster roster u = (d : Definition) × (table_at roster u.table ≡ Some d)
 abbrev pub Pays : List Definition → State → Message → List Update → List Update → State → Type 0
 Pays roster s m one rest mid = full roster s (one ++ rest) ≤ size_of m + saving roster (knowledge_of s) m one + full roster mid rest
 
--- what messages that carry these updates save, from s on
+-- what messages that carry the updates `us` save, from the state `s` on
 abbrev pub Saves : List Definition → State → List Message → List Update → ℕ → Type 0
 Saves roster s [] us saved = saved ≡ 0
 Saves roster s (m ∷ ms) us saved =

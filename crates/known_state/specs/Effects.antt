@@ -19,9 +19,9 @@ use Rattle.known_state.specs.declared.effect.ResolvedUpdate.{ResolvedUpdate}
 abbrev pub selected_number : State → Option ℕ → Option ℕ
 selected_number s number = option_and_then (λ table. resolved_number number (last_of s.last_numbers table)) s.received.selected
 
--- Why an update with this number and name field is refused: the first of two causes that applies. NoNumber: no table is
--- selected, or the update is incremental and the selected table has no last number. EmptySlot: its name field reads a
--- slot that holds no name.
+-- Why an update with `number` and the name field `field` is refused: the first of two causes that applies. NoNumber: no
+-- table is selected, or the update is incremental and the selected table has no last number. EmptySlot: its name field
+-- reads a slot that holds no name.
 abbrev pub refusal_of : State → Option ℕ → NameField → Option Refusal
 refusal_of s number field =
     if is_none (selected_number s number) then Some refusals.NoNumber
@@ -37,7 +37,7 @@ abbrev pub written_by : NameField → Option (ℕ × List ℕ)
 written_by (names.Written slot name) = Some (slot, name)
 written_by field = None
 
--- what an update with this number and name field resolves to
+-- what an update with `number` and the name field `field` resolves to
 abbrev pub Resolves : State → Option ℕ → NameField → ResolvedUpdate → Type 0
 Resolves s number field r =
     (s.received.selected ≡ Some r.table)

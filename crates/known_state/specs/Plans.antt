@@ -10,7 +10,7 @@ pub record Plan : Type 0 where
   pub keep : List Bool
   pub prices : List ℕ
 
--- the sum of f over a list
+-- the sum of `f` over a list
 abbrev pub total : {A : Type 0} → (A → ℕ) → List A → ℕ
 total f [] = 0
 total f (x ∷ xs) = f x + total f xs
@@ -98,7 +98,7 @@ price_inside prices l = sum_of (take (l.to - 1 - l.from) (drop l.from prices))
 abbrev pub kept_savings : List Link → ℕ
 kept_savings ls = total (λ l. if l.kept then l.saving else 0) ls
 
--- The most that links can save with this many slots, as these prices prove: a place is inside at most one kept link
+-- The most that links can save with `slots` slots, as these prices prove: a place is inside at most one kept link
 -- fewer than there are slots, and a link saves at most the prices inside it plus what it saves above them, which is 0
 -- if the prices are more.
 abbrev pub bound : ℕ → List Link → List ℕ → ℕ

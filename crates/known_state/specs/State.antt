@@ -65,10 +65,10 @@ slots_after slots field = slots
 abbrev pub resolved : UpdateFields → ℕ → ℕ → Option (List ℕ) → Update
 resolved u table number name = record { table = table; number = number; life = u.life; key = u.key; values = u.values; name = name }
 
--- The message fits the state s, carries these updates, at most one, and leads to the state s'. An update carries itself
--- with its table, number and name resolved, its number becomes the table's last, and its name field changes the slots.
--- Any other message carries nothing and leaves the slots unchanged; a definition or a switch changes what is received,
--- and a definition may drop last numbers.
+-- The message fits the state `s`, carries the updates `us`, at most one, and leads to the state `s'`. An update carries
+-- itself with its table, number and name resolved, its number becomes the table's last, and its name field changes the
+-- slots. Any other message carries nothing and leaves the slots unchanged; a definition or a switch changes what is
+-- received, and a definition may drop last numbers.
 abbrev pub Step : State → Message → List Update → State → Type 0
 Step s (messages.Update u) us s' =
     (fits s.received (messages.Update u) ≡ true)
@@ -83,7 +83,7 @@ Step s m us s' =
     × (us ≡ [])
     × (s' ≡ record { received = received_after s.received m; last_numbers = last_numbers_after s m; slots = s.slots })
 
--- the messages, each from the state that the earlier ones leave, carry these updates in order, and lead from s to e
+-- the messages, each from the state that the earlier ones leave, carry `us` in order, and lead from `s` to `e`
 abbrev pub Teaches : State → List Message → List Update → State → Type 0
 Teaches s [] us e = (us ≡ []) × (e ≡ s)
 Teaches s (m ∷ ms) us e =
@@ -97,6 +97,6 @@ abbrev pub IsOwn : List Definition → Message → Type 0
 IsOwn roster (messages.Define d) = table_at roster d.id ≡ Some d
 IsOwn roster m = Unit {0}
 
--- from a known state with that roster, the messages are legal, carry these updates, and lead to e
+-- from a known state with `roster` and `s`, the messages are legal, carry `us`, and lead to `e`
 abbrev pub Legal : List Definition → State → List Message → List Update → State → Type 0
 Legal roster s ms us e = AllByRecursion (IsOwn roster) ms × Teaches s ms us e

@@ -21,7 +21,7 @@ fn is_called(name: Option<&[u8]>, other: &Option<Name>) -> bool
     }
 }
 
-/// Returns whether `found` is this id and number.
+/// Returns whether `found` is `table` and `number`.
 fn is_numbered(found: Option<(u64, u32)>, table: u64, number: u32) -> bool
     ensures { IsTrue result ↔ (found ≡ Some (table, number)) }
 {

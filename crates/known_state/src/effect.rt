@@ -48,7 +48,7 @@ pub struct ResolvedUpdate {
 }
 
 impl ResolvedUpdate {
-    /// Returns what an update of the selected table with this number and name field changes. Consumes the field.
+    /// Returns what an update of the selected table, `table`, with `number` and `field` changes. Consumes `field`.
     pub(crate) fn of(table: u64, number: u32, field: NameField) -> ResolvedUpdate
         ensures table { result.table ≡ table }
         ensures number { result.number ≡ number }

@@ -159,8 +159,8 @@ impl State {
         }
     }
 
-    /// Returns the selected id, and the number of an update with this number and name field; or why it is refused:
-    /// `NoNumber` before `EmptySlot`.
+    /// Returns the selected id, and the number to which an update with `number` and the name field `field` resolves; or
+    /// why it is refused: `NoNumber` before `EmptySlot`.
     fn numbered(&self, number: Option<u32>, field: NameFieldRef<'_>) -> Result<(u64, u32), Refusal>
         ensures table { IfOk result (λ found. self.now.received.selected ≡ Some found.0) }
         ensures number { IfOk result (λ found. resolved_number number (last_of self.now.last_numbers found.0) ≡ Some found.1) }
@@ -174,7 +174,7 @@ impl State {
         }
     }
 
-    /// Returns why an update with this number and name field is refused, if it is. Doesn't allocate.
+    /// Returns why an update with `number` and the name field `field` is refused, if it is. Doesn't allocate.
     pub fn refusal(&self, number: Option<u32>, field: NameFieldRef<'_>) -> Option<Refusal>
         ensures { result ≡ refusal_of self.now number (owned_name field.entry) }
     {
@@ -184,8 +184,8 @@ impl State {
         }
     }
 
-    /// Returns what an update with this number and name field does to the state, which doesn't change yet. Copies the
-    /// name if the update writes one.
+    /// Returns what an update with `number` and the name field `field` does to the state, which doesn't change yet.
+    /// Copies the name if the update writes one.
     ///
     /// Errors, in this order: `NoNumber`, `EmptySlot`, `Memory`.
     pub fn resolve(

@@ -20,7 +20,7 @@ use Rattle.learner.specs.declared.taken.TakenRef.{TakenRef}
 use Rattle.learner.specs.Intake.{Taking, IsTakable, IsRefused, Takes, Stops, Gives, due_after}
 use Rattle.learner.specs.Front.{IsFront, Shows, due_made, owned, passed, stopped}
 
--- what is left of t after a message of this many bytes, with this state and these ids due
+-- what is left of `t` after a message of `used` bytes, with the state `s` and the ids `due`
 abbrev pub after_message : Taking → ℕ → State → List ℕ → Taking
 after_message t used s due = record { roster = t.roster; state = s; due = due; unread = drop used t.unread; closed = false }
 

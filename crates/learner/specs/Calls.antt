@@ -19,8 +19,8 @@ abbrev pub answers_given : Result (Option Taken) Fault → List Taken
 answers_given (Ok (Some answer)) = answer ∷ []
 answers_given answer = []
 
--- Calls one after another lead from t to e without a fault other than out of memory. Some feeds that piece, and None
--- asks for a message. These bytes were taken, and these answers given.
+-- Calls one after another lead from `t` to `e` without a fault other than out of memory. Some feeds its piece, and None
+-- asks for a message. The calls took `bytes`, and gave `answers`.
 abbrev pub AreIntakeCalls : Taking → List (Option (List ℕ)) → List ℕ → List Taken → Taking → Type 0
 AreIntakeCalls t [] bytes answers e = (bytes ≡ []) × (answers ≡ []) × (e ≡ t)
 AreIntakeCalls t (Some piece ∷ calls) bytes answers e =

@@ -36,7 +36,7 @@ stopped t faults.Memory = t
 stopped t faults.Closed = t
 stopped t fault = shut t
 
--- a message of this many bytes is at the front
+-- the message `m` is at the front, and has `used` bytes
 abbrev pub IsFront : Taking → Message → ℕ → Type 0
 IsFront t m used =
     (t.closed ≡ false)

@@ -53,8 +53,8 @@ due_after s (messages.Update u) due = with_due s.received.selected due
 due_after s (messages.Define d) due = filter (λ id. is_some (last_of (last_numbers_after s (messages.Define d)) id)) due
 due_after s m due = due
 
--- The message m is at the front and makes its step, which leads to e; local are the updates of local tables among those
--- that it carries.
+-- The message `m` is at the front and makes its step, which leads to `e`; `local` are the updates of local tables among
+-- those that it carries.
 abbrev pub Takes : Taking → Message → List Update → Taking → Type 0
 Takes t m local e =
     (t.closed ≡ false)

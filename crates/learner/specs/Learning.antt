@@ -28,12 +28,12 @@ unlearned roster = record { intake = begun roster; rows = map (λ _. []) roster 
 abbrev pub with_piece : Learning → List ℕ → Learning
 with_piece l piece = record { intake = fed l.intake piece; rows = l.rows }
 
--- The message m is taken at the moment now, and the updates us, those of local tables that it carries, are put among
--- the rows.
+-- The message `m` is taken at the moment `now`, and the updates `us`, those of local tables that it carries, are put
+-- among the rows.
 abbrev pub Learns : ℕ → Learning → Message → List Update → Learning → Type 0
 Learns now l m us e = Takes l.intake m us e.intake × (e.rows ≡ put_all now l.intake.roster us l.rows)
 
--- the messages ms are learned one after another, and these updates are put
+-- the messages are learned one after another, and the updates `us` are put
 abbrev pub AreLearned : ℕ → Learning → List Message → List Update → Learning → Type 0
 AreLearned now l [] us e = (us ≡ []) × (e ≡ l)
 AreLearned now l (m ∷ ms) us e =
@@ -75,8 +75,8 @@ LearnsAll now l (Err fault) e =
 abbrev pub shut_off : Learning → Learning
 shut_off l = record { intake = shut l.intake; rows = l.rows }
 
--- What feeding bytes at the moment now does: the messages that are then whole are learned, up to the first fault. After
--- a fault the learner is closed, and so it is if memory runs out for a message; a closed learner takes no bytes.
+-- What feeding bytes at the moment `now` does: the messages that are then whole are learned, up to the first fault.
+-- After a fault the learner is closed, and so it is if memory runs out for a message; a closed learner takes no bytes.
 abbrev pub LearnerFeeds : ℕ → Learning → List ℕ → Result ℕ Fault → Learning → Type 0
 LearnerFeeds now l piece (Err faults.Closed) e = (l.intake.closed ≡ true) × (e ≡ l)
 LearnerFeeds now l piece (Err faults.Memory) e =
@@ -93,7 +93,7 @@ IsCutOff now l piece e = (ms : List Message) × (us : List Update) × (mid : Lea
 
 -- ---- streams in pieces
 
--- the pieces are fed one after another, all at one moment and without a fault, and this many rows are put
+-- the pieces are fed one after another, all at one moment and without a fault, and `count` rows are put
 abbrev pub AreFed : ℕ → Learning → List (List ℕ) → ℕ → Learning → Type 0
 AreFed now l [] count e = (count ≡ 0) × (e ≡ l)
 AreFed now l (piece ∷ pieces) count e =
@@ -114,7 +114,7 @@ IsReady l =
     × (l.intake.closed ≡ false)
     × (l.intake.unread ≡ [])
 
--- these updates are put among the rows of l, all of them, that state is reached, and nothing is left unread
+-- the updates `us` are put among the rows of `l`, all of them, the state `after` is reached, and nothing is left unread
 abbrev pub IsTaught : ℕ → Learning → List Update → State → Learning → Type 0
 IsTaught now l us after e =
     (e.intake.roster ≡ l.intake.roster)
@@ -123,12 +123,11 @@ IsTaught now l us after e =
     × (e.intake.closed ≡ false)
     × (e.rows ≡ put_all now l.intake.roster us l.rows)
 
--- the learner is ready, its last numbers are in ascending order of id, and what a teacher of its roster knows of it is
--- k
+-- the learner is ready, its last numbers are in ascending order of id, and a teacher of its roster knows `k` of it
 abbrev pub IsReadyIn : KnownState → Learning → Type 0
 IsReadyIn k l = IsReady l × AreRising l.intake.state.last_numbers × (known_of l.intake.roster l.intake.state ≡ k)
 
--- these updates are put among the rows of l, all of them, and the learner is ready for a lesson from the known state
--- after
+-- the updates `us` are put among the rows of `l`, all of them, and the learner is ready for a lesson from the known
+-- state `after`
 abbrev pub HasLearned : ℕ → Learning → List Update → KnownState → Learning → Type 0
 HasLearned now l us after e = (e.rows ≡ put_all now l.intake.roster us l.rows) × IsReadyIn after e

@@ -23,7 +23,8 @@ abbrev pub stream_in : List Piece → List ℕ
 stream_in [] = []
 stream_in (p ∷ ps) = p.bytes ++ stream_in ps
 
--- the pieces are fed one after another, each at its moment and without a fault, and this many rows are put of each
+-- the pieces are fed one after another, each at its moment and without a fault; `counts` has the number of rows put of
+-- each
 abbrev pub AreFedInTime : Learning → List Piece → List ℕ → Learning → Type 0
 AreFedInTime l [] counts e = (counts ≡ []) × (e ≡ l)
 AreFedInTime l (p ∷ ps) counts e =
@@ -34,7 +35,7 @@ AreFedInTime l (p ∷ ps) counts e =
     × LearnerFeeds p.moment l p.bytes (Ok one) mid
     × AreFedInTime mid ps rest e
 
--- the same, and then one more piece, which ends in that fault
+-- the same, and then one more piece, `last`, which ends in the fault `fault`
 abbrev pub IsStoppedInTime : Learning → List Piece → Piece → Fault → Learning → Type 0
 IsStoppedInTime l pieces last fault e =
     (counts : List ℕ)
@@ -42,7 +43,7 @@ IsStoppedInTime l pieces last fault e =
     × AreFedInTime l pieces counts mid
     × LearnerFeeds last.moment mid last.bytes (Err fault) e
 
--- the pieces end this way, and of what was fed, these bytes are left from the faulty message on
+-- the pieces end this way, and of what was fed, `left` are the bytes from the faulty message on
 abbrev pub IsStoppedAtInTime : Learning → List Piece → Piece → Fault → List ℕ → Learning → Type 0
 IsStoppedAtInTime l pieces last fault left e =
     (counts : List ℕ)
@@ -51,14 +52,14 @@ IsStoppedAtInTime l pieces last fault left e =
     × LearnerFeeds last.moment mid last.bytes (Err fault) e
     × StandsAt last.moment (with_piece mid last.bytes) fault left e
 
--- this many bytes are fewer than the next of these messages has, or none if no message is to come
+-- `left` bytes are fewer than the next of these messages has, or none if no message is to come
 abbrev pub AreTooFew : ℕ → List Message → Type 0
 AreTooFew left [] = left ≡ 0
 AreTooFew left (m ∷ ms) = left < length (spelled m)
 
--- A stream of these messages, of which this many bytes came before, arrives in pieces; the messages make their steps
--- from s on and lead to e. There is a part for each piece: the updates carried by the messages whose last byte is in
--- that piece. After the messages that end in a piece, fewer bytes are left than the next message has.
+-- A stream of these messages, of which `before` bytes came earlier, arrives in pieces; the messages make their steps
+-- from `s` on and lead to `e`. There is a part for each piece: the updates carried by the messages whose last byte is
+-- in that piece. After the messages that end in a piece, fewer bytes are left than the next message has.
 abbrev pub FallInto : ℕ → State → List Message → List Piece → List (List Update) → State → Type 0
 FallInto before s ms [] parts e = (ms ≡ []) × (parts ≡ []) × (e ≡ s)
 FallInto before s ms (p ∷ ps) parts e =
@@ -80,9 +81,9 @@ abbrev pub put_parts : List Definition → List Piece → List (List Update) →
 put_parts roster (p ∷ ps) (part ∷ parts) tables = put_parts roster ps parts (put_all p.moment roster part tables)
 put_parts roster ps parts tables = tables
 
--- The updates us that the pieces carry from the known state k are divided into parts, one for each piece; each part is
--- put among the rows of l at the moment of its piece, and the answer to the piece counts it. Afterwards the learner is
--- ready for a lesson from the known state after.
+-- The updates `us` that the pieces carry from the known state `k` are divided into parts, one for each piece; each part
+-- is put among the rows of `l` at the moment of its piece, and the answer to the piece counts it. Afterwards the
+-- learner is ready for a lesson from the known state `after`.
 abbrev pub HasLearnedInTime : KnownState → Learning → List Piece → List Update → List ℕ → KnownState → Learning → Type 0
 HasLearnedInTime k l pieces us counts after e =
     (ms : List Message)

@@ -14,12 +14,12 @@ use Rattle.table_types.specs.Rows.{StoredRow, row_of}
 abbrev pub row_at : Key → List (Key × StoredRow) → Option StoredRow
 row_at key rows = lookup (λ other. is_eq (key_cmp key other)) rows
 
--- the rows of the table of an id, or none if there is no such table; the rows are in the order of the tables
+-- the rows of the table with an id, or none if there is no such table; the rows are in the order of the tables
 abbrev pub rows_at : List Definition → ℕ → List (List (Key × StoredRow)) → List (Key × StoredRow)
 rows_at (d ∷ ds) id (rows ∷ others) = if d.id == id then rows else rows_at ds id others
 rows_at ds id tables = []
 
--- an update of that table replaces the row of its key, or adds a new one
+-- an update of the table `d` replaces the row of its key, or adds a new one
 abbrev pub put_row : ℕ → Definition → Update → List (Key × StoredRow) → List (Key × StoredRow)
 put_row now d u rows = insert_entry key_cmp rows u.key (row_of now d.expire u)
 
@@ -32,11 +32,11 @@ put now ds tables u = tables
 abbrev pub put_all : ℕ → List Definition → List Update → List (List (Key × StoredRow)) → List (List (Key × StoredRow))
 put_all now roster us tables = fold (put now roster) tables us
 
--- none of the updates has that table and key
+-- none of the updates has the table `id` and the key `key`
 abbrev pub AreOfOthers : ℕ → Key → List Update → Type 0
 AreOfOthers id key us = AllByRecursion (λ u. (u.table ≢ id) ⊎ (u.key ≢ key)) us
 
--- the index of the table of that id
+-- the index of the table with the id `id`
 abbrev pub index_of : List Definition → ℕ → Option ℕ
 index_of [] id = None
 index_of (d ∷ ds) id = if d.id == id then Some 0 else option_map (λ index. index + 1) (index_of ds id)

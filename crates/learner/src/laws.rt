@@ -144,12 +144,12 @@ pub fn a_legal_stream()
         AreFedInTime l before counts mid → LearnerFeeds now mid piece (Err fault) e → fault ≡ faults.Memory }
 {}
 
-/// A lesson teaches what it says. A teacher knows that a learner is in the known state k, but not what else it holds.
-/// Every such learner that is fed a lesson from k puts all the updates that the lesson carries and nothing else; it is
-/// then in the known state in which the lesson ends, and ready for the next lesson from there; nothing is left unread;
-/// and no fault occurs, unless memory runs out. This holds however the lesson is cut. With pieces at several moments, a
-/// row gets the moment of the piece in which its message ends: the updates are divided into parts, one for each piece.
-/// A learner that was fed nothing is ready for a lesson to a learner that received nothing.
+/// A lesson teaches what it says. A teacher knows that a learner is in the known state `k`, but not what else it
+/// holds. Every such learner that is fed a lesson from `k` puts all the updates that the lesson carries and nothing
+/// else; it is then in the known state in which the lesson ends, and ready for the next lesson from there; nothing is
+/// left unread; and no fault occurs, unless memory runs out. This holds however the lesson is cut. With pieces at several
+/// moments, a row gets the moment of the piece in which its message ends: the updates are divided into parts, one for
+/// each piece. A learner that was fed nothing is ready for a lesson to a learner that received nothing.
 pub fn a_lesson()
     ensures fresh { (roster : List Definition) → roster_fault roster ≡ None → IsReadyIn (fresh_of roster) (unlearned roster) }
     ensures whole { (now : ℕ) (k after : KnownState) (us : List Update) (bytes : List ℕ) (l e : Learning) (result : Result ℕ Fault) →

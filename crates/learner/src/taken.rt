@@ -86,7 +86,7 @@ fn named(alloc: Global, name: Option<&[u8]>) -> Result<Option<Name>, Memory>
 }
 
 impl<'a> LocalUpdateRef<'a> {
-    /// Returns the update of the local table with the id `table`, with this number and name.
+    /// Returns the update of the local table with the id `table`, with `number` and `name`.
     pub(crate) fn new(
         table: u64,
         number: u32,

@@ -14,7 +14,7 @@ abbrev pub or_key : Option Key → Option Key → Option Key
 or_key (Some key) next = Some key
 or_key None next = next
 
--- the key that a word writes: one of this kind, or else a string, or else an integer
+-- the key that a word writes: one of the kind `kind`, or else a string, or else an integer
 abbrev pub any_key_of : KeyKind → List ℕ → Option Key
 any_key_of kind word = or_key (key_of kind word) (or_key (key_of kinds.String word) (key_of kinds.Integer word))
 

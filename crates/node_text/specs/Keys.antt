@@ -25,7 +25,7 @@ key_text (keys.Bin bytes) = flat_map digits_of bytes
 
 -- ---- read
 
--- an address of n bytes in hexadecimal
+-- an address of `n` bytes in hexadecimal
 abbrev pub address_of : ℕ → List ℕ → Option (List ℕ)
 address_of n word = option_and_then (λ bytes. if length bytes == n then Some bytes else None) (bytes_of word)
 
@@ -34,7 +34,7 @@ abbrev pub string_of : List ℕ → Option (List ℕ)
 string_of [] = None
 string_of (mark ∷ string) = if mark == 61 && is_text string then Some string else None
 
--- the key of this kind that a word writes
+-- the key of the kind `kind` that a word writes
 abbrev pub key_of : KeyKind → List ℕ → Option Key
 key_of kinds.Integer word = option_map keys.Int (number_of word (2 ^ 32 - 1))
 key_of kinds.Ip4 word = option_map keys.Ip4 (address_of 4 word)

@@ -6,7 +6,7 @@ use Rattle.std.specs.List.{list_all}
 abbrev pub is_digit : ℕ → Bool
 is_digit byte = nat_le 48 byte && nat_le byte 57
 
--- n, with these digits after its own
+-- `n`, with these digits after its own
 abbrev pub digits_from : ℕ → List ℕ → ℕ
 digits_from n [] = n
 digits_from n (digit ∷ digits) = digits_from (n * 10 + (digit - 48)) digits

@@ -28,7 +28,7 @@ event_key (events.Track seat key change moment) = Some key
 event_key (events.Learn session update moment) = Some update.key
 event_key event = None
 
--- the reply with the row of this key, if the event has one
+-- the reply with the row of the event's key, if the event has one
 abbrev pub row_reply_text : Definition → Option Key → Reply → List ℕ
 row_reply_text table None reply = []
 row_reply_text table (Some key) reply = reply_text table key reply

@@ -9,7 +9,7 @@ use thiserror::Error;
 /// Why a scene or a script wasn't read. What was read of it is dropped.
 #[derive(Clone, Copy, Debug, PartialEq, Eq, Error)]
 pub enum SceneError {
-    /// The first line that breaks a rule or a limit is the one of this number, from 1.
+    /// The first line that breaks a rule or a limit has this number, from 1.
     #[error("line {0}: refused")]
     Line(usize),
     /// No line is refused, but something that the subcommand needs is missing.

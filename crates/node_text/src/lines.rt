@@ -11,7 +11,7 @@ pub(crate) trait LineReader {
     /// What each line keeps, in a text of this many lines.
     ghost is_sound: { ℕ → Self → Type 0 };
 
-    /// Reads the line of this number, from 1, without its LF. If it is refused, no later line is read.
+    /// Reads `line`, which is line `number`, from 1, without its LF. If it is refused, no later line is read.
     fn read_line(&mut self, alloc: Global, number: usize, line: &[u8]) -> Result<(), LineError>
         ensures { (count : ℕ) → is_sound count self.old → IsLineOf count number → is_sound count self.new };
 }

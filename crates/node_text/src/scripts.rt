@@ -38,7 +38,7 @@ pub fn read_script(alloc: Global, text: &[u8]) -> Result<Script, SceneError>
     }
 }
 
-/// Returns what was read before the refused line of this number, or before the end if there is none.
+/// Returns what was read before line `refused`, or before the end if no line is refused.
 fn up_to(script: Option<Script>, refused: Option<usize>) -> Result<Script, SceneError>
     ensures script { (count : ℕ) → IfSome script (IsScript count) → IfSome refused (IsLineOf count) → IfOk result (IsScript count) }
     ensures line { (count number : ℕ) → IfSome refused (IsLineOf count) → result ≡ Err (SceneError.Line number) → IsLineOf count number }

@@ -14,9 +14,9 @@ use table_types::{Change, CopyKind, Key, KeyKind, Moment, Update};
 /// A line of a world's script that comes after its settings.
 #[derive(Debug, Drop)]
 pub enum WorldLine {
-    /// A step to be made.
+    /// A step to make.
     Step(WorldStep),
-    /// A question to be answered.
+    /// A question to answer.
     Question(WorldQuestion),
 }
 
@@ -96,7 +96,7 @@ pub enum WorldStep {
 pub enum WorldQuestion {
     /// How far the session is, and how many bytes are on their way in it.
     Session(u32),
-    /// The rows of the table of this id.
+    /// The rows of the table with this id.
     Rows(u64),
     /// The rows that the learner of a session has of a table.
     Learner {
@@ -105,7 +105,7 @@ pub enum WorldQuestion {
         /// The table's id.
         table: u64,
     },
-    /// The number of events of the table of this id, and how many more may come.
+    /// The number of events of the table with this id, and how many more may come.
     Events(u64),
 }
 

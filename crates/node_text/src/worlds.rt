@@ -147,7 +147,7 @@ impl WorldScript {
         None
     }
 
-    /// Returns the table of this id.
+    /// Returns the table with the id `id`.
     pub(crate) fn table(&self, id: u64) -> Option<&TableDef>
         ensures { is_some result ≡ has_id id (definitions self.now.tables.items) }
     {

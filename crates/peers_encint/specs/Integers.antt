@@ -5,7 +5,7 @@ use Rattle.std.specs.Option.{option_map}
 use Rattle.peers_encint.specs.declared.reading.Read.{Read}
 use Rattle.peers_encint.specs.declared.reading.Read.TheVariants.{Value, Short, Over}
 
--- what the later bytes add to the first: the first of them shifted left by w, each one after it by seven more
+-- what the later bytes add to the first: the first of them shifted left by `w`, each one after it by seven more
 abbrev pub added_from : ℕ → List ℕ → ℕ
 added_from w [] = 0
 added_from w (c ∷ cs) = c * 2 ^ w + added_from (w + 7) cs
@@ -16,7 +16,7 @@ IsTail [] = ⊥
 IsTail (c ∷ []) = c < 128
 IsTail (c ∷ d ∷ cs) = (128 ≤ c) × (c < 256) × IsTail (d ∷ cs)
 
--- The bytes spell n: one byte below 240, or a first byte from 240 up and what the later bytes add to it.
+-- The bytes spell `n`: one byte below 240, or a first byte from 240 up and what the later bytes add to it.
 abbrev pub SpellsInteger : List ℕ → ℕ → Type 0
 SpellsInteger [] n = ⊥
 SpellsInteger (f ∷ []) n = (f < 240) × (n ≡ f)
@@ -56,7 +56,7 @@ tail_length (suc most) (c ∷ cs) = if nat_lt c 128 then Some 1 else option_map 
 abbrev pub whole_of : ℕ → ℕ → Read
 whole_of n used = if nat_lt n (2 ^ 64) then Value n used else Over
 
--- the result for a first byte of 240 or more and the bytes after it, of which the first k belong to the number
+-- the result for a first byte of 240 or more and the bytes after it, of which the first `k` belong to the number
 abbrev pub long_of : ℕ → List ℕ → Option ℕ → Read
 long_of f cs None = Short
 long_of f cs (Some k) = whole_of (f + added_from 4 (take k cs)) (suc k)

@@ -23,7 +23,7 @@ pub record Worker : Type 0 where
 abbrev pub worker : SessionState → SeatState → ℕ → ℕ → Worker
 worker s seat number now = record { session = s; seat = seat; number = number; now = now }
 
--- the same worker with this session and this seat
+-- the same worker with the session `s` and the seat `seat`
 abbrev pub stands : Worker → SessionState → SeatState → Worker
 stands w s seat = worker s seat w.number w.now
 
@@ -58,7 +58,7 @@ asked steps = flat_map (λ step. step.1) steps
 
 -- ---- up to an error
 
--- the session refuses the event, with this error
+-- the session refuses the event, with the error `error`
 abbrev pub IsRefused : SessionState → Event → EngineError → Type 0
 IsRefused s event error = (why : SessionError) × Refuses s.phase event why × (error ≡ errors.Session why)
 

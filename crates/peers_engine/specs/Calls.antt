@@ -1,5 +1,5 @@
 -- The calls on tables that perform a session's actions. No clause says which cell a call finds behind the lock: they
--- say what the call does to some cell of that table. A call that makes an event of the table leaves its receipt at the
+-- say what the call does to some cell of its table. A call that makes an event of the table leaves its receipt at the
 -- seat, with the answer. A call that makes none leaves the seat as it was, unless the table is full, has nothing to copy,
 -- refuses an acknowledgement as ahead or finds a batch to be the latest one: that answer is then at the seat.
 use Rattle.std.specs.Prelude.{◌≡◌, ◌⊎◌, ℕ, List, Result, Ok, Err, Some, slice_get}
@@ -26,7 +26,7 @@ use Rattle.table_shards.specs.Receipts.{SeatState}
 use Rattle.session_core.specs.declared.event.Event.{Event}
 use Rattle.session_core.specs.declared.event.Event.TheVariants as answers
 
--- Session n calls a table from the seat s at the moment now; the call gives the answer and leaves the seat as t.
+-- Session `n` calls a table from the seat `s` at the moment `now`; the call gives `answer` and leaves the seat as `t`.
 abbrev pub CallsLearn : ℕ → ℕ → SeatState → Update → Result Reply (ShardError LearnError) → SeatState → Type 0
 CallsLearn n now s u answer t =
     (c e : CellState)
@@ -60,13 +60,13 @@ abbrev pub IsLearned : ℕ → ℕ → SeatState → Update → SeatState → Ty
 IsLearned n now s u t =
     ((reply : Reply) × CallsLearn n now s u (Ok reply) t) ⊎ CallsLearn n now s u (Err (errors.Cell learn_errors.TableFull)) t
 
--- an acknowledgement is passed on, with this answer for the session
+-- an acknowledgement is passed on, and `event` is the answer to the session
 abbrev pub IsTaken : ℕ → SeatState → ℕ → ℕ → SeatState → Event → Type 0
 IsTaken n s table number t event =
     ((settled : Settled) × (event ≡ answers.Settled table settled) × CallsAck n s table number (Ok settled) t)
     ⊎ ((event ≡ answers.Refused table) × CallsAck n s table number (Err (errors.Cell ack_errors.AckAhead)) t)
 
--- a batch is copied, or there is none, with this answer for the session
+-- a batch is copied, or there is none, and `event` is the answer to the session
 abbrev pub IsCopied : ℕ → ℕ → SeatState → ℕ → CopyKind → SeatState → Event → Type 0
 IsCopied n now s table kind t event =
     ((batch : List Update) × (event ≡ answers.Copied table batch) × CallsCopy n now s table kind (Ok batch) t)

@@ -25,16 +25,16 @@ use Rattle.peers_engine.specs.declared.errors.EngineError.TheVariants as errors
 abbrev pub error_text : ErrorKind → List ℕ
 error_text kind = 1 ∷ (error_type kind ∷ [])
 
--- the bytes spell messages that are among the shortest that teach the batch from the known state k
+-- the bytes spell messages that are among the shortest that teach the batch from the known state `k`
 abbrev pub AreShortest : KnownState → List Update → List ℕ → Type 0
 AreShortest k batch bytes = (ms : List Message) × (bytes ≡ stream_of ms) × Shortest k batch ms
 
--- a shortest lesson of the batch from the known state k, which leads to the known state after
+-- a shortest lesson of the batch from the known state `k`, which leads to the known state `after`
 abbrev pub IsShortestLesson : KnownState → List Update → List ℕ → KnownState → Type 0
 IsShortestLesson k batch bytes after = IsLessonFor k batch bytes after × AreShortest k batch bytes
 
--- Session n, whose known state is k, performs an action from the seat s at the moment now: what is written for it, its
--- answer, and how it leaves the seat.
+-- Session `n`, whose known state is `k`, performs an action from the seat `s` at the moment `now`: what is written for
+-- it, its answer, and how it leaves the seat.
 abbrev pub Done : ℕ → ℕ → KnownState → SeatState → Action → List ℕ → Option Event → SeatState → Type 0
 Done n now k s (actions.Send bytes) out answer t = (out ≡ bytes) × (answer ≡ None) × (t ≡ s)
 Done n now k s (actions.Learn u) out answer t = (out ≡ []) × (answer ≡ None) × IsLearned n now s u t
@@ -63,7 +63,7 @@ IsAtTable (actions.Part kind) = ⊥
 IsAtTable actions.Close = ⊥
 IsAtTable act = Unit {0}
 
--- a write of these bytes failed: exactly the first sent of them were written, and not all
+-- a write of these bytes failed: exactly the first `sent` of them were written, and not all
 abbrev pub Falls : List ℕ → EngineError → Option (List ℕ) → Option (List ℕ) → Type 0
 Falls bytes (errors.Write sent) old new = (sent < length bytes) × Appends old new (take sent bytes)
 Falls bytes error old new = ⊥

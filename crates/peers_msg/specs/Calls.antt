@@ -14,7 +14,7 @@ abbrev pub messages_given : Result (Option Message) Fault → List Message
 messages_given (Ok (Some m)) = m ∷ []
 messages_given answer = []
 
--- A sequence of calls leads from d to e, accepting these pieces and returning these messages. Some feeds a piece, None
+-- A sequence of calls leads from `d` to `e`, accepts `pieces` and returns the messages `ms`. Some feeds a piece, None
 -- asks for a message.
 abbrev pub AreDecoderCalls : Decoding → List (Option (List ℕ)) → List (List ℕ) → List Message → Decoding → Type 0
 AreDecoderCalls d [] pieces ms e = (pieces ≡ []) × (ms ≡ []) × (e ≡ d)

@@ -115,7 +115,7 @@ spelled (messages.Ack table number) = framed 10 132 (spelling table ++ word numb
 spelled (messages.Update u) = framed 10 (update_type u) (update_text u)
 spelled (messages.Other o) = if nat_lt o.message_type 128 then o.class ∷ (o.message_type ∷ []) else framed o.class o.message_type o.body
 
--- the bytes b are the message m
+-- the bytes `b` are the message `m`
 abbrev pub Spells : Message → List ℕ → Type 0
 Spells m b = b ≡ spelled m
 

@@ -54,7 +54,7 @@ fn keep_outliving(tables: &mut Vec<TableDef>, new: &TableDef)
     }
 }
 
-/// Returns the index at which a table with this id belongs among tables in ascending order of id.
+/// Returns the index at which a table with the id `id` belongs among tables in ascending order of id.
 fn index_of(tables: &[TableDef], id: u64) -> usize
     ensures within { result ≤ length tables.now }
     ensures index { (new : Definition) → new.id ≡ id → insert tables.now result new ≡ insert_table new tables.now }
@@ -113,7 +113,7 @@ impl Received {
         self.selected
     }
 
-    /// Returns the table with this id.
+    /// Returns the table with the id `id`.
     pub fn table(&self, id: u64) -> Option<&TableDef>
         ensures { option_copied result ≡ table_at self.now.tables id }
     {

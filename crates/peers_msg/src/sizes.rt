@@ -223,7 +223,7 @@ pub fn define_size(table: &TableDef) -> usize
     framed_size(definition_size(table))
 }
 
-/// Returns the size of a switch to this id. Doesn't allocate.
+/// Returns the size of a switch to `id`. Doesn't allocate.
 #[tactic(auto, unfolding(crate::specs::Spelling::size_of, crate::specs::Spelling::spelled))]
 pub fn switch_size(id: u64) -> usize
     ensures exact { result ≡ size_of (messages.Switch id) }

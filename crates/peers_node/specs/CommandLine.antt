@@ -28,11 +28,11 @@ abbrev pub IsNumber : ℕ → ℕ → List ℕ → Type 0
 IsNumber most number text =
     IsNumeral 10 (without_leading_plus text) × (digits_value 10 (without_leading_plus text) ≡ number) × (1 ≤ number) × (number ≤ most)
 
--- the option was met, with a text of that number
+-- the option was met, with a text of `number`
 abbrev pub HasNumber : List Row → List ℕ → ℕ → ℕ → Type 0
 HasNumber rows option most number = (text : List ℕ) × (one_of option rows ≡ Some text) × IsNumber most number text
 
--- the option was met, with that name
+-- the option was met, with the name `name`
 abbrev pub HasName : List Row → List ℕ → List ℕ → Type 0
 HasName rows option name = (first_of option rows ≡ Some name) × (is_name name ≡ true)
 

@@ -51,7 +51,7 @@ BeginApart [] (u ∷ us) = Unit {0}
 BeginApart (c ∷ cs) [] = Unit {0}
 BeginApart (c ∷ cs) (u ∷ us) = c ≢ u
 
--- two lists begin with the same updates, this many, and differ from there on
+-- two lists begin with the same `index` updates, and differ from there on
 abbrev pub AreApartFrom : ℕ → List Update → List Update → Type 0
 AreApartFrom index carried us =
     (same : List Update)
@@ -76,7 +76,7 @@ bound_shown k us prices = bound slot_count (all_links (names_in k.state.slots) (
 abbrev pub ArePrices : KnownState → List Update → List ℕ → Type 0
 ArePrices k us prices = (length prices ≡ length (requests k us)) × AllByRecursion (λ price. price ≤ 2 ^ 32) prices
 
--- What the prices prove of a lesson of this many bytes: there are too few or too many prices; or one is above 2^32; or
+-- What the prices prove of a lesson of `size` bytes: there are too few or too many prices; or one is above 2^32; or
 -- the lesson doesn't save exactly the bound that they prove, compared with the lesson that writes every name (a longer
 -- lesson saves nothing); or it does, so no lesson is shorter.
 abbrev pub Show : KnownState → List Update → List ℕ → ℕ → Verdict → Type 0

@@ -23,7 +23,7 @@ place_in places name = tree.get_by (λ key. slice_cmp nat_cmp name key.now) plac
 abbrev pub Puts : List ℕ → ℕ → BTreeMap (Bor (List ℕ)) ℕ → BTreeMap (Bor (List ℕ)) ℕ → Type 0
 Puts name place old new = tree.UpdatesBy (λ x y. slice_cmp nat_cmp x.now y.now) (λ key. slice_cmp nat_cmp name key.now) old new (Some place)
 
--- it has the new place for that name, and the old places for the others
+-- it has the new place for `name`, and the old places for the others
 place_put : (name : List ℕ) (place : ℕ) (old new : BTreeMap (Bor (List ℕ)) ℕ) → Puts name place old new → (other : List ℕ) → place_in new other ≡ cond (is_same_name name other) (Some place) (place_in old other)
 place_put name place old new puts other = btree_map_updates_str name old new (Some place) puts other
 
@@ -56,7 +56,7 @@ arcs-same one other (r ∷ rs) place last =
     ∙ ap (λ (n : ℕ). arc_of (other.last r.name) n r ∷ arcs_from (after_request one r) rs) place
     ∙ ap (λ (l : List RequestArc). arc_of (other.last r.name) other.place r ∷ l) later
 
--- the places of a tree after this many requests
+-- the places of a tree after `place` requests
 abbrev pub asking_in : ℕ → BTreeMap (Bor (List ℕ)) ℕ → Asking
 asking_in place places = record { place = place; last = λ name. place_in places name }
 

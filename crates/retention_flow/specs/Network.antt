@@ -70,7 +70,7 @@ pub record IsCalm (heights room : List ℕ) (arcs : List RequestArc) : Type 0 wh
   pub full : (node : ℕ) → node < length arcs → 0 < slice_index room node → slice_index heights (node + 1) ≤ slice_index heights node
   pub calm : AreCalmArcs heights 0 arcs
 
--- at each place, the free slots and the links kept over it are together this many
+-- at each place, the free slots and the links kept over it are `slots` together
 abbrev pub AreSpent : ℕ → List ℕ → List (List ℕ) → List Asked → List RequestArc → Type 0
 AreSpent slots room held rs arcs = (node : ℕ) → node < length rs → slice_index room node + kept_over (links held rs (marks arcs)) (node + 1) ≡ slots
 
@@ -93,7 +93,7 @@ arc_at arcs node = slice_index_or arcs node (record { from = 0; saving = 0; kept
 abbrev pub GoBack : List RequestArc → Type 0
 GoBack arcs = (node : ℕ) → node < length arcs → (arc_at arcs node).from ≤ node
 
--- at each place, the free slots and the arcs kept over it are together this many
+-- at each place, the free slots and the arcs kept over it are `slots` together
 pub record IsRoom (slots : ℕ) (room : List ℕ) (arcs : List RequestArc) : Type 0 where
   pub count : length room ≡ length arcs
   pub spent : (node : ℕ) → node < length arcs → slice_index room node + kept_over (links_of 0 arcs) (node + 1) ≡ slots
@@ -104,7 +104,7 @@ pub record IsRoom (slots : ℕ) (room : List ℕ) (arcs : List RequestArc) : Typ
 abbrev pub is_reached : List (Option Step) → ℕ → Bool
 is_reached steps node = is_some (slice_index_or steps node None)
 
--- the heights of the nodes reached rise by this much, and no others do
+-- the heights of the nodes reached rise by `by`, and no others do
 abbrev pub IsRaised : List ℕ → List ℕ → (ℕ → Bool) → ℕ → Type 0
 IsRaised heights new reached by = (node : ℕ) → node < length heights → slice_index new node ≡ slice_index heights node + (if reached node then by else 0)
 

@@ -63,7 +63,7 @@ may_facts true false true may = absurd (false≢true may)
 may_facts true false false may = (refl, λ _. refl)
 may_facts false false quiet may = (refl, λ is. absurd (false≢true is))
 
--- a batch may be copied from the table with this id
+-- a batch may be copied from the table `id`
 abbrev pub IsFree : Bool → (ℕ → Bool) → (ℕ → Bool) → ℕ → Type 0
 IsFree teaching out quiet id = (out id ≡ false) × (teaching ≡ true → quiet id ≡ false)
 

@@ -140,7 +140,7 @@ is_same_due dues.Teach dues.Teach = true
 is_same_due (dues.Ack a) (dues.Ack b) = a == b
 is_same_due a b = false
 
--- d is the first answer due
+-- `d` is the first answer due
 abbrev pub is_due : Due → List Due → Bool
 is_due d [] = false
 is_due d (first ∷ rest) = is_same_due first d
@@ -149,7 +149,7 @@ abbrev pub none_due : List Due → Bool
 none_due [] = true
 none_due (d ∷ ds) = false
 
--- d is the first answer due and is given; the others stay due
+-- `d` is the first answer due and is given; the others stay due
 abbrev pub Answered : Course → Due → Course → Type 0
 Answered c d e = (c.due ≡ d ∷ e.due) × (e ≡ record c { due = e.due })
 

@@ -37,7 +37,7 @@ is_end action = false
 abbrev pub ends_resync : List Action → Bool
 ends_resync acts = list_any is_end acts
 
--- an action that copies from the table with this id
+-- an action that copies from `table`
 abbrev pub is_copy_of : ℕ → Action → Bool
 is_copy_of table (actions.Copy other kind) = other == table
 is_copy_of table action = false
@@ -45,7 +45,7 @@ is_copy_of table action = false
 abbrev pub copies : ℕ → List Action → Bool
 copies table acts = list_any (is_copy_of table) acts
 
--- an action that reopens the session in the table with this id
+-- an action that reopens the session in `table`
 abbrev pub is_reopen_of : ℕ → Action → Bool
 is_reopen_of table (actions.Reopen other) = other == table
 is_reopen_of table action = false
@@ -53,12 +53,12 @@ is_reopen_of table action = false
 abbrev pub reopened : ℕ → List Action → Bool
 reopened table acts = list_any (is_reopen_of table) acts
 
--- the table with this id is neither copied from nor reopened
+-- `table` is neither copied from nor reopened
 abbrev pub IsLeft : ℕ → List Action → Type 0
 IsLeft table acts = (copies table acts ≡ false) × (reopened table acts ≡ false)
 
--- The last copy from the table with this id belonged to a resync and found nothing to teach. Since then the table was
--- neither copied from nor reopened, so the copy belonged to the resync under way.
+-- The last copy from `table` belonged to a resync and found nothing to teach. Since then the table was neither copied
+-- from nor reopened, so the copy belonged to the resync under way.
 abbrev pub HasNothingLeft : List (Event × List Action) → ℕ → Type 0
 HasNothingLeft steps table =
     (before : List (Event × List Action))

@@ -53,7 +53,7 @@ pub record SessionState : Type 0 where
   pub fault : Option Fault
   pub confirmed : Bool
 
--- the phase of a session at a stage with the course c; at its end the course no longer matters
+-- the phase of a session at a stage with the course `c`; at its end the course no longer matters
 abbrev pub phase_of : Stage → Course → Phase
 phase_of (stages.New hello) c = phases.New hello c
 phase_of (stages.Hello greeter bytes) c = phases.Hello greeter bytes.items c
@@ -71,7 +71,7 @@ in_phase s phase = record { phase = phase; known = s.known; fault = s.fault; con
 abbrev pub ended : SessionState → SessionState
 ended s = in_phase s phases.Ended
 
--- the session goes on with the course c
+-- the session goes on with the course `c`
 abbrev pub going : SessionState → Course → SessionState
 going s c = in_phase s (phases.Open c)
 
@@ -81,7 +81,7 @@ going s c = in_phase s (phases.Open c)
 abbrev pub connecting : Hello → List Definition → Bool → SessionState
 connecting hello roster up_to_date = record { phase = phases.New hello (course_begun roster up_to_date); known = fresh_of roster; fault = None; confirmed = false }
 
--- the side that accepts the connection: this node is own, and accepts these peers
+-- the side that accepts the connection: this node is `own`, and accepts `peers`
 abbrev pub accepting : List ℕ → List (List ℕ) → List Definition → Bool → SessionState
 accepting own peers roster up_to_date = record { phase = phases.Hello (greeters.Accepts own peers) [] (course_begun roster up_to_date); known = fresh_of roster; fault = None; confirmed = false }
 
@@ -121,7 +121,7 @@ Concludes s c (Err (halts.Fault fault)) given acts e =
     × (e ≡ confirmed_by acts (record { phase = phases.Ended; known = s.known; fault = Some fault; confirmed = s.confirmed }))
 Concludes s c (Err halts.Memory) given acts e = ⊥
 
--- The course c was fed bytes: its messages are received one after another, after the actions first.
+-- The course `c` was fed bytes: its messages are received one after another, after the actions first.
 abbrev pub ReceivesBytes : SessionState → Course → List Action → List Action → SessionState → Type 0
 ReceivesBytes s c first acts e =
     (result : Result (Unit {0}) Halt)
@@ -234,7 +234,7 @@ GoesOpen s c events.ReadFault acts e = Closes s acts e
 GoesOpen s c events.WriteFault acts e = Closes s acts e
 GoesOpen s c events.Opened acts e = ⊥
 
--- the open session s goes on, and its course c becomes e
+-- the open session `s` goes on, and its course `c` becomes `e`
 abbrev pub GoesOn : SessionState → Course → Event → List Action → Course → Type 0
 GoesOn s c event acts e = GoesOpen s c event acts (going s e)
 
@@ -246,7 +246,7 @@ GoesIn (phases.Hello greeter bytes c) s event acts e = GoesHello s greeter bytes
 GoesIn (phases.Open c) s event acts e = GoesOpen s c event acts e
 GoesIn phases.Ended s event acts e = ⊥
 
--- at the event the session s becomes e, and asks for these actions
+-- at `event` the session `s` becomes `e`, and asks for the actions `acts`
 abbrev pub Goes : SessionState → Event → List Action → SessionState → Type 0
 Goes s event acts e = GoesIn s.phase s event acts e
 

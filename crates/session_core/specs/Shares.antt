@@ -12,7 +12,7 @@ holds_up s = s.out
 abbrev pub any_out : List Share → Bool
 any_out ss = list_any holds_up ss
 
--- the table with this id is in the roster, and a batch of it is outstanding
+-- `table` is in the roster, and a batch of it is outstanding
 abbrev pub is_out : ℕ → List Share → Bool
 is_out table ss = list_any (λ s. s.table == table && s.out) ss
 
@@ -45,7 +45,7 @@ abbrev pub first_to_copy : Bool → List Share → Option ℕ
 first_to_copy teaching [] = None
 first_to_copy teaching (s ∷ ss) = if may_copy teaching s then Some s.table else first_to_copy teaching ss
 
--- the tables up to and including the one with this id; all if it isn't among them
+-- the tables up to and including `table`; all if it isn't among them
 abbrev pub through : ℕ → List Share → List Share
 through table [] = []
 through table (s ∷ ss) = if s.table == table then s ∷ [] else s ∷ through table ss

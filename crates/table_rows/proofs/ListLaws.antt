@@ -40,7 +40,7 @@ past_more key es i e within above past = rw (take_more es i e within) (all_end (
 pub read : (es : List (Key × StoredRow)) (i : ℕ) (e : Key × StoredRow) → i < length es → e ≡ get_or es i e → slice_get es i ≡ Some e
 read es i e within is = slice_get_read es (length es) i e refl within is
 
--- the entry at that index
+-- the entry at the index `i`
 pub there_same : (key : Key) (es : List (Key × StoredRow)) (i : ℕ) (e : Key × StoredRow) → IsThere key es i → slice_get es i ≡ Some e → key_cmp key e.0 ≡ Equal
 there_same key es i e there at = subst (λ (o : Option (Key × StoredRow)). IfSome o (λ f. key_cmp key f.0 ≡ Equal)) at there.2
 

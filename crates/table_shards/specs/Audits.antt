@@ -21,7 +21,7 @@ pub record AuditState : Type 0 where
   pub unlocked : UnlockedState
   pub seats : List SeatState
 
--- the cell is that table's, and still has all events of the round
+-- the cell is the table's own, and still has all events of the round
 abbrev pub is_its_own : UnlockedTable → Bool
 is_its_own t = id_of t.cell == t.table && nat_le t.cell.dropped t.began
 

@@ -16,7 +16,7 @@ use Rattle.table_shards.specs.declared.errors.ShardError.{ShardError}
 use Rattle.table_shards.specs.declared.errors.ShardError.TheVariants as errors
 use Rattle.table_shards.specs.Receipts.{SeatState, with_answer}
 
--- the seat with the answer, if there is one: at this many events of the table, a call of the session was answered so
+-- the seat with the answer, if there is one, to a call of `session` made when `table` had `events` events
 abbrev pub noted : ℕ → ℕ → ℕ → Option Answer → SeatState → SeatState
 noted table session events None s = s
 noted table session events (Some answer) s = with_answer s (record { table = table; session = session; events = events; answer = answer })

@@ -17,7 +17,7 @@ pub record PageState : Type 0 where
   pub seen : ℕ
   pub receipts : List ReceiptState
 
--- a seat's number, what it has of each table for which it made an event, how many of its calls were answered without an
+-- a seat's number, what it has of each table for which it made an event, how many of its calls got an answer without an
 -- event, and the latest of these answers
 pub record SeatState : Type 0 where
   pub number : ℕ

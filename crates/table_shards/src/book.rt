@@ -10,8 +10,8 @@ use crate::receipt::Receipt;
 use std::alloc::Global;
 use table_types::Memory;
 
-/// A seat's number, its page for each table of which it has receipts, the number of its calls that were answered without
-/// an event, and the latest of these answers.
+/// A seat's number, its page for each table of which it has receipts, the number of its calls that got an answer
+/// without an event, and the latest of these answers.
 #[derive(Debug, Drop)]
 pub struct Book {
     pub alloc: Global,

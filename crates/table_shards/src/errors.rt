@@ -43,7 +43,7 @@ pub enum AuditError {
     /// The seats aren't those that were made with the tables, each once.
     #[error("a seat is missing")]
     MissingSeat,
-    /// The receipts aren't the events of that table.
+    /// The receipts of a table aren't its events.
     #[error("table {table} and seat {seat} do not agree")]
     Mismatch {
         /// The least id of a table with a fault.

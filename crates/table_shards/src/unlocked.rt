@@ -71,7 +71,7 @@ fn has_round(cell: &TableCell, began: u64) -> bool
     }
 }
 
-/// Returns whether the cell is that table's, and still has all events of the round.
+/// Returns whether the cell is the table's own, and still has all events of the round.
 fn is_its_own(table: &UnlockedTable) -> bool
     ensures own { result ≡ is_its_own table.now }
     ensures legal { IsTrue result → IsLegal table.now.cell }

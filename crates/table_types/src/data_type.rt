@@ -94,7 +94,7 @@ impl DataType {
         self as u8
     }
 
-    /// Returns the data type with this id, or `None` if there is none.
+    /// Returns the data type with the id `id`, or `None` if there is none.
     pub fn from_id(id: u64) -> Option<DataType>
         ensures id { IfSome result (λ data_type. id_of data_type ≡ id) }
         ensures exactly { (data_type : DataType) → id_of data_type ≡ id → result ≡ Some data_type }

@@ -51,7 +51,7 @@ impl KeyKind {
         }
     }
 
-    /// Returns the kind with this number, or `None` if there is none.
+    /// Returns the kind with the number `number`, or `None` if there is none.
     pub fn from_number(number: u64) -> Option<KeyKind>
         ensures kind { result ≡ kind_at number }
         ensures number { IfSome result (λ kind. number_of kind ≡ number) }
@@ -95,8 +95,8 @@ impl KeyKind {
         })
     }
 
-    /// Returns whether a table of this kind may have this key length: 4 for integers and IPv4, 16 for IPv6, 1 to 8,192
-    /// for strings and bytes (the limit is the profile's choice).
+    /// Returns whether a table of this kind may have `key_length`: 4 for integers and IPv4, 16 for IPv6, 1 to 8,192 for
+    /// strings and bytes (the limit is the profile's choice).
     pub fn fits_length(self, key_length: u64) -> bool
         ensures { result ≡ fits_length self key_length }
     {
@@ -127,7 +127,7 @@ pub enum Key {
 }
 
 impl Key {
-    /// Returns whether the key fits a table of this kind and key length.
+    /// Returns whether the key fits a table with `kind` and `key_length`.
     pub fn fits(&self, kind: KeyKind, key_length: u64) -> bool
         ensures { result ≡ key_fits kind key_length self.now }
     {

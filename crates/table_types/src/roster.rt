@@ -52,7 +52,7 @@ pub fn is_same_name(one: &[u8], other: &[u8]) -> bool
     one == other
 }
 
-/// Returns whether one of the tables has this id.
+/// Returns whether one of the tables has the id `id`.
 pub fn has_id(tables: &[TableDef], id: u64) -> bool
     ensures { result ≡ has_id id tables.now }
 {
@@ -97,7 +97,7 @@ fn repeats_name(tables: &[TableDef]) -> bool
     false
 }
 
-/// Returns the first of the tables that has this id.
+/// Returns the first of the tables that has the id `id`.
 pub fn table_at(tables: &[TableDef], id: u64) -> Option<&TableDef>
     ensures { option_copied result ≡ table_at tables.now id }
 {
@@ -140,7 +140,7 @@ impl Roster {
         self.tables.as_slice()
     }
 
-    /// Returns the table with this id.
+    /// Returns the table with the id `id`.
     pub fn table(&self, id: u64) -> Option<&TableDef>
         ensures found { option_copied result ≡ table_at self.now id }
         ensures sound { roster_fault self.now ≡ None }

@@ -282,7 +282,7 @@ AreBegun starts asking = (name : List ℕ) → is_some (starts name) ≡ is_some
 abbrev pub Leads : List Definition → State → List Update → List Bool → List Message → State → (List ℕ → Option ℕ) → List Update → List Bool → Type 0
 Leads roster s us keep ms mid starts left marks = (rest : List Message) (e : State) → AreSent roster mid starts left marks rest e → AreSent roster s (starts_at_first s.slots) us keep (ms ++ rest) e
 
--- The updates were sent as their marks say, except the remaining ones, with this many requests so far.
+-- The updates were sent as their marks say, except the remaining ones, with `index` requests so far.
 abbrev pub IsUnderWay : List Definition → State → List Update → List Asked → List Bool → List ℕ → State → List Bool → ℕ → List Update → Type 0
 IsUnderWay roster s us rs keep bytes mid retained index left =
     (ms : List Message) × (starts : List ℕ → Option ℕ) × (k : Knowledge) × (done : List Asked) × (kept : List Bool) × (marks : List Bool)
@@ -494,7 +494,7 @@ retained_marked retained starts slots u us name slot mark marks is are retains =
     one : over.0 ≡ name
     one = let both : Some over.0 ≡ Some name = sym (are.1 over.0 slot retains.1.0 over.1 over.2).1.1 ∙ retains.1.1 in cc
 
--- the mark after this many requests
+-- the mark after `index` requests
 mark_behind : (kept marks : List Bool) (mark : Bool) (index : ℕ) → length kept ≡ index → get_or (kept ++ mark ∷ marks) index false ≡ mark
 mark_behind [] marks mark zero many = refl
 mark_behind [] marks mark (suc index) many = absurd (omega arith)

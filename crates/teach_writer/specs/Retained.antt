@@ -14,7 +14,7 @@ none_retained = replicate slot_count false
 abbrev pub retained_at : List Bool → ℕ → Bool
 retained_at retained slot = slice_index_or retained (slot - 1) false
 
--- the name is retained in that slot
+-- `name` is retained in `slot`
 abbrev pub Retains : List Bool → List (Option (List ℕ)) → ℕ → List ℕ → Type 0
 Retains retained slots slot name = (retained_at retained slot ≡ true) × Holds slots slot name
 

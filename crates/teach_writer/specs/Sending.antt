@@ -33,12 +33,12 @@ slot_of (names.Held slot) = Some slot
 slot_of (names.Written slot name) = Some slot
 slot_of field = None
 
--- the update in its shortest number form, with this name field
+-- the update in its shortest number form, with the name field `field`
 abbrev pub update_sent : State → NameField → Update → Message
 update_sent s field u = messages.Update (sent_as (last_of s.last_numbers u.table) field u)
 
--- These messages send one update and lead from s to e: what selects its table, then the update in its shortest number
--- form, with this name field.
+-- The messages `ms` send the update `u` and lead from `s` to `e`: what selects its table, then the update in its
+-- shortest number form, with the name field `field`.
 abbrev pub IsSent : List Definition → State → Update → NameField → List Message → State → Type 0
 IsSent roster s u field ms e =
     (d : Definition) × (mid : State)
@@ -63,7 +63,7 @@ AreSent roster s starts (u ∷ us) marks ms e =
     × (ms ≡ first ++ rest)
 
 -- The bytes send the updates in order, and read the requests that are marked as kept: they spell messages that send one
--- update after another and nothing else, from the known state to the state e.
+-- update after another and nothing else, from the known state to the state `e`.
 abbrev pub GoesThrough : KnownState → List Update → List Bool → List ℕ → State → Type 0
 GoesThrough k us marks bytes e =
     (ms : List Message) × AreSent k.roster k.state (starts_at_first k.state.slots) us marks ms e × (bytes ≡ stream_of ms)

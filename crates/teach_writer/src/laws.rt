@@ -23,8 +23,8 @@ pub fn marks_are_reads()
 {}
 
 /// The lesson with every name written is a lesson, if the tables of the roster are well formed and the updates' numbers
-/// are below 2^32: it is legal from the known state and carries the batch. `full` is its size in bytes, so a shortest
-/// lesson has at most that many.
+/// are below 2^32: it is legal from the known state and carries the batch. `full` is its size in bytes, and no
+/// shortest lesson has more.
 pub fn names_may_all_be_written()
     ensures lesson { (k : KnownState) (us : List Update) →
         roster_fault k.roster ≡ None → AllByRecursion (λ d. is_definition d ≡ true) k.roster →

@@ -29,7 +29,7 @@ pub struct Stream {
     pub ack: Option<(u64, u32)>,
 }
 
-/// Returns whether the update is of `table`, and has this number and a life of 30,000 ms.
+/// Returns whether the update is of `table`, and has `number` and a life of 30,000 ms.
 fn is_update(update: &Update, table: u64, number: u32) -> bool {
     update.table == table && update.number == number && update.life == Some(30_000)
 }

@@ -47,7 +47,7 @@ fn are_answered(learner: &mut Learner, stream: &Stream, length: usize) -> bool {
     true
 }
 
-/// Returns whether the row has this number, and was learned at 2^32 ms with a life of 30,000 ms.
+/// Returns whether the row has `number`, and was learned at 2^32 ms with a life of 30,000 ms.
 fn is_learned(row: &Row, number: u32) -> bool {
     match row.ends() {
         Some(end) => end.milliseconds() == 4_294_997_296
@@ -67,7 +67,7 @@ fn is_row(entry: &(Key, Row), key: u8, number: u32) -> bool {
     named && is_learned(&entry.1, number)
 }
 
-/// Returns whether the row of `key` has this number, or there is none if `number` is `None`.
+/// Returns whether the row of `key` has `number`, or there is none if `number` is `None`.
 fn has_row(learner: &Learner, id: u64, key: &Key, number: Option<u32>) -> bool {
     match learner.row(id, key) {
         Some(row) => number == Some(row.number()),

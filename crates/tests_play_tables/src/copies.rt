@@ -1,4 +1,4 @@
-//! Batches that a table returns beside the entry of their event.
+//! Batches that a table returns with the entry of their event.
 
 use crate::cells::{added, cell, only};
 use std::alloc::Global;

@@ -136,7 +136,7 @@ pub fn tracks_again(alloc: Global) -> Option<bool> {
     tracks(&mut prepared_at_last(alloc, 10)?)
 }
 
-/// Returns whether a new key is tracked in the place of the only row.
+/// Returns whether a new key is tracked in place of the only row.
 pub fn tracks_again_in_full(alloc: Global) -> Option<bool> {
     tracks_in_full(&mut prepared_at_last(alloc, 1)?)
 }

@@ -26,12 +26,12 @@ rows_text l = flat_map (table_lines l) l.intake.roster
 abbrev pub acks_text : Learning → List ℕ
 acks_text l = flat_map ack_line (acks_of l.intake)
 
--- the roster is these tables in ascending order of id
+-- the roster is `tables` in ascending order of id
 abbrev pub AreInRisingId : List Definition → List Definition → Type 0
 AreInRisingId tables roster = IsPermutation tables roster × IsNonDecreasingBy (λ d. d.id) roster
 
 -- At the scene's moment, the scene's stream is fed to a new learner of the scene's tables in ascending order of id: it returns
--- this answer, and is l then.
+-- `answer`, and is then `l`.
 unfoldable pub IsLearned : Scene → Result ℕ Fault → Learning → Type 0
 IsLearned scene answer l =
     (now : ℕ)

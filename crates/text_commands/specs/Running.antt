@@ -37,7 +37,7 @@ abbrev pub with_batch : List (List Update) → Result (List Update) CopyError �
 with_batch given (Ok us) = given ++ us ∷ []
 with_batch given (Err error) = given
 
--- the batch at this place, from 1, of those that the script got
+-- the batch at `place`, from 1, of those that the script got
 abbrev pub batch_at : List (List Update) → ℕ → Option (List Update)
 batch_at given place = if nat_lt 0 place then slice_get given (place - 1) else None
 
@@ -46,8 +46,8 @@ abbrev pub Settles : CellState → ℕ → List Update → Result (Unit {0}) Str
 Settles c session us (Ok done) = IsLatestBatch c session us
 Settles c session us (Err error) = IsLatestBatch c session us → ⊥
 
--- After c and the batches `given`, the call prints the text, and leaves e and the batches `more`. A call to settle names one
--- of the batches `given`.
+-- From the cell `c` and the batches `given`, the call prints the text, and leaves `e` and the batches `more`. A call to
+-- settle names one of the batches `given`.
 abbrev pub Prints : CellState → List (List Update) → Call → List ℕ → CellState → List (List Update) → Type 0
 Prints c given (calls.Open session) text e more =
     (r : Result (Unit {0}) OpenError) × Opens c session r e × (opened r ≡ Some text) × (more ≡ given)
@@ -74,7 +74,7 @@ Prints c given calls.Rows text e more =
 
 -- ---- a script
 
--- the calls, each with the number of its line, print the text, and leave e
+-- the calls, each with the number of its line, print the text, and leave `e`
 abbrev pub PrintAll : CellState → List (List Update) → List (ℕ × Call) → List ℕ → CellState → Type 0
 PrintAll c given [] text e = (text ≡ []) × (e ≡ c)
 PrintAll c given (call ∷ calls) text e =

@@ -18,7 +18,7 @@ use teach_writer::TeachError;
 pub enum Ending {
     /// The subcommand did all that it was to do. The line is empty.
     Done,
-    /// The first line that breaks a rule or a limit is the one of this number, from 1: `line N: refused`.
+    /// The first line that breaks a rule or a limit has this number, from 1: `line N: refused`.
     Line(usize),
     /// No line is refused, but the scene lacks what the subcommand needs, or asks for what it can't do: `scene: refused`.
     Scene,

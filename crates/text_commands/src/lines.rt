@@ -20,7 +20,7 @@ pub(crate) fn end_line(text: &mut Vec<u8>) -> Result<(), Memory>
     Ok(())
 }
 
-/// Appends the line of the refusal of this name. A refusal without a name is that memory ran out.
+/// Appends the line of the refusal with the name `name`. A refusal without a name says that memory ran out.
 pub(crate) fn push_refusal(text: &mut Vec<u8>, name: Option<&str>) -> Result<(), Memory>
     ensures { OnOk result (Adds (refused (option_copied name.entry)) text.old.items text.new.items) }
 {

@@ -23,7 +23,7 @@ struct Run {
     text: Vec<u8>,
 }
 
-/// Returns what a script prints. It refuses a script with a refused line.
+/// Returns what a script prints. Refuses a script with a refused line.
 pub(crate) fn printed(alloc: Global, script: Script) -> Result<Vec<u8>, Ending>
     requires { (count : ℕ) × IsScript count script }
     ensures printed { IfOk result (λ text. IsPrinted script text.items) }
@@ -62,7 +62,7 @@ impl Run {
         Ok(())
     }
 
-    /// Makes a call, which is in the line of this number, and appends what it prints.
+    /// Makes `call`, which is in line `number`, and appends what it prints.
     fn make(&mut self, alloc: Global, number: usize, call: Call) -> Result<(), Ending>
         requires { (1 ≤ number) × IsCall call }
         ensures printed { OnOk result ((text : List ℕ) × Prints self.old.cell self.old.given.items call text self.new.cell self.new.given.items
@@ -105,7 +105,7 @@ impl Run {
     }
 }
 
-/// Returns the batch at this place, from 1, of those in `given`.
+/// Returns the batch at `place`, from 1, of those in `given`.
 fn batch_at(given: &[Batch], place: u64) -> Option<&Batch>
     ensures { option_copied result ≡ batch_at given.now place }
 {

@@ -15,7 +15,7 @@ use std::io::{Read, Write};
 
 /// Reads a script, makes its table, and writes what the table returns for each of its calls, in turn.
 ///
-/// A call that the table refuses is no fault: the refusal's name is written. If the subcommand ends early, it writes to
+/// A call that the table refuses is no fault: `table` writes the refusal's name. If the subcommand ends early, it writes to
 /// `errors` a line that says why, and nothing to `output`, unless a device failed.
 pub fn table<R: Read + Faults, W: Write + Faults, E: Write + Faults>(
     alloc: Global,
@@ -50,7 +50,7 @@ fn answers<R: Read + Faults>(alloc: Global, input: &mut R) -> Result<Vec<u8>, En
     Ok(text)
 }
 
-/// Returns the script that `input` has. Its text is dropped.
+/// Returns the script that `input` has, and drops its text.
 fn script_of<R: Read + Faults>(alloc: Global, input: &mut R) -> Result<Script, Ending>
     ensures script { IfOk result (λ script. (count : ℕ) × IsScript count script) }
     ensures early { IfErr result IsEarly }

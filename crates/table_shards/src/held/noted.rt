@@ -1,5 +1,5 @@
 //! The calls of `lent` that may make no event and still let a turn go on. The seat then keeps the answer, so that
-//! who holds the seat can tell that the table was asked.
+//! whoever holds the seat can tell that the table was asked.
 
 ghost use Rattle.std.specs.Prelude.{◌≡◌, ◌≤◌};
 ghost use Rattle.table_cell.specs.Histories.{Acknowledges, Copies, Learns, events_of};
