@@ -1,7 +1,7 @@
 -- Which acknowledgements tables take, one after another, and what the tables are afterwards.
 use Rattle.std.proofs.Common.{◌≡◌, ◌≤◌, ℕ, ◌+◌, ◌-◌, ◌&&◌, not, cond, Bool, true, false, nat_lt, nat_le, ◌==◌, if◌then◌else◌, List, [], ◌∷◌, ◌++◌, length-append, Option, Some, None, is_none, option_and_then, option_map, count_by, Ok, refl, sym, ap, subst, ◌∙◌, arith, inl, inr, zero-add}
 use Rattle.std.specs.List.{AllByRecursion}
-use Rattle.std.proofs.lemmas.Bool.{cases_Bool, cases_eq, cond-true, cond-false, cond_both, eq-eqb, ne_eqb, eqb-true, eqb-false, false≢true}
+use Rattle.std.proofs.lemmas.Bool.{cases_Bool, cases_eq, cond-true, cond-false, cond_both, eq-eqb, ne_eqb, eqb-false, false≢true}
 use Rattle.std.proofs.lemmas.List.Sums.{sum_by-cons}
 use Rattle.std.proofs.lemmas.Option.{cond_some, option_and_then_some, same_Some}
 use Rattle.table_types.specs.declared.copies.Settled.{Settled}
@@ -19,7 +19,8 @@ use Rattle.table_cell.proofs.RefusalLaws.{ack_free}
 use Rattle.interleave_core.specs.Acks.{AreTaught, HaveRoom, IsTaught}
 use Rattle.interleave_core.specs.Moves.{acked, acked_all}
 use Rattle.interleave_core.specs.Worlds.{cell_at, is_table, with_cell}
-use Rattle.interleave_core.proofs.Places.{at_here, at_there, some_none, with_here, with_there}
+use Rattle.interleave_core.proofs.Places.{some_none}
+use Rattle.interleave_core.proofs.TieCells.{apart, at_here, at_there, found_id, with_here, with_there}
 
 -- ---- one table
 
@@ -128,11 +129,7 @@ made session number c d e settled (free, ((granted, reply, state), is)) taken_as
 -- ---- tables by id
 
 id_at : (t : ℕ) (c : CellState) (cells : List CellState) → cell_at t cells ≡ Some c → is_table t c ≡ true
-id_at t c [] at = absurd (some_none c (sym at))
-id_at t c (x ∷ xs) at = elim (cases_Bool (is_table t x)) [
-  | inl here ↦ subst (λ (y : CellState). is_table t y ≡ true) (same_Some x c (sym (at_here t x xs here) ∙ at)) here
-  | inr there ↦ id_at t c xs (sym (at_there t x xs there) ∙ at)
-]
+id_at t c cells at = eq-eqb c.state.definition.id t (found_id t c cells at)
 
 -- the table is changed
 at_changed : (t : ℕ) (c d : CellState) (cells : List CellState) → cell_at t cells ≡ Some c → is_table t d ≡ true → cell_at t (with_cell t d cells) ≡ Some d
@@ -144,16 +141,13 @@ at_changed t c d (x ∷ xs) at own = elim (cases_Bool (is_table t x)) [
       ∙ at_changed t c d xs (sym (at_there t x xs there) ∙ at) own
 ]
 
-apart : (t u : ℕ) (c : CellState) → (t ≡ u → ⊥) → is_table u c ≡ true → is_table t c ≡ false
-apart t u c other own = ne_eqb c.state.definition.id t (λ same. other (sym same ∙ eqb-true c.state.definition.id u own))
-
 -- and no other
 at_other : (t u : ℕ) (d : CellState) (cells : List CellState) → is_table u d ≡ true → (t ≡ u → ⊥) → cell_at t (with_cell u d cells) ≡ cell_at t cells
 at_other t u d [] own other = refl
 at_other t u d (x ∷ xs) own other = elim (cases_Bool (is_table u x)) [
   | inl here ↦
-      ap (cell_at t) (with_here u d x xs here) ∙ at_there t d xs (apart t u d other own)
-      ∙ sym (at_there t x xs (apart t u x other here))
+      ap (cell_at t) (with_here u d x xs here) ∙ at_there t d xs (apart t u d own other)
+      ∙ sym (at_there t x xs (apart t u x here other))
   | inr there ↦
       ap (cell_at t) (with_there u d x xs there)
       ∙ ap (λ (o : Option CellState). cond (is_table t x) (Some x) o) (at_other t u d xs own other)

@@ -1,14 +1,14 @@
 -- Acknowledgements on their way to a teacher.
-use Rattle.std.proofs.Common.{◌≡◌, ◌≢◌, ℕ, zero, suc, ◌+◌, ◌-◌, ◌*◌, ◌/◌, ◌%◌, ◌^◌, ◌<◌, ◌≤◌, Bool, true, false, ◌&&◌, cond, List, [], ◌∷◌, ◌++◌, length, Option, Some, None, Result, Ok, Err, refl, sym, ap, subst, ◌∙◌, inl, inr, arith, length-append}
+use Rattle.std.proofs.Common.{◌≡◌, ◌≢◌, ℕ, zero, suc, ◌^◌, ◌<◌, ◌≤◌, Bool, true, false, ◌&&◌, cond, List, [], ◌∷◌, ◌++◌, length, Option, Some, None, Result, Ok, Err, refl, sym, ap, subst, ◌∙◌, arith, length-append}
 use Rattle.std.specs.Prelude.{filter_map, is_some, map, option_map}
 use Rattle.std.specs.List.{AllByRecursion}
-use Rattle.std.proofs.lemmas.Bool.{cases_lt, le-leb, le-ltb, lt-ltb}
+use Rattle.std.proofs.lemmas.Bool.{le-leb, lt-ltb}
 use Rattle.std.proofs.lemmas.Bool.Decides.{nat_tests}
-use Rattle.std.proofs.lemmas.List.{get_or_append_left, map-append}
-use Rattle.std.proofs.Math.Seq.{get_or-append_right}
+use Rattle.std.proofs.lemmas.List.{map-append}
 use Rattle.table_types.specs.Rosters.{has_id}
 use Rattle.table_types.specs.Tables.{Definition, is_definition}
-use Rattle.peers_msg.specs.Integers.{IsBytes, spelling, tail_of}
+use Rattle.peers_encint.proofs.OneSpelling.{bytes as spelling_bytes, within as spelling_size}
+use Rattle.peers_msg.specs.Integers.{IsBytes, spelling}
 use Rattle.peers_msg.specs.declared.fault.Breach.{Breach}
 use Rattle.peers_msg.specs.declared.message.Message.{Message}
 use Rattle.peers_msg.specs.declared.message.Message.TheVariants as messages
@@ -24,22 +24,16 @@ use Rattle.peers_msg.proofs.ReadingStays.{message_stays}
 use Rattle.known_state.specs.Known.{AreOwn, is_in}
 use Rattle.known_state.specs.LastNumbers.{last_of}
 use Rattle.known_state.proofs.FitsOrIsRefused.{has_id-table_at}
-use Rattle.learner.specs.Intake.{Taking, ack_of, acks_of}
+use Rattle.learner.specs.Intake.{Taking, due_ack, due_acks}
 use Rattle.learner.specs.LocalTables.{local_table}
 use Rattle.learner.proofs.LegalStreamIsTaught.{waits_at_end}
 use Rattle.table_cell.proofs.HandingRows.{all_append}
 use Rattle.teach_writer.proofs.UpdateStepsAreLegal.{stream-append}
 use Rattle.interleave_core.specs.Moves.{ack_in}
 use Rattle.interleave_core.specs.Sound.{AreAcks, IsAckFor, ack_message}
+use Rattle.interleave_core.proofs.OnItsWay.{IsBytes-append}
 
 -- ---- the bytes of a number
-
-bytes_append : (a b : List ℕ) → IsBytes a → IsBytes b → IsBytes (a ++ b)
-bytes_append a b one other i =
-    elim (cases_lt i (length a)) [
-      | inl lt ↦ rw (get_or_append_left a b 0 i lt) (one i)
-      | inr le ↦ rw (get_or-append_right a b i 0 le) (other (i - length a))
-    ]
 
 bytes_cons : (x : ℕ) (xs : List ℕ) → x < 256 → IsBytes xs → IsBytes (x ∷ xs)
 bytes_cons x xs small all zero = small
@@ -47,45 +41,6 @@ bytes_cons x xs small all (suc i) = all i
 
 pub no_bytes : IsBytes []
 no_bytes i = omega arith
-
-tail_size : (most n : ℕ) → length (tail_of most n) ≤ suc most
-unfolding tail_of
-tail_size zero n = omega arith
-tail_size (suc most) n = elim (cases_lt n 128) [
-  | inl lt ↦ rw (lt-ltb n 128 lt) (omega arith)
-  | inr le ↦ rw (le-ltb n 128 le) (omega (arith, tail_size most ((n - 128) / 128)))
-]
-
-spelling_size : (n : ℕ) → length (spelling n) ≤ 10
-unfolding spelling
-spelling_size n = elim (cases_lt n 240) [
-  | inl lt ↦ rw (lt-ltb n 240 lt) (omega arith)
-  | inr le ↦ rw (le-ltb n 240 le) (omega (arith, tail_size 8 ((n - 240) / 16)))
-]
-
--- a number below this leaves one byte after `most` bytes of seven bits
-abbrev most_left : ℕ → ℕ
-most_left zero = 256
-most_left (suc most) = 128 * most_left most
-
-tail_bytes : (most n : ℕ) → n < most_left most → IsBytes (tail_of most n)
-unfolding tail_of
-tail_bytes zero n small = bytes_cons n [] small no_bytes
-tail_bytes (suc most) n small = elim (cases_lt n 128) [
-  | inl lt ↦ rw (lt-ltb n 128 lt) (bytes_cons n [] (omega arith) no_bytes)
-  | inr le ↦
-      let left : (n - 128) / 128 < most_left most = omega arith in
-      rw (le-ltb n 128 le) (bytes_cons (128 + n % 128) (tail_of most ((n - 128) / 128)) (omega arith) (tail_bytes most ((n - 128) / 128) left))
-]
-
-spelling_bytes : (n : ℕ) → n < 2 ^ 64 → IsBytes (spelling n)
-unfolding spelling
-spelling_bytes n small = elim (cases_lt n 240) [
-  | inl lt ↦ rw (lt-ltb n 240 lt) (bytes_cons n [] (omega arith) no_bytes)
-  | inr le ↦
-      let left : (n - 240) / 16 < most_left 8 = omega arith in
-      rw (le-ltb n 240 le) (bytes_cons (240 + n % 16) (tail_of 8 ((n - 240) / 16)) (omega arith) (tail_bytes 8 ((n - 240) / 16) left))
-]
 
 word_bytes : (n : ℕ) → IsBytes (word n)
 word_bytes n zero = omega arith
@@ -100,22 +55,22 @@ word_bytes n (suc (suc (suc (suc i)))) = omega arith
 ack_fits : (h : Received) (ack : ℕ × ℕ) → ack.0 < 2 ^ 64 → ack.1 < 2 ^ 32 → fits h (ack_message ack) ≡ true
 unfolding fits data_of
 ack_fits h ack small little =
-    let short : length (spelling ack.0 ++ word ack.1) ≤ most_data = omega (arith, length-append (spelling ack.0) (word ack.1), spelling_size ack.0) in
+    let short : length (spelling ack.0 ++ word ack.1) ≤ most_data = omega (arith, length-append (spelling ack.0) (word ack.1), (spelling_size ack.0).1) in
     rw (lt-ltb ack.0 (2 ^ 64) small, lt-ltb ack.1 (2 ^ 32) little, le-leb (length (spelling ack.0 ++ word ack.1)) most_data short) refl
 
 ack_bytes : (ack : ℕ × ℕ) → ack.0 < 2 ^ 64 → IsBytes (spelled (ack_message ack))
 unfolding spelled
 ack_bytes ack small =
-    let body : IsBytes (spelling ack.0 ++ word ack.1) = bytes_append (spelling ack.0) (word ack.1) (spelling_bytes ack.0 small) (word_bytes ack.1) in
-    let size : length (spelling ack.0 ++ word ack.1) < 2 ^ 64 = omega (arith, length-append (spelling ack.0) (word ack.1), spelling_size ack.0) in
+    let body : IsBytes (spelling ack.0 ++ word ack.1) = IsBytes-append (spelling ack.0) (word ack.1) (spelling_bytes ack.0 small) (word_bytes ack.1) in
+    let size : length (spelling ack.0 ++ word ack.1) < 2 ^ 64 = omega (arith, length-append (spelling ack.0) (word ack.1), (spelling_size ack.0).1) in
     let fields = spelling (length (spelling ack.0 ++ word ack.1)) ++ (spelling ack.0 ++ word ack.1) in
     let data_bytes : IsBytes (spelling (length (spelling ack.0 ++ word ack.1)) ++ (spelling ack.0 ++ word ack.1)) =
-    bytes_append (spelling (length (spelling ack.0 ++ word ack.1))) (spelling ack.0 ++ word ack.1) (spelling_bytes (length (spelling ack.0 ++ word ack.1)) size) body in
+    IsBytes-append (spelling (length (spelling ack.0 ++ word ack.1))) (spelling ack.0 ++ word ack.1) (spelling_bytes (length (spelling ack.0 ++ word ack.1)) size) body in
     bytes_cons 10 (132 ∷ fields) (omega arith) (bytes_cons 132 fields (omega arith) data_bytes)
 
 acks_bytes : (roster : List Definition) (acks : List (ℕ × ℕ)) → AllByRecursion (IsAckFor roster) acks → IsBytes (stream_of (map ack_message acks))
 acks_bytes roster [] all = no_bytes
-acks_bytes roster (ack ∷ acks) (one, rest) = bytes_append (spelled (ack_message ack)) (stream_of (map ack_message acks)) (ack_bytes ack one.1) (acks_bytes roster acks rest)
+acks_bytes roster (ack ∷ acks) (one, rest) = IsBytes-append (spelled (ack_message ack)) (stream_of (map ack_message acks)) (ack_bytes ack one.1) (acks_bytes roster acks rest)
 
 -- ---- acknowledgements go into the pipe
 
@@ -124,12 +79,12 @@ more_acks roster bytes acks others (spelled_out, good, all) rest =
     let streams : stream_of (map ack_message (acks ++ others)) ≡ stream_of (map ack_message acks) ++ stream_of (map ack_message others) =
     ap (λ (ms : List Message). stream_of ms) (map-append ack_message acks others) ∙ stream-append (map ack_message acks) (map ack_message others) in (
       ap (λ (x : List ℕ). x ++ stream_of (map ack_message others)) spelled_out ∙ sym streams,
-      bytes_append bytes (stream_of (map ack_message others)) good (acks_bytes roster others rest),
+      IsBytes-append bytes (stream_of (map ack_message others)) good (acks_bytes roster others rest),
       all_append (IsAckFor roster) acks others all rest,
     )
 
 -- what a table's acknowledgement says
-is_ack : (t : Taking) (d : Definition) (m : Message) → ack_of t d ≡ Some m → (number : ℕ) × (m ≡ messages.Ack d.id number) × (last_of t.state.last_numbers d.id ≡ Some number)
+is_ack : (t : Taking) (d : Definition) (m : Message) → due_ack t d ≡ Some m → (number : ℕ) × (m ≡ messages.Ack d.id number) × (last_of t.state.last_numbers d.id ≡ Some number)
 is_ack t d m e = by (is_some (local_table t.roster d) && is_in d.id t.due) (last_of t.state.last_numbers d.id) e
   where
     by : (b : Bool) (last : Option ℕ) → cond b (option_map (λ n. messages.Ack d.id n) last) None ≡ Some m → (number : ℕ) × (m ≡ messages.Ack d.id number) × (last ≡ Some number)
@@ -145,9 +100,9 @@ abbrev AreOnlyAcks : List Definition → List Message → Type 0
 AreOnlyAcks roster ms = (ms ≡ map ack_message (filter_map (ack_in roster) ms)) × AllByRecursion (IsAckFor roster) (filter_map (ack_in roster) ms)
 
 only_acks : (roster : List Definition) (t : Taking) (ds : List Definition) → AreOwn roster ds → AllByRecursion (λ d. is_definition d ≡ true) ds → ((table number : ℕ) → last_of t.state.last_numbers table ≡ Some number → number < 2 ^ 32)
-    → AreOnlyAcks roster (filter_map (ack_of t) ds)
+    → AreOnlyAcks roster (filter_map (due_ack t) ds)
 only_acks roster t [] own valid small = (refl, tt)
-only_acks roster t (d ∷ ds) own valid small = at (ack_of t d) refl (only_acks roster t ds own.1 valid.1 small)
+only_acks roster t (d ∷ ds) own valid small = at (due_ack t d) refl (only_acks roster t ds own.1 valid.1 small)
   where
     listed : has_id d.id roster ≡ true
     listed = has_id-table_at roster d.id ∙ ap (λ (o : Option Definition). is_some o) own.0
@@ -155,7 +110,7 @@ only_acks roster t (d ∷ ds) own valid small = at (ack_of t d) refl (only_acks 
     low : d.id < 2 ^ 64
     low = let word : d.id < 2 ^ 32 = id_small d valid.0 in omega arith
 
-    at : (o : Option Message) → ack_of t d ≡ o → AreOnlyAcks roster (filter_map (ack_of t) ds) → AreOnlyAcks roster (filter_map (ack_of t) (d ∷ ds))
+    at : (o : Option Message) → due_ack t d ≡ o → AreOnlyAcks roster (filter_map (due_ack t) ds) → AreOnlyAcks roster (filter_map (due_ack t) (d ∷ ds))
     at None e rest = rw e rest
     at (Some m) e rest =
         let is = is_ack t d m e in
@@ -164,7 +119,7 @@ only_acks roster t (d ∷ ds) own valid small = at (ack_of t d) refl (only_acks 
 
 -- what a learner owes are acknowledgements of tables of the roster
 pub owed : (roster : List Definition) (t : Taking) → AreOwn roster t.state.received.tables → AllByRecursion (λ d. is_definition d ≡ true) t.state.received.tables → ((table number : ℕ) → last_of t.state.last_numbers table ≡ Some number → number < 2 ^ 32)
-    → AreOnlyAcks roster (acks_of t)
+    → AreOnlyAcks roster (due_acks t)
 owed roster t own valid small = only_acks roster t t.state.received.tables own valid small
 
 -- ---- acknowledgements arrive

@@ -11,7 +11,7 @@ use Rattle.peers_msg.specs.Received.{AreDistinct, IsBelow}
 use Rattle.known_state.specs.Known.{AreOwn, is_in}
 use Rattle.known_state.specs.LastNumbers.{last_of}
 use Rattle.known_state.proofs.FitsOrIsRefused.{has_id-table_at}
-use Rattle.learner.specs.Intake.{Taking, ack_of, acks_of}
+use Rattle.learner.specs.Intake.{Taking, due_ack, due_acks}
 use Rattle.learner.specs.LocalTables.{local_table}
 use Rattle.learner.proofs.LegalStreamIsTaught.{own_found}
 use Rattle.interleave_core.specs.Moves.{ack_in}
@@ -26,15 +26,15 @@ owes t table = cond (is_in table t.due) (option_to_list (last_of t.state.last_nu
 
 -- the numbers of a table's acknowledgements among those of some tables
 abbrev owed_by : List Definition → ℕ → Taking → List Definition → List ℕ
-owed_by roster table t ds = acked_numbers table (filter_map (ack_in roster) (filter_map (ack_of t) ds))
+owed_by roster table t ds = acked_numbers table (filter_map (ack_in roster) (filter_map (due_ack t) ds))
 
 -- the same, with one more acknowledgement or none before them
 abbrev owed_with : List Definition → ℕ → Taking → List Definition → Option Message → List ℕ
-owed_with roster table t ds o = acked_numbers table (filter_map (ack_in roster) (cons_option o (filter_map (ack_of t) ds)))
+owed_with roster table t ds o = acked_numbers table (filter_map (ack_in roster) (cons_option o (filter_map (due_ack t) ds)))
 
 -- a table's acknowledgement
 own_ack : (roster : List Definition) (t : Taking) (d : Definition) → t.roster ≡ roster → repeats_name roster ≡ false → table_at roster d.id ≡ Some d
-    → ack_of t d ≡ cond (is_in d.id t.due) (option_map (λ n. messages.Ack d.id n) (last_of t.state.last_numbers d.id)) None
+    → due_ack t d ≡ cond (is_in d.id t.due) (option_map (λ n. messages.Ack d.id n) (last_of t.state.last_numbers d.id)) None
 own_ack roster t d rosters once own =
     let local : local_table t.roster d ≡ Some d = ap (λ (ds : List Definition). local_table ds d) rosters ∙ own_found roster d once own in
     rw local refl
@@ -88,7 +88,7 @@ all_owed roster table t (d ∷ ds) rosters once own distinct = elim (cases_eq d.
 -- a learner owes one acknowledgement of a table that is due, of its last number, and none of another
 pub owed_of : (roster : List Definition) (table : ℕ) (t : Taking) (last : Option ℕ) → t.roster ≡ roster → repeats_name roster ≡ false → AreOwn roster t.state.received.tables → AreDistinct t.state.received.tables
     → (is_some (last_of t.state.last_numbers table) ≡ true → is_some (table_at t.state.received.tables table) ≡ true) → last_of t.state.last_numbers table ≡ last
-    → acked_numbers table (filter_map (ack_in roster) (acks_of t)) ≡ cond (is_in table t.due) (option_to_list last) []
+    → acked_numbers table (filter_map (ack_in roster) (due_acks t)) ≡ cond (is_in table t.due) (option_to_list last) []
 owed_of roster table t last rosters once own distinct received is =
     all_owed roster table t t.state.received.tables rosters once own distinct
     ∙ by (last_of t.state.last_numbers table) refl (has_id table t.state.received.tables) refl

@@ -26,7 +26,8 @@ use Rattle.interleave_core.specs.Acks.{AreAcksOf, AreTaught, HasRoom, HaveRoom, 
 use Rattle.interleave_core.specs.Moves.{ack_in, acked, acked_all}
 use Rattle.interleave_core.specs.Parts.{IsCellAt}
 use Rattle.interleave_core.specs.Worlds.{cell_at, is_table, roster_of, with_cell}
-use Rattle.interleave_core.proofs.Places.{at_here, at_there, some_none}
+use Rattle.interleave_core.proofs.Places.{some_none}
+use Rattle.interleave_core.proofs.TieCells.{at_here, at_there}
 use Rattle.interleave_core.proofs.Acknowledged.{all_are_taken, all_taken, made, none_from}
 
 -- ---- the acknowledgement in a message

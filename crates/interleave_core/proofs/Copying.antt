@@ -17,7 +17,7 @@ use Rattle.interleave_core.proofs.Places.{connection_changed, connection_found}
 abbrev world_with : List CellState → List Connection → WorldState
 world_with cells cs = record { cells = cells; connections = connections_of cs }
 
-in_range : (limit : ℕ) → 1 ≤ limit → limit ≤ 512 → (nat_le 1 limit && nat_le limit 512) ≡ true
+pub in_range : (limit : ℕ) → 1 ≤ limit → limit ≤ 512 → (nat_le 1 limit && nat_le limit 512) ≡ true
 in_range limit least most = and_from (nat_le 1 limit) (nat_le limit 512) (le-leb 1 limit least) (le-leb limit 512 most)
 
 -- a table is asked for a copy

@@ -1,33 +1,40 @@
 -- A world in order stays so.
-use Rattle.std.proofs.Common.{◌≡◌, ◌∙◌, ◌≤◌, ℕ, true, List, None, ap, arith, map, replicate, subst, sym, inl, inr}
+use Rattle.std.proofs.Common.{◌≡◌, ◌∙◌, ◌≤◌, ◌++◌, ℕ, List, None, ap, arith, drop, length, map, replicate, subst, sym}
 use Rattle.std.specs.List.{AllByRecursion}
-use Rattle.std.proofs.lemmas.Bool.{cases_Bool}
+use Rattle.std.proofs.lemmas.List.{drop_all}
 use Rattle.table_types.specs.Rosters.{roster_fault}
 use Rattle.table_cell.specs.Histories.{CellState, IsSoundCell}
+use Rattle.table_cell.proofs.HandingRows.{all_front}
 use Rattle.interleave_core.specs.declared.step.Step.{Step}
-use Rattle.interleave_core.specs.Kept.{AreOnTrack, copies_or_teaches}
-use Rattle.interleave_core.specs.Moves.{Moves}
+use Rattle.interleave_core.specs.Core.{IsCore}
+use Rattle.interleave_core.specs.Moves.{Moves, RunsTo}
 use Rattle.interleave_core.specs.Opened.{CanBegin, IsInOrder}
-use Rattle.interleave_core.specs.SoundWorlds.{IsTimelyStep}
+use Rattle.interleave_core.specs.SoundWorlds.{IsSoundWorld, IsTimelyStep}
 use Rattle.interleave_core.specs.Worlds.{ConnectionState, WorldState, new_connection, new_world, roster_of, with_sessions}
 use Rattle.interleave_core.proofs.Beginning.{new_is_open}
 use Rattle.interleave_core.proofs.OpenWorlds.{a_step_keeps_open}
-use Rattle.interleave_core.proofs.StepsOnTrack.{stays}
+use Rattle.interleave_core.proofs.Running.{LeadsOn, led}
 use Rattle.interleave_core.proofs.WorldNew.{new_world_sound}
-use Rattle.interleave_core.proofs.WorldTracks.{all_on_track, step_on_track}
-
-tracks_next : (w e : WorldState) (step : Step) → (copies_or_teaches step ≡ true → AreOnTrack e) → AreOnTrack w → Moves w step e → AreOnTrack e
-tracks_next w e step kept tracks moves = elim (cases_Bool (copies_or_teaches step)) [
-  | inl either ↦ kept either
-  | inr other ↦ stays w e step other tracks moves
-]
+use Rattle.interleave_core.proofs.WorldSteps.{between_sound, step_sound}
+use Rattle.interleave_core.proofs.WorldTold.{core_of}
 
 -- after a step
-pub in_order_next : (w e : WorldState) (step : Step) → IsTimelyStep step → (copies_or_teaches step ≡ true → AreOnTrack e) → Moves w step e → IsInOrder w → IsInOrder e
-in_order_next w e step timely kept moves order = record {
-  opened = a_step_keeps_open w e step moves order.opened;
-  sound = step_on_track w e step timely (tracks_next w e step kept (all_on_track w order.sound) moves) order.sound moves;
-}
+pub in_order_next : (w e : WorldState) (step : Step) → IsTimelyStep step → Moves w step e → IsInOrder w → IsInOrder e
+in_order_next w e step timely moves order = record { opened = a_step_keeps_open w e step moves order.opened; sound = step_sound w e step timely order.sound moves }
+
+-- ---- a run
+
+-- each world between the steps of a run keeps what is promised
+pub core_between : (start now : WorldState) (steps : List Step) (i : ℕ) → length steps ≤ i → IsSoundWorld start
+    → (AllByRecursion IsTimelyStep (drop i steps) → AllByRecursion IsTimelyStep steps) → LeadsOn start steps now (drop i steps)
+    → (first rest : List Step) → steps ≡ first ++ rest → (mid : WorldState) × RunsTo start first mid × RunsTo mid rest now × IsCore mid
+core_between start now steps i past sound timely leads first rest is =
+    let all : AllByRecursion IsTimelyStep steps = timely (subst (AllByRecursion IsTimelyStep) (sym (drop_all i steps past)) tt) in
+    let runs : RunsTo start (first ++ rest) now = subst (λ (l : List Step). RunsTo start l now) is (led start now steps i past leads) in
+    let (mid, before, after, stays) = between_sound start now first rest (all_front IsTimelyStep first rest (subst (AllByRecursion IsTimelyStep) is all)) sound runs in
+    (mid, before, after, core_of mid stays)
+
+-- ---- the beginning
 
 -- at the beginning, once all sessions are open
 abbrev world : List CellState → List ConnectionState → WorldState

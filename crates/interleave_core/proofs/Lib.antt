@@ -5,8 +5,6 @@ pub mod Acknowledged
 pub mod Arriving
 pub mod Deliveries
 pub mod Copying
-pub mod WorldOnTrack
-pub mod StepsOnTrack
 pub mod Teaching
 pub mod InEach
 pub mod Reopening
@@ -26,6 +24,7 @@ pub mod StateFollows
 pub mod AcksOnTheirWay
 pub mod AcksOwed
 pub mod RowsLeft
+pub mod SessionSteps
 pub mod SoundConnections
 pub mod WorldPlaces
 pub mod WorldSteps

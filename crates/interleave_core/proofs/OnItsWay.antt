@@ -1,5 +1,5 @@
 -- A learner on its way through a legal stream: what a piece does, what stands at its end, and how the stream grows.
-use Rattle.std.proofs.Common.{◌≡◌, ◌≢◌, ℕ, ◌-◌, ◌<◌, List, [], ◌∷◌, ◌++◌, length, Result, Ok, Err, refl, sym, ap, subst, ◌∙◌, inl, inr, arith, append_assoc, append-nil, length-append}
+use Rattle.std.proofs.Common.{◌≡◌, ◌≢◌, ℕ, ◌-◌, ◌<◌, List, [], ◌∷◌, ◌++◌, length, Result, Ok, Err, sym, ap, subst, ◌∙◌, inl, inr, arith, append_assoc, append-nil, length-append}
 use Rattle.std.proofs.lemmas.Bool.{cases_lt}
 use Rattle.std.proofs.lemmas.List.{get_or_append_left}
 use Rattle.std.proofs.Math.Seq.{get_or-append_right}
@@ -7,16 +7,17 @@ use Rattle.peers_msg.specs.Integers.{IsBytes}
 use Rattle.peers_msg.specs.declared.message.Message.{Message}
 use Rattle.peers_msg.specs.Spelling.{spelled, stream_of}
 use Rattle.table_types.specs.declared.update.Update.{Update}
-use Rattle.known_state.specs.State.{State, Legal, Teaches, IsOwn}
+use Rattle.known_state.specs.State.{State, Legal}
 use Rattle.learner.specs.declared.fault.Fault.{Fault}
 use Rattle.learner.specs.declared.fault.Fault.TheVariants as faults
 use Rattle.learner.specs.Learning.{Learning, LearnerFeeds, AreLearned, IsWaiting, with_piece}
 use Rattle.learner.specs.OnItsWay.{IsOnItsWay}
-use Rattle.learner.specs.Moments.{AreTooFew}
+use Rattle.learner.specs.Rows.{put_all}
 use Rattle.learner.proofs.EachPieceGivesItsOwn.{on_way, fed_on_way, too_few, only_memory}
 use Rattle.teach_writer.proofs.UpdateStepsAreLegal.{legal-append, stream-append}
 
--- a piece of the stream is learned: its messages are the next ones, no fault comes, and the rest is still on its way
+-- a piece of the stream is learned: its messages are the next ones, their updates are put, no fault comes, and the rest is
+-- still on its way
 abbrev pub IsLearnedOnItsWay : ℕ → Learning → List ℕ → List ℕ → List Update → State → Result ℕ Fault → Learning → Type 0
 IsLearnedOnItsWay now l piece more us after answer e =
     (ms later : List Message) × (vs rest : List Update)
@@ -25,6 +26,7 @@ IsLearnedOnItsWay now l piece more us after answer e =
     × AreLearned now (with_piece l piece) ms vs e
     × IsWaiting e.intake
     × (e.intake.roster ≡ l.intake.roster)
+    × (e.rows ≡ put_all now l.intake.roster vs l.rows)
     × IsOnItsWay e more later rest after
 
 pub fed : (now : ℕ) (l e : Learning) (piece more : List ℕ) (ms : List Message) (us : List Update) (after : State) (answer : Result ℕ Fault)
@@ -34,7 +36,7 @@ fed now l e piece more ms us after (Err fault) way feeds unless =
     absurd (unless (ap (λ (f : Fault). Err f) is))
 fed now l e piece more ms us after (Ok count) way (is_open, (ns, vs, learned, waits, counted)) unless =
     let begins = on_way now (with_piece l piece) e more ms ns us vs after (fed_on_way l piece more ms us after way) learned in
-    (ns, begins.0, vs, begins.1, begins.3, ap (λ (n : ℕ). Ok n) counted, learned, waits, begins.6, begins.8)
+    (ns, begins.0, vs, begins.1, begins.3, ap (λ (n : ℕ). Ok n) counted, learned, waits, begins.6, begins.7, begins.8)
 
 -- nothing is to come once the learner has all bytes and waits
 pub at_the_end : (l : Learning) (ms : List Message) (us : List Update) (after : State) → IsOnItsWay l [] ms us after → IsWaiting l.intake
@@ -46,7 +48,7 @@ at_the_end l (m ∷ ms) us after way waits =
     let sizes : length (l.intake.unread ++ []) ≡ length (spelled m ++ stream_of ms) = ap (λ (x : List ℕ). length x) way.5 in
     absurd (omega (arith, length-append l.intake.unread [], length-append (spelled m) (stream_of ms)))
 
-IsBytes-append : (a b : List ℕ) → IsBytes a → IsBytes b → IsBytes (a ++ b)
+pub IsBytes-append : (a b : List ℕ) → IsBytes a → IsBytes b → IsBytes (a ++ b)
 IsBytes-append a b one other i =
     elim (cases_lt i (length a)) [
       | inl lt ↦ rw (get_or_append_left a b 0 i lt) (one i)

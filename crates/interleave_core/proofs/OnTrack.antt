@@ -1,9 +1,7 @@
 -- A connection stays on track.
-use Rattle.std.proofs.Common.{◌≡◌, ◌≢◌, ◌≤◌, ℕ, ◌+◌, List, [], ◌∷◌, ◌++◌, length, take, drop, None, Result, Ok, Err, refl, sym, ap, subst, ◌∙◌, arith, append_assoc, append-nil, take-append-drop}
+use Rattle.std.proofs.Common.{◌≡◌, ◌≢◌, ℕ, List, [], ◌∷◌, ◌++◌, length, take, drop, None, Result, Ok, Err, refl, sym, ap, subst, ◌∙◌, arith, append_assoc, append-nil, take-append-drop}
 use Rattle.std.specs.List.{AllByRecursion}
 use Rattle.peers_msg.specs.Integers.{IsBytes}
-use Rattle.peers_msg.specs.declared.message.Message.{Message}
-use Rattle.peers_msg.specs.Spelling.{stream_of}
 use Rattle.table_types.specs.declared.update.Update.{Update}
 use Rattle.table_types.specs.Batches.{IsBatchFor}
 use Rattle.table_types.specs.Rosters.{roster_fault}
@@ -15,6 +13,7 @@ use Rattle.learner.specs.declared.fault.Fault.{Fault}
 use Rattle.learner.specs.declared.fault.Fault.TheVariants as faults
 use Rattle.learner.specs.Learning.{Learning, LearnerFeeds}
 use Rattle.learner.specs.OnItsWay.{IsOnItsWay}
+use Rattle.learner.specs.Rows.{put_all}
 use Rattle.interleave_core.specs.Kept.{IsOnTrack}
 use Rattle.interleave_core.specs.Moves.{IsFed, acknowledges}
 use Rattle.learner.proofs.LegalStreamIsTaught.{once_named}
@@ -68,7 +67,7 @@ delivered roster s now count answer l track feeds unless =
         known = track.known;
         learner = learned.8 ∙ track.learner;
         batches = track.batches;
-        way = (learned.1, learned.3, learned.9, split);
+        way = (learned.1, learned.3, learned.10, split);
       },
     )
 
@@ -100,13 +99,15 @@ begun roster sound =
 -- fed everything, the learner has put all that was taught
 pub arrived : (roster : List Definition) (s : ConnectionState) (now : ℕ) (answer : Result ℕ Fault) (l : Learning)
     → IsOnTrack roster s → LearnerFeeds now s.learner s.to_learner answer l → answer ≢ Err faults.Memory
-    → (us : List Update) × (answer ≡ Ok (length us)) × (s.taught ≡ s.applied ++ us) × (l.intake.state ≡ s.known.state) × (l.intake.unread ≡ [])
+    → (us : List Update) × (answer ≡ Ok (length us)) × (s.taught ≡ s.applied ++ us) × (l.rows ≡ put_all now roster us s.learner.rows)
+    × (l.intake.state ≡ s.known.state) × (l.intake.unread ≡ [])
 arrived roster s now answer l track feeds unless =
     let ms = track.way.0 in
     let to_come = track.way.1 in
     let way : IsOnItsWay s.learner (s.to_learner ++ []) ms to_come s.known.state =
     subst (λ (x : List ℕ). IsOnItsWay s.learner x ms to_come s.known.state) (sym (append-nil s.to_learner)) track.way.2 in
     let learned = fed now s.learner l s.to_learner [] ms to_come s.known.state answer way feeds unless in
-    let ended = at_the_end l learned.1 learned.3 s.known.state learned.9 learned.7 in
+    let ended = at_the_end l learned.1 learned.3 s.known.state learned.10 learned.7 in
     let all : to_come ≡ learned.2 = learned.4 ∙ ap (λ (x : List Update). learned.2 ++ x) ended.0 ∙ append-nil learned.2 in
-    (learned.2, learned.5, track.way.3 ∙ ap (λ (x : List Update). s.applied ++ x) all, ended.1, ended.2)
+    let rows : l.rows ≡ put_all now roster learned.2 s.learner.rows = learned.9 ∙ ap (λ (ds : List Definition). put_all now ds learned.2 s.learner.rows) track.learner in
+    (learned.2, learned.5, track.way.3 ∙ ap (λ (x : List Update). s.applied ++ x) all, rows, ended.1, ended.2)

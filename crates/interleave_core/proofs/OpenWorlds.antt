@@ -25,11 +25,11 @@ use Rattle.table_cell.proofs.HandingSessions.{other_end, other_with, other_witho
 use Rattle.interleave_core.specs.declared.step.Step.{Step}
 use Rattle.interleave_core.specs.declared.step.Step.TheVariants as steps
 use Rattle.interleave_core.specs.declared.way.Way.TheVariants as ways
-use Rattle.interleave_core.specs.Moves.{ArrivesAtLearner, ArrivesAtTeacher, AtConnection, AtTable, Breaks, Calls, CopiesFor, InConnection, InTable, IsArrived, IsReadBy, IsReopened, Moves, Reopens, RunsTo, TeachesOldest, ack_in, acked, acked_all, acknowledges, closed, opened, reopened_all, with_batch}
+use Rattle.interleave_core.specs.Moves.{ArrivesAtLearner, ArrivesAtTeacher, AtConnection, AtTable, Breaks, Calls, CopiesFor, InConnection, InTable, IsArrived, IsReadBy, IsReopened, LearnsFor, Moves, Reopens, RunsTo, TeachesOldest, ack_in, acked, acked_all, acknowledges, closed, opened, reopened_all, with_batch}
 use Rattle.interleave_core.specs.Opened.{HasOpen, IsOpenWorld}
 use Rattle.interleave_core.specs.Worlds.{ConnectionState, WorldState, cell_at, connection_at, is_table, new_connection, roster_of, with_cell, with_connection, with_session, with_session_anew, without_session}
-use Rattle.interleave_core.proofs.Places.{at_here, at_there, with_here, with_there}
 use Rattle.interleave_core.proofs.Reopening.{others_fewer, two_passed}
+use Rattle.interleave_core.proofs.TieCells.{at_here, at_there, with_here, with_there}
 
 -- ---- one table
 
@@ -332,12 +332,16 @@ reopens_open session None w e is all = stays w e all is
 reopens_open session (Some s) w e reopens all =
     either (list_any (λ c. has_out (progress_of session c.state)) w.cells) reopens (λ is. stays w e all is) (λ made. reopened_open session w.connections w e (reopened_all session w.cells) refl refl made all)
 
+learns_open : (session : ℕ) (u : Update) (now : ℕ) (o : Option ConnectionState) (w e : WorldState) → LearnsFor session u now o w e → IsOpenWorld w → IsOpenWorld e
+learns_open session u now None w e is all = stays w e all is
+learns_open session u now (Some s) w e moves all =
+    at_table u.table (Calls (λ c r x. Learns c session u now r x) unlearned.Memory) w e (λ c x did. learns_stay c x session u now did.0 did.2) moves all
+
 -- after a step the sessions are open in each table again
 pub a_step_keeps_open : (w e : WorldState) (step : Step) → Moves w step e → IsOpenWorld w → IsOpenWorld e
 a_step_keeps_open w e (steps.Track table key change now) moves all =
     at_table table (Calls (λ c r x. Tracks c 0 key change now r x) untracked.Memory) w e (λ c x did. tracks_stay c x 0 key change now did.0 did.2) moves all
-a_step_keeps_open w e (steps.Learn session u now) moves all =
-    at_table u.table (Calls (λ c r x. Learns c session u now r x) unlearned.Memory) w e (λ c x did. learns_stay c x session u now did.0 did.2) moves all
+a_step_keeps_open w e (steps.Learn session u now) moves all = learns_open session u now (connection_at session w.connections) w e moves all
 a_step_keeps_open w e (steps.Purge table now) moves all =
     at_table table (Calls (λ c r x. Purges c now r x) unpurged.Memory) w e (λ c x did. purges_stay c x now did.0 did.2) moves all
 a_step_keeps_open w e (steps.Copy session table kind limit now) moves all =

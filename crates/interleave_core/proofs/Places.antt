@@ -1,36 +1,20 @@
 -- Where tables and connections stand.
-use Rattle.std.proofs.Common.{◌≡◌, ◌≢◌, ◌≤◌, ℕ, zero, suc, ◌+◌, ◌<◌, ◌&&◌, Bool, true, false, List, [], ◌∷◌, length, get_or, set, take, Option, Some, None, Result, Err, refl, sym, ap, subst, ◌∙◌, arith, inl, inr}
-use Rattle.std.specs.Prelude.{MatchBool, nat_le, option_map}
+use Rattle.std.proofs.Common.{◌≡◌, ℕ, zero, suc, ◌+◌, ◌<◌, true, false, List, [], ◌∷◌, length, get_or, set, take, Option, Some, None, sym, ap, subst, ◌∙◌, arith, inl, inr}
+use Rattle.std.specs.Prelude.{option_map}
 use Rattle.std.proofs.lemmas.Bool.{cases_Bool}
-use Rattle.std.proofs.lemmas.Bool.Decides.{nat_tests}
 use Rattle.std.proofs.lemmas.List.{map-set}
 use Rattle.std.proofs.lemmas.Option.{slice_get-get_or, slice_get-map}
-use Rattle.table_types.specs.declared.copies.CopyKind.{CopyKind}
-use Rattle.table_types.specs.declared.update.Update.{Update}
-use Rattle.table_cell.specs.declared.errors.CopyError.{CopyError}
-use Rattle.table_cell.specs.declared.errors.CopyError.TheVariants as uncopied
-use Rattle.table_cell.specs.Histories.{CellState, Copies}
+use Rattle.table_cell.specs.Histories.{CellState}
 use Rattle.interleave_core.specs.declared.connection.Connection.{Connection}
-use Rattle.interleave_core.specs.Moves.{CopiesFor, InConnection, with_batch}
+use Rattle.interleave_core.specs.Moves.{InConnection}
 use Rattle.interleave_core.specs.Parts.{IsCellAt, IsConnectionAt, connection_of, connections_of}
-use Rattle.interleave_core.specs.Worlds.{ConnectionState, WorldState, is_table, cell_at, connection_at, with_cell, with_connection}
+use Rattle.interleave_core.specs.Worlds.{ConnectionState, is_table, cell_at, connection_at, with_connection}
+use Rattle.interleave_core.proofs.TieCells.{at_here, at_there, with_here, with_there}
 
 pub some_none : {A : Type 0} (x : A) → ◌≡◌ {A = Option A} (Some x) None → ⊥
 some_none x e = cc
 
-pub at_here : (t : ℕ) (c : CellState) (cs : List CellState) → is_table t c ≡ true → cell_at t (c ∷ cs) ≡ Some c
-at_here t c cs same = rw same refl
-
-pub at_there : (t : ℕ) (c : CellState) (cs : List CellState) → is_table t c ≡ false → cell_at t (c ∷ cs) ≡ cell_at t cs
-at_there t c cs other = rw other refl
-
-pub with_here : (t : ℕ) (new c : CellState) (cs : List CellState) → is_table t c ≡ true → with_cell t new (c ∷ cs) ≡ new ∷ cs
-with_here t new c cs same = rw same refl
-
-pub with_there : (t : ℕ) (new c : CellState) (cs : List CellState) → is_table t c ≡ false → with_cell t new (c ∷ cs) ≡ c ∷ with_cell t new cs
-with_there t new c cs other = rw other refl
-
--- if no table before the place has the id, the table of that id is the one at the place
+-- if no table before the place has the id `t`, the table with the id `t` is the one at the place
 pub cell_here : (t : ℕ) (cells : List CellState) (i : ℕ) (x : CellState) → i < length cells → x ≡ get_or cells i x → is_table t x ≡ true
     → cell_at t (take i cells) ≡ None → IsCellAt t cells i
 cell_here t [] i x below is same none = absurd (omega arith)
@@ -52,7 +36,7 @@ cell_here t (c ∷ cs) (suc i) x below is same none = elim (cases_Bool (is_table
       }
 ]
 
--- the next table doesn't have that id either
+-- the next table doesn't have the id `t` either
 pub none_more : (t : ℕ) (cells : List CellState) (i : ℕ) (x : CellState) → i < length cells → x ≡ get_or cells i x → is_table t x ≡ false
     → cell_at t (take i cells) ≡ None → cell_at t (take (i + 1) cells) ≡ None
 none_more t cells i x below is other none = subst (λ (n : ℕ). cell_at t (take n cells) ≡ None) (sym (plus_one i)) (next cells i x below is other none)
@@ -89,7 +73,7 @@ pub connection_changed : (session : ℕ) (cs : List Connection) (i : ℕ) (new :
 connection_changed session cs i new here =
     map-set connection_of cs i new ∙ ap (λ (n : ℕ). with_connection n (connection_of new) (connections_of cs)) (sym (here.number ∙ plus_one i))
 
--- a connection that changes so, at its place
+-- a connection that changes, at its place
 pub in_connection : (change : ConnectionState → ConnectionState → Type 0) (session : ℕ) (cs : List Connection) (i : ℕ) (old new : Connection)
     → IsConnectionAt session cs i → old ≡ get_or cs i old → change (connection_of old) (connection_of new)
     → InConnection change session (connection_at session (connections_of cs)) (connections_of cs) (connections_of (set cs i new))

@@ -22,7 +22,7 @@ use Rattle.interleave_core.specs.Moves.{Breaks, IsReopened, Reopens, closed, ope
 use Rattle.interleave_core.specs.Parts.{IsConnectionAt, connection_of, connections_of}
 use Rattle.interleave_core.specs.Opened.{CanOpen, CanReopen, HasOpen, IsOpenWorld}
 use Rattle.interleave_core.specs.Worlds.{ConnectionState, WorldState, connection_at, new_connection, roster_of, with_connection, with_session, with_session_anew, without_session}
-use Rattle.interleave_core.proofs.Places.{connection_changed, connection_found}
+use Rattle.interleave_core.proofs.Places.{connection_changed, connection_found, some_none}
 
 -- ---- tests in a row
 
@@ -167,9 +167,6 @@ pub can_reopen_each : (cells : List CellState) (cs : List Connection) (session p
 can_reopen_each cells cs session place all here room =
     each_can session (length (connections_of cs)) cells all room (omega (arith, here.number)) (omega (arith, here.number, here.below, length-map cs connection_of))
 
-some_none : {A : Type 0} (x : A) → ◌≡◌ {A = Option A} (Some x) None → ⊥
-some_none x e = cc
-
 plus_one : (n : ℕ) → n + 1 ≡ suc n
 plus_one n = omega arith
 
@@ -226,7 +223,7 @@ is_there [] i below none = absurd (omega arith)
 is_there (x ∷ xs) zero below none = some_none x none
 is_there (x ∷ xs) (suc i) below none = is_there xs i (omega arith) none
 
-connected : (session : ℕ) (cs : List Connection) (place : ℕ) → IsConnectionAt session cs place → connection_at session (connections_of cs) ≡ None → ⊥
+pub connected : (session : ℕ) (cs : List Connection) (place : ℕ) → IsConnectionAt session cs place → connection_at session (connections_of cs) ≡ None → ⊥
 connected session cs place here none =
     let at : connection_at session (connections_of cs) ≡ slice_get (connections_of cs) place =
     ap (λ (n : ℕ). connection_at n (connections_of cs)) (here.number ∙ plus_one place) in

@@ -1,6 +1,7 @@
 -- The rows that are left when updates are put one after another, each at its moment.
-use Rattle.std.proofs.Common.{◌≡◌, ◌≢◌, ◌⊎◌, ℕ, suc, List, [], ◌∷◌, ◌++◌, length, Some, None, refl, sym, ap, subst, ◌∙◌, inl, inr}
+use Rattle.std.proofs.Common.{◌≡◌, ◌≢◌, ◌⊎◌, ◌<◌, ◌^◌, ℕ, suc, List, [], ◌∷◌, ◌++◌, length, Some, None, refl, sym, ap, subst, ◌∙◌, inl, inr}
 use Rattle.std.specs.Prelude.{map}
+use Rattle.std.specs.List.{AllByRecursion}
 use Rattle.std.proofs.lemmas.Bool.{cases_eq, eq-eqb, ne_eqb}
 use Rattle.std.proofs.lemmas.List.{map-append}
 use Rattle.std.proofs.lemmas.List.Sums.{fold-append}
@@ -24,6 +25,10 @@ Rows = List (List (Key × StoredRow))
 abbrev no_rows : List Definition → Rows
 no_rows roster = map (λ _. []) roster
 
+-- the moments are below 2^63
+abbrev AreBelow : List (ℕ × Update) → Type 0
+AreBelow puts = AllByRecursion (λ p. p.0 < 2 ^ 63) puts
+
 -- ---- updates put at one moment
 
 abbrev at_moment : ℕ → List Update → List (ℕ × Update)
@@ -37,9 +42,17 @@ put_at : (now : ℕ) (roster : List Definition) (us : List Update) (rows : Rows)
 put_at now roster [] rows = refl
 put_at now roster (u ∷ us) rows = put_at now roster us (put now roster rows u)
 
+below_at : (now : ℕ) (us : List Update) → now < 2 ^ 63 → AreBelow (at_moment now us)
+below_at now [] below = tt
+below_at now (u ∷ us) below = (below, below_at now us below)
+
+all_below : (puts others : List (ℕ × Update)) → AreBelow puts → AreBelow others → AreBelow (puts ++ others)
+all_below [] others all rest = rest
+all_below (p ∷ ps) others (one, all) rest = (one, all_below ps others all rest)
+
 -- more updates are put at one moment
-pub more_rows : (now : ℕ) (roster : List Definition) (us vs : List Update) (rows after : Rows) → AreLeftBy roster us rows → after ≡ put_all now roster vs rows → AreLeftBy roster (us ++ vs) after
-more_rows now roster us vs rows after (puts, are, left) is =
+pub more_rows : (now : ℕ) (roster : List Definition) (us vs : List Update) (rows after : Rows) → now < 2 ^ 63 → AreLeftBy roster us rows → after ≡ put_all now roster vs rows → AreLeftBy roster (us ++ vs) after
+more_rows now roster us vs rows after below (puts, are, all_were, left) is =
     let both : us ++ vs ≡ map (λ p. p.1) (puts ++ at_moment now vs) =
     ap (λ (xs : List Update). xs ++ vs) are
     ∙ ap (λ (xs : List Update). map (λ p. p.1) puts ++ xs) (updates_at now vs)
@@ -49,7 +62,7 @@ more_rows now roster us vs rows after (puts, are, left) is =
     ∙ put_at now roster vs rows
     ∙ ap (λ (r : Rows). put_each roster (at_moment now vs) r) left
     ∙ sym (fold-append (λ r p. put p.0 roster r p.1) (no_rows roster) puts (at_moment now vs)) in
-    (puts ++ at_moment now vs, both, all)
+    (puts ++ at_moment now vs, both, all_below puts (at_moment now vs) all_were (below_at now vs below), all)
 
 -- ---- one row
 
@@ -90,9 +103,9 @@ IsLastOrOld roster d key puts rows =
     (AreOfOthers d.id key (map (λ p. p.1) puts) × (row_at key (rows_at roster d.id (put_each roster puts rows)) ≡ row_at key (rows_at roster d.id rows)))
     ⊎ ((row : StoredRow) × (row_at key (rows_at roster d.id (put_each roster puts rows)) ≡ Some row) × IsOfLast d key (map (λ p. p.1) puts) row)
 
-last_or_old : (roster : List Definition) (d : Definition) (key : Key) (puts : List (ℕ × Update)) (rows : Rows) → length rows ≡ length roster → table_at roster d.id ≡ Some d → IsLastOrOld roster d key puts rows
-last_or_old roster d key [] rows size listed = inl (tt, refl)
-last_or_old roster d key (p ∷ ps) rows size listed = at (last_or_old roster d key ps (put p.0 roster rows p.1) (put_size p.0 roster rows p.1 ∙ size) listed)
+last_or_old : (roster : List Definition) (d : Definition) (key : Key) (puts : List (ℕ × Update)) (rows : Rows) → length rows ≡ length roster → table_at roster d.id ≡ Some d → AreBelow puts → IsLastOrOld roster d key puts rows
+last_or_old roster d key [] rows size listed all = inl (tt, refl)
+last_or_old roster d key (p ∷ ps) rows size listed (below, all) = at (last_or_old roster d key ps (put p.0 roster rows p.1) (put_size p.0 roster rows p.1 ∙ size) listed all)
   where
     own : p.1.table ≡ d.id → p.1.key ≡ key → row_at key (rows_at roster d.id (put p.0 roster rows p.1)) ≡ Some (row_of p.0 d.expire p.1)
     own table is =
@@ -105,11 +118,11 @@ last_or_old roster d key (p ∷ ps) rows size listed = at (last_or_old roster d 
     other apart others same = inl ((apart, others), same ∙ row_stays p.0 roster d.id key rows p.1 apart)
 
     at : IsLastOrOld roster d key ps (put p.0 roster rows p.1) → IsLastOrOld roster d key (p ∷ ps) rows
-    at (inr (row, found, (before, u, after, now, are, table, is, others, taught))) =
-        inr (row, found, (p.1 ∷ before, u, after, now, ap (λ (xs : List Update). p.1 ∷ xs) are, table, is, others, taught))
+    at (inr (row, found, (before, u, after, now, are, table, is, others, moment, taught))) =
+        inr (row, found, (p.1 ∷ before, u, after, now, ap (λ (xs : List Update). p.1 ∷ xs) are, table, is, others, moment, taught))
     at (inl (others, same)) = elim (cases_eq p.1.table d.id) [
       | inl table ↦ elim (same_or_other p.1.key key) [
-        | inl is ↦ inr (row_of p.0 d.expire p.1, same ∙ own table is, ([], p.1, map (λ q. q.1) ps, p.0, refl, table, is, others, refl))
+        | inl is ↦ inr (row_of p.0 d.expire p.1, same ∙ own table is, ([], p.1, map (λ q. q.1) ps, p.0, refl, table, is, others, below, refl))
         | inr apart ↦ other (inr apart) others same
       ]
       | inr apart ↦ other (inl apart) others same
@@ -130,7 +143,7 @@ none_row (d ∷ ds) id key = elim (cases_eq d.id id) [
 
 -- each row is what the last update of its table and key taught
 pub each_row : (roster : List Definition) (us : List Update) (rows : Rows) (d : Definition) (key : Key) (row : StoredRow) → AreLeftBy roster us rows → table_at roster d.id ≡ Some d → row_at key (rows_at roster d.id rows) ≡ Some row → IsOfLast d key us row
-each_row roster us rows d key row (puts, are, left) listed found = at (last_or_old roster d key puts (no_rows roster) (none_size roster) listed)
+each_row roster us rows d key row (puts, are, below, left) listed found = at (last_or_old roster d key puts (no_rows roster) (none_size roster) listed below)
   where
     there : row_at key (rows_at roster d.id (put_each roster puts (no_rows roster))) ≡ Some row
     there = ap (λ (r : Rows). row_at key (rows_at roster d.id r)) (sym left) ∙ found
@@ -170,8 +183,8 @@ others_leave roster (p ∷ ps) id key rows others = others_leave roster ps id ke
 
 -- an update that none of its table and key comes after stands, as it was put at some moment
 pub last_row : (roster : List Definition) (us before after : List Update) (rows : Rows) (u : Update) (d : Definition) → AreLeftBy roster us rows → us ≡ before ++ u ∷ after → table_at roster u.table ≡ Some d → AreOfOthers u.table u.key after
-    → (now : ℕ) × (row_at u.key (rows_at roster u.table rows) ≡ Some (row_of now d.expire u))
-last_row roster us before after rows u d (puts, are, left) is listed others =
+    → (now : ℕ) × (now < 2 ^ 63) × (row_at u.key (rows_at roster u.table rows) ≡ Some (row_of now d.expire u))
+last_row roster us before after rows u d (puts, are, below, left) is listed others =
     let cut = split_map puts before after u (sym are ∙ is) in
     let whole : rows ≡ put_each roster cut.2 (put cut.1 roster (put_each roster cut.0 (no_rows roster)) u) =
     left
@@ -181,4 +194,8 @@ last_row roster us before after rows u d (puts, are, left) is listed others =
     let apart : AreOfOthers u.table u.key (map (λ p. p.1) cut.2) = subst (λ (xs : List Update). AreOfOthers u.table u.key xs) (sym cut.4) others in
     let stays = others_leave roster cut.2 u.table u.key (put cut.1 roster (put_each roster cut.0 (no_rows roster)) u) apart in
     let put_here = here cut.1 roster (put_each roster cut.0 (no_rows roster)) u d size listed in
-    (cut.1, ap (λ (r : Rows). row_at u.key (rows_at roster u.table r)) whole ∙ stays ∙ put_here)
+    (cut.1, one_below cut.1 cut.0 cut.2 (subst AreBelow cut.3 below), ap (λ (r : Rows). row_at u.key (rows_at roster u.table r)) whole ∙ stays ∙ put_here)
+  where
+    one_below : (now : ℕ) (front back : List (ℕ × Update)) → AreBelow (front ++ (now, u) ∷ back) → now < 2 ^ 63
+    one_below now [] back (one, rest) = one
+    one_below now (p ∷ ps) back (one, rest) = one_below now ps back rest

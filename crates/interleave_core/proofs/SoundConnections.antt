@@ -1,5 +1,5 @@
 -- A connection stays sound.
-use Rattle.std.proofs.Common.{◌≡◌, ◌≢◌, ◌⊎◌, ℕ, Bool, true, false, ◌||◌, cond, eqb, List, [], ◌∷◌, ◌++◌, length, take, drop, Option, Some, None, Result, Ok, Err, refl, sym, ap, subst, ◌∙◌, inl, inr, append_assoc, append-nil, take-append-drop}
+use Rattle.std.proofs.Common.{◌≡◌, ◌≢◌, ◌⊎◌, ◌<◌, ◌^◌, ℕ, Bool, true, false, ◌||◌, cond, eqb, List, [], ◌∷◌, ◌++◌, length, take, drop, Option, Some, None, Result, Ok, Err, refl, sym, ap, subst, ◌∙◌, inl, inr, append_assoc, append-nil, take-append-drop}
 use Rattle.std.specs.Prelude.{filter, filter_map, fold, is_some, map, option_to_list}
 use Rattle.std.specs.List.{AllByRecursion}
 use Rattle.std.proofs.lemmas.Bool.{eq-eqb, eqb-true}
@@ -25,7 +25,7 @@ use Rattle.known_state.proofs.StepIsDeterministic.{one_lesson}
 use Rattle.known_state.proofs.TeacherAndLearnerInStep.{known_enough}
 use Rattle.learner.specs.declared.fault.Fault.{Fault}
 use Rattle.learner.specs.declared.fault.Fault.TheVariants as faults
-use Rattle.learner.specs.Intake.{Taking, acks_of, due_after, with_due}
+use Rattle.learner.specs.Intake.{Taking, due_acks, due_after, with_due}
 use Rattle.learner.specs.Learning.{AreLearned, Learning, LearnerFeeds, with_piece}
 use Rattle.learner.specs.OnItsWay.{IsOnItsWay}
 use Rattle.learner.specs.Rows.{put_all}
@@ -190,15 +190,15 @@ due_grown table due applied us had (inl was) =
 due_grown table due applied us had (inr has) =
     ap (λ (o : Option ℕ). is_some o) (fold-append (number_after table) None applied us) ∙ still_later table us (last_number_of table applied) has
 
-pub delivered : (roster : List Definition) (s e : ConnectionState) (acks : List (ℕ × ℕ)) (now count : ℕ) → IsSoundConnection roster s acks → IsFed now (take count s.to_learner) (drop count s.to_learner) s e → IsSoundConnection roster e acks
-delivered roster s e acks now count sound (ms, us, after, learned, waits, is) =
+pub delivered : (roster : List Definition) (s e : ConnectionState) (acks : List (ℕ × ℕ)) (now count : ℕ) → now < 2 ^ 63 → IsSoundConnection roster s acks → IsFed now (take count s.to_learner) (drop count s.to_learner) s e → IsSoundConnection roster e acks
+delivered roster s e acks now count below sound (ms, us, after, learned, waits, is) =
     let fed = fed_on roster s now count ms us after sound.track learned in
     subst (λ (x : ConnectionState). IsSoundConnection roster x acks) (sym is) (record {
       track = fed.0;
       to_teacher = sound.to_teacher;
       state = follows roster ms s.applied us s.learner.intake.state after.intake.state fed.5 fed.6 fed.1 sound.state fed.2;
       due = λ table is_due. due_grown table s.learner.intake.due s.applied us (sound.due table) (fed.4 table is_due);
-      rows = more_rows now roster s.applied us s.learner.rows after.rows sound.rows fed.3;
+      rows = more_rows now roster s.applied us s.learner.rows after.rows below sound.rows fed.3;
       known = sound.known;
       taught = sound.taught;
     })
@@ -253,17 +253,17 @@ not_due : (table : ℕ) → is_in table [] ≡ true → ⊥
 not_due table is = let bad : false ≡ true = is in cc
 
 pub acknowledged : (roster : List Definition) (s : ConnectionState) (acks : List (ℕ × ℕ)) → IsSoundConnection roster s acks
-    → IsSoundConnection roster (acknowledges s) (acks ++ filter_map (ack_in roster) (acks_of s.learner.intake))
+    → IsSoundConnection roster (acknowledges s) (acks ++ filter_map (ack_in roster) (due_acks s.learner.intake))
 acknowledged roster s acks sound =
     let own : AreOwn roster s.learner.intake.state.received.tables = subst (λ (ds : List Definition). AreOwn ds s.learner.intake.state.received.tables) sound.track.learner sound.track.way.2.1 in
     let new = owed roster s.learner.intake own sound.state.valid sound.state.small in
-    let fresh = filter_map (ack_in roster) (acks_of s.learner.intake) in
-    let grown = more_acks roster (s.unread ++ s.to_teacher) acks (filter_map (ack_in roster) (acks_of s.learner.intake)) sound.to_teacher new.1 in
-    let bytes : (s.unread ++ s.to_teacher) ++ stream_of (map ack_message (filter_map (ack_in roster) (acks_of s.learner.intake))) ≡ s.unread ++ (s.to_teacher ++ stream_of (acks_of s.learner.intake)) =
+    let fresh = filter_map (ack_in roster) (due_acks s.learner.intake) in
+    let grown = more_acks roster (s.unread ++ s.to_teacher) acks (filter_map (ack_in roster) (due_acks s.learner.intake)) sound.to_teacher new.1 in
+    let bytes : (s.unread ++ s.to_teacher) ++ stream_of (map ack_message (filter_map (ack_in roster) (due_acks s.learner.intake))) ≡ s.unread ++ (s.to_teacher ++ stream_of (due_acks s.learner.intake)) =
     append_assoc s.unread s.to_teacher _ ∙ ap (λ (x : List Message). s.unread ++ (s.to_teacher ++ stream_of x)) (sym new.0) in
     record {
       track = track.acknowledged roster s sound.track;
-      to_teacher = subst (λ (x : List ℕ). AreAcks roster x (acks ++ filter_map (ack_in roster) (acks_of s.learner.intake))) bytes grown;
+      to_teacher = subst (λ (x : List ℕ). AreAcks roster x (acks ++ filter_map (ack_in roster) (due_acks s.learner.intake))) bytes grown;
       state = sound.state;
       due = λ table is. absurd (not_due table is);
       rows = sound.rows;
@@ -300,7 +300,7 @@ read_whole roster s acks count ms received left breach sound read broken =
 
 -- the acknowledgements that a learner owes of a table
 pub owed_numbers : (roster : List Definition) (s : ConnectionState) (acks : List (ℕ × ℕ)) (table : ℕ) → IsSoundConnection roster s acks
-    → acked_numbers table (filter_map (ack_in roster) (acks_of s.learner.intake)) ≡ cond (is_in table s.learner.intake.due) (option_to_list (last_number_of table s.applied)) []
+    → acked_numbers table (filter_map (ack_in roster) (due_acks s.learner.intake)) ≡ cond (is_in table s.learner.intake.due) (option_to_list (last_number_of table s.applied)) []
 owed_numbers roster s acks table sound =
     let way = sound.track.way.2 in
     let once : repeats_name roster ≡ false = ap (λ (ds : List Definition). repeats_name ds) (sym sound.track.learner) ∙ way.0 in
@@ -335,7 +335,7 @@ begun roster sound =
         received = λ table e. absurd (false_true e);
       };
       due = λ table e. absurd (false_true e);
-      rows = ([], refl, refl);
+      rows = ([], refl, tt, refl);
       known = (refl, tt, tt);
       taught = tt;
     }
@@ -343,7 +343,8 @@ begun roster sound =
 -- fed everything, the learner is in the known state
 pub ended : (roster : List Definition) (s : ConnectionState) (acks : List (ℕ × ℕ)) (now : ℕ) (answer : Result ℕ Fault) (l : Learning)
     → IsSoundConnection roster s acks → LearnerFeeds now s.learner s.to_learner answer l → answer ≢ Err faults.Memory
-    → (us : List Update) × (answer ≡ Ok (length us)) × (s.taught ≡ s.applied ++ us) × (l.intake.unread ≡ []) × (known_of roster l.intake.state ≡ s.known)
+    → (us : List Update) × (answer ≡ Ok (length us)) × (s.taught ≡ s.applied ++ us) × (l.rows ≡ put_all now roster us s.learner.rows)
+    × (l.intake.unread ≡ []) × (known_of roster l.intake.state ≡ s.known)
 ended roster s acks now answer l sound feeds unless =
     let end = track.arrived roster s now answer l sound.track feeds unless in
-    (end.0, end.1, end.2, end.4, ap (λ (x : State). known_of roster x) end.3 ∙ sound.known.0)
+    (end.0, end.1, end.2, end.3, end.5, ap (λ (x : State). known_of roster x) end.4 ∙ sound.known.0)

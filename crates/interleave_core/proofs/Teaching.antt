@@ -3,20 +3,23 @@ use Rattle.std.proofs.Common.{◌≡◌, ℕ, min, List, [], ◌∷◌, ◌++◌
 use Rattle.std.proofs.lemmas.List.{take-append-le, take_min}
 use Rattle.std.proofs.lemmas.Option.{none-some, same_Some}
 use Rattle.peers_msg.specs.Integers.{IsBytes}
+use Rattle.peers_msg.specs.declared.message.Message.{Message}
+use Rattle.peers_msg.specs.Spelling.{stream_of}
 use Rattle.table_types.specs.declared.update.Update.{Update}
-use Rattle.table_types.specs.Tables.{Definition}
 use Rattle.known_state.specs.Known.{KnownState}
-use Rattle.interleave_core.specs.Kept.{IsOnTrack}
+use Rattle.known_state.specs.Lessons.{IsLessonFor}
+use Rattle.known_state.specs.Shortest.{Shortest}
+use Rattle.known_state.proofs.ShortestByBytes.{same_bytes}
 use Rattle.interleave_core.specs.Moves.{IsShortestLesson, TeachesOldest}
 use Rattle.interleave_core.specs.declared.connection.Connection.{Connection}
 use Rattle.interleave_core.specs.Parts.{connection_of}
 use Rattle.interleave_core.specs.Worlds.{ConnectionState}
-use Rattle.interleave_core.proofs.OnTrack.{taught}
 
--- the oldest batch that waits, and those after it
-first_and_rest : (waiting : List (List Update)) (batch : List Update) → slice_get waiting 0 ≡ Some batch → waiting ≡ batch ∷ remove waiting 0
-first_and_rest [] batch first = absurd (none-some batch first)
-first_and_rest (x ∷ xs) batch first = ap (λ (y : List Update). y ∷ xs) (same_Some x batch first)
+-- a lesson that has the bytes of a shortest one is a shortest one
+pub shortest_lesson : (known after : KnownState) (batch : List Update) (bytes : List ℕ) → IsLessonFor known batch bytes after
+    → ((ns : List Message) × (bytes ≡ stream_of ns) × Shortest known batch ns) → IsShortestLesson known batch bytes after
+shortest_lesson known after batch bytes (ms, spelled_out, legal, same) (ns, others, shortest) =
+    (ms, spelled_out, legal, same, same_bytes known batch ms ns after.state legal shortest (sym spelled_out ∙ others))
 
 -- the updates put are the same if more were taught
 put_before : (applied count : ℕ) (taught batch : List Update) → count ≡ min applied (length taught)
@@ -49,10 +52,10 @@ after_lesson old after waiting taught us batch count pipe sent bytes waits more 
 
 -- the oldest batch is taught
 pub teaches_oldest : (s e : ConnectionState) (batch : List Update) (bytes : List ℕ) (after : KnownState)
-    → slice_get s.copied 0 ≡ Some batch → IsShortestLesson s.known batch bytes after
+    → slice_get s.copied 0 ≡ Some batch → IsBytes bytes → IsShortestLesson s.known batch bytes after
     → e ≡ record s { known = after; copied = remove s.copied 0; taught = s.taught ++ batch; to_learner = s.to_learner ++ bytes }
     → TeachesOldest s.copied s e
-teaches_oldest s e batch bytes after first lesson same = oldest s.copied first same
+teaches_oldest s e batch bytes after first good lesson same = oldest s.copied first same
   where
     oldest : (waiting : List (List Update)) → slice_get waiting 0 ≡ Some batch
         → e ≡ record s { known = after; copied = remove waiting 0; taught = s.taught ++ batch; to_learner = s.to_learner ++ bytes }
@@ -62,15 +65,7 @@ teaches_oldest s e batch bytes after first lesson same = oldest s.copied first s
         let is : batch ≡ x = sym (same_Some x batch first) in (
           bytes,
           after,
+          good,
           subst (λ (b : List Update). IsShortestLesson s.known b bytes after) is lesson,
           subst (λ (b : List Update). e ≡ record s { known = after; copied = xs; taught = s.taught ++ b; to_learner = s.to_learner ++ bytes }) is same,
         )
-
--- and the connection stays on track
-pub stays_on_track : (roster : List Definition) (s e : ConnectionState) (batch : List Update) (bytes : List ℕ) (after : KnownState)
-    → IsOnTrack roster s → slice_get s.copied 0 ≡ Some batch → IsShortestLesson s.known batch bytes after → IsBytes bytes
-    → e ≡ record s { known = after; copied = remove s.copied 0; taught = s.taught ++ batch; to_learner = s.to_learner ++ bytes }
-    → IsOnTrack roster e
-stays_on_track roster s e batch bytes after track first lesson good same =
-    subst (λ (x : ConnectionState). IsOnTrack roster x) (sym same)
-    (taught roster s batch (remove s.copied 0) bytes after track (first_and_rest s.copied batch first) lesson.0 good)

@@ -22,7 +22,7 @@ with_here t new c cs same = cond-true (is_table t c) (new ∷ cs) (c ∷ with_ce
 pub with_there : (t : ℕ) (new c : CellState) (cs : List CellState) → is_table t c ≡ false → with_cell t new (c ∷ cs) ≡ c ∷ with_cell t new cs
 with_there t new c cs other = cond-false (is_table t c) (new ∷ cs) (c ∷ with_cell t new cs) other
 
--- the table that is found has that id
+-- the table that is found has the id `t`
 pub found_id : (t : ℕ) (c : CellState) (cells : List CellState) → cell_at t cells ≡ Some c → c.state.definition.id ≡ t
 found_id t c [] at = absurd (none_there c at)
 found_id t c (x ∷ xs) at = elim (cases_Bool (is_table t x)) [
@@ -32,7 +32,8 @@ found_id t c (x ∷ xs) at = elim (cases_Bool (is_table t x)) [
   | inr other ↦ found_id t c xs (sym (at_there t x xs other) ∙ at)
 ]
 
-apart : (t table : ℕ) (c : CellState) → is_table table c ≡ true → t ≢ table → is_table t c ≡ false
+-- a table has no other id
+pub apart : (t table : ℕ) (c : CellState) → is_table table c ≡ true → t ≢ table → is_table t c ≡ false
 apart t table c is other = ne_eqb c.state.definition.id t (λ same. other (sym same ∙ eqb-true c.state.definition.id table is))
 
 -- a table that is found after a change is the new one, or was found before

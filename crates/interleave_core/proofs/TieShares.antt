@@ -108,7 +108,7 @@ none_behind (u ∷ us) vs same = none_behind us vs (ap (λ (l : List ℕ). drop 
 
 -- ---- acknowledgements
 
--- the number of an acknowledgement of that table
+-- the number of an acknowledgement of the table `t`
 abbrev of_it : ℕ → ℕ × ℕ → Option ℕ
 of_it t ack = if ack.0 == t then Some ack.1 else None
 

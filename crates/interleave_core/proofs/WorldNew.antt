@@ -1,15 +1,15 @@
 -- A new world is sound.
-use Rattle.std.proofs.Common.{◌≡◌, ◌≤◌, ◌<◌, ℕ, zero, suc, ◌+◌, Bool, true, false, List, [], ◌∷◌, length, Option, Some, None, refl, sym, ap, subst, ◌∙◌, inl, inr, ◌⊎◌, arith}
-use Rattle.std.specs.Prelude.{is_none, map, nat_eq, replicate, slice_get}
+use Rattle.std.proofs.Common.{◌≡◌, ◌≤◌, ◌<◌, ℕ, zero, suc, ◌+◌, List, [], ◌∷◌, length, Some, None, refl, sym, ap, subst, ◌∙◌, inl, inr, arith}
+use Rattle.std.specs.Prelude.{map, nat_eq, replicate, slice_get}
 use Rattle.std.specs.List.{AllByRecursion}
 use Rattle.std.specs.Map.{lookup}
-use Rattle.std.proofs.lemmas.Bool.{cases_Bool, cases_eq, ne_eqb}
+use Rattle.std.proofs.lemmas.Bool.{cases_eq, ne_eqb}
 use Rattle.table_types.specs.Rosters.{roster_fault}
 use Rattle.table_types.specs.Tables.{Definition}
 use Rattle.table_cell.specs.declared.events.CellEvent.TheVariants as events
 use Rattle.table_cell.specs.declared.events.CellReply.TheVariants as replies
 use Rattle.table_cell.specs.declared.progress.Progress.{Progress}
-use Rattle.table_cell.specs.Machine.{no_progress, open_refusal, progress_of}
+use Rattle.table_cell.specs.Machine.{no_progress, progress_of}
 use Rattle.table_cell.specs.Histories.{CellState, IsSoundCell, Made, is_history_full}
 use Rattle.table_cell.specs.Handing.{KeepsUp, handed_since}
 use Rattle.table_cell.proofs.HandingSessions.{others_stay}
@@ -19,10 +19,10 @@ use Rattle.table_cell.proofs.RunLaws.{made_sound}
 use Rattle.interleave_core.specs.Opened.{CanBegin, CanOpen}
 use Rattle.interleave_core.specs.SoundWorlds.{IsSoundWorld}
 use Rattle.interleave_core.specs.Ties.{AreSoundTables}
-use Rattle.interleave_core.specs.Worlds.{ConnectionState, WorldState, cell_at, connection_at, is_table, new_connection, new_world, roster_of, with_session, with_sessions}
+use Rattle.interleave_core.specs.Worlds.{ConnectionState, cell_at, connection_at, new_connection, new_world, roster_of, with_session, with_sessions}
 use Rattle.interleave_core.proofs.Beginning.{can_open_more}
-use Rattle.interleave_core.proofs.TieCells.{at_here, at_there, none_there, same_one}
-use Rattle.interleave_core.proofs.TiePairs.{open_tied, same_table}
+use Rattle.interleave_core.proofs.TieCells.{none_there, same_one}
+use Rattle.interleave_core.proofs.TiePairs.{open_tied}
 use Rattle.interleave_core.proofs.WorldTold.{new_sound}
 
 -- ---- one table

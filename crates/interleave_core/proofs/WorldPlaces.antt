@@ -1,7 +1,6 @@
 -- Connections by session, tables by id, and one of them changed.
 use Rattle.std.proofs.Common.{◌≡◌, ◌≢◌, ℕ, zero, suc, Bool, true, false, List, [], ◌∷◌, set, Some, refl, sym, ap, ◌∙◌, inl, inr, ◌⊎◌, arith}
 use Rattle.std.specs.Prelude.{MatchBool, slice_get}
-use Rattle.std.specs.List.{AllByRecursion}
 use Rattle.std.proofs.lemmas.Bool.{cases_Bool, cond-true, cond-false}
 use Rattle.table_types.specs.Rosters.{table_at}
 use Rattle.table_cell.specs.Histories.{CellState}
@@ -40,16 +39,6 @@ same_set (c ∷ cs) (suc b) s found = ap (λ (l : List ConnectionState). c ∷ l
 pub same_connections : (n : ℕ) (s : ConnectionState) (cs : List ConnectionState) → connection_at n cs ≡ Some s → with_connection n s cs ≡ cs
 same_connections zero s cs found = refl
 same_connections (suc b) s cs found = same_set cs b s found
-
-all_set : (P : ConnectionState → Type 0) (cs : List ConnectionState) (b : ℕ) (s new : ConnectionState) → slice_get cs b ≡ Some s → AllByRecursion P (set cs b new) → P new
-all_set P [] b s new found all = absurd (none_there s found)
-all_set P (c ∷ cs) zero s new found (first, rest) = first
-all_set P (c ∷ cs) (suc b) s new found (first, rest) = all_set P cs b s new found rest
-
--- what holds of all connections after a change holds of the new one
-pub of_new : (P : ConnectionState → Type 0) (n : ℕ) (s new : ConnectionState) (cs : List ConnectionState) → connection_at n cs ≡ Some s → AllByRecursion P (with_connection n new cs) → P new
-of_new P zero s new cs found all = absurd (none_there s found)
-of_new P (suc b) s new cs found all = all_set P cs b s new found all
 
 -- ---- tables
 

@@ -1,4 +1,4 @@
--- A world stays sound at each step.
+-- A world stays sound at each step, and over each run.
 use Rattle.std.proofs.Common.{◌≡◌, ◌≢◌, ◌≤◌, ◌<◌, ◌^◌, ℕ, true, false, ◌&&◌, List, [], ◌∷◌, ◌++◌, length, drop, take, Option, Some, None, Result, Ok, Err, refl, sym, ap, subst, ◌∙◌, inl, inr, ◌⊎◌}
 use Rattle.std.specs.Prelude.{filter_map, is_some, nat_le}
 use Rattle.std.specs.List.{AllByRecursion, list_any}
@@ -12,10 +12,9 @@ use Rattle.table_types.specs.Batches.{IsBatchFor, IsUpdateFor}
 use Rattle.table_types.specs.Rosters.{has_id, roster_fault}
 use Rattle.table_types.specs.Tables.{Definition}
 use Rattle.table_types.proofs.BatchIsFaultless.{batch_of_one}
-use Rattle.peers_msg.specs.Integers.{IsBytes}
 use Rattle.known_state.specs.Known.{is_in}
 use Rattle.known_state.proofs.FitsOrIsRefused.{has_id-table_at}
-use Rattle.learner.specs.Intake.{acks_of}
+use Rattle.learner.specs.Intake.{due_acks}
 use Rattle.table_cell.specs.declared.errors.CopyError.{CopyError}
 use Rattle.table_cell.specs.declared.errors.CopyError.TheVariants as uncopied
 use Rattle.table_cell.specs.declared.errors.LearnError.{LearnError}
@@ -39,9 +38,9 @@ use Rattle.table_cell.proofs.StepLaws.{copy_granted}
 use Rattle.interleave_core.specs.declared.step.Step.{Step}
 use Rattle.interleave_core.specs.declared.step.Step.TheVariants as steps
 use Rattle.interleave_core.specs.declared.way.Way.TheVariants as ways
-use Rattle.interleave_core.specs.Moves.{AtConnection, AtTable, CopiesFor, InConnection, InTable, IsArrived, IsFed, IsReadBy, IsReopened, Moves, TeachesOldest, ack_in, acked_all, acknowledges, reopened_all, with_batch}
+use Rattle.interleave_core.specs.Moves.{AtConnection, AtTable, CopiesFor, InConnection, InTable, IsArrived, IsFed, IsReadBy, IsReopened, LearnsFor, Moves, RunsTo, TeachesOldest, ack_in, acked_all, acknowledges, reopened_all}
 use Rattle.interleave_core.specs.Sound.{IsSoundConnection, last_number_of}
-use Rattle.interleave_core.specs.SoundWorlds.{AreBytesToLearners, IsSoundSession, IsSoundWorld, IsTimelyStep}
+use Rattle.interleave_core.specs.SoundWorlds.{IsSoundSession, IsSoundWorld, IsTimelyStep}
 use Rattle.interleave_core.specs.Ties.{AreSoundTables, AreTied}
 use Rattle.interleave_core.specs.Worlds.{ConnectionState, WorldState, cell_at, connection_at, new_connection, roster_of, with_cell, with_connection}
 use Rattle.interleave_core.proofs.SoundConnections as connections
@@ -51,7 +50,7 @@ use Rattle.interleave_core.proofs.TieOpenings.{new_ties, others_reopened, still_
 use Rattle.interleave_core.proofs.TiePairs.{same_batch}
 use Rattle.interleave_core.proofs.TieSteps.{copy_event, more_learned, oldest_taught, other_event}
 use Rattle.interleave_core.proofs.TieTables.{all_at, table_changed, tables_acked, tables_reopened}
-use Rattle.interleave_core.proofs.WorldPlaces.{connection_after, each_side, in_roster, of_new, same_connections, same_tables}
+use Rattle.interleave_core.proofs.WorldPlaces.{connection_after, each_side, in_roster, same_connections, same_tables}
 
 -- ---- parts of a world
 
@@ -192,41 +191,37 @@ copied w e session t limit now kind sound timely few moves = by (cell_at t w.cel
 -- ---- one connection
 
 at_connection : (change : ConnectionState → ConnectionState → Type 0) (session : ℕ) (w e : WorldState) → IsSoundWorld w
-    → ((s x : ConnectionState) → connection_at session w.connections ≡ Some s → change s x → e ≡ record w { connections = with_connection session x w.connections } → IsSoundSession session w.cells x)
+    → ((s x : ConnectionState) → connection_at session w.connections ≡ Some s → change s x → IsSoundSession session w.cells x)
     → AtConnection change session w e → IsSoundWorld e
 at_connection change session w e sound own (after, inside, is) = by (connection_at session w.connections) refl inside
   where
     by : (o : Option ConnectionState) → connection_at session w.connections ≡ o → InConnection change session o w.connections after → IsSoundWorld e
     by None found same = unchanged w e sound (is ∙ ap (λ (l : List ConnectionState). record w { connections = l }) same)
     by (Some s) found (changed, so, same) =
-        let now = is ∙ ap (λ (l : List ConnectionState). record w { connections = l }) same in
-        subst IsSoundWorld (sym now) (connection_only w session changed sound (own s changed found so now))
+        subst IsSoundWorld (sym (is ∙ ap (λ (l : List ConnectionState). record w { connections = l }) same))
+        (connection_only w session changed sound (own s changed found so))
 
-pub bytes_behind : (a b : List ℕ) → IsBytes (a ++ b) → IsBytes b
-bytes_behind a b good = subst IsBytes (Rattle.std.proofs.lemmas.List.drop_at a b (length a) refl) (Rattle.peers_msg.proofs.FieldCanonical.IsBytes-drop (length a) (a ++ b) good)
-
-taught : (w : WorldState) (session : ℕ) (s x : ConnectionState) → IsSoundWorld w → connection_at session w.connections ≡ Some s → IsBytes x.to_learner
+taught : (w : WorldState) (session : ℕ) (s x : ConnectionState) → IsSoundWorld w → connection_at session w.connections ≡ Some s
     → TeachesOldest s.copied s x → IsSoundSession session w.cells x
-taught w session s x sound found good moves = by s.copied refl moves
+taught w session s x sound found moves = by s.copied refl moves
   where
     by : (batches : List (List Update)) → s.copied ≡ batches → TeachesOldest batches s x → IsSoundSession session w.cells x
     by [] oldest same = subst (IsSoundSession session w.cells) (sym same) (sound.sessions session s found)
-    by (batch ∷ rest) oldest (bytes, after, lesson, is) =
+    by (batch ∷ rest) oldest (bytes, after, good, lesson, is) =
         let (before, acks, connection, ties) = sound.sessions session s found in
         let new : ConnectionState = record s { known = after; copied = rest; taught = s.taught ++ batch; to_learner = s.to_learner ++ bytes } in
-        let whole : IsBytes (s.to_learner ++ bytes) = subst (λ (y : ConnectionState). IsBytes y.to_learner) is good in
         subst (IsSoundSession session w.cells) (sym is) (
           before,
           acks,
-          connections.taught (roster_of w.cells) s acks batch rest bytes after connection oldest lesson.0 (bytes_behind s.to_learner bytes whole),
+          connections.taught (roster_of w.cells) s acks batch rest bytes after connection oldest (lesson.0, lesson.1, lesson.2, lesson.3) good,
           oldest_taught session before s new acks w.cells batch connection.track.way.1 rest connection.track.way.3 oldest refl refl refl refl ties,
         )
 
-fed : (w : WorldState) (session now count : ℕ) (s x : ConnectionState) → IsSoundWorld w → connection_at session w.connections ≡ Some s
+fed : (w : WorldState) (session now count : ℕ) (s x : ConnectionState) → now < 2 ^ 63 → IsSoundWorld w → connection_at session w.connections ≡ Some s
     → IsFed now (take count s.to_learner) (drop count s.to_learner) s x → IsSoundSession session w.cells x
-fed w session now count s x sound found (ms, us, l, learns, waits, is) =
+fed w session now count s x timely sound found (ms, us, l, learns, waits, is) =
     let (before, acks, connection, ties) = sound.sessions session s found in
-    let after = connections.delivered (roster_of w.cells) s x acks now count connection (ms, us, l, learns, waits, is) in
+    let after = connections.delivered (roster_of w.cells) s x acks now count timely connection (ms, us, l, learns, waits, is) in
     let taught_same : x.taught ≡ s.taught = ap (λ (y : ConnectionState). y.taught) is in
     let applied : x.applied ≡ s.applied ++ us = ap (λ (y : ConnectionState). y.applied) is in
     let split : s.taught ≡ (s.applied ++ us) ++ after.track.way.1 = sym taught_same ∙ after.track.way.3 ∙ ap (λ (l : List Update). l ++ after.track.way.1) applied in (
@@ -244,7 +239,7 @@ fed w session now count s x sound found (ms, us, l, learns, waits, is) =
 answered : (w : WorldState) (session : ℕ) (s x : ConnectionState) → IsSoundWorld w → connection_at session w.connections ≡ Some s → x ≡ acknowledges s → IsSoundSession session w.cells x
 answered w session s x sound found is =
     let (before, acks, connection, ties) = sound.sessions session s found in
-    let sent = filter_map (ack_in (roster_of w.cells)) (acks_of s.learner.intake) in
+    let sent = filter_map (ack_in (roster_of w.cells)) (due_acks s.learner.intake) in
     subst (IsSoundSession session w.cells) (sym is) (
       before,
       acks ++ sent,
@@ -347,24 +342,41 @@ reopens w e session (Some s) sound found moves =
     each_side (list_any (λ (c : CellState). has_out (progress_of session c.state)) w.cells) (e ≡ w) (IsReopened (reopened_all session w.cells) (λ cells. record w { cells = cells }) w e) (IsSoundWorld e) moves
     (λ out. unchanged w e sound) (λ quiet. reopened w e session s sound found quiet)
 
-pub step_sound : (w e : WorldState) (step : Step) → IsTimelyStep step → AreBytesToLearners e.connections → IsSoundWorld w → Moves w step e → IsSoundWorld e
-step_sound w e (steps.Track table key change now) timely bytes sound moves =
-    at_table _ table w e sound (λ c x (answer, ok, does). tracked key change now c x answer timely does) moves
-step_sound w e (steps.Learn session u now) timely bytes sound moves =
+learns : (w e : WorldState) (session now : ℕ) (u : Update) (o : Option ConnectionState) → IsSoundWorld w → now < 2 ^ 63 → LearnsFor session u now o w e → IsSoundWorld e
+learns w e session now u None sound timely same = unchanged w e sound same
+learns w e session now u (Some s) sound timely moves =
     at_table _ u.table w e sound (λ c x (answer, ok, does). learned session now u c x answer timely does) moves
-step_sound w e (steps.Purge table now) timely bytes sound moves =
+
+pub step_sound : (w e : WorldState) (step : Step) → IsTimelyStep step → IsSoundWorld w → Moves w step e → IsSoundWorld e
+step_sound w e (steps.Track table key change now) timely sound moves =
+    at_table _ table w e sound (λ c x (answer, ok, does). tracked key change now c x answer timely does) moves
+step_sound w e (steps.Learn session u now) timely sound moves = learns w e session now u (connection_at session w.connections) sound timely moves
+step_sound w e (steps.Purge table now) timely sound moves =
     at_table _ table w e sound (λ c x (answer, ok, does). purged now c x answer timely does) moves
-step_sound w e (steps.Copy session table kind limit now) timely bytes sound moves =
+step_sound w e (steps.Copy session table kind limit now) timely sound moves =
     each_side (nat_le 1 limit && nat_le limit 512) _ (e ≡ w) (IsSoundWorld e) moves
     (λ within. copied w e session table limit now kind sound timely (leb-true limit 512 (and_parts (nat_le 1 limit) (nat_le limit 512) within).1)) (λ out. unchanged w e sound)
-step_sound w e (steps.Teach session) timely bytes sound moves =
-    at_connection _ session w e sound (λ s x found does is.
-    taught w session s x sound found (of_new (λ (y : ConnectionState). IsBytes y.to_learner) session s x w.connections found (subst (λ (v : WorldState). AreBytesToLearners v.connections) is bytes)) does) moves
-step_sound w e (steps.Deliver session ways.ToLearner count now) timely bytes sound moves =
-    at_connection _ session w e sound (λ s x found does is.
+step_sound w e (steps.Teach session) timely sound moves =
+    at_connection _ session w e sound (λ s x found does. taught w session s x sound found does) moves
+step_sound w e (steps.Deliver session ways.ToLearner count now) timely sound moves =
+    at_connection _ session w e sound (λ s x found does.
     each_side (nat_le count (length s.to_learner)) (IsFed now (take count s.to_learner) (drop count s.to_learner) s x) (x ≡ s) (IsSoundSession session w.cells x) does
-    (λ enough. fed w session now count s x sound found) (λ few same. subst (IsSoundSession session w.cells) (sym same) (sound.sessions session s found))) moves
-step_sound w e (steps.Deliver session ways.ToTeacher count now) timely bytes sound moves = to_teacher w e session count (connection_at session w.connections) sound refl moves
-step_sound w e (steps.Ack session) timely bytes sound moves = at_connection _ session w e sound (λ s x found does is. answered w session s x sound found does) moves
-step_sound w e (steps.Break session) timely bytes sound moves = breaks w e session (connection_at session w.connections) sound refl moves
-step_sound w e (steps.Reopen session) timely bytes sound moves = reopens w e session (connection_at session w.connections) sound refl moves
+    (λ enough. fed w session now count s x timely sound found) (λ few same. subst (IsSoundSession session w.cells) (sym same) (sound.sessions session s found))) moves
+step_sound w e (steps.Deliver session ways.ToTeacher count now) timely sound moves = to_teacher w e session count (connection_at session w.connections) sound refl moves
+step_sound w e (steps.Ack session) timely sound moves = at_connection _ session w e sound (λ s x found does. answered w session s x sound found does) moves
+step_sound w e (steps.Break session) timely sound moves = breaks w e session (connection_at session w.connections) sound refl moves
+step_sound w e (steps.Reopen session) timely sound moves = reopens w e session (connection_at session w.connections) sound refl moves
+
+-- ---- runs
+
+pub run_sound : (w e : WorldState) (steps : List Step) → AllByRecursion IsTimelyStep steps → IsSoundWorld w → RunsTo w steps e → IsSoundWorld e
+run_sound w e [] timely sound is = unchanged w e sound is
+run_sound w e (step ∷ steps) (one, rest) sound (mid, moves, runs) = run_sound mid e steps rest (step_sound w mid step one sound moves) runs
+
+-- the world after the first steps of a run
+pub between_sound : (w e : WorldState) (before after : List Step) → AllByRecursion IsTimelyStep before → IsSoundWorld w → RunsTo w (before ++ after) e
+    → (mid : WorldState) × RunsTo w before mid × RunsTo mid after e × IsSoundWorld mid
+between_sound w e [] after timely sound runs = (w, refl, runs, sound)
+between_sound w e (step ∷ before) after (one, rest) sound (next, moves, runs) =
+    let (mid, first, later, stays) = between_sound next e before after rest (step_sound w next step one sound moves) runs in
+    (mid, (next, moves, first), later, stays)

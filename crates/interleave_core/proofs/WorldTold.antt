@@ -1,9 +1,9 @@
 -- What a sound world tells of its learners.
-use Rattle.std.proofs.Common.{◌≡◌, ◌≢◌, ◌≤◌, ◌<◌, ℕ, Bool, true, false, List, [], ◌∷◌, ◌++◌, drop, take, length, Option, Some, None, Result, Ok, Err, refl, sym, ap, subst, ◌∙◌, inl, inr, ◌⊎◌, append_assoc, append-nil, take-append-drop}
+use Rattle.std.proofs.Common.{◌≡◌, ◌≢◌, ◌≤◌, ◌<◌, ℕ, Bool, true, false, List, [], ◌∷◌, ◌++◌, drop, take, length, Option, Some, None, Result, Ok, Err, refl, sym, ap, subst, ◌∙◌, inl, inr, ◌⊎◌, append_assoc, append-nil, take-append-drop, true≢false}
 use Rattle.std.specs.Prelude.{cond, option_and_then, nat_eq, nat_lt, ◌==◌, if◌then◌else◌, filter_map}
 use Rattle.std.specs.List.{AllByRecursion}
 use Rattle.std.specs.Ordering.{is_eq}
-use Rattle.std.proofs.lemmas.Bool.{cases_Bool, cond-true, cond-false, eqb-true, ltb-false}
+use Rattle.std.proofs.lemmas.Bool.{cases_Bool, cond-true, cond-false, eq-eqb, eqb-true}
 use Rattle.table_types.specs.declared.copies.CopyKind.{CopyKind}
 use Rattle.table_types.specs.declared.copies.CopyKind.TheVariants as kinds
 use Rattle.table_types.specs.declared.key.Key.{Key}
@@ -17,7 +17,7 @@ use Rattle.known_state.specs.Known.{known_of}
 use Rattle.learner.specs.declared.fault.Fault.{Fault}
 use Rattle.learner.specs.declared.fault.Fault.TheVariants as faults
 use Rattle.learner.specs.Learning.{Learning, LearnerFeeds}
-use Rattle.learner.specs.Rows.{AreOfOthers, row_at, rows_at}
+use Rattle.learner.specs.Rows.{AreOfOthers, put_all, row_at, rows_at}
 use Rattle.table_cell.specs.declared.errors.CopyError.{CopyError}
 use Rattle.table_cell.specs.declared.errors.CopyError.TheVariants as uncopied
 use Rattle.table_cell.specs.declared.progress.Progress.{Progress}
@@ -88,7 +88,7 @@ of_others t key (u ∷ us) all = elim (cases_Bool (nat_eq u.table t)) [
       let both = subst (AllByRecursion (λ (x : Update). x.key ≢ key)) (cond-true (nat_eq u.table t) (u ∷ of_table t us) (of_table t us) own) all in
       (inr both.0, of_others t key us both.1)
   | inr other ↦ (
-    inl (λ same. Rattle.std.proofs.Common.true≢false (sym (Rattle.std.proofs.lemmas.Bool.eq-eqb u.table t same) ∙ other)),
+    inl (λ same. true≢false (sym (eq-eqb u.table t same) ∙ other)),
     of_others t key us (subst (AllByRecursion (λ (x : Update). x.key ≢ key)) (cond-false (nat_eq u.table t) (u ∷ of_table t us) (of_table t us) other) all),
   )
 ]
@@ -104,7 +104,7 @@ stands roster s acks d t before e sound listed (bs, rest, u, is, key, number, ot
     sym (take-append-drop before s.applied) ∙ ap (λ (l : List Update). take before s.applied ++ l) split ∙ sym (append_assoc (take before s.applied) xs (u ∷ ys)) in
     let of_other : AreOfOthers u.table u.key ys =
     subst (λ (k : ℕ). AreOfOthers k u.key ys) (sym own) (subst (λ (k : Key). AreOfOthers t k ys) (sym key) (of_others t e.0 ys (subst (AllByRecursion (λ (x : Update). x.key ≢ e.0)) (sym last) others))) in
-    let (now, stood) = last_row roster s.applied (take before s.applied ++ xs) ys s.learner.rows u d sound.rows whole (ap (table_at roster) own ∙ listed) of_other in
+    let (now, below, stood) = last_row roster s.applied (take before s.applied ++ xs) ys s.learner.rows u d sound.rows whole (ap (table_at roster) own ∙ listed) of_other in
     (row_of now d.expire u, ap (λ (k : Key). row_at k (rows_at roster t s.learner.rows)) (sym key) ∙ ap (λ (k : ℕ). row_at u.key (rows_at roster k s.learner.rows)) (sym own) ∙ stood, number)
 
 all_rows : {P : Key × StoredRow → Type 0} (Q : Key × StoredRow → Type 0) (es : List (Key × StoredRow)) → AllByRecursion P es → ((e : Key × StoredRow) → P e → Q e) → AllByRecursion Q es
@@ -133,17 +133,22 @@ listed_at : (w : WorldState) (t : ℕ) (c : CellState) → cell_at t w.cells ≡
 listed_at w t c at = in_roster t c w.cells at
 
 -- rows up to the number acknowledged stand at the learner
-pub acknowledged_stand : (w : WorldState) (session t now : ℕ) (s : ConnectionState) (c : CellState) (p : Progress) → IsSoundWorld w → connection_at session w.connections ≡ Some s → cell_at t w.cells ≡ Some c
-    → progress_of session c.state ≡ Some p → c.state.latest ≤ now
-    → AllByRecursion (λ (e : Key × StoredRow). IsReached (resyncs_since session c.history) p.acknowledged now e → StandsAtLearner (roster_of w.cells) t s e) c.state.rows
-acknowledged_stand w session t now s c p sound found at progress later =
+pub acknowledged_stand : (w : WorldState) (session t now : ℕ) (s : ConnectionState) (c : CellState) → IsSoundWorld w → connection_at session w.connections ≡ Some s → cell_at t w.cells ≡ Some c
+    → c.state.latest ≤ now
+    → (p : Progress) × (progress_of session c.state ≡ Some p)
+    × AllByRecursion (λ (e : Key × StoredRow). IsReached (resyncs_since session c.history) p.acknowledged now e → StandsAtLearner (roster_of w.cells) t s e) c.state.rows
+acknowledged_stand w session t now s c sound found at later =
     let (before, acks, connection, ties) = sound.sessions session s found in
+    let (p, tie) = ties.each t c at in
     let to_come = connection.track.way.1 in
     let done = of_table t (drop before s.applied) in
-    let (rest, handed, far) = handed_front session before t s acks to_come w.cells c p connection.track.way.3 at progress ties in
-    all_rows (λ (e : Key × StoredRow). IsReached (resyncs_since session c.history) p.acknowledged now e → StandsAtLearner (roster_of w.cells) t s e) c.state.rows
-    (front_taken c session now p done rest (all_at IsSoundCell t c w.cells sound.tables.sound at) (all_at (KeepsUp session) t c w.cells (sound.tables.keep session) at) progress later handed far)
-    (λ e last reached. stands (roster_of w.cells) s acks c.state.definition t before e connection (listed_at w t c at) (last reached))
+    let (rest, handed, far) = handed_front session before t s acks to_come w.cells c p connection.track.way.3 at tie.progress ties in (
+      p,
+      tie.progress,
+      all_rows (λ (e : Key × StoredRow). IsReached (resyncs_since session c.history) p.acknowledged now e → StandsAtLearner (roster_of w.cells) t s e) c.state.rows
+          (front_taken c session now p done rest (all_at IsSoundCell t c w.cells sound.tables.sound at) (all_at (KeepsUp session) t c w.cells (sound.tables.keep session) at) tie.progress later handed far)
+          (λ e last reached. stands (roster_of w.cells) s acks c.state.definition t before e connection (listed_at w t c at) (last reached)),
+    )
 
 -- ---- nothing to copy
 
@@ -205,41 +210,64 @@ of_each : (P : Update → Type 0) (xs ys : List Update) (u : Update) → AllByRe
 of_each P [] ys u (first, rest) = first
 of_each P (x ∷ xs) ys u (first, rest) = of_each P xs ys u rest
 
--- each row at the learner is of an update that was copied
+-- if none of the updates is of the table and the key, none of the table's is of the key
+own_others : (t : ℕ) (key : Key) (us : List Update) → AreOfOthers t key us → AllByRecursion (λ (u : Update). u.key ≢ key) (of_table t us)
+own_others t key [] all = tt
+own_others t key (u ∷ us) (first, rest) = elim (cases_Bool (nat_eq u.table t)) [
+  | inl own ↦
+      subst (AllByRecursion (λ (x : Update). x.key ≢ key)) (sym (cond-true (nat_eq u.table t) (u ∷ of_table t us) (of_table t us) own))
+      (unlike (eqb-true u.table t own) first, own_others t key us rest)
+  | inr other ↦
+      subst (AllByRecursion (λ (x : Update). x.key ≢ key)) (sym (cond-false (nat_eq u.table t) (u ∷ of_table t us) (of_table t us) other)) (own_others t key us rest)
+]
+  where
+    unlike : u.table ≡ t → (u.table ≢ t) ⊎ (u.key ≢ key) → u.key ≢ key
+    unlike own (inl apart) = absurd (apart own)
+    unlike own (inr apart) = apart
+
+-- each row at the learner is of the last update of its key that was put, and that update was copied
 pub rows_copied : (w : WorldState) (session t : ℕ) (s : ConnectionState) (c : CellState) (key : Key) (row : StoredRow) → IsSoundWorld w → connection_at session w.connections ≡ Some s → cell_at t w.cells ≡ Some c
-    → row_at key (rows_at (roster_of w.cells) t s.learner.rows) ≡ Some row → IsOfCopied session c key row
+    → row_at key (rows_at (roster_of w.cells) t s.learner.rows) ≡ Some row → IsOfCopied session c (of_table t s.applied) key row
 rows_copied w session t s c key row sound found at there =
     let (before, acks, connection, ties) = sound.sessions session s found in
     let id = found_id t c w.cells at in
     let d = c.state.definition in
-    let (front, u, behind, now, split, own, same, others, is) =
+    let to_come = connection.track.way.1 in
+    let (front, u, behind, now, split, own, same, others, below, is) =
     each_row (roster_of w.cells) s.applied s.learner.rows d key row connection.rows (ap (table_at (roster_of w.cells)) id ∙ listed_at w t c at)
     (ap (λ (k : ℕ). row_at key (rows_at (roster_of w.cells) k s.learner.rows)) id ∙ there) in
-    let taught : s.taught ≡ front ++ u ∷ (behind ++ connection.track.way.1) =
-    connection.track.way.3 ∙ ap (λ (l : List Update). l ++ connection.track.way.1) split ∙ append_assoc front (u ∷ behind) connection.track.way.1 in
-    let of_taught : of_table t s.taught ≡ of_table t front ++ u ∷ of_table t (behind ++ connection.track.way.1) =
-    ap (of_table t) taught ∙ of_append t front (u ∷ (behind ++ connection.track.way.1))
-    ∙ ap (λ (l : List Update). of_table t front ++ l) (cond-true (nat_eq u.table t) (u ∷ of_table t (behind ++ connection.track.way.1)) (of_table t (behind ++ connection.track.way.1)) (Rattle.std.proofs.lemmas.Bool.eq-eqb u.table t (own ∙ id))) in
+    let put : of_table t s.applied ≡ of_table t front ++ u ∷ of_table t behind =
+    ap (of_table t) split ∙ of_append t front (u ∷ behind)
+    ∙ ap (λ (l : List Update). of_table t front ++ l) (cond-true (nat_eq u.table t) (u ∷ of_table t behind) (of_table t behind) (eq-eqb u.table t (own ∙ id))) in
+    let taught : of_table t s.taught ≡ of_table t front ++ u ∷ (of_table t behind ++ of_table t to_come) =
+    ap (of_table t) connection.track.way.3 ∙ of_append t s.applied to_come
+    ∙ ap (λ (l : List Update). l ++ of_table t to_come) put ∙ append_assoc (of_table t front) (u ∷ of_table t behind) (of_table t to_come) in
     let copied : WasCopied session c.history u =
-    of_each (WasCopied session c.history) (of_table t front) (of_table t (behind ++ connection.track.way.1)) u
-    (subst (AllByRecursion (WasCopied session c.history)) of_taught (taught_copied session before t s acks w.cells c at ties)) in
-    (u, now, copied, same, is)
+    of_each (WasCopied session c.history) (of_table t front) (of_table t behind ++ of_table t to_come) u
+    (subst (AllByRecursion (WasCopied session c.history)) taught (taught_copied session before t s acks w.cells c at ties)) in
+    (of_table t front, u, of_table t behind, now, put, same, own_others t key behind (subst (λ (k : ℕ). AreOfOthers k key behind) id others), copied, below, is)
 
 -- ---- what is acknowledged
 
-pub acknowledged_put : (w : WorldState) (session t : ℕ) (s : ConnectionState) (c : CellState) (p : Progress) → IsSoundWorld w → connection_at session w.connections ≡ Some s → cell_at t w.cells ≡ Some c
-    → progress_of session c.state ≡ Some p
-    → ((p.acknowledged ≡ 0) ⊎ IsAmong p.acknowledged (numbers (of_table t s.applied)))
-    × ((to_come : List Update) × (s.taught ≡ s.applied ++ to_come) × AllByRecursion (λ (u : Update). p.acknowledged < u.number) (of_table t to_come))
-acknowledged_put w session t s c p sound found at progress =
-    let (before, acks, connection, ties) = sound.sessions session s found in (
-      number_put session before t s acks w.cells c p at progress ties,
-      (connection.track.way.1, connection.track.way.3, rest_above session before t s acks connection.track.way.1 w.cells c p connection.track.way.3 at progress ties),
+pub acknowledged_put : (w : WorldState) (session t : ℕ) (s : ConnectionState) (c : CellState) → IsSoundWorld w → connection_at session w.connections ≡ Some s → cell_at t w.cells ≡ Some c
+    → (p : Progress) × (progress_of session c.state ≡ Some p)
+    × ((p.acknowledged ≡ 0) ⊎ IsAmong p.acknowledged (numbers (of_table t s.applied)))
+    × (to_come : List Update) × (s.taught ≡ s.applied ++ to_come) × AllByRecursion (λ (u : Update). p.acknowledged < u.number) (of_table t to_come)
+acknowledged_put w session t s c sound found at =
+    let (before, acks, connection, ties) = sound.sessions session s found in
+    let (p, tie) = ties.each t c at in (
+      p,
+      tie.progress,
+      number_put session before t s acks w.cells c p at tie.progress ties,
+      connection.track.way.1,
+      connection.track.way.3,
+      rest_above session before t s acks connection.track.way.1 w.cells c p connection.track.way.3 at tie.progress ties,
     )
 
 pub ends_known : (w : WorldState) (session now : ℕ) (s : ConnectionState) (answer : Result ℕ Fault) (l : Learning) → IsSoundWorld w → connection_at session w.connections ≡ Some s
     → LearnerFeeds now s.learner s.to_learner answer l → answer ≢ Err faults.Memory
-    → (us : List Update) × (answer ≡ Ok (length us)) × (s.taught ≡ s.applied ++ us) × (l.intake.unread ≡ []) × (known_of (roster_of w.cells) l.intake.state ≡ s.known)
+    → (us : List Update) × (answer ≡ Ok (length us)) × (s.taught ≡ s.applied ++ us) × (l.rows ≡ put_all now (roster_of w.cells) us s.learner.rows)
+    × (l.intake.unread ≡ []) × (known_of (roster_of w.cells) l.intake.state ≡ s.known)
 ends_known w session now s answer l sound found feeds unless =
     let (before, acks, connection, ties) = sound.sessions session s found in
     ended (roster_of w.cells) s acks now answer l connection feeds unless
@@ -265,7 +293,7 @@ all_acks : (P : ℕ × ℕ → Type 0) (xs ys : List (ℕ × ℕ)) → AllByRecu
 all_acks P [] ys all = tt
 all_acks P (x ∷ xs) ys (first, rest) = (first, all_acks P xs ys rest)
 
--- the acknowledgements that arrive at a teacher are refused only for want of room
+-- a table refuses an acknowledgement that arrives at a teacher only if it has no room
 pub arrived_if_full : (w : WorldState) (session count : ℕ) (s : ConnectionState) (ms : List Message) (received : Received) (left : List ℕ) → IsSoundWorld w → connection_at session w.connections ≡ Some s
     → AreRead nothing_received (s.unread ++ take count s.to_teacher) ms received left → AreRefusedIfFull session (filter_map (ack_in (roster_of w.cells)) ms) w.cells
 arrived_if_full w session count s ms received left sound found read =
@@ -294,10 +322,11 @@ new_sound w fault tables new just = record {
 
 pub core_of : (w : WorldState) → IsSoundWorld w → IsCore w
 core_of w sound = λ session s found. record {
+  roster = (sound.sessions session s found).2.track.learner;
   arrives = λ now answer l feeds unless. ends_known w session now s answer l sound found feeds unless;
-  acknowledged = λ table c p at progress. acknowledged_put w session table s c p sound found at progress;
+  acknowledged = λ table c at. acknowledged_put w session table s c sound found at;
   granted = λ count ms received left read. arrived_if_full w session count s ms received left sound found read;
   rows = λ table c key row at stored. rows_copied w session table s c key row sound found at stored;
-  stand = λ table now c p at progress latest. acknowledged_stand w session table now s c p sound found at progress latest;
+  stand = λ table now c at latest. acknowledged_stand w session table now s c sound found at latest;
   resynced = λ table limit now full c key row at least nothing resyncs live. resynced_stand w session table limit now full s c key row sound found at least nothing resyncs live;
 }

@@ -5,6 +5,7 @@ use Rattle.table_types.specs.declared.copies.CopyKind.{CopyKind}
 use Rattle.table_types.specs.declared.update.Update.{Update}
 use Rattle.table_types.specs.Rosters.{has_id}
 use Rattle.table_types.specs.Tables.{Definition}
+use Rattle.peers_msg.specs.Integers.{IsBytes}
 use Rattle.peers_msg.specs.declared.message.Message.{Message}
 use Rattle.peers_msg.specs.declared.message.Message.TheVariants as messages
 use Rattle.peers_msg.specs.Decoding.{AreRead}
@@ -12,9 +13,9 @@ use Rattle.peers_msg.specs.Reading.{message_at}
 use Rattle.peers_msg.specs.Received.{Received, nothing_received}
 use Rattle.peers_msg.specs.Spelling.{stream_of}
 use Rattle.known_state.specs.Known.{KnownState}
-use Rattle.known_state.specs.Lessons.{IsLessonFor}
 use Rattle.known_state.specs.Shortest.{Shortest}
-use Rattle.learner.specs.Intake.{acks_of}
+use Rattle.known_state.specs.State.{Legal}
+use Rattle.learner.specs.Intake.{due_acks}
 use Rattle.learner.specs.Learning.{AreLearned, IsWaiting, Learning, with_piece}
 use Rattle.table_cell.specs.declared.errors.CopyError.{CopyError}
 use Rattle.table_cell.specs.declared.errors.CopyError.TheVariants as uncopied
@@ -47,7 +48,7 @@ AtTable call table w e =
 
 -- ---- one connection
 
--- the connection, if there is one, changes so, and no other does
+-- the connection, if there is one, changes as `change` says, and no other does
 abbrev pub InConnection : (ConnectionState → ConnectionState → Type 0) → ℕ → Option ConnectionState → List ConnectionState → List ConnectionState → Type 0
 InConnection change session None connections after = after ≡ connections
 InConnection change session (Some s) connections after =
@@ -58,7 +59,12 @@ AtConnection change session w e =
     (after : List ConnectionState) × InConnection change session (connection_at session w.connections) w.connections after
     × (e ≡ record w { connections = after })
 
--- ---- copying and teaching
+-- ---- learning, copying and teaching
+
+-- the session, if it is there, learns the update
+abbrev pub LearnsFor : ℕ → Update → ℕ → Option ConnectionState → WorldState → WorldState → Type 0
+LearnsFor session u now None w e = e ≡ w
+LearnsFor session u now (Some s) w e = AtTable (Calls (λ c r x. Learns c session u now r x) unlearned.Memory) u.table w e
 
 -- the batches that wait, with the new one, unless the copy is refused
 abbrev pub with_batch : List (List Update) → Result (List Update) CopyError → List (List Update)
@@ -72,16 +78,18 @@ CopiesFor session table kind limit now (Some c) (Some s) w e =
     × (e ≡ record { cells = with_cell table after w.cells; connections = with_connection session (record s { copied = with_batch s.copied answer }) w.connections })
 CopiesFor session table kind limit now cell connection w e = e ≡ w
 
--- the bytes are among the shortest lessons of the batch from the known state, and lead to the known state after
+-- The bytes spell messages that are legal from the known state, carry the batch, and lead to the known state after, which has
+-- the same roster. They are among the shortest that do.
 abbrev pub IsShortestLesson : KnownState → List Update → List ℕ → KnownState → Type 0
 IsShortestLesson known batch bytes after =
-    IsLessonFor known batch bytes after × ((ms : List Message) × (bytes ≡ stream_of ms) × Shortest known batch ms)
+    (ms : List Message) × (bytes ≡ stream_of ms) × Legal known.roster known.state ms batch after.state × (after.roster ≡ known.roster)
+    × Shortest known batch ms
 
 -- the oldest batch that waits, if there is one, is taught by a shortest lesson
 abbrev pub TeachesOldest : List (List Update) → ConnectionState → ConnectionState → Type 0
 TeachesOldest [] s e = e ≡ s
 TeachesOldest (batch ∷ rest) s e =
-    (bytes : List ℕ) × (after : KnownState) × IsShortestLesson s.known batch bytes after
+    (bytes : List ℕ) × (after : KnownState) × IsBytes bytes × IsShortestLesson s.known batch bytes after
     × (e ≡ record s { known = after; copied = rest; taught = s.taught ++ batch; to_learner = s.to_learner ++ bytes })
 
 -- ---- deliveries
@@ -103,7 +111,7 @@ abbrev pub ack_in : List Definition → Message → Option (ℕ × ℕ)
 ack_in roster (messages.Ack table number) = if has_id table roster then Some (table, number) else None
 ack_in roster m = None
 
--- the table after an acknowledgement, unless it refuses it
+-- the table after an acknowledgement, unless the table refuses it
 abbrev pub acked : ℕ → ℕ → CellState → Option CellState
 acked session number c =
     if is_none (ack_refusal (is_history_full c) c.state session number)
@@ -140,11 +148,11 @@ ArrivesAtTeacher session count (Some s) w e =
 -- the due acknowledgements go into the pipe, and none is due any more
 abbrev pub acknowledges : ConnectionState → ConnectionState
 acknowledges s =
-    record s { to_teacher = s.to_teacher ++ stream_of (acks_of s.learner.intake); learner = record s.learner { intake = record s.learner.intake { due = [] } } }
+    record s { to_teacher = s.to_teacher ++ stream_of (due_acks s.learner.intake); learner = record s.learner { intake = record s.learner.intake { due = [] } } }
 
 -- ---- new connections
 
--- the table after the session is closed, unless it refuses that, and after it is opened
+-- the table after the session is closed in it, and after it is opened in it, unless the table refuses that
 abbrev pub closed : ℕ → CellState → Option CellState
 closed session c =
     if is_none (close_refusal (is_history_full c) c.state session) then Some (without_session session c) else None
@@ -181,7 +189,7 @@ Reopens session (Some s) w e =
 
 abbrev pub Moves : WorldState → Step → WorldState → Type 0
 Moves w (steps.Track table key change now) e = AtTable (Calls (λ c r x. Tracks c 0 key change now r x) untracked.Memory) table w e
-Moves w (steps.Learn session u now) e = AtTable (Calls (λ c r x. Learns c session u now r x) unlearned.Memory) u.table w e
+Moves w (steps.Learn session u now) e = LearnsFor session u now (connection_at session w.connections) w e
 Moves w (steps.Copy session table kind limit now) e =
     MatchBool (nat_le 1 limit && nat_le limit 512)
     (CopiesFor session table kind limit now (cell_at table w.cells) (connection_at session w.connections) w e)

@@ -3,7 +3,7 @@ use Rattle.std.specs.Prelude.{◌≡◌, ◌<◌, ◌+◌, ℕ, List, length, ge
 use Rattle.table_cell.specs.Histories.{CellState}
 use Rattle.interleave_core.specs.declared.connection.Connection.{Connection}
 use Rattle.interleave_core.specs.declared.parts.Parts.{Parts}
-use Rattle.interleave_core.specs.Worlds.{ConnectionState, WorldState, cell_at, connection_at, with_cell, with_connection}
+use Rattle.interleave_core.specs.Worlds.{ConnectionState, WorldState, cell_at, with_cell}
 
 -- the first `applied` of the updates taught are those that the learner has put
 abbrev pub connection_of : Connection → ConnectionState
@@ -16,7 +16,7 @@ connections_of cs = map connection_of cs
 abbrev pub world_of : Parts → WorldState
 world_of p = record { cells = p.cells.items; connections = connections_of p.connections.items }
 
--- the first table with that id stands at `index`
+-- the first table with the id `table` stands at `index`
 pub record IsCellAt (table : ℕ) (cells : List CellState) (index : ℕ) : Type 0 where
   pub below : index < length cells
   pub here : (other : CellState) → cell_at table cells ≡ Some (get_or cells index other)

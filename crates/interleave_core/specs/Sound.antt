@@ -1,4 +1,4 @@
--- What holds of a connection at every moment, beside that it is on track (profile).
+-- What holds of a connection at every moment, besides that it is on track (profile).
 use Rattle.std.specs.Prelude.{◌≡◌, ◌<◌, ◌^◌, ◌==◌, ℕ, true, is_some, List, [], ◌∷◌, ◌++◌, filter_map, fold, map, Option, Some, None, if◌then◌else◌}
 use Rattle.std.specs.List.{AllByRecursion}
 use Rattle.table_types.specs.declared.key.Key.{Key}
@@ -43,11 +43,11 @@ acked_numbers table acks = filter_map (λ ack. if ack.0 == table then Some ack.1
 abbrev pub number_after : ℕ → Option ℕ → Update → Option ℕ
 number_after table last u = if u.table == table then Some u.number else last
 
--- the number of the last of the updates that is of that table
+-- the number of the last of the updates that is of `table`
 abbrev pub last_number_of : ℕ → List Update → Option ℕ
 last_number_of table us = fold (number_after table) None us
 
--- The state of a learner that has put these updates. The tables received are valid, in ascending order of id and of
+-- The state of a learner that has put these updates. The tables received are valid, in ascending order of id and with
 -- distinct names. A table's last number is that of the last of its updates, and is below 2^32; only a table that is
 -- received has one.
 pub record IsStateAfter (applied : List Update) (s : State) : Type 0 where
@@ -63,17 +63,18 @@ pub record IsStateAfter (applied : List Update) (s : State) : Type 0 where
 abbrev pub put_each : List Definition → List (ℕ × Update) → List (List (Key × StoredRow)) → List (List (Key × StoredRow))
 put_each roster puts rows = fold (λ rows p. put p.0 roster rows p.1) rows puts
 
--- the rows are what is left when these updates are put among no rows, in order, each at some moment
+-- the rows are what is left when these updates are put among no rows, in order, each at some moment below 2^63
 abbrev pub AreLeftBy : List Definition → List Update → List (List (Key × StoredRow)) → Type 0
 AreLeftBy roster us rows =
-    (puts : List (ℕ × Update)) × (us ≡ map (λ p. p.1) puts) × (rows ≡ put_each roster puts (map (λ _. []) roster))
+    (puts : List (ℕ × Update)) × (us ≡ map (λ p. p.1) puts) × AllByRecursion (λ p. p.0 < 2 ^ 63) puts
+    × (rows ≡ put_each roster puts (map (λ _. []) roster))
 
--- the row is what the last of these updates of the table and the key taught, at some moment
+-- the row is what the last of these updates of the table and the key taught, at some moment below 2^63
 abbrev pub IsOfLast : Definition → Key → List Update → StoredRow → Type 0
 IsOfLast d key us row =
     (before : List Update) × (u : Update) × (after : List Update) × (now : ℕ)
     × (us ≡ before ++ u ∷ after) × (u.table ≡ d.id) × (u.key ≡ key) × AreOfOthers d.id key after
-    × (row ≡ row_of now d.expire u)
+    × (now < 2 ^ 63) × (row ≡ row_of now d.expire u)
 
 -- ---- the connection
 

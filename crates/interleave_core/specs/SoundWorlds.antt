@@ -1,11 +1,10 @@
 -- The invariant of worlds (profile).
 use Rattle.std.specs.Prelude.{◌≡◌, ◌<◌, ◌^◌, ℕ, List, Some, None}
-use Rattle.std.specs.List.{AllByRecursion}
 use Rattle.table_types.specs.Rosters.{roster_fault}
-use Rattle.peers_msg.specs.Integers.{IsBytes}
 use Rattle.table_cell.specs.Histories.{CellState}
 use Rattle.interleave_core.specs.declared.step.Step.{Step}
 use Rattle.interleave_core.specs.declared.step.Step.TheVariants as steps
+use Rattle.interleave_core.specs.declared.way.Way.TheVariants as ways
 use Rattle.interleave_core.specs.Sound.{IsSoundConnection}
 use Rattle.interleave_core.specs.Ties.{AreSoundTables, AreTied}
 use Rattle.interleave_core.specs.Worlds.{ConnectionState, WorldState, connection_at, roster_of}
@@ -21,14 +20,11 @@ pub record IsSoundWorld (w : WorldState) : Type 0 where
   pub tables : AreSoundTables w.cells
   pub sessions : (session : ℕ) (s : ConnectionState) → connection_at session w.connections ≡ Some s → IsSoundSession session w.cells s
 
--- the step has no moment for a table, or one below 2^63, as every moment of the program is
+-- the step has no moment for a table or a learner, or one below 2^63, as every moment of the program is
 abbrev pub IsTimelyStep : Step → Type 0
 IsTimelyStep (steps.Track table key change now) = now < 2 ^ 63
 IsTimelyStep (steps.Learn session u now) = now < 2 ^ 63
 IsTimelyStep (steps.Copy session table kind limit now) = now < 2 ^ 63
+IsTimelyStep (steps.Deliver session ways.ToLearner count now) = now < 2 ^ 63
 IsTimelyStep (steps.Purge table now) = now < 2 ^ 63
 IsTimelyStep step = Unit {0}
-
--- what is on its way to the learners is bytes
-abbrev pub AreBytesToLearners : List ConnectionState → Type 0
-AreBytesToLearners connections = AllByRecursion (λ s. IsBytes s.to_learner) connections

@@ -45,12 +45,12 @@ new_connection roster =
 abbrev pub is_table : ℕ → CellState → Bool
 is_table table c = c.state.definition.id == table
 
--- the table with that id
+-- the table with the id `table`
 abbrev pub cell_at : ℕ → List CellState → Option CellState
 cell_at table [] = None
 cell_at table (c ∷ cs) = if is_table table c then Some c else cell_at table cs
 
--- the tables with another in place of the one with that id
+-- the tables with `new` in place of the one with the id `table`
 abbrev pub with_cell : ℕ → CellState → List CellState → List CellState
 with_cell table new [] = []
 with_cell table new (c ∷ cs) = if is_table table c then new ∷ cs else c ∷ with_cell table new cs
@@ -65,7 +65,7 @@ abbrev pub with_connection : ℕ → ConnectionState → List ConnectionState �
 with_connection zero new connections = connections
 with_connection (suc before) new connections = set connections before new
 
--- the bytes on their way in that direction
+-- the bytes on their way in a direction
 abbrev pub pipe_of : Way → ConnectionState → List ℕ
 pipe_of ways.ToLearner s = s.to_learner
 pipe_of ways.ToTeacher s = s.to_teacher

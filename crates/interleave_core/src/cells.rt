@@ -1,6 +1,6 @@
 //! The tables of a world.
 
-ghost use Rattle.std.specs.Prelude.{◌≡◌, ◌≢◌, ◌≤◌, ◌∷◌, [], Err, IfNone, IfOk, IfSome, None, Ok, OnOk, map, nat_le};
+ghost use Rattle.std.specs.Prelude.{◌≡◌, ◌≢◌, ◌≤◌, Err, IfNone, IfOk, IfSome, None, Ok, OnOk, map, nat_le};
 ghost use Rattle.std.specs.List.{AllByRecursion, list_all, list_any};
 ghost use Rattle.table_cell.specs.declared.errors.CopyError.{CopyError};
 ghost use Rattle.table_cell.specs.declared.errors.CopyError.TheVariants as uncopied;
@@ -9,7 +9,6 @@ ghost use Rattle.table_cell.specs.declared.errors.PurgeError.TheVariants as unpu
 ghost use Rattle.table_cell.specs.declared.errors.TrackError.TheVariants as untracked;
 ghost use Rattle.table_cell.specs.Histories.{Copies, IsSoundCell, Learns, Purges, Tracks, room_of};
 ghost use Rattle.table_cell.specs.Machine.{has_out, progress_of};
-ghost use Rattle.table_types.specs.Batches.{IsBatchFor};
 ghost use Rattle.interleave_core.specs.Moves.{Calls, InTable};
 ghost use Rattle.interleave_core.specs.Parts.{IsCellAt};
 ghost use Rattle.interleave_core.specs.Opened.{CanClose, CanOpen, CanReopen};
@@ -112,7 +111,6 @@ pub(crate) fn copy(
     requires { (1 ≤ limit) × (limit ≤ 512) }
     ensures copied { IfOk result (λ found. IfSome found (λ batch. Copies cell.old session kind limit now (Ok batch) cell.new)) }
     ensures refused { IfOk result (λ found. IfNone found ((error : CopyError) × (error ≢ uncopied.Memory) × Copies cell.old session kind limit now (Err error) cell.new)) }
-    ensures for_table { IfOk result (λ found. IfSome found (IsBatchFor (cell.old.state.definition ∷ []))) }
 {
     match cell.copy(session, kind, limit, now) {
         Ok(batch) => Ok(Some(batch)),
@@ -145,7 +143,7 @@ pub(crate) fn has_room_for(cells: &[TableCell], events: u64) -> bool
     true
 }
 
-/// Reads of each table how many events it has: the clause of that call says that the table is sound. Changes nothing.
+/// Asks each table for the number of its events: the clause of that call says that the table is sound. Changes nothing.
 pub(crate) fn are_sound(cells: &[TableCell])
     ensures { AllByRecursion IsSoundCell cells.now }
 {

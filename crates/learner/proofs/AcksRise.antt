@@ -9,7 +9,7 @@ use Rattle.peers_msg.specs.Received.{IsBelow, AreDistinct}
 use Rattle.known_state.specs.Known.{is_in}
 use Rattle.known_state.specs.LastNumbers.{last_of}
 use Rattle.learner.specs.LocalTables.{local_table}
-use Rattle.learner.specs.Intake.{Taking, ack_of}
+use Rattle.learner.specs.Intake.{Taking, due_ack}
 use Rattle.learner.specs.Acks.{IsAckAbove, AreRisingAcks}
 
 -- each table gives an acknowledgement of its id, or none
@@ -32,7 +32,7 @@ all_rise f (d ∷ ds) each distinct = at (f d) refl (all_rise f ds each distinct
     at None e rest = rw e rest
     at (Some m) e rest = let is = each d m e in rw (e, is.1) (all_above f d ds each distinct.0, rest)
 
-each_ack : (t : Taking) → AckEach (ack_of t)
+each_ack : (t : Taking) → AckEach (due_ack t)
 each_ack t d m e = by (is_some (local_table t.roster d) && is_in d.id t.due) (last_of t.state.last_numbers d.id) e
   where
     by : (b : Bool) (last : Option ℕ) → cond b (option_map (λ n. messages.Ack d.id n) last) None ≡ Some m → (number : ℕ) × (m ≡ messages.Ack d.id number)
@@ -40,5 +40,5 @@ each_ack t d m e = by (is_some (local_table t.roster d) && is_in d.id t.due) (la
     by true None e = let bad : None ≡ Some m = e in absurd cc
     by false last e = let bad : None ≡ Some m = e in absurd cc
 
-pub acks_rise : (t : Taking) (ds : List Definition) → AreDistinct ds → AreRisingAcks (filter_map (ack_of t) ds)
-acks_rise t ds distinct = all_rise (ack_of t) ds (each_ack t) distinct
+pub acks_rise : (t : Taking) (ds : List Definition) → AreDistinct ds → AreRisingAcks (filter_map (due_ack t) ds)
+acks_rise t ds distinct = all_rise (due_ack t) ds (each_ack t) distinct

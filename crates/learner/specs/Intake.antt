@@ -131,11 +131,11 @@ IntakeFeeds t piece (Err fault) e = ⊥
 -- ---- acknowledgements
 
 -- the acknowledgement of a received table: of its last number, if the table is local and due
-abbrev pub ack_of : Taking → Definition → Option Message
-ack_of t d =
+abbrev pub due_ack : Taking → Definition → Option Message
+due_ack t d =
     if is_some (local_table t.roster d) && is_in d.id t.due then option_map (λ n. messages.Ack d.id n) (last_of t.state.last_numbers d.id)
     else None
 
 -- one for each received table that has one, in ascending order of id
-abbrev pub acks_of : Taking → List Message
-acks_of t = filter_map (ack_of t) t.state.received.tables
+abbrev pub due_acks : Taking → List Message
+due_acks t = filter_map (due_ack t) t.state.received.tables

@@ -8,7 +8,7 @@ ghost use Rattle.known_state.specs.Effects.{IsEffect};
 ghost use Rattle.known_state.specs.declared.effect.Effect.TheVariants as effects;
 ghost use Rattle.learner.specs.LocalTables.{selected_local};
 ghost use Rattle.learner.specs.Acks.{AreRisingAcks};
-ghost use Rattle.learner.specs.Intake.{begun, shut, with_unread, IntakeFeeds, IntakeNext, IsRefused, ack_of, acks_of};
+ghost use Rattle.learner.specs.Intake.{begun, shut, with_unread, IntakeFeeds, IntakeNext, IsRefused, due_ack, due_acks};
 ghost use Rattle.learner.specs.Front.{Looks, Shows, passed, stopped, with_effect};
 
 use crate::advance::Advance;
@@ -290,7 +290,7 @@ impl Intake {
     }
 
     fn ack(&self, table: &TableDef) -> Option<Message>
-        ensures { result ≡ ack_of self.now table.now }
+        ensures { result ≡ due_ack self.now table.now }
     {
         if local_table(self.roster.tables(), table).is_none()
             || !is_ack_due(self.due.as_slice(), table.id())
@@ -309,7 +309,7 @@ impl Intake {
     /// Returns the acknowledgements that are due: one for each local table with a last number and an update since the
     /// last call, in ascending order of the sender's id. Afterwards none is due. After `Memory` nothing has changed.
     pub fn acks(&mut self) -> Result<Vec<Message>, Memory>
-        ensures due { IfOk result (λ acks. acks.items ≡ acks_of self.old) }
+        ensures due { IfOk result (λ acks. acks.items ≡ due_acks self.old) }
         ensures rising { IfOk result (λ acks. AreRisingAcks acks.items) }
         ensures done { OnOk result (self.new ≡ record self.old { due = [] }) }
         ensures stays { OnErr result (self.new ≡ self.old) }

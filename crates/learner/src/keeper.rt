@@ -5,7 +5,7 @@ ghost use Rattle.table_types.specs.declared.update.Update.{Update};
 ghost use Rattle.table_types.specs.Rosters.{table_at};
 ghost use Rattle.table_types.specs.Rows.{cell_of, row_of};
 ghost use Rattle.learner.specs.Acks.{AreRisingAcks};
-ghost use Rattle.learner.specs.Intake.{acks_of, rows_of};
+ghost use Rattle.learner.specs.Intake.{due_acks, rows_of};
 ghost use Rattle.learner.specs.Rows.{row_at, rows_at, index_of, put_all};
 ghost use Rattle.learner.specs.Front.{owned, with_effect};
 ghost use Rattle.learner.specs.NewRows.{AreRowsOf, IsRowOf};
@@ -237,7 +237,7 @@ impl Keeper {
 
     /// Returns the acknowledgements that are due, as `Intake::acks` does.
     pub fn acks(&mut self) -> Result<Vec<Message>, Memory>
-        ensures due { IfOk result (λ acks. acks.items ≡ acks_of self.old.intake) }
+        ensures due { IfOk result (λ acks. acks.items ≡ due_acks self.old.intake) }
         ensures rising { IfOk result (λ acks. AreRisingAcks acks.items) }
         ensures done { OnOk result (self.new ≡ record self.old { intake = record self.old.intake { due = [] } }) }
         ensures stays { OnErr result (self.new ≡ self.old) }

@@ -6,7 +6,7 @@ ghost use Rattle.std.specs.List.Sorted.{IsStrictlySortedBy};
 ghost use Rattle.known_state.specs.Known.{known_of};
 ghost use Rattle.known_state.specs.LastNumbers.{AreRising};
 ghost use Rattle.learner.specs.Acks.{AreRisingAcks};
-ghost use Rattle.learner.specs.Intake.{acks_of};
+ghost use Rattle.learner.specs.Intake.{due_acks};
 ghost use Rattle.table_types.specs.Keys.{key_cmp};
 ghost use Rattle.learner.specs.Rows.{row_at, rows_at, index_of};
 ghost use Rattle.learner.specs.Learning.{unlearned, IsCutOff, IsWaiting, LearnerFeeds};
@@ -162,7 +162,7 @@ impl Learner {
     /// Returns the acknowledgements that are due: one for each local table with a last number and an update since the
     /// last call, in ascending order of the sender's id. Afterwards none is due. After `Memory` nothing has changed.
     pub fn acks(&mut self) -> Result<Vec<Message>, Memory>
-        ensures due { IfOk result (λ acks. acks.items ≡ acks_of self.old.intake) }
+        ensures due { IfOk result (λ acks. acks.items ≡ due_acks self.old.intake) }
         ensures rising { IfOk result (λ acks. AreRisingAcks acks.items) }
         ensures done { OnOk result (self.new ≡ record self.old { intake = record self.old.intake { due = [] } }) }
         ensures stays { OnErr result (self.new ≡ self.old) }

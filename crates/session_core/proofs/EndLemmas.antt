@@ -13,7 +13,7 @@ use Rattle.peers_msg.specs.Spelling.{spelled}
 use Rattle.peers_hello.specs.Lines.{is_same}
 use Rattle.learner.specs.declared.taken.Taken.{Taken}
 use Rattle.learner.specs.declared.taken.Taken.TheVariants as taken
-use Rattle.learner.specs.Intake.{Taking, ack_of, acks_of}
+use Rattle.learner.specs.Intake.{Taking, due_ack, due_acks}
 use Rattle.session_core.specs.declared.share.Share.{Share}
 use Rattle.session_core.specs.declared.action.Action.{Action}
 use Rattle.session_core.specs.declared.action.Action.TheVariants as actions
@@ -76,7 +76,7 @@ ack_or_none : (b : Bool) (id : ℕ) (n : Option ℕ) (rest : List Message) → A
 ack_or_none true id n rest all = one_ack id n rest all
 ack_or_none false id n rest all = all
 
-only_acks : (t : Taking) (ds : List Definition) → AllByRecursion IsAck (filter_map (ack_of t) ds)
+only_acks : (t : Taking) (ds : List Definition) → AllByRecursion IsAck (filter_map (due_ack t) ds)
 only_acks t [] = tt
 only_acks t (d ∷ ds) = ack_or_none _ d.id _ _ (only_acks t ds)
 
@@ -91,8 +91,8 @@ plain_acks_of id (messages.Switch table ∷ ms) all = absurd all.0
 plain_acks_of id (messages.Update u ∷ ms) all = absurd all.0
 plain_acks_of id (messages.Other o ∷ ms) all = absurd all.0
 
-pub plain_acks : (id : ℕ) (t : Taking) → is_plain id (sends_acks (acks_of t))
-plain_acks id t = plain_acks_of id (acks_of t) (only_acks t t.state.received.tables)
+pub plain_acks : (id : ℕ) (t : Taking) → is_plain id (sends_acks (due_acks t))
+plain_acks id t = plain_acks_of id (due_acks t) (only_acks t t.state.received.tables)
 
 -- none of their bytes is resync confirmed
 silent_acks_of : (ms : List Message) → AllByRecursion IsAck ms → without_acks (sends_acks ms) ≡ []
@@ -106,8 +106,8 @@ silent_acks_of (messages.Switch table ∷ ms) all = absurd all.0
 silent_acks_of (messages.Update u ∷ ms) all = absurd all.0
 silent_acks_of (messages.Other o ∷ ms) all = absurd all.0
 
-pub silent_acks : (t : Taking) → without_acks (sends_acks (acks_of t)) ≡ []
-silent_acks t = silent_acks_of (acks_of t) (only_acks t t.state.received.tables)
+pub silent_acks : (t : Taking) → without_acks (sends_acks (due_acks t)) ≡ []
+silent_acks t = silent_acks_of (due_acks t) (only_acks t t.state.received.tables)
 
 -- ---- hello and status
 

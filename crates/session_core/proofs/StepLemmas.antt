@@ -27,7 +27,7 @@ use Rattle.session_core.specs.declared.phase.Greeter.TheVariants as greeters
 use Rattle.session_core.specs.Phases.{Phase}
 use Rattle.session_core.specs.Phases as phases
 use Rattle.peers_msg.specs.declared.message.Message.{Message}
-use Rattle.learner.specs.Intake.{acks_of}
+use Rattle.learner.specs.Intake.{due_acks}
 use Rattle.session_core.specs.Shares.{out_set, quiet_set, next_table}
 use Rattle.session_core.specs.Actions.{sends_control, sends_acks, status_text}
 use Rattle.peers_msg.specs.declared.control.Control.TheVariants as controls
@@ -59,7 +59,7 @@ acks_reopen_none id (m ∷ ms) = refl
 received_more : (ids : List ℕ) (steps : List (Event × List Action)) (mid : Course) (event : Event) (first given acts : List Action) → ((id : ℕ) → copies id acts ≡ false) → acts ≡ (first ++ given) ++ acks_given mid → ((id : ℕ) → IsOpening id first) → IsCalmAfter ids steps given mid → IsCalm ids (with_step steps event acts) mid
 received_more ids steps mid event first given acts no_copy is opening (out, quiet, flags, none, still) =
     let reopens_none : mid.teaching ≡ true → (id : ℕ) → quiet id ≡ true → reopened id acts ≡ false = λ teaching id quiets.
-    ap (reopened id) is ∙ reopened_append id (first ++ given) (acks_given mid) (reopened_append id first given (opening id).1 (still teaching id quiets)) (acks_reopen_none id (acks_of mid.intake)) in
+    ap (reopened id) is ∙ reopened_append id (first ++ given) (acks_given mid) (reopened_append id first given (opening id).1 (still teaching id quiets)) (acks_reopen_none id (due_acks mid.intake)) in
     (out, quiet, flags_more ids steps mid.teaching mid.shares out quiet event acts (λ teaching id quiets. (no_copy id, reopens_none teaching id quiets)) flags, none)
 
 received_kept : (ids : List ℕ) (steps : List (Event × List Action)) (s : SessionState) (c : Course) (first acts : List Action) (e : SessionState) (event : Event) (result : Result (Unit {0}) Halt) (given : List Action) (mid : Course) → IsCalm ids steps c → ((id : ℕ) → IsOpening id first) → ReceivesAll c result given mid → Concludes s mid result (first ++ given) acts e → IsKeptIn ids (with_step steps event acts) e.phase

@@ -11,7 +11,7 @@ use Rattle.learner.specs.declared.fault.Fault.{Fault}
 use Rattle.learner.specs.declared.fault.Fault.TheVariants as faults
 use Rattle.learner.specs.declared.taken.Taken.{Taken}
 use Rattle.learner.specs.declared.taken.Taken.TheVariants as taken
-use Rattle.learner.specs.Intake.{Taking, Gives, IntakeNext, Stops, begun, fed, acks_of}
+use Rattle.learner.specs.Intake.{Taking, Gives, IntakeNext, Stops, begun, fed, due_acks}
 use Rattle.session_core.specs.declared.share.Share.{Share}
 use Rattle.session_core.specs.declared.action.Action.{Action}
 use Rattle.session_core.specs.declared.action.Action.TheVariants as actions
@@ -119,7 +119,7 @@ abbrev pub acks_sent : Course → Course
 acks_sent c = record c { intake = record c.intake { due = [] } }
 
 abbrev pub acks_given : Course → List Action
-acks_given c = sends_acks (acks_of c.intake)
+acks_given c = sends_acks (due_acks c.intake)
 
 -- ---- a turn
 

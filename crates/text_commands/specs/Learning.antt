@@ -4,7 +4,7 @@ use Rattle.std.specs.List.Sorted.{IsNonDecreasingBy, IsPermutation}
 use Rattle.table_types.specs.Tables.{Definition}
 use Rattle.learner.specs.declared.fault.Fault.{Fault}
 use Rattle.learner.specs.declared.fault.Fault.TheVariants as faults
-use Rattle.learner.specs.Intake.{acks_of}
+use Rattle.learner.specs.Intake.{due_acks}
 use Rattle.learner.specs.Rows.{rows_at}
 use Rattle.learner.specs.Learning.{LearnerFeeds, Learning, unlearned}
 use Rattle.node_text.specs.Acks.{ack_line}
@@ -24,7 +24,7 @@ rows_text l = flat_map (table_lines l) l.intake.roster
 
 -- the lines of the acknowledgements that are due
 abbrev pub acks_text : Learning → List ℕ
-acks_text l = flat_map ack_line (acks_of l.intake)
+acks_text l = flat_map ack_line (due_acks l.intake)
 
 -- the roster is `tables` in ascending order of id
 abbrev pub AreInRisingId : List Definition → List Definition → Type 0

@@ -2,7 +2,10 @@
 -- world as the steps before it left it.
 use Rattle.std.specs.Prelude.{◌≡◌, ◌≤◌, ◌++◌, ℕ, List, [], ◌∷◌, Option, Some, None, codes, length, map}
 use Rattle.std.specs.Fmt.{decimal}
+use Rattle.std.specs.List.Sorted.{IsStrictlySortedBy}
+use Rattle.std.specs.Map.{keys_of}
 use Rattle.table_types.specs.declared.key.Key.{Key}
+use Rattle.table_types.specs.Keys.{key_cmp}
 use Rattle.table_types.specs.Rows.{StoredRow}
 use Rattle.learner.specs.Rows.{rows_at}
 use Rattle.table_cell.specs.Histories.{CellState, events_of, room_of}
@@ -19,7 +22,7 @@ use Rattle.node_text.specs.declared.world_lines.WorldStep.TheVariants as said
 use Rattle.node_text.specs.declared.world_lines.WorldQuestion.{WorldQuestion}
 use Rattle.node_text.specs.declared.world_lines.WorldQuestion.TheVariants as questions
 use Rattle.node_text.specs.declared.worlds.WorldScript.{WorldScript}
-use Rattle.node_text.specs.Worlds.{session_count}
+use Rattle.node_text.specs.Worlds.{IsWorldScript, session_count}
 use Rattle.text_commands.specs.Answers.{events_line, rows_lines}
 use Rattle.text_commands.specs.Endings.{IsEarly}
 use Rattle.text_commands.specs.Running.{cell_of, definition_of}
@@ -56,8 +59,8 @@ session_line session copied taught applied learner teacher =
     codes "session " ++ (decimal session ++ (codes " copied " ++ (decimal copied ++ (codes " taught " ++ (decimal taught ++ (codes " applied " ++ (decimal applied
     ++ (codes " learner " ++ (decimal learner ++ (codes " teacher " ++ (decimal teacher ++ 10 ∷ [])))))))))))
 
--- the answer about a session, about a table's rows, about the rows that a session's learner has of a table, and about a
--- table's events; there is none about what isn't there
+-- the answer about a session, about a table's rows, about the rows that a session's learner has of a table, both in ascending
+-- order of key, and about a table's events; there is none about what isn't there
 abbrev pub AnswersSession : ℕ → Option ConnectionState → List ℕ → Type 0
 AnswersSession session None text = text ≡ []
 AnswersSession session (Some s) text =
@@ -68,7 +71,9 @@ AnswersRows None text = text ≡ []
 AnswersRows (Some c) text = (rows : List (Key × StoredRow)) × AreInRisingKey c.state.rows rows × (text ≡ rows_lines (definition_of c) rows)
 
 abbrev pub AnswersLearner : ℕ → Option ConnectionState → Option CellState → List ℕ → Type 0
-AnswersLearner table (Some s) (Some c) text = text ≡ rows_lines (definition_of c) (rows_at s.learner.intake.roster table s.learner.rows)
+AnswersLearner table (Some s) (Some c) text =
+    (rows : List (Key × StoredRow)) × (rows ≡ rows_at s.learner.intake.roster table s.learner.rows) × IsStrictlySortedBy key_cmp (keys_of rows)
+    × (text ≡ rows_lines (definition_of c) rows)
 AnswersLearner table s c text = text ≡ []
 
 abbrev pub AnswersEvents : Option CellState → List ℕ → Type 0
@@ -94,9 +99,9 @@ PrintLines w [] text e = (text ≡ []) × (e ≡ w)
 PrintLines w (line ∷ rest) text e =
     (one more : List ℕ) × (mid : WorldState) × (text ≡ one ++ more) × PrintsLine w line one mid × PrintLines mid rest more e
 
--- the script's lines print the text, in a new world of its tables and sessions
+-- the script keeps the rules of scripts, and its lines print the text, in a new world of its tables and sessions
 unfoldable pub IsWorldPrinted : WorldScript → List ℕ → Type 0
-IsWorldPrinted s text = (e : WorldState) × PrintLines (new_world (map cell_of s.tables.items) (session_count s)) s.lines.items text e
+IsWorldPrinted s text = (e : WorldState) × IsWorldScript s × PrintLines (new_world (map cell_of s.tables.items) (session_count s)) s.lines.items text e
 
 -- how `world` may end: with Done, and some script is run to its end; at a refused line, whose number is at least 1; or early for
 -- another reason

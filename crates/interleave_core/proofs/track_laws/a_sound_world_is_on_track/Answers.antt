@@ -1,4 +1,4 @@
-use Rattle.interleave_core.proofs.WorldTracks.{all_on_track, bytes_on_track, session_open, step_on_track}
+use Rattle.interleave_core.proofs.WorldTracks.{all_on_track, session_open}
 use Rattle.interleave_core.proofs.track_laws.a_sound_world_is_on_track.Goals as goal
 
 pub returns-clause-track : goal.returns-clause-track
@@ -6,9 +6,3 @@ returns-clause-track c = all_on_track
 
 pub returns-clause-opened : goal.returns-clause-opened
 returns-clause-opened c = session_open
-
-pub returns-clause-bytes : goal.returns-clause-bytes
-returns-clause-bytes c = bytes_on_track
-
-pub returns-clause-step : goal.returns-clause-step
-returns-clause-step c = step_on_track

@@ -20,7 +20,7 @@ new-requires c =
 pub returns : goal.returns
 returns c =
     let script = c.args.script in
-    run_printed script c.in_ok-world.world c.new-text.result.items c.run_lines.new.text.items
+    run_printed script c.in_ok-world.world c.new-text.result.items c.run_lines.new.text.items c.requires
     (c.in_ok-world.ensures
     ∙ ap (λ cells. new_world cells c.session_count-sessions.result) c.in_ok-cells_of.ensures
     ∙ ap (λ count. new_world (map cell_of script.tables.items) count) c.session_count-sessions.ensures)

@@ -7,8 +7,8 @@ use Rattle.interleave_core.proofs.Deliveries.{track_at}
 use Rattle.interleave_core.proofs.Places.{in_connection}
 use Rattle.interleave_core.proofs.parts.Parts.deliver_to_learner.Goals as goal
 
-pub returns-in-Some : goal.returns-in-Some
-returns-in-Some c = λ track.
+pub returns-in-Some-clause-moves : goal.returns-in-Some-clause-moves
+returns-in-Some-clause-moves c = λ track.
     let cs = c.args.self.now.connections.items in
     let place : IsConnectionAt c.args.session cs c.in-Some.place = subst (λ xs. IsConnectionAt c.args.session xs c.in-Some.place) c.as_slice.ensures.value c.in-Some.ensures.found in
     let roster = roster_of c.args.self.now.cells.items in

@@ -1,0 +1,6 @@
+use Rattle.interleave_core.proofs.Teaching.{shortest_lesson}
+use Rattle.interleave_core.proofs.connection.lesson_of.Goals as goal
+
+pub returns-in-Ok-clause-lesson : goal.returns-in-Ok-clause-lesson
+returns-in-Ok-clause-lesson c =
+    shortest_lesson c.args.known.now c.in-Ok.lesson.known c.args.batch.now c.in-Ok.lesson.bytes c.in-Ok.ensures.taught c.in-Ok.ensures.shortest
