@@ -1,8 +1,7 @@
 -- The answers of the calls that perform an action.
-use Rattle.std.proofs.Common.{◌≡◌, ℕ, List, [], Option, Some, None, Result, Ok, Err, IfOk, IfErr, refl, sym, ap, ◌∙◌, subst, inl, inr}
+use Rattle.std.proofs.Common.{◌≡◌, ℕ, List, [], Option, Some, None, Result, Ok, Err, IfErr, refl, sym, ap, subst, inl, inr}
 use Rattle.std.proofs.KnownBytes.{Appends-nil}
-use Rattle.std.proofs.lemmas.Bool.{false≢true}
-use Rattle.std.specs.Prelude.{IsOk, OnErr, OnOk, take}
+use Rattle.std.specs.Prelude.{OnErr, take}
 use Rattle.std.specs.Io.KnownBytes.{Appends}
 use Rattle.table_types.specs.declared.update.Update.{Update}
 use Rattle.table_types.specs.declared.copies.CopyKind.{CopyKind}
@@ -17,6 +16,7 @@ use Rattle.peers_engine.specs.declared.errors.EngineError.{EngineError}
 use Rattle.peers_engine.specs.declared.errors.EngineError.TheVariants as errors
 use Rattle.peers_engine.specs.Calls.{IsCopied, IsLearned, IsReopened, IsSettled, IsTaken}
 use Rattle.peers_engine.specs.Doing.{Done, Fails, Falls, IsAtTable, IsLeft, IsRefusal, IsShortestLesson, error_text}
+use Rattle.peers_engine.proofs.TurnLaws.{OneDone, OneFails}
 
 -- a write failed
 pub falls_short : (error : EngineError) (n now : ℕ) (k : KnownState) (s t : SeatState) (act : Action) (bytes : List ℕ) (answer : Option Event) (old new : Option (List ℕ))
@@ -27,79 +27,86 @@ falls_short errors.Memory n now k s t act bytes answer old new done falls = absu
 falls_short errors.Strange n now k s t act bytes answer old new done falls = absurd falls
 falls_short (errors.Session refused) n now k s t act bytes answer old new done falls = absurd falls
 
--- the answer of a call that has one
-abbrev pub IsAnswer : Result Event EngineError → Option Event → Type 0
-IsAnswer result answer = (event : Event) × (result ≡ Ok event) × (answer ≡ Some event)
+-- ---- actions with an answer
 
--- what the call says of its answers holds of this one
-of_event : (P : Event → Type 0) (result : Result Event EngineError) (event : Event) → IfOk result P → result ≡ Ok event → P event
-of_event P result event given is = subst (λ (r : Result Event EngineError). IfOk r P) is given
+taken_as : (n now : ℕ) (k : KnownState) (s t : SeatState) (table number : ℕ) (event : Event) → IsTaken n s table number t event
+    → Done n now k s (actions.Ack table number) [] (Some event) t
+taken_as n now k s t table number event (inl (settled, is, call)) = (refl, inl (settled, ap (λ (x : Event). Some x) is, call))
+taken_as n now k s t table number event (inr (is, call)) = (refl, inr (ap (λ (x : Event). Some x) is, call))
 
--- an acknowledgement that was passed on, and a batch that was copied
-taken_as : (n now : ℕ) (k : KnownState) (s t : SeatState) (table number : ℕ) (answer : Option Event) (event : Event) → answer ≡ Some event → IsTaken n s table number t event
-    → Done n now k s (actions.Ack table number) [] answer t
-taken_as n now k s t table number answer event given (inl (settled, is, call)) = (refl, inl (settled, given ∙ ap (λ (x : Event). Some x) is, call))
-taken_as n now k s t table number answer event given (inr (is, call)) = (refl, inr (given ∙ ap (λ (x : Event). Some x) is, call))
-
-copied_as : (n now : ℕ) (k : KnownState) (s t : SeatState) (table : ℕ) (kind : CopyKind) (answer : Option Event) (event : Event) → answer ≡ Some event → IsCopied n now s table kind t event
-    → Done n now k s (actions.Copy table kind) [] answer t
-copied_as n now k s t table kind answer event given (inl (batch, is, call)) = (refl, inl (batch, given ∙ ap (λ (x : Event). Some x) is, call))
-copied_as n now k s t table kind answer event given (inr (is, call)) = (refl, inr (given ∙ ap (λ (x : Event). Some x) is, call))
+copied_as : (n now : ℕ) (k : KnownState) (s t : SeatState) (table : ℕ) (kind : CopyKind) (event : Event) → IsCopied n now s table kind t event
+    → Done n now k s (actions.Copy table kind) [] (Some event) t
+copied_as n now k s t table kind event (inl (batch, is, call)) = (refl, inl (batch, ap (λ (x : Event). Some x) is, call))
+copied_as n now k s t table kind event (inr (is, call)) = (refl, inr (ap (λ (x : Event). Some x) is, call))
 
 -- an acknowledgement
-pub ack_done : (n now : ℕ) (k : KnownState) (s t : SeatState) (action : Action) (table number : ℕ) (known : Option (List ℕ)) (result : Result Event EngineError) (answer : Option Event)
-    → action ≡ actions.Ack table number → IfOk result (IsTaken n s table number t)
-    → IsAnswer result answer → (out : List ℕ) × Done n now k s action out answer t × Appends known known out
-ack_done n now k s t action table number known result answer is given (event, ok, some) =
-    ([], subst (λ (a : Action). Done n now k s a [] answer t) (sym is) (taken_as n now k s t table number answer event some (of_event (IsTaken n s table number t) result event given ok)), Appends-nil known)
+pub ack_done : (n now : ℕ) (k : KnownState) (s t : SeatState) (action : Action) (table number : ℕ) (known : Option (List ℕ)) (event : Event)
+    → action ≡ actions.Ack table number → IsTaken n s table number t event → OneDone n now k s t action known known (Some event)
+ack_done n now k s t action table number known event is taken =
+    ([], subst (λ (a : Action). Done n now k s a [] (Some event) t) (sym is) (taken_as n now k s t table number event taken), Appends-nil known)
 
 -- a copy
-pub copy_done : (n now : ℕ) (k : KnownState) (s t : SeatState) (action : Action) (table : ℕ) (kind : CopyKind) (known : Option (List ℕ)) (result : Result Event EngineError) (answer : Option Event)
-    → action ≡ actions.Copy table kind → IfOk result (IsCopied n now s table kind t)
-    → IsAnswer result answer → (out : List ℕ) × Done n now k s action out answer t × Appends known known out
-copy_done n now k s t action table kind known result answer is given (event, ok, some) =
-    ([], subst (λ (a : Action). Done n now k s a [] answer t) (sym is) (copied_as n now k s t table kind answer event some (of_event (IsCopied n now s table kind t) result event given ok)), Appends-nil known)
-
--- what a call that succeeded says
-on_ok : (P : Type 0) (result : Result (Unit {0}) EngineError) → IsOk result → OnOk result P → P
-on_ok P (Ok done) is given = given
-on_ok P (Err error) is given = absurd (false≢true is)
-
--- a row that is learned
-pub learn_done : (n now : ℕ) (k : KnownState) (s t : SeatState) (action : Action) (u : Update) (known : Option (List ℕ)) (result : Result (Unit {0}) EngineError) (answer : Option Event)
-    → action ≡ actions.Learn u → OnOk result (IsLearned n now s u t) → IsOk result × (answer ≡ None) → (out : List ℕ) × Done n now k s action out answer t × Appends known known out
-learn_done n now k s t action u known result answer is given (ok, none) =
-    ([], subst (λ (a : Action). Done n now k s a [] answer t) (sym is) (refl, none, on_ok (IsLearned n now s u t) result ok given), Appends-nil known)
-
--- a table that is reopened
-pub reopen_done : (n now : ℕ) (k : KnownState) (s t : SeatState) (action : Action) (table : ℕ) (known : Option (List ℕ)) (result : Result (Unit {0}) EngineError) (answer : Option Event)
-    → action ≡ actions.Reopen table → OnOk result (IsReopened n s table t) → IsOk result × (answer ≡ None) → (out : List ℕ) × Done n now k s action out answer t × Appends known known out
-reopen_done n now k s t action table known result answer is given (ok, none) =
-    ([], subst (λ (a : Action). Done n now k s a [] answer t) (sym is) (refl, none, on_ok (IsReopened n s table t) result ok given), Appends-nil known)
-
-abbrev pub IsAnswerToTeach : ℕ → KnownState → SeatState → List Update → SeatState → Option (List ℕ) → Option (List ℕ) → Event → Type 0
-IsAnswerToTeach n k s batch t old new event = (out : List ℕ) × (after : KnownState) × IsShortestLesson k batch out after × (event ≡ events.Written after) × IsSettled n s batch t × Appends old new out
-
-taught_as : (n now : ℕ) (k : KnownState) (s t : SeatState) (batch : List Update) (old new : Option (List ℕ)) (answer : Option Event) (event : Event) → answer ≡ Some event
-    → IsAnswerToTeach n k s batch t old new event → (out : List ℕ) × Done n now k s (actions.Teach batch) out answer t × Appends old new out
-taught_as n now k s t batch old new answer event some (out, after, lesson, is, settled, appended) = (out, (after, lesson, some ∙ ap (λ (x : Event). Some x) is, settled), appended)
+pub copy_done : (n now : ℕ) (k : KnownState) (s t : SeatState) (action : Action) (table : ℕ) (kind : CopyKind) (known : Option (List ℕ)) (event : Event)
+    → action ≡ actions.Copy table kind → IsCopied n now s table kind t event → OneDone n now k s t action known known (Some event)
+copy_done n now k s t action table kind known event is copied =
+    ([], subst (λ (a : Action). Done n now k s a [] (Some event) t) (sym is) (copied_as n now k s t table kind event copied), Appends-nil known)
 
 -- a lesson
-pub teach_done : (n now : ℕ) (k : KnownState) (s t : SeatState) (action : Action) (batch : List Update) (old new : Option (List ℕ)) (result : Result Event EngineError) (answer : Option Event)
-    → action ≡ actions.Teach batch → IfOk result (IsAnswerToTeach n k s batch t old new)
-    → IsAnswer result answer → (out : List ℕ) × Done n now k s action out answer t × Appends old new out
-teach_done n now k s t action batch old new result answer is given (event, ok, some) =
-    subst (λ (a : Action). (out : List ℕ) × Done n now k s a out answer t × Appends old new out) (sym is)
-    (taught_as n now k s t batch old new answer event some (of_event (IsAnswerToTeach n k s batch t old new) result event given ok))
+pub teach_done : (n now : ℕ) (k known : KnownState) (s t : SeatState) (action : Action) (batch : List Update) (old new : Option (List ℕ)) (event : Event)
+    → action ≡ actions.Teach batch → k ≡ known
+    → ((out : List ℕ) × (after : KnownState) × IsShortestLesson k batch out after × (event ≡ events.Written after) × IsSettled n s batch t × Appends old new out)
+    → OneDone n now known s t action old new (Some event)
+teach_done n now k known s t action batch old new event is same (out, after, lesson, written, settled, appended) = (
+  out,
+  subst (λ (a : Action). Done n now known s a out (Some event) t) (sym is)
+      (after, subst (λ (x : KnownState). IsShortestLesson x batch out after) same lesson, ap (λ (x : Event). Some x) written, settled),
+  appended,
+)
 
--- an error message that wasn't written whole
-pub part_falls : (n now : ℕ) (k : KnownState) (s : SeatState) (action : Action) (kind : ErrorKind) (old new : Option (List ℕ)) (result : Result (Unit {0}) EngineError) (error : EngineError)
-    → action ≡ actions.Part kind → IfErr result (λ (e : EngineError). Falls (error_text kind) e old new) → result ≡ Err error
-    → (out : List ℕ) × Fails n now k s action error out s × Appends old new out
-part_falls n now k s action kind old new result error is given failed =
-    subst (λ (a : Action). (out : List ℕ) × Fails n now k s a error out s × Appends old new out) (sym is)
-    (falls_short error n now k s s (actions.Part kind) (error_text kind) None old new (refl, refl, refl)
-    (subst (λ (r : Result (Unit {0}) EngineError). IfErr r (λ (e : EngineError). Falls (error_text kind) e old new)) failed given))
+-- ---- actions without one
+
+-- bytes that are written
+pub send_done : (n now : ℕ) (k : KnownState) (s : SeatState) (action : Action) (bytes out : List ℕ) (old new : Option (List ℕ))
+    → action ≡ actions.Send bytes → out ≡ bytes → Appends old new out → OneDone n now k s s action old new None
+send_done n now k s action bytes out old new is same appended =
+    (out, subst (λ (a : Action). Done n now k s a out None s) (sym is) (same, refl, refl), appended)
+
+-- a row that is learned
+pub learn_done : (n now : ℕ) (k : KnownState) (s t : SeatState) (action : Action) (u : Update) (known : Option (List ℕ))
+    → action ≡ actions.Learn u → IsLearned n now s u t → OneDone n now k s t action known known None
+learn_done n now k s t action u known is learned =
+    ([], subst (λ (a : Action). Done n now k s a [] None t) (sym is) (refl, refl, learned), Appends-nil known)
+
+-- a table that is reopened
+pub reopen_done : (n now : ℕ) (k : KnownState) (s t : SeatState) (action : Action) (table : ℕ) (known : Option (List ℕ))
+    → action ≡ actions.Reopen table → IsReopened n s table t → OneDone n now k s t action known known None
+reopen_done n now k s t action table known is reopened =
+    ([], subst (λ (a : Action). Done n now k s a [] None t) (sym is) (refl, refl, reopened), Appends-nil known)
+
+-- an error message that is written
+pub part_done : (n now : ℕ) (k : KnownState) (s : SeatState) (action : Action) (kind : ErrorKind) (old new : Option (List ℕ))
+    → action ≡ actions.Part kind → Appends old new (error_text kind) → OneDone n now k s s action old new None
+part_done n now k s action kind old new is appended =
+    (error_text kind, subst (λ (a : Action). Done n now k s a (error_text kind) None s) (sym is) (refl, refl, refl), appended)
+
+-- a connection that is closed
+pub close_done : (n now : ℕ) (k : KnownState) (s : SeatState) (action : Action) (known : Option (List ℕ)) → action ≡ actions.Close → OneDone n now k s s action known known None
+close_done n now k s action known is = ([], subst (λ (a : Action). Done n now k s a [] None s) (sym is) (refl, refl, refl), Appends-nil known)
+
+-- ---- failures
+
+-- bytes, and an error message, that weren't written whole
+pub send_falls : (n now : ℕ) (k : KnownState) (s : SeatState) (action : Action) (bytes out : List ℕ) (error : EngineError) (old new : Option (List ℕ))
+    → action ≡ actions.Send bytes → out ≡ bytes → Falls out error old new → OneFails n now k s s action old new error
+send_falls n now k s action bytes out error old new is same falls =
+    subst (λ (a : Action). OneFails n now k s s a old new error) (sym is)
+    (falls_short error n now k s s (actions.Send bytes) out None old new (same, refl, refl) falls)
+
+pub part_falls : (n now : ℕ) (k : KnownState) (s : SeatState) (action : Action) (kind : ErrorKind) (error : EngineError) (old new : Option (List ℕ))
+    → action ≡ actions.Part kind → Falls (error_text kind) error old new → OneFails n now k s s action old new error
+part_falls n now k s action kind error old new is falls =
+    subst (λ (a : Action). OneFails n now k s s a old new error) (sym is)
+    (falls_short error n now k s s (actions.Part kind) (error_text kind) None old new (refl, refl, refl) falls)
 
 -- a table refused the action, or memory ran out
 pub refused_as : (error : EngineError) (n now : ℕ) (k : KnownState) (s t : SeatState) (act : Action) (known : Option (List ℕ)) → IsRefusal error → IsAtTable act → IsLeft n s act t
@@ -110,8 +117,19 @@ refused_as errors.Read n now k s t act known refused at left = absurd refused
 refused_as (errors.Write sent) n now k s t act known refused at left = absurd refused
 refused_as (errors.Session why) n now k s t act known refused at left = absurd refused
 
-pub table_refuses : {X : Type 0} (n now : ℕ) (k : KnownState) (s t : SeatState) (action act : Action) (known : Option (List ℕ)) (result : Result X EngineError) (error : EngineError)
-    → action ≡ act → IsAtTable act → IfErr result IsRefusal → OnErr result (IsLeft n s act t) → result ≡ Err error → (out : List ℕ) × Fails n now k s action error out t × Appends known known out
-table_refuses {X} n now k s t action act known result error is at refused left failed =
-    subst (λ (a : Action). (out : List ℕ) × Fails n now k s a error out t × Appends known known out) (sym is)
-    (refused_as error n now k s t act known (subst (λ (r : Result X EngineError). IfErr r IsRefusal) failed refused) at (subst (λ (r : Result X EngineError). OnErr r (IsLeft n s act t)) failed left))
+pub call_refused : (n now : ℕ) (k : KnownState) (s t : SeatState) (action act : Action) (known : Option (List ℕ)) (error : EngineError)
+    → action ≡ act → IsAtTable act → IsRefusal error → IsLeft n s act t → OneFails n now k s t action known known error
+call_refused n now k s t action act known error is at refused left =
+    subst (λ (a : Action). OneFails n now k s t a known known error) (sym is) (refused_as error n now k s t act known refused at left)
+
+-- a lesson that can't be made or written
+pub teach_fails : (n now : ℕ) (k known : KnownState) (s t : SeatState) (action : Action) (batch : List Update) (old new : Option (List ℕ)) (error : EngineError)
+    → action ≡ actions.Teach batch → k ≡ known → OneFails n now k s t (actions.Teach batch) old new error → OneFails n now known s t action old new error
+teach_fails n now k known s t action batch old new error is same fails =
+    subst (λ (a : Action). OneFails n now known s t a old new error) (sym is)
+    (subst (λ (x : KnownState). OneFails n now x s t (actions.Teach batch) old new error) same fails)
+
+pub table_refuses : {X : Type 0} (n now : ℕ) (k : KnownState) (s t : SeatState) (action act : Action) (known : Option (List ℕ)) (result : Result X EngineError)
+    → action ≡ act → IsAtTable act → IfErr result IsRefusal → OnErr result (IsLeft n s act t) → IfErr result (λ error. OneFails n now k s t action known known error)
+table_refuses {X} n now k s t action act known (Ok x) is at refused left = tt
+table_refuses {X} n now k s t action act known (Err error) is at refused left = call_refused n now k s t action act known error is at refused left

@@ -76,7 +76,7 @@ react_done s next e mid event acts answers more out rest goes first second =
           (acts_on (stands s mid s.seat) next e acts (asked answers) answers more out rest first second),
     )
 
-cut_more : (s : Worker) (seat : SeatState) (rest more : List Action) (answers : List (Event × List Action)) (error : EngineError) (out : List ℕ)
+pub cut_more : (s : Worker) (seat : SeatState) (rest more : List Action) (answers : List (Event × List Action)) (error : EngineError) (out : List ℕ)
     → (IsCut s rest error out seat ⊎ (IsLost answers error out × (seat ≡ s.seat))) → (IsCut s (rest ++ more) error out seat ⊎ (IsLost answers error out × (seat ≡ s.seat)))
 cut_more s seat [] more answers error out (inl cut) = absurd cut
 cut_more s seat (act ∷ rest) more answers error out (inl cut) = inl cut
@@ -86,7 +86,7 @@ after_nothing : (first rest : List (Event × List Action)) → rest ≢ [] → (
 after_nothing [] rest some is = some is
 after_nothing (step ∷ first) rest some is = cc is
 
-lost_later : (s : Worker) (seat : SeatState) (rest : List Action) (first answers : List (Event × List Action)) (error : EngineError) (out : List ℕ)
+pub lost_later : (s : Worker) (seat : SeatState) (rest : List Action) (first answers : List (Event × List Action)) (error : EngineError) (out : List ℕ)
     → (IsCut s rest error out seat ⊎ (IsLost answers error out × (seat ≡ s.seat))) → (IsCut s rest error out seat ⊎ (IsLost (first ++ answers) error out × (seat ≡ s.seat)))
 lost_later s seat rest first answers error out (inl cut) = inl cut
 lost_later s seat rest first answers error out (inr ((some, memory, nothing), same)) = inr ((after_nothing first answers some, memory, nothing), same)

@@ -4,6 +4,7 @@ mod ActLaws
 mod CalmLaws
 mod EndLaws
 mod HaltLaws
+mod OneActionLaws
 mod RunLaws
 mod TakenLaws
 mod TurnLaws

@@ -4,7 +4,6 @@ use Rattle.std.specs.Prelude.{◌≢◌, true, false}
 use Rattle.std.specs.List.{list_all}
 use Rattle.std.specs.Io.KnownBytes.{Appends, Consumes}
 use Rattle.std.proofs.KnownBytes.{Appends-trans, Consumes-nil}
-use Rattle.std.proofs.lemmas.List.Concat.{flat_map-append}
 use Rattle.table_shards.specs.Receipts.{SeatState}
 use Rattle.known_state.specs.Known.{KnownState}
 use Rattle.session_core.specs.declared.action.Action.{Action}
@@ -19,10 +18,10 @@ use Rattle.session_core.specs.Sessions.{SessionState, Goes, Refuses, ended, stat
 use Rattle.peers_engine.specs.declared.errors.EngineError.{EngineError}
 use Rattle.peers_engine.specs.declared.errors.EngineError.TheVariants as errors
 use Rattle.peers_engine.specs.Doing.{Done, Fails}
-use Rattle.peers_engine.specs.Acting.{Acts, DoesNotGoOn, Stops, IsGiven, Worker, asked, stands}
+use Rattle.peers_engine.specs.Acting.{Acts, DoesNotGoOn, Stops, Worker, asked, stands}
 use Rattle.peers_engine.specs.Reading.{IsRead}
 use Rattle.peers_engine.specs.Turns.{Breaks, Halts, HaltsAt, Receives, Idles, Reacts, StopsTurn, TakesTurn, Turns, first_event, is_push}
-use Rattle.peers_engine.proofs.HaltLaws.{act_more, act_stops, breaks_of, halted, idle_done, react_done, react_stops, react_stops_later, give_stops, turns_of}
+use Rattle.peers_engine.proofs.HaltLaws.{act_stops, breaks_of, halted, idle_done, react_done, react_stops, react_stops_later, give_stops, turns_of}
 
 -- ---- the actions so far, and one more
 
@@ -66,19 +65,6 @@ give_fails s mid e seat k all before rest given act answer error a b d is same (
     let stops = give_stops s mid e seat all before rest act answer event error answers out bytes is acted
     (subst (λ (x : KnownState). Done mid.number mid.now x mid.seat act bytes answer seat) same done) some going stuck in
     (stops.0, out ++ bytes, stops.1, Appends-trans a b d out bytes appended more)
-
--- the next action is performed, and its answer received
-pub one_more : (s mid : Worker) (e : SessionState) (seat : SeatState) (k : KnownState) (before given more : List Action) (act : Action) (answer : Option Event) (a b d : Option (List ℕ))
-    → k ≡ mid.session.known → AreDone s before given mid a b → OneDone mid.number mid.now k mid.seat seat act b d answer
-    → ((steps : List (Event × List Action)) × IsGiven mid.session answer steps e × (more ≡ given ++ asked steps))
-    → AreDone s (before ++ (act ∷ [])) more (stands mid e seat) a d
-one_more s mid e seat k before given more act answer a b d same (answers, out, acted, kept, appended) (bytes, done, then) (steps, gives, is) = (
-  answers ++ steps,
-  out ++ bytes,
-  act_more s mid e seat before act answer answers steps out bytes acted (subst (λ (x : KnownState). Done mid.number mid.now x mid.seat act bytes answer seat) same done) gives,
-  is ∙ (ap (λ (x : List Action). x ++ asked steps) kept ∙ sym (flat_map-append (λ (step : Event × List Action). step.1) answers steps)),
-  Appends-trans a b d out bytes appended then,
-)
 
 -- ---- one event
 

@@ -1,15 +1,18 @@
 //! Performing a session's actions.
 
-ghost use Rattle.std.specs.Prelude.{◌≡◌, ◌≢◌, Ok, Err, Some, None, IsOk, IfErr, IfOk, OnErr, OnOk, List, ℕ};
+ghost use Rattle.std.specs.Prelude.{◌≡◌, ◌≢◌, ◌∷◌, ◌++◌, [], IfErr, IfOk, OnErr, OnOk, List, ℕ};
 ghost use Rattle.std.specs.Io.KnownBytes.{Appends};
 ghost use Rattle.known_state.specs.Known.{KnownState};
+ghost use Rattle.session_core.specs.declared.action.Action.{Action};
 ghost use Rattle.session_core.specs.declared.action.Action.TheVariants as actions;
 ghost use Rattle.session_core.specs.declared.event.Event.{Event};
 ghost use Rattle.session_core.specs.declared.event.Event.TheVariants as events;
 ghost use Rattle.peers_engine.specs.declared.errors.EngineError.TheVariants as errors;
+ghost use Rattle.peers_engine.specs.Acting.{Acts, Stops, asked, worker};
 ghost use Rattle.peers_engine.specs.Calls.{IsCopied, IsSettled};
-ghost use Rattle.peers_engine.specs.Doing.{Done, Fails, Falls, IsRefusal, IsShortestLesson, error_text};
+ghost use Rattle.peers_engine.specs.Doing.{Fails, Falls, IsRefusal, IsShortestLesson, error_text};
 
+use crate::answering::give_answer;
 use crate::context::Context;
 use crate::errors::EngineError;
 use crate::gate::{Gate, Stage};
@@ -18,7 +21,7 @@ use crate::writing::write_lesson;
 use known_state::Known;
 use peers_devices::Faults;
 use peers_msg::ErrorKind;
-use session_core::{Action, Event};
+use session_core::{Action, Event, Session};
 use std::io::Write;
 use std::sync::Wait;
 use table_shards::Seat;
@@ -104,55 +107,47 @@ fn teach_batch<H: Wait, G: Gate, W: Write + Faults>(
     Ok(Event::Written(lesson.known))
 }
 
-/// Returns the answer of an action that has one.
-fn answered(done: Result<Event, EngineError>) -> Result<Option<Event>, EngineError>
-    ensures answer { IfOk result (λ answer. (event : Event) × (done ≡ Ok event) × (answer ≡ Some event)) }
-    ensures failed { IfErr result (λ e. done ≡ Err e) }
-{
-    match done {
-        Ok(event) => Ok(Some(event)),
-        Err(error) => Err(error),
-    }
-}
-
-/// Returns the answer of an action that has none.
-fn unanswered(done: Result<(), EngineError>) -> Result<Option<Event>, EngineError>
-    ensures answer { IfOk result (λ answer. IsOk done × (answer ≡ None)) }
-    ensures failed { IfErr result (λ e. done ≡ Err e) }
-{
-    match done {
-        Ok(()) => Ok(None),
-        Err(error) => Err(error),
-    }
-}
-
-/// Performs one action of a session whose known state is `known`, and returns its answer, if it has one.
+/// Performs one action of a session, gives the session its answer, if it has one, and appends what the session then asks
+/// for.
 ///
 /// Fails with `Write` if not all of its bytes are written, and leaves the seat as the action does. Fails with `Memory`
-/// or `Strange` before any are. The seat is then as it was, but for the receipt of the close if a table was closed and
-/// not opened anew.
+/// or `Strange` before any are, unless the session doesn't go on after the answer. The seat is then as it was, but for the
+/// receipt of the close if a table was closed and not opened anew.
 pub(crate) fn do_action<H: Wait, G: Gate, W: Write + Faults>(
     context: &Context<H, G>,
-    known: &Known,
+    session: &mut Session,
     output: &mut W,
     seat: &mut Seat,
     action: Action,
-) -> Result<Option<Event>, EngineError>
+    given: &mut Vec<Action>,
+) -> Result<(), EngineError>
     ensures seat { seat.new.number ≡ seat.old.number }
-    ensures done { IfOk result (λ answer. (out : List ℕ) × Done context.now.number context.now.moment known.now seat.old action out answer seat.new
+    ensures done { OnOk result ((answers : List (Event × List Action)) × (out : List ℕ)
+        × Acts (worker session.old seat.old context.now.number context.now.moment) (action ∷ []) answers out (worker session.new seat.new context.now.number context.now.moment)
+        × (given.new.items ≡ given.old.items ++ asked answers)
         × Appends (W.contents output.old) (W.contents output.new) out) }
-    ensures failed { IfErr result (λ e. (out : List ℕ) × Fails context.now.number context.now.moment known.now seat.old action e out seat.new
+    ensures failed { IfErr result (λ e. (answers : List (Event × List Action)) × (out : List ℕ)
+        × Stops (worker session.old seat.old context.now.number context.now.moment) (action ∷ []) e answers out session.new seat.new
         × Appends (W.contents output.old) (W.contents output.new) out) }
     ensures unread { IfErr result (λ e. e ≢ errors.Read) }
 {
     match action {
-        Action::Send(bytes) => unanswered(send(output, bytes.as_slice())),
-        Action::Learn(update) => unanswered(learn(context, seat, update)),
-        Action::Ack { table, number } => answered(acknowledge(context, seat, table, number)),
-        Action::Reopen(table) => unanswered(reopen(context, seat, table)),
-        Action::Copy { table, kind } => answered(copy_batch(context, seat, table, kind)),
-        Action::Teach(batch) => answered(teach_batch(context, known, output, seat, &batch)),
-        Action::Part(kind) => unanswered(part(output, kind)),
-        Action::Close => Ok(None),
+        Action::Send(bytes) => send(output, bytes.as_slice()),
+        Action::Learn(update) => learn(context, seat, update),
+        Action::Ack { table, number } => {
+            let answer = acknowledge(context, seat, table, number)?;
+            give_answer(session, context.moment, answer, given)
+        }
+        Action::Reopen(table) => reopen(context, seat, table),
+        Action::Copy { table, kind } => {
+            let answer = copy_batch(context, seat, table, kind)?;
+            give_answer(session, context.moment, answer, given)
+        }
+        Action::Teach(batch) => {
+            let answer = teach_batch(context, session.known(), output, seat, &batch)?;
+            give_answer(session, context.moment, answer, given)
+        }
+        Action::Part(kind) => part(output, kind),
+        Action::Close => Ok(()),
     }
 }

@@ -2,6 +2,7 @@
 //! devices that fail after some calls. Each call on a table takes the table's lock for that call only.
 #![tactic(auto)]
 
+mod answering;
 mod context;
 mod doing;
 mod errors;

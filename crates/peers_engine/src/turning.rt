@@ -1,6 +1,6 @@
 //! Turns of a session.
 
-ghost use Rattle.std.specs.Prelude.{◌≡◌, ◌≢◌, ◌↔◌, ◌++◌, [], ℕ, true, List, Option, Some, Ok, Err, IfErr, IfOk, OnErr, OnOk};
+ghost use Rattle.std.specs.Prelude.{◌≡◌, ◌≢◌, ◌↔◌, [], ℕ, true, List, Option, Ok, Err, IfErr, IfOk, OnErr, OnOk};
 ghost use Rattle.std.specs.List.{list_all};
 ghost use Rattle.std.specs.Io.KnownBytes.{Appends, Consumes, IsAtEnd};
 ghost use Rattle.peers_devices.specs.Failures.{Rose};
@@ -9,10 +9,10 @@ ghost use Rattle.session_core.specs.declared.error.SessionError.{SessionError};
 ghost use Rattle.session_core.specs.declared.error.SessionError.TheVariants as refusals;
 ghost use Rattle.session_core.specs.declared.event.Event.{Event};
 ghost use Rattle.session_core.specs.declared.state.State.TheVariants as states;
-ghost use Rattle.session_core.specs.Sessions.{Goes, Refuses, ended, state_of};
+ghost use Rattle.session_core.specs.Sessions.{Refuses, ended, state_of};
 ghost use Rattle.peers_engine.specs.declared.errors.EngineError.TheVariants as errors;
 ghost use Rattle.peers_engine.specs.declared.turned.Turned.TheVariants as turns;
-ghost use Rattle.peers_engine.specs.Acting.{Acts, DoesNotGoOn, Stops, IsGiven, asked, worker};
+ghost use Rattle.peers_engine.specs.Acting.{Acts, Stops, asked, worker};
 ghost use Rattle.peers_engine.specs.Reading.{IsRead};
 ghost use Rattle.peers_engine.specs.Turns.{Breaks, Halts, HaltsAt, Receives, Idles, Reacts, StopsTurn, TakesTurn, Turns, first_event, is_push};
 
@@ -40,43 +40,6 @@ fn first_event(state: State) -> Event
     }
 }
 
-/// Gives a session an event, and appends what the session then asks for.
-fn give_event(
-    session: &mut Session,
-    now: Moment,
-    event: Event,
-    given: &mut Vec<Action>,
-) -> Result<(), EngineError>
-    ensures goes { OnOk result ((acts : List Action) × Goes session.old event acts session.new
-        × (given.new.items ≡ given.old.items ++ acts)) }
-    ensures stuck { IfErr result (λ e. DoesNotGoOn session.old event e session.new) }
-{
-    let mut more = session.on(event, now)?;
-    match given.append(&mut more) {
-        Ok(()) => Ok(()),
-        Err(_) => Err(EngineError::Memory),
-    }
-}
-
-/// Gives the session the answer to an action, if there is one, and appends what the session then asks for. Gives
-/// nothing to a session that is over.
-fn give_answer(
-    session: &mut Session,
-    now: Moment,
-    answer: Option<Event>,
-    given: &mut Vec<Action>,
-) -> Result<(), EngineError>
-    ensures given { OnOk result ((steps : List (Event × List Action)) × IsGiven session.old answer steps session.new
-        × (given.new.items ≡ given.old.items ++ asked steps)) }
-    ensures stuck { IfErr result (λ e. (event : Event) × (answer ≡ Some event) × (state_of session.old.phase ≢ states.Ended)
-        × DoesNotGoOn session.old event e session.new) }
-{
-    match answer {
-        Some(event) if session.state() != State::Ended => give_event(session, now, event, given),
-        Some(_) | None => Ok(()),
-    }
-}
-
 /// Performs the actions in order, and returns what the session asks for when it receives their answers.
 fn do_all<H: Wait, G: Gate, W: Write + Faults>(
     context: &Context<H, G>,
@@ -96,8 +59,7 @@ fn do_all<H: Wait, G: Gate, W: Write + Faults>(
 {
     let mut given = Vec::new(context.alloc);
     for action in actions {
-        let answer = do_action(context, session.known(), output, seat, action)?;
-        give_answer(session, context.moment, answer, &mut given)?;
+        do_action(context, session, output, seat, action, &mut given)?;
     }
     Ok(given)
 }

@@ -2,41 +2,29 @@ use Rattle.std.proofs.Common.{◌∙◌}
 use Rattle.std.proofs.lemmas.Result.{err_from_is_err_and}
 use Rattle.std.specs.Vec.Iter.{into_iter_items}
 use Rattle.peers_engine.specs.Acting.{worker}
+use Rattle.peers_engine.proofs.OneActionLaws.{one_fails, one_more}
 use Rattle.peers_engine.proofs.TakenLaws.{taken_next}
-use Rattle.peers_engine.proofs.TurnLaws.{next_fails, one_more, give_fails}
 use Rattle.peers_engine.proofs.turning.do_all.Goals as goal
 
-pub returns-in_err-answer-clause-failed : goal.returns-in_err-answer-clause-failed
-returns-in_err-answer-clause-failed g c =
+pub returns-in_err-do_action-clause-failed : goal.returns-in_err-do_action-clause-failed
+returns-in_err-do_action-clause-failed g c =
     let contents = g.W.Write.contents in
     let p = err_from_is_err_and c.from_residual.result c.from_residual.ensures.1 in
     rw (p.1, p.2)
-    (next_fails (worker c.args.session.now c.args.seat.now c.args.context.now.number c.args.context.now.moment) (worker c.loop-action.session c.loop-action.seat c.args.context.now.number c.args.context.now.moment) c.do_action.new.seat c.known.result.now c.args.actions.items c.loop-action.yielded (into_iter_items c.next.new.self)
-    c.loop-action.given.items c.in-Some.action c.in_err-answer.field-0.0
+    (one_fails (worker c.args.session.now c.args.seat.now c.args.context.now.number c.args.context.now.moment) (worker c.loop-action.session c.loop-action.seat c.args.context.now.number c.args.context.now.moment)
+    c.do_action.new.session c.do_action.new.seat c.args.actions.items c.loop-action.yielded (into_iter_items c.next.new.self) c.loop-action.given.items c.in-Some.action c.in_err-do_action.field-0.0
     (contents c.args.output.now) (contents c.loop-action.output) (contents c.do_action.new.output)
     (taken_next c.args.actions.items c.into_iter-action-iterator.result c.loop-action.action-iterator c.next.new.self c.loop-action.yielded c.in-Some.action
     c.into_iter-action-iterator.ensures.into_iter_gives.0 c.loop-action.yielded_by c.in-Some.ensures.steps)
-    c.known.ensures c.loop-action.invariant.done c.in_err-answer.ensures.failed)
-
-pub returns-in_err-give_answer-clause-failed : goal.returns-in_err-give_answer-clause-failed
-returns-in_err-give_answer-clause-failed g c =
-    let contents = g.W.Write.contents in
-    let p = err_from_is_err_and c.from_residual-in_err-give_answer.result c.from_residual-in_err-give_answer.ensures.1 in
-    rw (p.1, p.2)
-    (give_fails (worker c.args.session.now c.args.seat.now c.args.context.now.number c.args.context.now.moment) (worker c.loop-action.session c.loop-action.seat c.args.context.now.number c.args.context.now.moment) c.give_answer.new.session c.do_action.new.seat c.known.result.now c.args.actions.items c.loop-action.yielded
-    (into_iter_items c.next.new.self) c.loop-action.given.items c.in-Some.action c.in_ok-answer.answer c.in_err-give_answer.field-0.0
-    (contents c.args.output.now) (contents c.loop-action.output) (contents c.do_action.new.output)
-    (taken_next c.args.actions.items c.into_iter-action-iterator.result c.loop-action.action-iterator c.next.new.self c.loop-action.yielded c.in-Some.action
-    c.into_iter-action-iterator.ensures.into_iter_gives.0 c.loop-action.yielded_by c.in-Some.ensures.steps)
-    c.known.ensures c.loop-action.invariant.done c.in_ok-answer.ensures.done c.in_err-give_answer.ensures.stuck)
+    c.loop-action.invariant.done c.in_err-do_action.ensures.failed)
 
 pub loop-action-preserved : goal.loop-action-preserved
 loop-action-preserved g c =
     let contents = g.W.Write.contents in
     record {
-      done = one_more (worker c.args.session.now c.args.seat.now c.args.context.now.number c.args.context.now.moment) (worker c.loop-action.session c.loop-action.seat c.args.context.now.number c.args.context.now.moment) c.give_answer.new.session c.do_action.new.seat c.known.result.now c.loop-action.yielded
-          c.loop-action.given.items c.give_answer.new.given.items c.in-Some.action c.in_ok-answer.answer
+      done = one_more (worker c.args.session.now c.args.seat.now c.args.context.now.number c.args.context.now.moment) (worker c.loop-action.session c.loop-action.seat c.args.context.now.number c.args.context.now.moment) (worker c.do_action.new.session c.do_action.new.seat c.args.context.now.number c.args.context.now.moment)
+          c.loop-action.yielded c.loop-action.given.items c.do_action.new.given.items c.in-Some.action
           (contents c.args.output.now) (contents c.loop-action.output) (contents c.do_action.new.output)
-          c.known.ensures c.loop-action.invariant.done c.in_ok-answer.ensures.done c.in_ok-give_answer.ensures.given;
+          c.loop-action.invariant.done c.in_ok-do_action.ensures.done;
       seat = c.do_action.ensures.seat ∙ c.loop-action.invariant.seat;
     }

@@ -1,0 +1,92 @@
+-- One action with its answer, and what it adds to those before it.
+use Rattle.std.proofs.Common.{◌≡◌, ℕ, List, [], ◌∷◌, ◌++◌, Option, Some, None, refl, sym, ap, ◌∙◌, subst, append_assoc}
+use Rattle.std.proofs.KnownBytes.{Appends-nil, Appends-trans}
+use Rattle.std.proofs.lemmas.List.{append-nil}
+use Rattle.std.proofs.lemmas.List.Concat.{flat_map-append}
+use Rattle.std.specs.Prelude.{◌≢◌}
+use Rattle.std.specs.Io.KnownBytes.{Appends}
+use Rattle.table_shards.specs.Receipts.{SeatState}
+use Rattle.session_core.specs.declared.action.Action.{Action}
+use Rattle.session_core.specs.declared.event.Event.{Event}
+use Rattle.session_core.specs.declared.state.State.TheVariants as states
+use Rattle.session_core.specs.Sessions.{SessionState, state_of}
+use Rattle.peers_engine.specs.declared.errors.EngineError.{EngineError}
+use Rattle.peers_engine.specs.Acting.{Acts, DoesNotGoOn, IsGiven, Stops, Worker, asked, stands}
+use Rattle.peers_engine.proofs.ActLaws.{acts_on, one_act}
+use Rattle.peers_engine.proofs.HaltLaws.{cut_more, lost_later}
+use Rattle.peers_engine.proofs.TurnLaws.{AreDone, AreStopped, OneDone, OneFails, give_fails, next_fails}
+
+-- an action is performed, its answer, if it has one, is received, what that asks for is kept, and the bytes are written
+abbrev pub IsOne : Worker → Action → List Action → List Action → Worker → Option (List ℕ) → Option (List ℕ) → Type 0
+IsOne w act given more e old new =
+    (answers : List (Event × List Action)) × (out : List ℕ) × Acts w (act ∷ []) answers out e × (more ≡ given ++ asked answers) × Appends old new out
+
+-- ---- the action alone
+
+-- it has no answer
+pub silently_done : (w : Worker) (seat : SeatState) (act : Action) (given : List Action) (old new : Option (List ℕ))
+    → OneDone w.number w.now w.session.known w.seat seat act old new None → IsOne w act given given (stands w w.session seat) old new
+silently_done w seat act given old new (out, done, appended) =
+    ([], out, one_act w w.session seat act None [] out done (refl, refl), sym (append-nil given), appended)
+
+-- its answer is received
+pub answered : (w : Worker) (e : SessionState) (seat : SeatState) (act : Action) (answer : Event) (given more : List Action) (old new : Option (List ℕ))
+    → OneDone w.number w.now w.session.known w.seat seat act old new (Some answer)
+    → ((steps : List (Event × List Action)) × IsGiven w.session (Some answer) steps e × (more ≡ given ++ asked steps))
+    → IsOne w act given more (stands w e seat) old new
+answered w e seat act answer given more old new (out, done, appended) (steps, gives, kept) =
+    (steps, out, one_act w e seat act (Some answer) steps out done gives, kept, appended)
+
+nothing_done : (w : Worker) (old : Option (List ℕ)) → AreDone w [] [] w old old
+nothing_done w old = ([], [], (refl, refl, refl), refl, Appends-nil old)
+
+-- it fails
+pub fails_alone : (w : Worker) (seat : SeatState) (act : Action) (error : EngineError) (old new : Option (List ℕ))
+    → OneFails w.number w.now w.session.known w.seat seat act old new error → AreStopped w (act ∷ []) error w.session seat old new
+fails_alone w seat act error old new fails =
+    next_fails w w seat w.session.known (act ∷ []) [] [] [] act error old old new refl refl (nothing_done w old) fails
+
+-- the session doesn't go on after its answer
+pub unanswered : (w : Worker) (e : SessionState) (seat : SeatState) (act : Action) (answer : Event) (error : EngineError) (old new : Option (List ℕ))
+    → OneDone w.number w.now w.session.known w.seat seat act old new (Some answer)
+    → (state_of w.session.phase ≢ states.Ended) × DoesNotGoOn w.session answer error e
+    → AreStopped w (act ∷ []) error e seat old new
+unanswered w e seat act answer error old new done (going, stuck) =
+    give_fails w w e seat w.session.known (act ∷ []) [] [] [] act (Some answer) error old old new refl refl (nothing_done w old) done (answer, refl, going, stuck)
+
+-- ---- after others
+
+pub one_more : (s mid e : Worker) (before given more : List Action) (act : Action) (a b d : Option (List ℕ))
+    → AreDone s before given mid a b → IsOne mid act given more e b d → AreDone s (before ++ (act ∷ [])) more e a d
+one_more s mid e before given more act a b d (answers, out, acted, kept, appended) (steps, bytes, one, is, then) = (
+  answers ++ steps,
+  out ++ bytes,
+  acts_on s mid e before (act ∷ []) answers steps out bytes acted one,
+  is ∙ (ap (λ (x : List Action). x ++ asked steps) kept ∙ sym (flat_map-append (λ (step : Event × List Action). step.1) answers steps)),
+  Appends-trans a b d out bytes appended then,
+)
+
+stops_on : (s mid : Worker) (e : SessionState) (seat : SeatState) (before rest : List Action) (act : Action) (error : EngineError) (answers more : List (Event × List Action)) (out last : List ℕ)
+    → Acts s before answers out mid → Stops mid (act ∷ []) error more last e seat → Stops s (before ++ (act ∷ rest)) error (answers ++ more) (out ++ last) e seat
+stops_on s mid e seat before rest act error answers more out last acted (done, left, first, cut, then, is, also, why, written, over) = (
+  before ++ done,
+  left ++ rest,
+  out ++ first,
+  cut,
+  then,
+  ap (λ (x : List Action). before ++ (x ++ rest)) is ∙ (ap (λ (x : List Action). before ++ x) (append_assoc done left rest) ∙ sym (append_assoc before done (left ++ rest))),
+  acts_on s mid then before done answers more out first acted also,
+  lost_later then seat (left ++ rest) answers more error cut (cut_more then seat left rest more error cut why),
+  ap (λ (x : List ℕ). out ++ x) written ∙ sym (append_assoc out first cut),
+  over,
+)
+
+pub one_fails : (s mid : Worker) (e : SessionState) (seat : SeatState) (all before rest given : List Action) (act : Action) (error : EngineError) (a b d : Option (List ℕ))
+    → all ≡ before ++ (act ∷ rest) → AreDone s before given mid a b → AreStopped mid (act ∷ []) error e seat b d → AreStopped s all error e seat a d
+one_fails s mid e seat all before rest given act error a b d is (answers, out, acted, kept, appended) (more, last, stops, then) = (
+  answers ++ more,
+  out ++ last,
+  subst (λ (x : List Action). Stops s x error (answers ++ more) (out ++ last) e seat) (sym is)
+      (stops_on s mid e seat before rest act error answers more out last acted stops),
+  Appends-trans a b d out last appended then,
+)
