@@ -81,6 +81,24 @@ events 1000000 room 0
 " ''
 }
 
+# A world whose table has room for one event more: a Break and a Reopen need two, so they change nothing, not even in part. With the
+# last event the history is full.
+nearly_full_world() {
+    { printf '%s\n' 'table 1 t1 integer 4 30000 gpc0' 'track 1 4294967296 7 add gpc0 5' 'copy 1 1 push 512 4294967296' 'teach 1' \
+        'deliver 1 learner 29 4294967296' 'ack 1' 'deliver 1 teacher 8 4294967296'
+        repeat_lines 999995 'purge 1 4294967296'
+        printf '%s\n' 'break 1' 'session 1' 'events 1' 'reopen 1' 'session 1' 'events 1' 'copy 1 1 resync 512 4294967296' 'events 1' \
+            'purge 1 4294967296' 'purge 1 4294967296' 'events 1'; } >"$scene"
+    run world <"$scene"
+    ends 'world of a script of 1,000,006 steps' 0 "session 1 copied 0 taught 1 applied 1 learner 0 teacher 0
+events 999999 room 1
+session 1 copied 0 taught 1 applied 1 learner 0 teacher 0
+events 999999 room 1
+events 999999 room 1
+events 1000000 room 0
+" ''
+}
+
 # --- Rounds
 
 # round_of THREADS TRACKS: the row of each thread counts what it tracked.
