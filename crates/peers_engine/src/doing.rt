@@ -111,8 +111,9 @@ fn teach_batch<H: Wait, G: Gate, W: Write + Faults>(
 /// for.
 ///
 /// Fails with `Write` if not all of its bytes are written, and leaves the seat as the action does. Fails with `Memory`
-/// or `Strange` before any are, unless the session doesn't go on after the answer. The seat is then as it was, but for the
-/// receipt of the close if a table was closed and not opened anew.
+/// or `Strange` before any are if the action can't be done; the seat is then as it was, but for the receipt of the close
+/// if a table was closed and not opened anew. If the session refuses the answer, or memory runs out for what the answer
+/// asks for, the action was done, and the seat is as the action leaves it.
 pub(crate) fn do_action<H: Wait, G: Gate, W: Write + Faults>(
     context: &Context<H, G>,
     session: &mut Session,
