@@ -1,16 +1,21 @@
 //! The bytes of messages. Room for the whole message is reserved before its first byte is appended, so only the reservation
 //! can fail. Each function below that appends a part requires room for it.
 
-ghost use Rattle.std.specs.Prelude.{◌≡◌, ◌≤◌, ◌<◌, ◌+◌, ◌^◌, ◌++◌, ◌∷◌, [], true, length, flat_map, vec_len, vec_capacity, IfOk, OnOk, OnErr};
+ghost use Rattle.std.specs.Prelude.{◌≡◌, ◌≤◌, ◌<◌, ◌+◌, ◌^◌, ◌++◌, ◌∷◌, [], List, true, length, flat_map, vec_len, vec_capacity, IfOk, OnOk, OnErr};
 ghost use Rattle.peers_encint.specs.Integers.{spelling};
 ghost use Rattle.table_types.specs.Tables.{rise_from};
+ghost use Rattle.table_types.specs.declared.key.Key.{Key};
+ghost use Rattle.table_types.specs.declared.update.Value.{Value};
+ghost use Rattle.peers_msg.specs.declared.name_field.NameField.{NameField};
 ghost use Rattle.peers_msg.specs.declared.message.Message.TheVariants as messages;
+ghost use Rattle.peers_msg.specs.Borrowed.{is_named, owned_name};
+ghost use Rattle.peers_msg.specs.Messages.{is_small};
 ghost use Rattle.peers_msg.specs.Spelling.{word, optional_word, counted, key_text, value_text, name_text, update_text, update_type, bits_of, period_text, definition_text, control_type, error_type, spelled, Spells};
 
 use crate::control::{Control, ErrorKind};
-use crate::message::{Message, Other, UpdateMsg};
-use crate::name_field::NameField;
-use crate::sizes::{bits, definition_size, framed_size, update_size, written_size};
+use crate::message::{Message, Other};
+use crate::name_field_ref::NameFieldRef;
+use crate::sizes::{bits, definition_size, fields_size, framed_size, written_size};
 use peers_encint::len;
 use std::alloc::Global;
 use table_types::{DataType, Key, Memory, TableDef, Value};
@@ -126,37 +131,46 @@ fn append_values(out: &mut Vec<u8>, values: &[Value])
     }
 }
 
-fn append_name(out: &mut Vec<u8>, name: &NameField)
-    requires room { vec_len out.old + length (name_text name.now) ≤ vec_capacity out.old }
-    ensures appended { out.new.items ≡ out.old.items ++ name_text name.now }
-    ensures room { vec_len out.new + vec_capacity out.old ≤ vec_len out.old + length (name_text name.now) + vec_capacity out.new }
+fn append_name(out: &mut Vec<u8>, name: NameFieldRef<'_>)
+    requires named { is_named (owned_name name) ≡ true }
+    requires room { vec_len out.old + length (name_text (owned_name name)) ≤ vec_capacity out.old }
+    ensures appended { out.new.items ≡ out.old.items ++ name_text (owned_name name.entry) }
+    ensures room { vec_len out.new + vec_capacity out.old ≤ vec_len out.old + length (name_text (owned_name name.entry)) + vec_capacity out.new }
 {
     match name {
-        NameField::NotStored => {}
-        NameField::NoName => append_integer(out, 0),
-        NameField::Held(slot) => {
-            let slot = u64::from(*slot);
+        NameFieldRef::NotStored => {}
+        NameFieldRef::NoName => append_integer(out, 0),
+        NameFieldRef::Held(slot) => {
+            let slot = u64::from(slot);
             append_integer(out, len(slot) as u64);
             append_integer(out, slot);
         }
-        NameField::Written(slot, name) => {
-            append_integer(out, written_size(*slot, name) as u64);
-            append_integer(out, u64::from(*slot));
-            append_counted(out, name.as_slice());
+        NameFieldRef::Written(slot, name) => {
+            append_integer(out, written_size(slot, name) as u64);
+            append_integer(out, u64::from(slot));
+            append_counted(out, name);
         }
     }
 }
 
-fn append_update(out: &mut Vec<u8>, update: &UpdateMsg)
-    requires room { vec_len out.old + length (update_text update.now) ≤ vec_capacity out.old }
-    ensures appended { out.new.items ≡ out.old.items ++ update_text update.now }
-    ensures room { vec_len out.new + vec_capacity out.old ≤ vec_len out.old + length (update_text update.now) + vec_capacity out.new }
+/// Appends the data of an update with these fields.
+fn append_fields(
+    out: &mut Vec<u8>,
+    number: Option<u32>,
+    life: Option<u32>,
+    key: &Key,
+    values: &[Value],
+    name: NameFieldRef<'_>,
+)
+    requires named { is_named (owned_name name) ≡ true }
+    requires room { vec_len out.old + length (update_text (record { number = number; life = life; key = key.now; values = values.now; name = owned_name name })) ≤ vec_capacity out.old }
+    ensures { out.new.items ≡ out.old.items ++ update_text (record { number = number; life = life; key = key.now; values = values.now; name = owned_name name.entry }) }
 {
-    append_optional(out, update.number());
-    append_optional(out, update.life());
-    append_key(out, update.key());
-    append_values(out, update.values());
-    append_name(out, update.name());
+    append_optional(out, number);
+    append_optional(out, life);
+    append_key(out, key);
+    append_values(out, values);
+    append_name(out, name);
 }
 
 /// Appends a rate's id and period, or nothing for another type.
@@ -220,11 +234,12 @@ fn error_type(error: ErrorKind) -> u8
     error as u8
 }
 
-/// Returns the type of an update.
-fn update_type(update: &UpdateMsg) -> u8
-    ensures { result ≡ update_type update.now }
+/// Returns the type of an update with this number and this life.
+fn update_type(number: Option<u32>, life: Option<u32>) -> u8
+    ensures { (key : Key) (values : List Value) (name : NameField) →
+        result ≡ update_type (record { number = number; life = life; key = key; values = values; name = name }) }
 {
-    match (update.number(), update.life()) {
+    match (number, life) {
         (Some(_), None) => 128,
         (None, None) => 129,
         (Some(_), Some(_)) => 133,
@@ -272,6 +287,31 @@ fn append_other(out: &mut Vec<u8>, other: &Other) -> Result<(), Memory>
     }
 }
 
+/// Appends the bytes of an update with these fields, as `append` does with the update's message. Allocates at most once.
+///
+/// # Errors
+/// `Memory` if memory runs out. `out` is then unchanged.
+#[tactic(auto, unfolding(crate::specs::Spelling::spelled))]
+pub fn append_update(
+    out: &mut Vec<u8>,
+    number: Option<u32>,
+    life: Option<u32>,
+    key: &Key,
+    values: &[Value],
+    name: NameFieldRef<'_>,
+) -> Result<(), Memory>
+    requires small { is_small key.now values.now ≡ true }
+    requires named { is_named (owned_name name) ≡ true }
+    ensures appended { OnOk result (out.new.items ≡ out.old.items
+        ++ spelled (messages.Update (record { number = number; life = life; key = key.now; values = values.now; name = owned_name name.entry }))) }
+    ensures stays { OnErr result (out.new.items ≡ out.old.items) }
+{
+    let size = fields_size(number, life, key, values, name);
+    append_header(out, 10, update_type(number, life), size)?;
+    append_fields(out, number, life, key, values, name);
+    Ok(())
+}
+
 /// Appends the bytes of a message. Allocates at most once, for as many bytes as `size` returns.
 ///
 /// # Errors
@@ -298,8 +338,9 @@ pub fn append(out: &mut Vec<u8>, message: &Message) -> Result<(), Memory>
             append_word(out, *number);
         }
         Message::Update(update) => {
-            append_header(out, 10, update_type(update), update_size(update))?;
-            append_update(out, update);
+            let (number, life) = (update.number(), update.life());
+            let name = update.name().lend();
+            append_update(out, number, life, update.key(), update.values(), name)?;
         }
         Message::Other(other) => append_other(out, other)?,
     }

@@ -22,7 +22,7 @@ mod unread;
 pub use borrowed::{DefinitionRef, KeyRef, MessageRef, OtherRef, UpdateRef, ValuesRef};
 pub use control::{Control, ErrorKind};
 pub use decoder::Decoder;
-pub use encoding::{append, encode};
+pub use encoding::{append, append_update, encode};
 pub use fault::{Breach, Fault};
 pub use framing::split_message;
 pub use laws::{

@@ -5,11 +5,12 @@ ghost use Rattle.peers_encint.specs.Integers.{spelling};
 ghost use Rattle.table_types.specs.Tables.{rise_from, is_definition};
 ghost use Rattle.peers_msg.specs.declared.name_field.NameField.TheVariants as names;
 ghost use Rattle.peers_msg.specs.declared.message.Message.TheVariants as messages;
+ghost use Rattle.peers_msg.specs.Borrowed.{is_named, owned_name};
 ghost use Rattle.peers_msg.specs.Messages.{key_bytes, is_small, most_data};
 ghost use Rattle.peers_msg.specs.Spelling.{counted, key_text, value_text, name_text, update_text, optional_word, period_text, bits_of, definition_text, size_of};
 
 use crate::message::{Message, UpdateMsg};
-use crate::name_field::NameField;
+use crate::name_field_ref::NameFieldRef;
 use peers_encint::len;
 use table_types::{DataType, Key, Name, TableDef, Value};
 
@@ -74,23 +75,43 @@ fn values_size(values: &[Value]) -> usize
 }
 
 /// Returns the size of a slot and the name written to it.
-pub fn written_size(slot: u8, name: &Name) -> usize
+pub fn written_size(slot: u8, name: &[u8]) -> usize
+    requires { length name.now ≤ 255 }
     ensures exact { result ≡ length (spelling slot ++ counted name.now) }
     ensures within { result ≤ 275 }
 {
-    len(u64::from(slot)) + counted_size(name.as_slice().len())
+    len(u64::from(slot)) + counted_size(name.len())
 }
 
-fn name_size(name: &NameField) -> usize
-    ensures exact { result ≡ length (name_text name.now) }
+fn name_size(name: NameFieldRef<'_>) -> usize
+    requires { is_named (owned_name name) ≡ true }
+    ensures exact { result ≡ length (name_text (owned_name name.entry)) }
     ensures within { result ≤ 285 }
 {
     match name {
-        NameField::NotStored => 0,
-        NameField::NoName => len(0),
-        NameField::Held(slot) => counted_size(len(u64::from(*slot))),
-        NameField::Written(slot, name) => counted_size(written_size(*slot, name)),
+        NameFieldRef::NotStored => 0,
+        NameFieldRef::NoName => len(0),
+        NameFieldRef::Held(slot) => counted_size(len(u64::from(slot))),
+        NameFieldRef::Written(slot, name) => counted_size(written_size(slot, name)),
     }
+}
+
+/// Returns the size of the data of an update with these fields.
+pub fn fields_size(
+    number: Option<u32>,
+    life: Option<u32>,
+    key: &Key,
+    values: &[Value],
+    name: NameFieldRef<'_>,
+) -> usize
+    requires small { is_small key.now values.now ≡ true }
+    requires named { is_named (owned_name name) ≡ true }
+    ensures exact { result ≡ length (update_text (record { number = number; life = life; key = key.now; values = values.now; name = owned_name name.entry })) }
+    ensures within { result ≤ most_data }
+{
+    let words = optional_size(number) + optional_size(life);
+    let row = key_size(key) + values_size(values);
+    words + row + name_size(name)
 }
 
 /// Returns the size of an update's data.
@@ -98,9 +119,14 @@ pub fn update_size(update: &UpdateMsg) -> usize
     ensures exact { result ≡ length (update_text update.now) }
     ensures within { result ≤ most_data }
 {
-    let words = optional_size(update.number()) + optional_size(update.life());
-    let row = key_size(update.key()) + values_size(update.values());
-    words + row + name_size(update.name())
+    let (number, life) = (update.number(), update.life());
+    fields_size(
+        number,
+        life,
+        update.key(),
+        update.values(),
+        update.name().lend(),
+    )
 }
 
 /// Returns the data types as bits.
@@ -166,7 +192,10 @@ fn name_sizes(name: &Name) -> (usize, usize)
     ensures less { result.0 < result.1 }
     ensures within { result.1 ≤ 285 }
 {
-    (counted_size(len(1)), counted_size(written_size(1, name)))
+    (
+        counted_size(len(1)),
+        counted_size(written_size(1, name.as_slice())),
+    )
 }
 
 /// Returns the size of an update message whose name is read from a slot, and of one that writes the slot. Both are the
@@ -205,13 +234,12 @@ pub fn nameless_size(
     ensures exact { result ≡ size_of (messages.Update (record { number = number; life = life; key = key.now; values = values.now; name = if stores_name then names.NoName else names.NotStored })) }
     ensures within { result ≤ 32768 }
 {
-    let words = optional_size(number) + optional_size(life);
-    let row = words + key_size(key) + values_size(values);
-    if stores_name {
-        framed_size(row + name_size(&NameField::NoName))
+    let name = if stores_name {
+        NameFieldRef::NoName
     } else {
-        framed_size(row)
-    }
+        NameFieldRef::NotStored
+    };
+    framed_size(fields_size(number, life, key, values, name))
 }
 
 /// Returns the size of a table's definition as a message. Doesn't allocate.
