@@ -7,6 +7,7 @@ use Rattle.peers_msg.specs.declared.name_field.NameField.{NameField}
 use Rattle.peers_msg.specs.declared.name_field.NameField.TheVariants as names
 use Rattle.peers_msg.specs.declared.message.Message.{Message}
 use Rattle.peers_msg.specs.declared.message.Message.TheVariants as messages
+use Rattle.peers_msg.specs.Messages.{UpdateFields}
 use Rattle.peers_msg.specs.Fitting.{fits}
 use Rattle.known_state.specs.State.{State, Step, Named, name_of, reads_empty, resolved_number, slots_after}
 use Rattle.known_state.specs.Effects.{IsEffect, Resolves, carried_by, made, message_refusal, refusal_of, selected_number, slots_with, written_by}
@@ -40,6 +41,13 @@ effect_steps s (messages.Control c) effect fit is = by s (messages.Control c) ef
 effect_steps s (messages.Error e) effect fit is = by s (messages.Error e) effects.Nothing effect is (fit, refl, refl)
 effect_steps s (messages.Ack table number) effect fit is = by s (messages.Ack table number) effects.Nothing effect is (fit, refl, refl)
 effect_steps s (messages.Other o) effect fit is = by s (messages.Other o) effects.Nothing effect is (fit, refl, refl)
+
+-- any update with that number and that name field that fits makes its step
+pub resolved_steps : (s e : State) (number : Option ℕ) (field : NameField) (r : ResolvedUpdate) → Resolves s number field r → e ≡ made s (effects.Update r) → (u : UpdateFields) → u.number ≡ number → u.name ≡ field → fits s.received (messages.Update u) ≡ true → (us : List Update) × Step s (messages.Update u) us e
+resolved_steps s e number field r resolves is u is_number is_field fit =
+    let here : Resolves s u.number u.name r = rw (is_number, is_field) resolves in
+    let step = effect_steps s (messages.Update u) (effects.Update r) fit (r, refl, here) in
+    (carried_by s (messages.Update u) (effects.Update r), subst (λ (x : State). Step s (messages.Update u) (carried_by s (messages.Update u) (effects.Update r)) x) (sym is) step)
 
 -- a message that makes a step fits
 pub step_fits : (s e : State) (m : Message) (us : List Update) → Step s m us e → fits s.received m ≡ true

@@ -15,12 +15,14 @@ use Rattle.peers_msg.specs.OwnTables.{is_own}
 use Rattle.peers_msg.specs.Received.{selected_table}
 use Rattle.peers_msg.specs.Fitting.{fits}
 use Rattle.known_state.specs.State.{State, Step, IsOwn}
-use Rattle.known_state.specs.Effects.{carried_by, made, refusal_of}
+use Rattle.known_state.specs.Effects.{Resolves, carried_by, made, refusal_of}
 use Rattle.known_state.specs.Known.{KnownState, AreOwn, IsLegalEffect, IsTakenBy, as_step_error, update_refusal}
 use Rattle.known_state.specs.declared.effect.Effect.{Effect}
+use Rattle.known_state.specs.declared.effect.Effect.TheVariants as effects
+use Rattle.known_state.specs.declared.effect.ResolvedUpdate.{ResolvedUpdate}
 use Rattle.known_state.specs.declared.effect.Refusal.{Refusal}
 use Rattle.known_state.specs.declared.known.StepError.TheVariants as step_errors
-use Rattle.known_state.proofs.EffectsAreSteps.{effect_steps}
+use Rattle.known_state.proofs.EffectsAreSteps.{effect_steps, resolved_steps}
 use Rattle.known_state.proofs.StepPays.{own_stays}
 
 -- the effect of a legal message makes its step, in a known state with these parts
@@ -36,6 +38,13 @@ legal_own k roster s e m effect view all legal made_is =
     let all_k : AreOwn k.roster k.state.received.tables = subst (λ (x : KnownState). AreOwn x.roster x.state.received.tables) view all in
     let after : AreOwn k.roster e.received.tables = own_stays k.roster k.state e m step.0 all_k step.2 step.1 in
     subst (λ (x : KnownState). AreOwn x.roster e.received.tables) (sym view) after
+
+-- what a resolved update makes is its step, in a known state with these parts
+pub resolved_step : (k : KnownState) (roster : List Definition) (s e : State) (number : Option ℕ) (field : NameField) → ◌≡◌ {A = KnownState} (record { roster = roster; state = s }) k → (r : ResolvedUpdate) × Resolves s number field r × (e ≡ made s (effects.Update r))
+    → (u : UpdateFields) → u.number ≡ number → u.name ≡ field → fits k.state.received (messages.Update u) ≡ true → (us : List Update) × Step k.state (messages.Update u) us e
+resolved_step k roster s e number field view found u is_number is_field fit =
+    let here = subst (λ (x : KnownState). (r : ResolvedUpdate) × Resolves x.state number field r × (e ≡ made x.state (effects.Update r))) view found in
+    resolved_steps k.state e number field here.0 here.1 here.2 u is_number is_field fit
 
 -- ---- updates
 

@@ -3,8 +3,11 @@
 ghost use Rattle.std.specs.Prelude.{◌≡◌, ◌≢◌, true, Some, None, Err, IfSome, IfOk, IfErr, OnOk, OnErr, List};
 ghost use Rattle.table_types.specs.declared.update.Update.{Update};
 ghost use Rattle.peers_msg.specs.declared.message.Message.TheVariants as messages;
+ghost use Rattle.peers_msg.specs.Borrowed.{owned_name, is_named};
 ghost use Rattle.peers_msg.specs.Fitting.{fits, IsPlain};
+ghost use Rattle.peers_msg.specs.Messages.{UpdateFields};
 ghost use Rattle.peers_msg.specs.Received.{selected_table};
+ghost use Rattle.known_state.specs.Effects.{refusal_of};
 ghost use Rattle.known_state.specs.State.{Step, IsOwn};
 ghost use Rattle.known_state.specs.declared.effect.Effect.TheVariants as effects;
 ghost use Rattle.known_state.specs.Known.{known_of, KnownState, AreOwn, fresh_of, build_fault, built, Refuses, as_step_error, switch_refusal, update_refusal, IsTakenBy, IsLegalEffect, step_error_name};
@@ -19,7 +22,7 @@ use crate::last_numbers::LastNumbers;
 use crate::parts::{are_defined, are_known, repeats, repeats_last};
 use crate::state::State;
 use dict_slots::Slots;
-use peers_msg::{Message, Received, UpdateMsg, is_own};
+use peers_msg::{Message, NameFieldRef, Received, UpdateMsg, is_own};
 use std::alloc::Global;
 use std::marker::Model;
 use table_types::{Memory, Roster, TableDef};
@@ -318,6 +321,26 @@ impl Known {
     {
         let effect = self.effect(message);
         self.state.make(effect)?;
+        Ok(())
+    }
+
+    /// Applies one update that is known to be legal, of which only its number and its name field matter: any update with
+    /// `number` and the name field `field` that fits then makes its step. Copies the name if the update writes one.
+    /// Allocates only for that name and for the first number of a table. After `Memory` nothing has changed.
+    pub fn follow_update(
+        &mut self,
+        number: Option<u32>,
+        field: NameFieldRef<'_>,
+    ) -> Result<(), Memory>
+        requires named { is_named (owned_name field) ≡ true }
+        requires unrefused { refusal_of self.old.state number (owned_name field) ≡ None }
+        ensures step { OnOk result ((u : UpdateFields) → u.number ≡ number → u.name ≡ owned_name field.entry →
+            fits self.old.state.received (messages.Update u) ≡ true →
+            (us : List Update) × Step self.old.state (messages.Update u) us self.new.state) }
+        ensures roster { self.new.roster ≡ self.old.roster }
+        ensures stays { OnErr result (self.new ≡ self.old) }
+    {
+        self.state.follow_update(number, field)?;
         Ok(())
     }
 

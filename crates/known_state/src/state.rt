@@ -1,6 +1,6 @@
 //! The state of one direction of a session.
 
-ghost use Rattle.std.specs.Prelude.{◌≡◌, ◌≢◌, ◌-◌, true, false, Some, Err, IfOk, IfErr, IfSome, OnOk, OnErr, option_copied, option_map, slice_set};
+ghost use Rattle.std.specs.Prelude.{◌≡◌, ◌≢◌, ◌-◌, true, false, None, Some, Err, IfOk, IfErr, IfSome, OnOk, OnErr, option_copied, option_map, slice_set};
 ghost use Rattle.table_types.specs.Names.{is_name};
 ghost use Rattle.dict_slots.specs.Slots.{slot_at};
 ghost use Rattle.peers_msg.specs.Borrowed.{owned_name, is_named};
@@ -9,6 +9,7 @@ ghost use Rattle.known_state.specs.State.{fresh, resolved_number, reads_empty, n
 ghost use Rattle.known_state.specs.Effects.{Resolves, made, refusal_of, selected_number, slots_with};
 ghost use Rattle.known_state.specs.declared.effect.Effect.TheVariants as effects;
 ghost use Rattle.known_state.specs.declared.effect.Refusal.{Refusal};
+ghost use Rattle.known_state.specs.declared.effect.ResolvedUpdate.{ResolvedUpdate};
 ghost use Rattle.known_state.specs.declared.effect.Refusal.TheVariants as refusals;
 
 use crate::effect::{Effect, Refusal, ResolvedUpdate};
@@ -204,6 +205,26 @@ impl State {
                 Ok(ResolvedUpdate::of(table, number, field))
             }
             Err(refusal) => Err(refusal),
+        }
+    }
+
+    /// Applies an update with `number` and the name field `field` that isn't refused. Copies the name if the update writes
+    /// one. After `Memory` nothing has changed.
+    pub(crate) fn follow_update(
+        &mut self,
+        number: Option<u32>,
+        field: NameFieldRef<'_>,
+    ) -> Result<(), Memory>
+        requires named { is_named (owned_name field) ≡ true }
+        requires unrefused { refusal_of self.old number (owned_name field) ≡ None }
+        ensures made { OnOk result ((update : ResolvedUpdate) × Resolves self.old number (owned_name field.entry) update
+            × (self.new ≡ made self.old (effects.Update update))) }
+        ensures stays { OnErr result (self.new ≡ self.old) }
+    {
+        match self.resolve(number, field) {
+            Ok(update) => self.make_update(update),
+            Err(Refusal::Memory) => Err(Memory),
+            Err(Refusal::NoNumber | Refusal::EmptySlot) => unreachable!(),
         }
     }
 
