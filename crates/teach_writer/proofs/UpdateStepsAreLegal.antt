@@ -54,6 +54,14 @@ retained_selected k d own listed is = at (selected_table k.state.received) refl
         let listed_t : table_at k.roster t.id ≡ Some d = subst (λ (n : ℕ). table_at k.roster n ≡ Some d) (sym ids) listed in
         e ∙ ap (λ (x : Definition). Some x) (selected_is_own k t d own e listed_t)
 
+-- so the selected table is the one of an id that it has
+pub selected_listed : (k : KnownState) (id : ℕ) (t d : Definition) → AreOwn k.roster k.state.received.tables → selected_table k.state.received ≡ Some t → t.id ≡ id → table_at k.roster id ≡ Some d → t ≡ d
+selected_listed k id t d own sel is listed = selected_is_own k t d own sel (subst (λ (n : ℕ). table_at k.roster n ≡ Some d) (sym is) listed)
+
+-- nothing selects a table that is selected
+pub selected_selection : (h : Received) (d : Definition) → selected_table h ≡ Some d → [] ≡ selection h d
+selected_selection h d sel = rw (sel, eq-eqb d.id d.id refl) refl
+
 -- a switch to a received table of the roster is a step
 pub switch_taken : (k : KnownState) (d : Definition) → table_at k.roster d.id ≡ Some d → is_some (table_at k.state.received.tables d.id) ≡ true → IsTakenBy k (messages.Switch d.id)
 switch_taken k d listed found = λ e refuses.
@@ -97,16 +105,15 @@ expire_small d is = grind (arith, nat_tests)
 pub sent_fits : (last : Option ℕ) (field : NameField) (d : Definition) (u : Update) → is_definition d ≡ true → name_fits d field ≡ true → fits d u ≡ true → is_optional_word (number_sent last u.number) ≡ true → update_fits d (sent_as last field u) ≡ true
 sent_fits last field d u is field_fits fit word = rw (word, life_word d u.life (expire_small d is) (life_of_fits d u fit), row_of_fits d u fit, field_fits) refl
 
--- it is a step if its table is selected and it reads no empty slot
-pub sent_taken : (k : KnownState) (d : Definition) (u : Update) (last : Option ℕ) (field : NameField) → last ≡ last_of k.state.last_numbers d.id → selected_table k.state.received ≡ Some d → is_definition d ≡ true → name_fits d field ≡ true → reads_empty k.state.slots field ≡ false → fits d u ≡ true → is_optional_word (number_sent last u.number) ≡ true → IsTakenBy k (messages.Update (sent_as last field u))
-sent_taken k d u last field is_last sel is field_fits reads fit word = λ e refuses.
-    let resolved_here : resolved_number (number_sent last u.number) (last_of k.state.last_numbers d.id) ≡ Some u.number = subst (λ (l : Option ℕ). resolved_number (number_sent last u.number) l ≡ Some u.number) is_last (sent_resolved last u.number) in
-    let unrefused : refusal_of k.state (number_sent last u.number) field ≡ None = rw (selected-id k.state.received d sel, resolved_here, reads) refl in
-    let fits_here : message_fits k.state.received (messages.Update (sent_as last field u)) ≡ true = update_fits_received k.state.received (sent_as last field u) d sel (sent_fits last field d u is field_fits fit word) is in
-    let here : update_refusal k (sent_as last field u) (selected_table k.state.received) ≡ update_refusal k (sent_as last field u) (Some d) = ap (λ (o : Option Definition). update_refusal k (sent_as last field u) o) sel in
-    let none : update_refusal k (sent_as last field u) (selected_table k.state.received) ≡ None = here ∙ rw (fits_here, unrefused) refl in
-    let bad : None ≡ Some e = sym none ∙ refuses in
-    cc
+-- and then it fits if its table is selected
+pub sent_fits_received : (h : Received) (d : Definition) (u : Update) (last : Option ℕ) (field : NameField) → selected_table h ≡ Some d → is_definition d ≡ true → name_fits d field ≡ true → fits d u ≡ true → is_optional_word (number_sent last u.number) ≡ true → message_fits h (messages.Update (sent_as last field u)) ≡ true
+sent_fits_received h d u last field sel is field_fits fit word = update_fits_received h (sent_as last field u) d sel (sent_fits last field d u is field_fits fit word) is
+
+-- it isn't refused if it reads no empty slot
+pub sent_unrefused : (s : State) (d : Definition) (u : Update) (last : Option ℕ) (field : NameField) → last ≡ last_of s.last_numbers d.id → selected_table s.received ≡ Some d → reads_empty s.slots field ≡ false → refusal_of s (number_sent last u.number) field ≡ None
+sent_unrefused s d u last field is_last sel reads =
+    let resolved_here : resolved_number (number_sent last u.number) (last_of s.last_numbers d.id) ≡ Some u.number = subst (λ (l : Option ℕ). resolved_number (number_sent last u.number) l ≡ Some u.number) is_last (sent_resolved last u.number) in
+    rw (selected-id s.received d sel, resolved_here, reads) refl
 
 -- and carries exactly the update
 pub sent_carries : (s : State) (d : Definition) (u : Update) (last : Option ℕ) (field : NameField) (us : List Update) (e : State) → last ≡ last_of s.last_numbers d.id → selected_table s.received ≡ Some d → u.table ≡ d.id → name_of s.slots field ≡ u.name → Step s (messages.Update (sent_as last field u)) us e → us ≡ u ∷ []
