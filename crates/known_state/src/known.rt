@@ -324,9 +324,9 @@ impl Known {
         Ok(())
     }
 
-    /// Applies one update that is known to be legal, of which only its number and its name field matter: any update with
-    /// `number` and the name field `field` that fits then makes its step. Copies the name if the update writes one.
-    /// Allocates only for that name and for the first number of a table. After `Memory` nothing has changed.
+    /// Applies an update that is known to be legal, given its number and its name field: what it does depends on nothing
+    /// else. Copies the name if the update writes one. Allocates only for that name and for the first number of a table.
+    /// After `Memory` nothing has changed.
     pub fn follow_update(
         &mut self,
         number: Option<u32>,

@@ -18,7 +18,7 @@ use Rattle.peers_msg.specs.Fitting.{update_fits, name_fits, fits as message_fits
 use Rattle.known_state.specs.State.{State, Step, Teaches, IsOwn, Legal, resolved_number, name_of, reads_empty}
 use Rattle.known_state.specs.Effects.{refusal_of}
 use Rattle.known_state.specs.LastNumbers.{last_of}
-use Rattle.known_state.specs.Known.{KnownState, AreOwn, switch_refusal, update_refusal, IsTakenBy}
+use Rattle.known_state.specs.Known.{KnownState, AreOwn, switch_refusal, IsTakenBy}
 use Rattle.known_state.proofs.ReceivedIsOwn.{table_at-id, table_at-passes, define_selects}
 use Rattle.known_state.proofs.FitsOrIsRefused.{has_id-table_at, selected-id, selected-found, update_fits_received}
 use Rattle.known_state.proofs.NamedAsResolved.{named_so}

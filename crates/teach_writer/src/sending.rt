@@ -89,8 +89,9 @@ fn select(alloc: Global, known: &mut Known, id: u64, bytes: &mut Vec<u8>) -> Res
     Ok(stored)
 }
 
-/// Returns how the name of an update is sent, given whether its table stores names: if its request is kept, read from a
-/// slot that retains it, of which the likely slot is tried first, and otherwise written to the lowest free slot.
+/// Returns how the name of an update is sent: if its request is kept, read from a slot that retains it, of which the
+/// likely slot is tried first, and otherwise written to the lowest free slot. `stored` says whether the update's table
+/// stores names.
 fn name_field<'a>(
     retained: &Retained,
     slots: &Slots,
@@ -131,7 +132,8 @@ fn slot_of(field: NameFieldRef<'_>) -> Option<u8>
     }
 }
 
-/// Writes one update, whose table is selected, with the name field `field`.
+/// Writes one update, whose table is selected, with the name field `field`: appends its message to `bytes`, and applies
+/// it to what the learner knows.
 fn write_selected(
     known: &mut Known,
     update: &Update,
