@@ -1,16 +1,15 @@
 -- How acknowledgements are read, looked at and made.
 use Rattle.std.proofs.Common.{◌≡◌, ◌≤◌, ℕ, zero, suc, ◌+◌, ◌-◌, ◌<◌, cond, Bool, true, false, nat_le, ◌==◌, List, [], ◌∷◌, ◌++◌, length, length-append, filter_map, get_or, set, take, drop, Option, Some, None, is_some, is_none, option_and_then, count_by, Ok, refl, sym, ap, subst, ◌∙◌, arith, inl, inr, MatchBool}
 use Rattle.std.specs.List.{AllByRecursion}
-use Rattle.std.proofs.lemmas.Bool.{cases_Bool, cond-true, cond-false, leb-true, leb-false, false≢true, true≢false, eqb-true}
+use Rattle.std.proofs.lemmas.Bool.{cases_Bool, leb-true, leb-false, false≢true, true≢false, eqb-true}
 use Rattle.std.proofs.lemmas.List.{drop_at}
 use Rattle.std.proofs.lemmas.List.Sums.{sum_by-cons}
 use Rattle.std.proofs.lemmas.List.Elements.{filter_map-append}
 use Rattle.std.proofs.lemmas.Option.{same_Some}
-use Rattle.table_types.specs.Rosters.{has_id}
+use Rattle.table_types.specs.Tables.{Definition}
 use Rattle.table_types.specs.declared.copies.Settled.{Settled}
 use Rattle.peers_msg.specs.Integers.{IsBytes}
 use Rattle.peers_msg.specs.declared.message.Message.{Message}
-use Rattle.peers_msg.specs.declared.message.Message.TheVariants as messages
 use Rattle.peers_msg.specs.Decoding.{AreRead, Decoding, DecoderFeeds, DecoderNext, begun}
 use Rattle.peers_msg.specs.Reading.{message_at}
 use Rattle.peers_msg.specs.Received.{Received, nothing_received, received_after}
@@ -25,32 +24,10 @@ use Rattle.interleave_core.specs.declared.acks.Read.{Read}
 use Rattle.interleave_core.specs.Acks.{AreAcksOf, AreTaught, HasRoom, HaveRoom, IsTaught, is_of, pair_of, pairs_of}
 use Rattle.interleave_core.specs.Moves.{ack_in, acked, acked_all}
 use Rattle.interleave_core.specs.Parts.{IsCellAt}
-use Rattle.interleave_core.specs.Worlds.{cell_at, is_table, roster_of, with_cell}
+use Rattle.interleave_core.specs.Worlds.{cell_at, is_table, with_cell}
 use Rattle.interleave_core.proofs.Places.{some_none}
 use Rattle.interleave_core.proofs.TieCells.{at_here, at_there}
 use Rattle.interleave_core.proofs.Acknowledged.{all_are_taken, all_taken, made, none_from}
-
--- ---- the acknowledgement in a message
-
-has_is : (t : ℕ) (cells : List CellState) → has_id t (roster_of cells) ≡ is_some (cell_at t cells)
-has_is t [] = refl
-has_is t (c ∷ cs) = elim (cases_Bool (is_table t c)) [
-  | inl here ↦ rw here refl
-  | inr there ↦ rw there (has_is t cs)
-]
-
-cell_some : (t i : ℕ) (cells : List CellState) → IsCellAt t cells i → (c : CellState) × (cell_at t cells ≡ Some c)
-cell_some t i [] here = absurd (omega (arith, here.below))
-cell_some t i (c ∷ cs) here = (get_or (c ∷ cs) i c, here.here c)
-
-pub ack_of_none : (t number : ℕ) (cells : List CellState) → cell_at t cells ≡ None → ack_in (roster_of cells) (messages.Ack t number) ≡ None
-ack_of_none t number cells none =
-    cond-false (has_id t (roster_of cells)) (Some (t, number)) None (has_is t cells ∙ ap (λ (o : Option CellState). is_some o) none)
-
-pub ack_of_table : (t number i : ℕ) (cells : List CellState) → IsCellAt t cells i → ack_in (roster_of cells) (messages.Ack t number) ≡ Some (t, number)
-ack_of_table t number i cells here =
-    let found = cell_some t i cells here in
-    cond-true (has_id t (roster_of cells)) (Some (t, number)) None (has_is t cells ∙ ap (λ (o : Option CellState). is_some o) found.1)
 
 -- ---- reading
 
@@ -66,27 +43,31 @@ read_push before mid bytes left rest (n ∷ ms) m (after, first, others) at =
     (after, first, read_push (received_after before n) mid after left rest ms m others at)
 
 -- these messages were read of the bytes, and these are their acknowledgements of tables
-abbrev pub AreReadSoFar : List CellState → List ℕ → List Acknowledgement → Decoding → Type 0
-AreReadSoFar cells bytes acks d =
-    (ms : List Message) × AreRead nothing_received bytes ms d.received d.unread × (pairs_of acks ≡ filter_map (ack_in (roster_of cells)) ms)
+abbrev pub AreReadSoFar : List Definition → List ℕ → List Acknowledgement → Decoding → Type 0
+AreReadSoFar roster bytes acks d =
+    (ms : List Message) × AreRead nothing_received bytes ms d.received d.unread × (pairs_of acks ≡ filter_map (ack_in roster) ms)
 
-pub none_read : (cells : List CellState) (bytes : List ℕ) (acks : List Acknowledgement) (d e : Decoding) → d ≡ begun nothing_received → DecoderFeeds d bytes (Ok tt) e → acks ≡ []
-    → AreReadSoFar cells bytes acks e
-none_read cells bytes acks d e new (is_open, fed) none =
-    let received : e.received ≡ nothing_received = ap (λ (x : Decoding). x.received) fed ∙ ap (λ (x : Decoding). x.received) new in
-    let unread : e.unread ≡ bytes = ap (λ (x : Decoding). x.unread) fed ∙ ap (λ (x : Decoding). x.unread ++ bytes) new in
-    ([], (received, unread), ap (λ (xs : List Acknowledgement). pairs_of xs) none)
+-- a decoder that was fed bytes, and then more
+pub fed_twice : (first more : List ℕ) (new mid e : Decoding) → new ≡ begun nothing_received → DecoderFeeds new first (Ok tt) mid → DecoderFeeds mid more (Ok tt) e
+    → e ≡ record (begun nothing_received) { unread = first ++ more }
+fed_twice first more new mid e is (opened, one) (still, two) =
+    two ∙ ap (λ (x : Decoding). record x { unread = x.unread ++ more; closed = false }) one ∙ ap (λ (x : Decoding). record x { unread = (x.unread ++ first) ++ more; closed = false }) is
 
-pub one_read : (cells : List CellState) (bytes : List ℕ) (acks more : List Acknowledgement) (d e : Decoding) (m : Message) → AreReadSoFar cells bytes acks d
-    → DecoderNext d (Ok (Some m)) e → pairs_of more ≡ pairs_of acks ++ filter_map (ack_in (roster_of cells)) (m ∷ []) → AreReadSoFar cells bytes more e
-one_read cells bytes acks more d e m (ms, read, same) (is_open, rest, at, is) added =
+pub none_read : (roster : List Definition) (bytes : List ℕ) (acks : List Acknowledgement) (d : Decoding) → d ≡ record (begun nothing_received) { unread = bytes } → acks ≡ []
+    → AreReadSoFar roster bytes acks d
+none_read roster bytes acks d is none =
+    ([], (ap (λ (x : Decoding). x.received) is, ap (λ (x : Decoding). x.unread) is), ap (λ (xs : List Acknowledgement). pairs_of xs) none)
+
+pub one_read : (roster : List Definition) (bytes : List ℕ) (acks more : List Acknowledgement) (d e : Decoding) (m : Message) → AreReadSoFar roster bytes acks d
+    → DecoderNext d (Ok (Some m)) e → pairs_of more ≡ pairs_of acks ++ filter_map (ack_in roster) (m ∷ []) → AreReadSoFar roster bytes more e
+one_read roster bytes acks more d e m (ms, read, same) (is_open, rest, at, is) added =
     let next : AreRead nothing_received bytes (ms ++ m ∷ []) (received_after d.received m) rest = read_push nothing_received d.received bytes d.unread rest ms m read at in
     let here : AreRead nothing_received bytes (ms ++ m ∷ []) e.received e.unread =
     subst (λ (x : Decoding). AreRead nothing_received bytes (ms ++ m ∷ []) x.received x.unread) (sym is) next in (
       ms ++ m ∷ [],
       here,
-      added ∙ ap (λ (ps : List (ℕ × ℕ)). ps ++ filter_map (ack_in (roster_of cells)) (m ∷ [])) same
-          ∙ sym (filter_map-append (ack_in (roster_of cells)) ms (m ∷ [])),
+      added ∙ ap (λ (ps : List (ℕ × ℕ)). ps ++ filter_map (ack_in roster) (m ∷ [])) same
+          ∙ sym (filter_map-append (ack_in roster) ms (m ∷ [])),
     )
 
 end_is_bytes : (xs ys : List ℕ) → IsBytes (xs ++ ys) → IsBytes ys
@@ -94,9 +75,9 @@ end_is_bytes [] ys good = good
 end_is_bytes (x ∷ xs) ys good = end_is_bytes xs ys (λ i. good (suc i))
 
 -- the unread bytes are an end of all bytes
-unread_end : (cells : List CellState) (bytes : List ℕ) (acks : List Acknowledgement) (d : Decoding) → IsBytes bytes → AreReadSoFar cells bytes acks d
+unread_end : (roster : List Definition) (bytes : List ℕ) (acks : List Acknowledgement) (d : Decoding) → IsBytes bytes → AreReadSoFar roster bytes acks d
     → (drop (length bytes - length d.unread) bytes ≡ d.unread) × (length d.unread ≤ length bytes) × IsBytes d.unread
-unread_end cells bytes acks d good (ms, read, same) =
+unread_end roster bytes acks d good (ms, read, same) =
     let is : bytes ≡ stream_of ms ++ d.unread = (read_spelled nothing_received d.received bytes d.unread ms good read).0 in
     let sizes : length bytes ≡ length (stream_of ms) + length d.unread = ap (λ (x : List ℕ). length x) is ∙ length-append (stream_of ms) d.unread in
     let from : length (stream_of ms) ≡ length bytes - length d.unread = omega (arith, sizes) in (
@@ -105,19 +86,19 @@ unread_end cells bytes acks d good (ms, read, same) =
       end_is_bytes (stream_of ms) d.unread (subst IsBytes is good),
     )
 
-pub unread_shorter : (cells : List CellState) (bytes : List ℕ) (acks : List Acknowledgement) (d e : Decoding) (m : Message) → IsBytes bytes → AreReadSoFar cells bytes acks d
+pub unread_shorter : (roster : List Definition) (bytes : List ℕ) (acks : List Acknowledgement) (d e : Decoding) (m : Message) → IsBytes bytes → AreReadSoFar roster bytes acks d
     → DecoderNext d (Ok (Some m)) e → length e.unread < length d.unread
-unread_shorter cells bytes acks d e m good read (is_open, rest, at, is) =
-    let shorter : length rest < length d.unread = (rest_is_end d.received m d.unread rest (unread_end cells bytes acks d good read).2 at).1 in
+unread_shorter roster bytes acks d e m good read (is_open, rest, at, is) =
+    let shorter : length rest < length d.unread = (rest_is_end d.received m d.unread rest (unread_end roster bytes acks d good read).2 at).1 in
     subst (λ (x : Decoding). length x.unread < length d.unread) (sym is) shorter
 
-pub unread_fewer : (cells : List CellState) (bytes : List ℕ) (acks : List Acknowledgement) (d e : Decoding) → IsBytes bytes → AreReadSoFar cells bytes acks d → e ≡ d → length e.unread ≤ length bytes
-unread_fewer cells bytes acks d e good read is = subst (λ (x : Decoding). length x.unread ≤ length bytes) (sym is) (unread_end cells bytes acks d good read).1
+pub unread_fewer : (roster : List Definition) (bytes : List ℕ) (acks : List Acknowledgement) (d e : Decoding) → IsBytes bytes → AreReadSoFar roster bytes acks d → e ≡ d → length e.unread ≤ length bytes
+unread_fewer roster bytes acks d e good read is = subst (λ (x : Decoding). length x.unread ≤ length bytes) (sym is) (unread_end roster bytes acks d good read).1
 
-pub all_read : (cells : List CellState) (bytes : List ℕ) (read : Read) (d e : Decoding) → IsBytes bytes → AreReadSoFar cells bytes read.acks.items d → DecoderNext d (Ok None) e
-    → read.used ≡ length bytes - length e.unread → AreAcksOf cells bytes read
-all_read cells bytes read d e good so_far (is_open, none, is) used =
-    let end = unread_end cells bytes read.acks.items d good so_far in
+pub all_read : (roster : List Definition) (bytes : List ℕ) (read : Read) (d e : Decoding) → IsBytes bytes → AreReadSoFar roster bytes read.acks.items d → DecoderNext d (Ok None) e
+    → read.used ≡ length bytes - length e.unread → AreAcksOf roster bytes read
+all_read roster bytes read d e good so_far (is_open, none, is) used =
+    let end = unread_end roster bytes read.acks.items d good so_far in
     let there : read.used ≡ length bytes - length d.unread = used ∙ ap (λ (x : Decoding). length bytes - length x.unread) is in
     let left : drop read.used bytes ≡ d.unread = ap (λ (n : ℕ). drop n bytes) there ∙ end.0 in
     record {

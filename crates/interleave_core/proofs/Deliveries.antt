@@ -15,7 +15,7 @@ use Rattle.interleave_core.specs.Acks.{AreAcksOf, pairs_of}
 use Rattle.interleave_core.specs.Kept.{IsOnTrack}
 use Rattle.interleave_core.specs.Moves.{ArrivesAtLearner, ArrivesAtTeacher, IsArrived, IsFed, IsReadBy, acked_all}
 use Rattle.interleave_core.specs.Parts.{IsConnectionAt, connection_of, connections_of}
-use Rattle.interleave_core.specs.Worlds.{ConnectionState, WorldState, connection_at, with_connection}
+use Rattle.interleave_core.specs.Worlds.{ConnectionState, WorldState, connection_at, roster_of, with_connection}
 use Rattle.interleave_core.proofs.OnTrack.{delivered}
 use Rattle.interleave_core.proofs.Places.{connection_changed, connection_found}
 
@@ -102,46 +102,46 @@ too_few_for_teacher session count i cells cs old here is few =
     subst (λ (o : Option ConnectionState). ArrivesAtTeacher session count o w w) (sym (connection_found session cs i old here is))
     (match_false (nat_le count (length s.to_teacher)) (IsReadBy session (s.unread ++ take count s.to_teacher) (drop count s.to_teacher) s w w) (w ≡ w) (lt-leb count (length s.to_teacher) few) refl)
 
+-- the bytes that the teacher has once the next `count` have arrived
+abbrev arrived_bytes : ℕ → Connection → List ℕ
+arrived_bytes count old = old.unread ++ take count old.to_teacher
+
 -- the bytes are read, and what follows from their acknowledgements stands
-arrived_as : (session count i : ℕ) (cells : List CellState) (cs : List Connection) (old : Connection) (e : WorldState) (bytes : List ℕ) (read : Read) (after : Option (List CellState))
-    → IsConnectionAt session cs i → old ≡ get_or cs i old → count ≤ length old.to_teacher → bytes ≡ old.unread ++ take count old.to_teacher → AreAcksOf cells bytes read
+arrived_as : (session count i : ℕ) (cells : List CellState) (cs : List Connection) (old : Connection) (e : WorldState) (read : Read) (after : Option (List CellState))
+    → IsConnectionAt session cs i → old ≡ get_or cs i old → count ≤ length old.to_teacher → AreAcksOf (roster_of cells) (arrived_bytes count old) read
     → acked_all session (pairs_of read.acks.items) cells ≡ after
-    → IsArrived session (drop count old.to_teacher) (drop read.used bytes) after (connection_of old) (world_with cells cs) e
+    → IsArrived session (drop count old.to_teacher) (drop read.used (arrived_bytes count old)) after (connection_of old) (world_with cells cs) e
     → ArrivesAtTeacher session count (connection_at session (connections_of cs)) (world_with cells cs) e
-arrived_as session count i cells cs old e bytes read after here is there bytes_are good acks so =
+arrived_as session count i cells cs old e read after here is there good acks so =
     let w : WorldState = world_with cells cs in
     let s : ConnectionState = connection_of old in
     let answer = ap (λ (ps : List (ℕ × ℕ)). acked_all session ps cells) (sym good.messages.4) ∙ acks in
+    let bytes : List ℕ = arrived_bytes count old in
     let rest : List ℕ = drop count s.to_teacher in
     let left : List ℕ = drop read.used bytes in
     let reads : IsReadBy session bytes rest s w e =
     (good.messages.0, good.messages.1, left, good.messages.2, good.messages.3, subst (λ (o : Option (List CellState)). IsArrived session rest left o s w e) (sym answer) so) in
     subst (λ (o : Option ConnectionState). ArrivesAtTeacher session count o w e) (sym (connection_found session cs i old here is))
-    (match_true (nat_le count (length s.to_teacher)) (IsReadBy session (s.unread ++ take count s.to_teacher) rest s w e) (e ≡ w) (le-leb count (length s.to_teacher) there)
-    (subst (λ (x : List ℕ). IsReadBy session x rest s w e) bytes_are reads))
+    (match_true (nat_le count (length s.to_teacher)) (IsReadBy session bytes rest s w e) (e ≡ w) (le-leb count (length s.to_teacher) there) reads)
 
 -- a table refuses one of the acknowledgements
-pub refused : (session count i : ℕ) (cells : List CellState) (cs : List Connection) (old : Connection) (bytes : List ℕ) (read : Read)
-    → IsConnectionAt session cs i → old ≡ get_or cs i old → count ≤ length old.to_teacher → bytes ≡ old.unread ++ take count old.to_teacher → AreAcksOf cells bytes read
+pub refused : (session count i : ℕ) (cells : List CellState) (cs : List Connection) (old : Connection) (read : Read)
+    → IsConnectionAt session cs i → old ≡ get_or cs i old → count ≤ length old.to_teacher → AreAcksOf (roster_of cells) (arrived_bytes count old) read
     → acked_all session (pairs_of read.acks.items) cells ≡ None
     → ArrivesAtTeacher session count (connection_at session (connections_of cs)) (world_with cells cs) (world_with cells cs)
-refused session count i cells cs old bytes read here is there bytes_are good none =
-    arrived_as session count i cells cs old (world_with cells cs) bytes read None here is there bytes_are good none refl
+refused session count i cells cs old read here is there good none = arrived_as session count i cells cs old (world_with cells cs) read None here is there good none refl
 
 -- the tables take them
-pub arrived_at_teacher : (session count i : ℕ) (cells after : List CellState) (cs : List Connection) (old new : Connection) (bytes : List ℕ) (read : Read)
-    → IsConnectionAt session cs i → old ≡ get_or cs i old → count ≤ length old.to_teacher → bytes ≡ old.unread ++ take count old.to_teacher → AreAcksOf cells bytes read
+pub arrived_at_teacher : (session count i : ℕ) (cells after : List CellState) (cs : List Connection) (old new : Connection) (read : Read)
+    → IsConnectionAt session cs i → old ≡ get_or cs i old → count ≤ length old.to_teacher → AreAcksOf (roster_of cells) (arrived_bytes count old) read
     → acked_all session (pairs_of read.acks.items) cells ≡ Some after
-    → connection_of new ≡ record (connection_of old) { to_teacher = drop count old.to_teacher; unread = drop read.used (old.unread ++ take count old.to_teacher) }
+    → connection_of new ≡ record (connection_of old) { to_teacher = drop count old.to_teacher; unread = drop read.used (arrived_bytes count old) }
     → ArrivesAtTeacher session count (connection_at session (connections_of cs)) (world_with cells cs) (world_with after (set cs i new))
-arrived_at_teacher session count i cells after cs old new bytes read here is there bytes_are good acks changed =
+arrived_at_teacher session count i cells after cs old new read here is there good acks changed =
     let s : ConnectionState = connection_of old in
-    let left : drop read.used (old.unread ++ take count old.to_teacher) ≡ drop read.used bytes = ap (drop read.used) (sym bytes_are) in
-    let becomes : connection_of new ≡ record s { to_teacher = drop count s.to_teacher; unread = drop read.used bytes } =
-    changed ∙ ap (λ (x : List ℕ). record s { to_teacher = drop count s.to_teacher; unread = x }) left in
-    let connections : connections_of (set cs i new) ≡ with_connection session (record s { to_teacher = drop count s.to_teacher; unread = drop read.used bytes }) (connections_of cs) =
-    connection_changed session cs i new here ∙ ap (λ (x : ConnectionState). with_connection session x (connections_of cs)) becomes in
-    arrived_as session count i cells cs old (world_with after (set cs i new)) bytes read (Some after) here is there bytes_are good acks
+    let connections : connections_of (set cs i new) ≡ with_connection session (record s { to_teacher = drop count s.to_teacher; unread = drop read.used (arrived_bytes count old) }) (connections_of cs) =
+    connection_changed session cs i new here ∙ ap (λ (x : ConnectionState). with_connection session x (connections_of cs)) changed in
+    arrived_as session count i cells cs old (world_with after (set cs i new)) read (Some after) here is there good acks
     (ap (λ (x : List ConnectionState). record { cells = after; connections = x }) connections)
 
 pub none_of : {A : Type 0} (o : Option A) → is_some o ≡ false → o ≡ None

@@ -30,5 +30,6 @@ pub mod WorldPlaces
 pub mod WorldSteps
 pub mod WorldTold
 pub mod WorldTracks
+pub mod StepsOnTrack
 pub mod WorldNew
 pub mod InOrder

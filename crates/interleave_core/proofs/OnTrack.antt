@@ -17,8 +17,9 @@ use Rattle.learner.specs.Rows.{put_all}
 use Rattle.interleave_core.specs.Kept.{IsOnTrack}
 use Rattle.interleave_core.specs.Moves.{IsFed, acknowledges}
 use Rattle.learner.proofs.LegalStreamIsTaught.{once_named}
+use Rattle.learner.proofs.StaysOnItsWay.{at_the_end, fed}
 use Rattle.interleave_core.specs.Worlds.{ConnectionState, new_connection}
-use Rattle.interleave_core.proofs.OnItsWay.{at_the_end, fed, longer}
+use Rattle.interleave_core.proofs.OnItsWay.{longer}
 
 -- a lesson of the oldest batch goes into the pipe
 pub taught : (roster : List Definition) (s : ConnectionState) (batch : List Update) (rest : List (List Update)) (bytes : List ℕ) (after : KnownState)
@@ -56,18 +57,18 @@ delivered roster s now count answer l track feeds unless =
     let way : IsOnItsWay s.learner (piece ++ more) ms to_come s.known.state =
     subst (λ (x : List ℕ). IsOnItsWay s.learner x ms to_come s.known.state) (sym (take-append-drop count s.to_learner)) track.way.2 in
     let learned = fed now s.learner l piece more ms to_come s.known.state answer way feeds unless in
-    let split : s.taught ≡ (s.applied ++ learned.2) ++ learned.3 =
-    track.way.3 ∙ ap (λ (x : List Update). s.applied ++ x) learned.4 ∙ sym (append_assoc s.applied learned.2 learned.3) in (
+    let split : s.taught ≡ (s.applied ++ learned.1) ++ learned.5.1 =
+    track.way.3 ∙ ap (λ (x : List Update). s.applied ++ x) learned.5.3 ∙ sym (append_assoc s.applied learned.1 learned.5.1) in (
+      learned.1,
+      learned.5.1,
       learned.2,
-      learned.3,
-      learned.5,
       split,
-      (learned.0, learned.2, l, learned.6, learned.7, refl),
+      (learned.0, learned.1, l, learned.3, learned.4, refl),
       record {
         known = track.known;
-        learner = learned.8 ∙ track.learner;
+        learner = learned.5.6 ∙ track.learner;
         batches = track.batches;
-        way = (learned.1, learned.3, learned.10, split);
+        way = (learned.5.0, learned.5.1, learned.5.8, split);
       },
     )
 
@@ -107,7 +108,7 @@ arrived roster s now answer l track feeds unless =
     let way : IsOnItsWay s.learner (s.to_learner ++ []) ms to_come s.known.state =
     subst (λ (x : List ℕ). IsOnItsWay s.learner x ms to_come s.known.state) (sym (append-nil s.to_learner)) track.way.2 in
     let learned = fed now s.learner l s.to_learner [] ms to_come s.known.state answer way feeds unless in
-    let ended = at_the_end l learned.1 learned.3 s.known.state learned.10 learned.7 in
-    let all : to_come ≡ learned.2 = learned.4 ∙ ap (λ (x : List Update). learned.2 ++ x) ended.0 ∙ append-nil learned.2 in
-    let rows : l.rows ≡ put_all now roster learned.2 s.learner.rows = learned.9 ∙ ap (λ (ds : List Definition). put_all now ds learned.2 s.learner.rows) track.learner in
-    (learned.2, learned.5, track.way.3 ∙ ap (λ (x : List Update). s.applied ++ x) all, rows, ended.1, ended.2)
+    let ended = at_the_end l learned.5.0 learned.5.1 s.known.state learned.5.8 learned.4 in
+    let all : to_come ≡ learned.1 = learned.5.3 ∙ ap (λ (x : List Update). learned.1 ++ x) ended.0 ∙ append-nil learned.1 in
+    let rows : l.rows ≡ put_all now roster learned.1 s.learner.rows = learned.5.7 ∙ ap (λ (ds : List Definition). put_all now ds learned.1 s.learner.rows) track.learner in
+    (learned.1, learned.2, track.way.3 ∙ ap (λ (x : List Update). s.applied ++ x) all, rows, ended.1, ended.2)

@@ -10,6 +10,7 @@ use Rattle.table_types.specs.declared.update.Update.{Update}
 use Rattle.known_state.specs.Known.{KnownState}
 use Rattle.known_state.specs.Lessons.{IsLessonFor}
 use Rattle.known_state.specs.Shortest.{Shortest}
+use Rattle.teach_writer.proofs.LessonsAppend.{shortest_lesson}
 use Rattle.table_cell.specs.declared.errors.CloseError.{CloseError}
 use Rattle.table_cell.specs.declared.errors.CopyError.{CopyError}
 use Rattle.table_cell.specs.declared.errors.CopyError.TheVariants as uncopied
@@ -26,7 +27,6 @@ use Rattle.interleave_core.specs.Moves.{AtTable, Calls, LearnsFor, Moves, Teache
 use Rattle.interleave_core.specs.Worlds.{ConnectionState, WorldState, cell_at, connection_at, with_cell, with_connection, with_session, without_session}
 use Rattle.interleave_core.proofs.Acknowledged.{made, takes_it}
 use Rattle.interleave_core.proofs.Copying.{in_range}
-use Rattle.interleave_core.proofs.Teaching.{shortest_lesson}
 
 pub learned_for : (session now : ℕ) (u : Update) (o : Option ConnectionState) (w e : WorldState) → (o ≡ None → ⊥)
     → AtTable (Calls (λ c r x. Learns c session u now r x) unlearned.Memory) u.table w e → LearnsFor session u now o w e

@@ -3,23 +3,13 @@ use Rattle.std.proofs.Common.{◌≡◌, ℕ, min, List, [], ◌∷◌, ◌++◌
 use Rattle.std.proofs.lemmas.List.{take-append-le, take_min}
 use Rattle.std.proofs.lemmas.Option.{none-some, same_Some}
 use Rattle.peers_msg.specs.Integers.{IsBytes}
-use Rattle.peers_msg.specs.declared.message.Message.{Message}
-use Rattle.peers_msg.specs.Spelling.{stream_of}
 use Rattle.table_types.specs.declared.update.Update.{Update}
 use Rattle.known_state.specs.Known.{KnownState}
-use Rattle.known_state.specs.Lessons.{IsLessonFor}
-use Rattle.known_state.specs.Shortest.{Shortest}
-use Rattle.known_state.proofs.ShortestByBytes.{same_bytes}
-use Rattle.interleave_core.specs.Moves.{IsShortestLesson, TeachesOldest}
+use Rattle.teach_writer.specs.Lessons.{IsShortestLesson}
+use Rattle.interleave_core.specs.Moves.{TeachesOldest}
 use Rattle.interleave_core.specs.declared.connection.Connection.{Connection}
 use Rattle.interleave_core.specs.Parts.{connection_of}
 use Rattle.interleave_core.specs.Worlds.{ConnectionState}
-
--- a lesson that has the bytes of a shortest one is a shortest one
-pub shortest_lesson : (known after : KnownState) (batch : List Update) (bytes : List ℕ) → IsLessonFor known batch bytes after
-    → ((ns : List Message) × (bytes ≡ stream_of ns) × Shortest known batch ns) → IsShortestLesson known batch bytes after
-shortest_lesson known after batch bytes (ms, spelled_out, legal, same) (ns, others, shortest) =
-    (ms, spelled_out, legal, same, same_bytes known batch ms ns after.state legal shortest (sym spelled_out ∙ others))
 
 -- the updates put are the same if more were taught
 put_before : (applied count : ℕ) (taught batch : List Update) → count ≡ min applied (length taught)

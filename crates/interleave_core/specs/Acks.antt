@@ -1,6 +1,7 @@
 -- Acknowledgements that arrive at a teacher, and the tables that take them (profile).
 use Rattle.std.specs.Prelude.{◌≡◌, ◌≤◌, ℕ, Bool, false, ◌==◌, List, drop, filter_map, length, map, None, Ok, Some}
 use Rattle.std.specs.List.{AllByRecursion, count_by}
+use Rattle.table_types.specs.Tables.{Definition}
 use Rattle.peers_msg.specs.declared.message.Message.{Message}
 use Rattle.peers_msg.specs.Decoding.{AreRead}
 use Rattle.peers_msg.specs.Reading.{message_at}
@@ -10,7 +11,7 @@ use Rattle.table_cell.specs.Machine.{ack_refusal}
 use Rattle.interleave_core.specs.declared.acks.Acknowledgement.{Acknowledgement}
 use Rattle.interleave_core.specs.declared.acks.Read.{Read}
 use Rattle.interleave_core.specs.Moves.{ack_in}
-use Rattle.interleave_core.specs.Worlds.{cell_at, roster_of}
+use Rattle.interleave_core.specs.Worlds.{cell_at}
 
 -- ---- what arrives
 
@@ -24,13 +25,14 @@ pairs_of acks = map pair_of acks
 abbrev pub is_of : ℕ → Acknowledgement → Bool
 is_of table ack = ack.table == table
 
--- the whole messages at the front of the bytes have `used` bytes, and these are the acknowledgements of tables among them
-pub record AreAcksOf (cells : List CellState) (bytes : List ℕ) (read : Read) : Type 0 where
+-- the whole messages at the front of the bytes have `used` bytes, and these are the acknowledgements of the roster's tables among
+-- them
+pub record AreAcksOf (roster : List Definition) (bytes : List ℕ) (read : Read) : Type 0 where
   pub within : read.used ≤ length bytes
   pub messages : (ms : List Message) × (received : Received)
       × AreRead nothing_received bytes ms received (drop read.used bytes)
       × (message_at received (drop read.used bytes) ≡ Ok None)
-      × (pairs_of read.acks.items ≡ filter_map (ack_in (roster_of cells)) ms)
+      × (pairs_of read.acks.items ≡ filter_map (ack_in roster) ms)
 
 -- ---- what tables take
 

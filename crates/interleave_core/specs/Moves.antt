@@ -3,20 +3,18 @@ use Rattle.std.specs.Prelude.{◌≡◌, ◌≢◌, ℕ, ◌&&◌, nat_le, Match
 use Rattle.std.specs.List.{list_any}
 use Rattle.table_types.specs.declared.copies.CopyKind.{CopyKind}
 use Rattle.table_types.specs.declared.update.Update.{Update}
-use Rattle.table_types.specs.Rosters.{has_id}
 use Rattle.table_types.specs.Tables.{Definition}
 use Rattle.peers_msg.specs.Integers.{IsBytes}
 use Rattle.peers_msg.specs.declared.message.Message.{Message}
-use Rattle.peers_msg.specs.declared.message.Message.TheVariants as messages
 use Rattle.peers_msg.specs.Decoding.{AreRead}
 use Rattle.peers_msg.specs.Reading.{message_at}
 use Rattle.peers_msg.specs.Received.{Received, nothing_received}
 use Rattle.peers_msg.specs.Spelling.{stream_of}
 use Rattle.known_state.specs.Known.{KnownState}
-use Rattle.known_state.specs.Shortest.{Shortest}
-use Rattle.known_state.specs.State.{Legal}
-use Rattle.learner.specs.Intake.{due_acks}
+use Rattle.learner.specs.Intake.{answer_of, due_acks}
 use Rattle.learner.specs.Learning.{AreLearned, IsWaiting, Learning, with_piece}
+use Rattle.session_core.specs.Acks.{ack_of}
+use Rattle.teach_writer.specs.Lessons.{IsShortestLesson}
 use Rattle.table_cell.specs.declared.errors.CopyError.{CopyError}
 use Rattle.table_cell.specs.declared.errors.CopyError.TheVariants as uncopied
 use Rattle.table_cell.specs.declared.errors.LearnError.TheVariants as unlearned
@@ -78,13 +76,6 @@ CopiesFor session table kind limit now (Some c) (Some s) w e =
     × (e ≡ record { cells = with_cell table after w.cells; connections = with_connection session (record s { copied = with_batch s.copied answer }) w.connections })
 CopiesFor session table kind limit now cell connection w e = e ≡ w
 
--- The bytes spell messages that are legal from the known state, carry the batch, and lead to the known state after, which has
--- the same roster. They are among the shortest that do.
-abbrev pub IsShortestLesson : KnownState → List Update → List ℕ → KnownState → Type 0
-IsShortestLesson known batch bytes after =
-    (ms : List Message) × (bytes ≡ stream_of ms) × Legal known.roster known.state ms batch after.state × (after.roster ≡ known.roster)
-    × Shortest known batch ms
-
 -- the oldest batch that waits, if there is one, is taught by a shortest lesson
 abbrev pub TeachesOldest : List (List Update) → ConnectionState → ConnectionState → Type 0
 TeachesOldest [] s e = e ≡ s
@@ -108,8 +99,7 @@ ArrivesAtLearner count now s e =
 
 -- the table and the number of an acknowledgement of a table of the roster
 abbrev pub ack_in : List Definition → Message → Option (ℕ × ℕ)
-ack_in roster (messages.Ack table number) = if has_id table roster then Some (table, number) else None
-ack_in roster m = None
+ack_in roster m = ack_of roster (answer_of m)
 
 -- the table after an acknowledgement, unless the table refuses it
 abbrev pub acked : ℕ → ℕ → CellState → Option CellState

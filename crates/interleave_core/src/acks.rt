@@ -2,17 +2,20 @@
 
 ghost use Rattle.std.specs.Prelude.{◌≡◌, ◌++◌, ◌∷◌, [], IfOk, MatchBool, Ok, OnOk, Some, filter_map, is_some, option_and_then, option_map, true};
 ghost use Rattle.std.specs.List.{count_by};
-ghost use Rattle.peers_msg.specs.Decoding.{DecoderNext};
+ghost use Rattle.peers_msg.specs.Decoding.{DecoderNext, begun};
+ghost use Rattle.peers_msg.specs.Received.{nothing_received};
 ghost use Rattle.table_cell.specs.Histories.{CellState};
 ghost use Rattle.interleave_core.specs.Acks.{AreAcksOf, AreTaught, HasRoom, HaveRoom, IsTaught, is_of, pair_of, pairs_of};
 ghost use Rattle.interleave_core.specs.Moves.{ack_in, acked, acked_all};
-ghost use Rattle.interleave_core.specs.Worlds.{cell_at, roster_of, with_cell};
+ghost use Rattle.interleave_core.specs.Worlds.{cell_at, with_cell};
 
 use crate::cells::index_of;
+use learner::Taken;
 use peers_msg::{Decoder, Message};
+use session_core::ack_of;
 use std::alloc::Global;
 use table_cell::TableCell;
-use table_types::Memory;
+use table_types::{Memory, Roster};
 
 /// An acknowledgement of a table.
 #[derive(Clone, Copy, Debug)]
@@ -28,37 +31,52 @@ pub(crate) struct Read {
     pub(crate) used: usize,
 }
 
-/// Returns the acknowledgement in `message`, if it is one of a table.
-fn acknowledged(cells: &[TableCell], message: &Message) -> Option<Acknowledgement>
-    ensures { option_map pair_of result ≡ ack_in (roster_of cells.now) message.now }
+/// Returns the acknowledgement in `message`, if it is one of a table of `roster`.
+fn acknowledged(roster: &Roster, message: &Message) -> Option<Acknowledgement>
+    ensures { option_map pair_of result ≡ ack_in roster.now message.now }
 {
     match message {
         Message::Ack { table, number } => {
-            index_of(cells, *table)?;
-            Some(Acknowledgement {
+            let taken = Taken::Acked {
                 table: *table,
                 number: *number,
-            })
+            };
+            let (table, number) = ack_of(&taken, roster)?;
+            Some(Acknowledgement { table, number })
         }
         _ => None,
     }
 }
 
-/// Appends the acknowledgement in `message`, if it is one of a table.
+/// Appends the acknowledgement in `message`, if it is one of a table of `roster`.
 fn append_ack(
     acks: &mut Vec<Acknowledgement>,
-    cells: &[TableCell],
+    roster: &Roster,
     message: Message,
 ) -> Result<(), Memory>
-    ensures { OnOk result (pairs_of acks.new.items ≡ pairs_of acks.old.items ++ filter_map (ack_in (roster_of cells.now)) (message ∷ [])) }
+    ensures { OnOk result (pairs_of acks.new.items ≡ pairs_of acks.old.items ++ filter_map (ack_in roster.now) (message ∷ [])) }
 {
-    match acknowledged(cells, &message) {
+    match acknowledged(roster, &message) {
         Some(ack) => {
             acks.push(ack)?;
             Ok(())
         }
         None => Ok(()),
     }
+}
+
+/// Returns a decoder that was fed `first` and then `more`.
+fn fed(alloc: Global, first: &[u8], more: &[u8]) -> Result<Decoder, Memory>
+    ensures { IfOk result (λ decoder. decoder ≡ record (begun nothing_received) { unread = first.now ++ more.now }) }
+{
+    let mut decoder = Decoder::new(alloc);
+    let Ok(()) = decoder.feed(first) else {
+        return Err(Memory);
+    };
+    let Ok(()) = decoder.feed(more) else {
+        return Err(Memory);
+    };
+    Ok(decoder)
 }
 
 /// Returns the next message, or `None` while it isn't whole. Fails with `Memory` at a breach too; the bytes of
@@ -72,19 +90,22 @@ fn next(decoder: &mut Decoder) -> Result<Option<Message>, Memory>
     }
 }
 
-/// Reads the whole messages at the front of `bytes`.
-pub(crate) fn read_acks(alloc: Global, cells: &[TableCell], bytes: &[u8]) -> Result<Read, Memory>
-    ensures { IfOk result (λ read. AreAcksOf cells.now bytes.now read) }
+/// Reads the whole messages at the front of `unread` and `piece`, which follow one another.
+pub(crate) fn read_acks(
+    alloc: Global,
+    roster: &Roster,
+    unread: &[u8],
+    piece: &[u8],
+) -> Result<Read, Memory>
+    ensures { IfOk result (λ read. AreAcksOf roster.now (unread.now ++ piece.now) read) }
 {
-    let mut decoder = Decoder::new(alloc);
-    let Ok(()) = decoder.feed(bytes) else {
-        return Err(Memory);
-    };
+    let mut decoder = fed(alloc, unread, piece)?;
+    let arrived = decoder.waiting();
     let mut acks = Vec::new(alloc);
     while let Some(message) = next(&mut decoder)? {
-        append_ack(&mut acks, cells, message)?;
+        append_ack(&mut acks, roster, message)?;
     }
-    let used = bytes.len() - decoder.waiting();
+    let used = arrived - decoder.waiting();
     Ok(Read { acks, used })
 }
 

@@ -6,8 +6,9 @@ ghost use Rattle.table_types.specs.Batches.{IsBatchFor};
 ghost use Rattle.table_types.specs.Tables.{Definition};
 ghost use Rattle.peers_msg.specs.Integers.{IsBytes};
 ghost use Rattle.peers_msg.specs.Spelling.{stream_of};
+ghost use Rattle.teach_writer.specs.Lessons.{IsShortestLesson};
 ghost use Rattle.interleave_core.specs.Kept.{IsOnTrack};
-ghost use Rattle.interleave_core.specs.Moves.{ArrivesAtLearner, IsShortestLesson, TeachesOldest, acknowledges};
+ghost use Rattle.interleave_core.specs.Moves.{ArrivesAtLearner, TeachesOldest, acknowledges};
 ghost use Rattle.interleave_core.specs.Parts.{IsConnectionAt, connection_of, connections_of};
 ghost use Rattle.interleave_core.specs.Worlds.{connection_at, new_connection};
 
@@ -97,8 +98,8 @@ fn send(pipe: &mut Unread, bytes: &[u8]) -> Result<(), Memory>
 
 impl Connection {
     /// Returns a new connection: the learner has received nothing, and nothing is on its way.
-    pub(crate) fn new(alloc: Global, roster: &Roster) -> Result<Connection, Memory>
-        ensures { IfOk result (λ connection. connection_of connection ≡ new_connection roster.now) }
+    pub(crate) fn new(alloc: Global, roster: Roster) -> Result<Connection, Memory>
+        ensures { IfOk result (λ connection. connection_of connection ≡ new_connection roster) }
     {
         Ok(Connection {
             known: Known::fresh(alloc, roster.copy(alloc)?),
@@ -108,7 +109,7 @@ impl Connection {
             to_learner: Unread::new(alloc),
             to_teacher: Unread::new(alloc),
             unread: Unread::new(alloc),
-            learner: Learner::new(alloc, roster.copy(alloc)?)?,
+            learner: Learner::new(alloc, roster)?,
         })
     }
 
@@ -162,17 +163,6 @@ impl Connection {
         self.applied = self.applied.saturating_add(rows);
         self.to_learner.advance(count);
         Ok(())
-    }
-
-    /// Returns the bytes that the teacher hasn't read, followed by the next `count` on their way to it.
-    pub(crate) fn arriving(&self, alloc: Global, count: usize) -> Result<Vec<u8>, Memory>
-        requires { count ≤ length self.now.to_teacher }
-        ensures { IfOk result (λ bytes. bytes.items ≡ self.now.unread ++ take count self.now.to_teacher) }
-    {
-        let mut bytes = Vec::new(alloc);
-        bytes.extend_from_slice(self.unread.as_slice())?;
-        bytes.extend_from_slice(&self.to_teacher.as_slice()[..count])?;
-        Ok(bytes)
     }
 
     /// Moves the next `count` bytes to the teacher, which then reads the first `used`.

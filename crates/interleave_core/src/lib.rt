@@ -29,7 +29,7 @@ pub use tie_laws::{
     a_new_session_is_tied, a_session_stays_tied, a_session_stays_tied_to_a_table,
     numbers_stay_tied, tables_stay_sound, what_a_tie_tells, what_is_acknowledged_was_put,
 };
-pub use track_laws::a_sound_world_is_on_track;
+pub use track_laws::{a_sound_world_is_on_track, a_world_stays_on_track};
 pub use way::Way;
 pub use world::{World, run};
 pub use world_laws::{a_sound_world_tells, a_world_stays_sound};

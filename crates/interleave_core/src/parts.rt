@@ -144,7 +144,7 @@ impl Parts {
     /// Delivers bytes to the teacher, and makes the acknowledgements that are then whole. If a table refuses one of them,
     /// nothing is delivered.
     fn deliver_to_teacher(&mut self, session: u32, count: usize) -> Result<(), Memory>
-        ensures { OnOk result ((now : ℕ) → Moves (world_of self.old) (steps.Deliver session ways.ToTeacher count now) (world_of self.new)) }
+        ensures { AreOnTrack (world_of self.old) → OnOk result ((now : ℕ) → Moves (world_of self.old) (steps.Deliver session ways.ToTeacher count now) (world_of self.new)) }
     {
         let Some(place) = connection_index(self.connections.as_slice(), session) else {
             return Ok(());
@@ -153,8 +153,12 @@ impl Parts {
         if connection.to_teacher.len() < count {
             return Ok(());
         }
-        let bytes = connection.arriving(self.alloc, count)?;
-        let read = read_acks(self.alloc, self.cells.as_slice(), bytes.as_slice())?;
+        let read = read_acks(
+            self.alloc,
+            connection.known.roster(),
+            connection.unread.as_slice(),
+            &connection.to_teacher.as_slice()[..count],
+        )?;
         if !are_taken(self.cells.as_slice(), session, read.acks.as_slice()) {
             return Ok(());
         }
@@ -181,7 +185,7 @@ impl Parts {
             return Ok(());
         }
         let roster = roster_of(self.alloc, self.cells.as_slice())?;
-        self.connections[place] = Connection::new(self.alloc, &roster)?;
+        self.connections[place] = Connection::new(self.alloc, roster)?;
         reopen_in_each(self.cells.as_mut_slice(), session)
     }
 

@@ -55,7 +55,7 @@ impl World {
         let mut connections = Vec::new(alloc);
         for before in 0..sessions {
             open_in_each(cells.as_mut_slice(), before + 1)?;
-            connections.push(Connection::new(alloc, &roster)?)?;
+            connections.push(Connection::new(alloc, roster.copy(alloc)?)?)?;
         }
         let parts = Parts {
             alloc,

@@ -30,7 +30,7 @@ use Rattle.learner.specs.declared.fault.Fault.TheVariants as faults
 use Rattle.learner.specs.Intake.{Taking, Stops}
 use Rattle.learner.specs.Rows.{put_all}
 use Rattle.learner.specs.Learning.{Learning, Learns, AreLearned, IsWaiting, LearnerFeeds, with_piece}
-use Rattle.learner.specs.OnItsWay.{IsOnItsWay}
+use Rattle.learner.specs.OnItsWay.{AreNextOf, IsOnItsWay}
 use Rattle.learner.specs.Moments.{Piece, stream_in, AreFedInTime, AreTooFew, FallInto, put_parts}
 use Rattle.learner.proofs.LegalStreamIsTaught.{step_fits, kept_own, takes_legal, put_all-append, waits_at_end, goes_on, waits_on, apart, is_memory}
 
@@ -122,18 +122,6 @@ one_on_way now l next more (m ∷ ms) us own after n (once, owns, (is_own, all),
     after_good a b good = subst IsBytes (drop_at a b (length a) refl) (IsBytes-drop (length a) (a ++ b) good)
 
 -- messages that are learned on the way are the next ones
-abbrev AreNextOf : ℕ → Learning → List ℕ → List Message → List Update → State → List Message → List Update → Learning → Type 0
-AreNextOf now l more ms us after ns vs mid =
-    (later : List Message)
-    × (rest : List Update)
-    × (ms ≡ ns ++ later)
-    × (us ≡ vs ++ rest)
-    × Teaches l.intake.state ns vs mid.intake.state
-    × (l.intake.unread ≡ stream_of ns ++ mid.intake.unread)
-    × (mid.intake.roster ≡ l.intake.roster)
-    × (mid.rows ≡ put_all now l.intake.roster vs l.rows)
-    × IsOnItsWay mid more later rest after
-
 pub on_way : (now : ℕ) (l mid : Learning) (more : List ℕ) (ms ns : List Message) (us vs : List Update) (after : State) → IsOnItsWay l more ms us after → AreLearned now l ns vs mid → AreNextOf now l more ms us after ns vs mid
 on_way now l mid more ms [] us vs after way (none, here) = (
   ms,

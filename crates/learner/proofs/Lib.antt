@@ -5,6 +5,7 @@ pub mod SameHoweverCut
 pub mod PutChangesOneRow
 pub mod LegalStreamIsTaught
 pub mod EachPieceGivesItsOwn
+pub mod StaysOnItsWay
 pub mod KnownLessons
 pub mod AcksRise
 pub mod OneOutcome

@@ -1,6 +1,6 @@
 //! What holds of the definitions, whatever the program does.
 
-ghost use Rattle.std.specs.Prelude.{◌≡◌, ◌≢◌, ◌+◌, ◌∷◌, ◌++◌, ℕ, List, Result, Ok, Err, Option, Some, None, false, length};
+ghost use Rattle.std.specs.Prelude.{◌≡◌, ◌≢◌, ◌+◌, ◌∷◌, ◌++◌, [], ℕ, List, Result, Ok, Err, Option, Some, None, false, length};
 ghost use Rattle.std.specs.List.{AllByRecursion};
 ghost use Rattle.peers_msg.specs.Integers.{IsBytes};
 ghost use Rattle.table_types.specs.declared.key.Key.{Key};
@@ -23,7 +23,8 @@ ghost use Rattle.learner.specs.Cutting.{IsStopped, IsStoppedAt, AreAnswered};
 ghost use Rattle.learner.specs.Calls.{AreIntakeCalls, IsEndOf};
 ghost use Rattle.learner.specs.Rows.{put, put_all, row_at, rows_at, AreOfOthers};
 ghost use Rattle.learner.specs.Moments.{Piece, stream_in, AreFedInTime, IsStoppedInTime, IsStoppedAtInTime, HasLearnedInTime};
-ghost use Rattle.learner.specs.Learning.{Learning, unlearned, LearnerFeeds, AreFed, IsReady, IsReadyIn, IsTaught, HasLearned};
+ghost use Rattle.learner.specs.Learning.{AreLearned, IsWaiting, Learning, unlearned, LearnerFeeds, AreFed, IsReady, IsReadyIn, IsTaught, HasLearned};
+ghost use Rattle.learner.specs.OnItsWay.{AreNextOf, IsFedOnItsWay, IsOnItsWay};
 
 /// However a stream is cut into pieces, what is learned from the pieces at one moment is what is learned from the
 /// whole: the same rows, the same state, and the same bytes left.
@@ -164,6 +165,20 @@ pub fn a_lesson()
     ensures faultless { (now : ℕ) (k after : KnownState) (us : List Update) (before : List Piece) (piece more : List ℕ) (counts : List ℕ) (l mid e : Learning) (fault : Fault) →
         IsLessonFor k us (stream_in before ++ (piece ++ more)) after → IsBytes (stream_in before ++ (piece ++ more)) → IsReadyIn k l →
         AreFedInTime l before counts mid → LearnerFeeds now mid piece (Err fault) e → fault ≡ faults.Memory }
+{}
+
+/// A learner on its way through a legal stream stays on its way, at whatever moments the pieces come. The messages that it learns
+/// are the next ones of the stream. If it is fed the next bytes, there is no fault unless memory runs out; the updates of the
+/// messages that are then whole are put among its rows, in order, and nothing else. Once it has been fed all bytes, every update is
+/// put, the state in which the stream ends is reached, and nothing is left unread.
+pub fn a_learner_stays_on_its_way()
+    ensures learned { (now : ℕ) (l e : Learning) (more : List ℕ) (ms ns : List Message) (us vs : List Update) (after : State) →
+        IsOnItsWay l more ms us after → AreLearned now l ns vs e → AreNextOf now l more ms us after ns vs e }
+    ensures fed { (now : ℕ) (l e : Learning) (piece more : List ℕ) (ms : List Message) (us : List Update) (after : State) (answer : Result ℕ Fault) →
+        IsOnItsWay l (piece ++ more) ms us after → LearnerFeeds now l piece answer e → answer ≢ Err faults.Memory →
+        IsFedOnItsWay now l piece more ms us after answer e }
+    ensures ended { (l : Learning) (ms : List Message) (us : List Update) (after : State) →
+        IsOnItsWay l [] ms us after → IsWaiting l.intake → (us ≡ []) × (l.intake.state ≡ after) × (l.intake.unread ≡ []) }
 {}
 
 /// The last numbers of a learner that was fed nothing are in ascending order of id, and stay so whatever it is fed.

@@ -16,8 +16,8 @@ mod taken;
 pub use fault::Fault;
 pub use intake::Intake;
 pub use laws::{
-    a_legal_stream, a_lesson, any_calls, any_pieces, numbers_stay_rising, one_fault, one_outcome,
-    others_stay, the_last_stands,
+    a_learner_stays_on_its_way, a_legal_stream, a_lesson, any_calls, any_pieces,
+    numbers_stay_rising, one_fault, one_outcome, others_stay, the_last_stands,
 };
 pub use learner::Learner;
 pub use taken::Taken;

@@ -15,7 +15,8 @@ use Rattle.session_core.specs.declared.event.Event.TheVariants as events
 use Rattle.peers_engine.specs.declared.errors.EngineError.{EngineError}
 use Rattle.peers_engine.specs.declared.errors.EngineError.TheVariants as errors
 use Rattle.peers_engine.specs.Calls.{IsCopied, IsLearned, IsReopened, IsSettled, IsTaken}
-use Rattle.peers_engine.specs.Doing.{Done, Fails, Falls, IsAtTable, IsLeft, IsRefusal, IsShortestLesson, error_text}
+use Rattle.teach_writer.specs.Lessons.{IsShortestLesson}
+use Rattle.peers_engine.specs.Doing.{Done, Fails, Falls, IsAtTable, IsLeft, IsRefusal, error_text}
 use Rattle.peers_engine.proofs.TurnLaws.{OneDone, OneFails}
 
 -- a write failed

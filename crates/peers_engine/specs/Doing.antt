@@ -4,15 +4,13 @@ use Rattle.std.specs.Io.KnownBytes.{Appends}
 use Rattle.table_types.specs.declared.update.Update.{Update}
 use Rattle.table_types.specs.declared.copies.Settled.{Settled}
 use Rattle.peers_msg.specs.declared.control.ErrorKind.{ErrorKind}
-use Rattle.peers_msg.specs.declared.message.Message.{Message}
-use Rattle.peers_msg.specs.Spelling.{error_type, stream_of}
+use Rattle.peers_msg.specs.Spelling.{error_type}
 use Rattle.table_cell.specs.declared.errors.AckError.TheVariants as acks
 use Rattle.table_cell.specs.declared.errors.CopyError.TheVariants as copies
 use Rattle.table_shards.specs.declared.errors.ShardError.TheVariants as shards
 use Rattle.table_shards.specs.Receipts.{SeatState}
 use Rattle.known_state.specs.Known.{KnownState}
-use Rattle.known_state.specs.Lessons.{IsLessonFor}
-use Rattle.known_state.specs.Shortest.{Shortest}
+use Rattle.teach_writer.specs.Lessons.{IsShortestLesson}
 use Rattle.session_core.specs.declared.action.Action.{Action}
 use Rattle.session_core.specs.declared.action.Action.TheVariants as actions
 use Rattle.session_core.specs.declared.event.Event.{Event}
@@ -24,14 +22,6 @@ use Rattle.peers_engine.specs.declared.errors.EngineError.TheVariants as errors
 -- the bytes of an error message
 abbrev pub error_text : ErrorKind → List ℕ
 error_text kind = 1 ∷ (error_type kind ∷ [])
-
--- the bytes spell messages that are among the shortest that teach the batch from the known state `k`
-abbrev pub AreShortest : KnownState → List Update → List ℕ → Type 0
-AreShortest k batch bytes = (ms : List Message) × (bytes ≡ stream_of ms) × Shortest k batch ms
-
--- a shortest lesson of the batch from the known state `k`, which leads to the known state `after`
-abbrev pub IsShortestLesson : KnownState → List Update → List ℕ → KnownState → Type 0
-IsShortestLesson k batch bytes after = IsLessonFor k batch bytes after × AreShortest k batch bytes
 
 -- Session `n`, whose known state is `k`, performs an action from the seat `s` at the moment `now`: what is written for
 -- it, its answer, and how it leaves the seat.

@@ -10,7 +10,8 @@ ghost use Rattle.session_core.specs.declared.event.Event.TheVariants as events;
 ghost use Rattle.peers_engine.specs.declared.errors.EngineError.TheVariants as errors;
 ghost use Rattle.peers_engine.specs.Acting.{Acts, Stops, asked, worker};
 ghost use Rattle.peers_engine.specs.Calls.{IsCopied, IsSettled};
-ghost use Rattle.peers_engine.specs.Doing.{Fails, Falls, IsRefusal, IsShortestLesson, error_text};
+ghost use Rattle.teach_writer.specs.Lessons.{IsShortestLesson};
+ghost use Rattle.peers_engine.specs.Doing.{Fails, Falls, IsRefusal, error_text};
 
 use crate::answering::give_answer;
 use crate::context::Context;

@@ -18,7 +18,8 @@ use Rattle.session_core.specs.declared.share.Share.{Share}
 use Rattle.session_core.specs.declared.action.Action.{Action}
 use Rattle.session_core.specs.declared.action.Action.TheVariants as actions
 use Rattle.session_core.specs.Actions.{control_text, sends_acks, status_text, reopens}
-use Rattle.session_core.specs.Courses.{Course, message_received, said, requested, acknowledged, AreReceived}
+use Rattle.session_core.specs.Acks.{ack_of}
+use Rattle.session_core.specs.Courses.{Course, message_received, said, requested, ack_received, acknowledged, AreReceived}
 use Rattle.session_core.specs.Cutting.{without_acks}
 use Rattle.session_core.specs.Runs.{is_end, ends_resync, is_copy_of, copies}
 
@@ -49,12 +50,16 @@ plain_acknowledged : (id : ℕ) (b : Bool) (c : Course) (table number : ℕ) →
 plain_acknowledged id true c table number = (refl, refl)
 plain_acknowledged id false c table number = (refl, refl)
 
+plain_ack : (id : ℕ) (c : Course) (ack : Option (ℕ × ℕ)) → is_plain id (ack_received c ack).0
+plain_ack id c (Some (table, number)) = plain_acknowledged id _ c table number
+plain_ack id c None = (refl, refl)
+
 -- what a message asks for is plain
 pub plain_received : (id : ℕ) (c : Course) (t : Taken) → is_plain id (message_received c t).0
 plain_received id c (taken.Row u) = (refl, refl)
 plain_received id c taken.Passed = (refl, refl)
 plain_received id c (taken.Said control) = plain_said id c control true
-plain_received id c (taken.Acked table number) = plain_acknowledged id _ c table number
+plain_received id c (taken.Acked table number) = plain_ack id c (ack_of c.intake.roster (taken.Acked table number))
 plain_received id c (taken.Failed kind) = (refl, refl)
 
 pub plain_all : (id : ℕ) (c e : Course) (ts : List Taken) (acts : List Action) → AreReceived c ts acts e → is_plain id acts

@@ -1,5 +1,5 @@
 -- The complete messages are received up to an end.
-use Rattle.std.proofs.Common.{◌≡◌, ℕ, zero, suc, ◌<◌, Bool, true, false, List, [], ◌∷◌, ◌++◌, length, Some, Result, Ok, Err, refl, sym, subst, arith, inl, inr}
+use Rattle.std.proofs.Common.{◌≡◌, ℕ, zero, suc, ◌<◌, Bool, true, false, List, [], ◌∷◌, ◌++◌, length, Option, Some, None, Result, Ok, Err, refl, sym, subst, arith, inl, inr}
 use Rattle.peers_msg.specs.Integers.{IsBytes}
 use Rattle.peers_msg.specs.declared.control.Control.{Control}
 use Rattle.peers_msg.specs.declared.control.Control.TheVariants as controls
@@ -12,7 +12,8 @@ use Rattle.session_core.specs.declared.action.Action.TheVariants as actions
 use Rattle.session_core.specs.declared.halt.Halt.{Halt}
 use Rattle.session_core.specs.declared.halt.Halt.TheVariants as halts
 use Rattle.session_core.specs.Phases as phases
-use Rattle.session_core.specs.Courses.{Course, AreReceived, acknowledged, acks_given, acks_sent, message_received, is_failure, requested, said}
+use Rattle.session_core.specs.Acks.{ack_of}
+use Rattle.session_core.specs.Courses.{Course, AreReceived, ack_received, acknowledged, acks_given, acks_sent, message_received, is_failure, requested, said}
 use Rattle.session_core.specs.Sessions.{SessionState, ReceivesBytes, confirmed_by, ended, going, kind_of_fault}
 use Rattle.session_core.proofs.IntakeGoesOn.{Does, does}
 use Rattle.session_core.proofs.StepIsUnique.{Ends}
@@ -34,11 +35,15 @@ acknowledged_intake : (out : Bool) (c : Course) (table number : ℕ) → (acknow
 acknowledged_intake true c table number = refl
 acknowledged_intake false c table number = refl
 
+ack_intake : (c : Course) (ack : Option (ℕ × ℕ)) → (ack_received c ack).1.intake ≡ c.intake
+ack_intake c (Some (table, number)) = acknowledged_intake _ c table number
+ack_intake c None = refl
+
 received_intake : (c : Course) (t : Taken) → (message_received c t).1.intake ≡ c.intake
 received_intake c (taken.Row u) = refl
 received_intake c taken.Passed = refl
 received_intake c (taken.Said control) = said_intake c control
-received_intake c (taken.Acked table number) = acknowledged_intake _ c table number
+received_intake c (taken.Acked table number) = ack_intake c (ack_of c.intake.roster (taken.Acked table number))
 received_intake c (taken.Failed kind) = refl
 
 -- the unread values are all bytes

@@ -1,5 +1,5 @@
 -- What every run preserves.
-use Rattle.std.proofs.Common.{◌≡◌, ℕ, Bool, true, false, not, List, [], ◌∷◌, ◌++◌, refl, sym, ap, ◌∙◌, subst, append_assoc}
+use Rattle.std.proofs.Common.{◌≡◌, ℕ, Bool, true, false, not, List, [], ◌∷◌, ◌++◌, Option, Some, None, refl, sym, ap, ◌∙◌, subst, append_assoc}
 use Rattle.std.specs.List.{list_all, AllByRecursion}
 use Rattle.std.proofs.lemmas.Bool.{false≢true}
 use Rattle.std.proofs.lemmas.List.Folds.{list_all-append, list_any-append}
@@ -18,7 +18,8 @@ use Rattle.session_core.specs.Phases as phases
 use Rattle.session_core.specs.declared.share.Share.{Share}
 use Rattle.session_core.specs.Shares.{any_out, is_out, unquieted}
 use Rattle.session_core.specs.Actions.{sends_control}
-use Rattle.session_core.specs.Courses.{Course, message_received, said, requested, acknowledged, Receives, AreReceived, kind_of}
+use Rattle.session_core.specs.Acks.{ack_of}
+use Rattle.session_core.specs.Courses.{Course, message_received, said, requested, ack_received, acknowledged, Receives, AreReceived, kind_of}
 use Rattle.session_core.specs.Runs.{is_reopen_of, reopened, IsLeft, HasNothingLeft}
 use Rattle.session_core.proofs.ShareLemmas.{shares_in, never, unquieted_in, IsFree}
 
@@ -149,11 +150,15 @@ calm_acknowledged ids steps given true c table number (out, quiet, flags, none, 
     (out, quiet, flags, list_all-append _ c.due (dues.Ack table ∷ []) ∙ rw none refl, λ teaching id quiets. reopened_append id given (actions.Ack table number ∷ []) (still teaching id quiets) refl)
 calm_acknowledged ids steps given false c table number calm = calm_still ids steps given [] c (λ id. refl) calm
 
+calm_ack : (ids : List ℕ) (steps : List (Event × List Action)) (given : List Action) (c : Course) (ack : Option (ℕ × ℕ)) → IsCalmAfter ids steps given c → IsCalmAfter ids steps (given ++ (ack_received c ack).0) (ack_received c ack).1
+calm_ack ids steps given c (Some (table, number)) calm = calm_acknowledged ids steps given (is_out table c.shares) c table number calm
+calm_ack ids steps given c None calm = calm_still ids steps given [] c (λ id. refl) calm
+
 calm_received : (ids : List ℕ) (steps : List (Event × List Action)) (given : List Action) (c : Course) (t : Taken) → IsCalmAfter ids steps given c → IsCalmAfter ids steps (given ++ (message_received c t).0) (message_received c t).1
 calm_received ids steps given c (taken.Row u) calm = calm_still ids steps given (actions.Learn u ∷ []) c (λ id. refl) calm
 calm_received ids steps given c taken.Passed calm = calm_still ids steps given [] c (λ id. refl) calm
 calm_received ids steps given c (taken.Said control) calm = calm_said ids steps given c control calm
-calm_received ids steps given c (taken.Acked table number) calm = calm_acknowledged ids steps given (is_out table c.shares) c table number calm
+calm_received ids steps given c (taken.Acked table number) calm = calm_ack ids steps given c (ack_of c.intake.roster (taken.Acked table number)) calm
 calm_received ids steps given c (taken.Failed kind) calm = calm_still ids steps given [] c (λ id. refl) calm
 
 calm_receives : (ids : List ℕ) (steps : List (Event × List Action)) (given : List Action) (c e : Course) (t : Taken) → Receives c t e → IsCalmAfter ids steps given c → IsCalmAfter ids steps given e

@@ -1,9 +1,10 @@
 -- Bytes that come in several events ask for the same as all of them in one event.
-use Rattle.std.proofs.Common.{◌≡◌, ◌≢◌, ◌⊎◌, ℕ, suc, inl, inr, Bool, true, false, ◌||◌, List, [], ◌∷◌, ◌++◌, Some, Result, Ok, Err, refl, sym, ap, subst, ◌∙◌, append_assoc}
+use Rattle.std.proofs.Common.{◌≡◌, ◌≢◌, ◌⊎◌, ℕ, suc, inl, inr, Bool, true, false, ◌||◌, List, [], ◌∷◌, ◌++◌, Option, Some, None, Result, Ok, Err, refl, sym, ap, subst, ◌∙◌, append_assoc}
 use Rattle.std.proofs.lemmas.List.{append-nil}
 use Rattle.std.proofs.lemmas.List.Elements.{filter-append}
 use Rattle.std.proofs.lemmas.List.Folds.{list_any-append}
 use Rattle.table_types.specs.declared.update.Update.{Update}
+use Rattle.table_types.specs.Tables.{Definition}
 use Rattle.peers_msg.specs.Integers.{IsBytes}
 use Rattle.peers_msg.specs.declared.control.Control.{Control}
 use Rattle.peers_msg.specs.declared.control.Control.TheVariants as controls
@@ -25,7 +26,8 @@ use Rattle.session_core.specs.declared.halt.Halt.TheVariants as halts
 use Rattle.session_core.specs.Phases.{Phase}
 use Rattle.session_core.specs.Phases as phases
 use Rattle.session_core.specs.Actions.{confirms, is_confirmation}
-use Rattle.session_core.specs.Courses.{Course, course_fed, Receives, AreReceived, message_received, requested, acknowledged, said, acks_given, acks_sent}
+use Rattle.session_core.specs.Acks.{ack_of}
+use Rattle.session_core.specs.Courses.{Course, course_fed, Receives, AreReceived, message_received, requested, ack_received, acknowledged, said, acks_given, acks_sent}
 use Rattle.session_core.specs.Shares.{any_out, is_out}
 use Rattle.session_core.specs.Sessions.{SessionState, Goes, GoesIn, GoesOpen, ReceivesBytes, Concludes, confirmed_by, ended, going, kind_of_fault}
 use Rattle.session_core.specs.Runs.{HoldsBytes}
@@ -56,12 +58,18 @@ said_lift f c controls.ResyncPartial = refl
 said_lift f c controls.ResyncConfirmed = refl
 said_lift f c controls.Heartbeat = refl
 
-message_lift : (f : Taking → Taking) (c : Course) (t : Taken) → message_received (lift f c) t ≡ ((message_received c t).0, lift f (message_received c t).1)
-message_lift f c (taken.Row u) = refl
-message_lift f c taken.Passed = refl
-message_lift f c (taken.Said control) = said_lift f c control
-message_lift f c (taken.Acked table number) = acknowledged_lift f (is_out table c.shares) c table number
-message_lift f c (taken.Failed kind) = refl
+ack_lift : (f : Taking → Taking) (c : Course) (ack : Option (ℕ × ℕ)) → ack_received (lift f c) ack ≡ ((ack_received c ack).0, lift f (ack_received c ack).1)
+ack_lift f c (Some (table, number)) = acknowledged_lift f (is_out table c.shares) c table number
+ack_lift f c None = refl
+
+message_lift : (f : Taking → Taking) (c : Course) (t : Taken) → (f c.intake).roster ≡ c.intake.roster → message_received (lift f c) t ≡ ((message_received c t).0, lift f (message_received c t).1)
+message_lift f c (taken.Row u) same = refl
+message_lift f c taken.Passed same = refl
+message_lift f c (taken.Said control) same = said_lift f c control
+message_lift f c (taken.Acked table number) same =
+    let ack : List Definition → Option (ℕ × ℕ) = λ roster. ack_of roster (taken.Acked table number) in
+    ap (λ (roster : List Definition). ack_received (lift f c) (ack roster)) same ∙ ack_lift f c (ack c.intake.roster)
+message_lift f c (taken.Failed kind) same = refl
 
 -- ---- more bytes after the messages
 
@@ -69,7 +77,7 @@ received_on : (more : List ℕ) (ts : List Taken) (c e : Course) (acts : List Ac
 received_on more [] c e acts good (none, here) = (none, ap (λ (x : Course). course_fed x more) here)
 received_on more (t ∷ ts) c e acts good (mid, rest, (whole, (m, takes, answers), then), all, later) =
     let one : Receives (course_fed c more) t (course_fed mid more) = (whole, (m, takes_on c.intake mid.intake m (rows_of t) more good takes, answers), ap (λ (x : Course). course_fed x more) then) in
-    let next = message_lift (λ (x : Taking). fed x more) mid t in
+    let next = message_lift (λ (x : Taking). fed x more) mid t refl in
     let left : IsBytes (message_received mid t).1.intake.unread = received_good c (message_received mid t).1 (t ∷ []) ((message_received mid t).0 ++ []) good (mid, [], (whole, (m, takes, answers), then), refl, (refl, refl)) in
     let others = received_on more ts (message_received mid t).1 e rest left later in
     (course_fed mid more, rest, one, all ∙ ap (λ (x : List Action × Course). x.0 ++ rest) (sym next), subst (λ (x : List Action × Course). AreReceived x.1 ts rest (course_fed e more)) (sym next) others)
@@ -92,7 +100,7 @@ received_redue [] c e acts due (none, here) = (due, (none, ap (λ (x : Course). 
 received_redue (t ∷ ts) c e acts due (mid, rest, (whole, (m, takes, answers), then), all, later) =
     let after : List ℕ = due_after c.intake.state m due in
     let one : Receives (redue c due) t (redue mid after) = (whole, (m, takes_redue c.intake mid.intake m (rows_of t) due takes, answers), ap (λ (x : Course). redue x after) then) in
-    let next = message_lift (λ (x : Taking). record x { due = after }) mid t in
+    let next = message_lift (λ (x : Taking). record x { due = after }) mid t refl in
     let others = received_redue ts (message_received mid t).1 e rest after later in
     (others.0, (redue mid after, rest, one, all ∙ ap (λ (x : List Action × Course). x.0 ++ rest) (sym next), subst (λ (x : List Action × Course). AreReceived x.1 ts rest (redue e others.0)) (sym next) others.1))
 

@@ -1,6 +1,6 @@
 -- The course of an open session, and how each message of the remote peer changes it (HAProxy, doc/peers-v2.0.txt,
 -- "Control Messages"; the rules of a resync are this node's own).
-use Rattle.std.specs.Prelude.{◌≡◌, ◌≢◌, ℕ, Bool, true, false, ◌==◌, List, [], ◌∷◌, ◌++◌, Option, None, Result, Ok, Err, if◌then◌else◌}
+use Rattle.std.specs.Prelude.{◌≡◌, ◌≢◌, ℕ, Bool, true, false, ◌==◌, List, [], ◌∷◌, ◌++◌, Option, Some, None, Result, Ok, Err, if◌then◌else◌}
 use Rattle.table_types.specs.Tables.{Definition}
 use Rattle.table_types.specs.declared.copies.CopyKind.{CopyKind}
 use Rattle.table_types.specs.declared.copies.CopyKind.TheVariants as kinds
@@ -21,6 +21,7 @@ use Rattle.session_core.specs.declared.due.Due.{Due}
 use Rattle.session_core.specs.declared.due.Due.TheVariants as dues
 use Rattle.session_core.specs.declared.halt.Halt.{Halt}
 use Rattle.session_core.specs.declared.halt.Halt.TheVariants as halts
+use Rattle.session_core.specs.Acks.{ack_of}
 use Rattle.session_core.specs.Shares.{any_out, is_out, shares_of, unquieted, next_table}
 use Rattle.session_core.specs.Actions.{reopens, sends_control, sends_acks}
 
@@ -61,6 +62,11 @@ abbrev pub acknowledged : Bool → Course → ℕ → ℕ → List Action × Cou
 acknowledged true c table number = (actions.Ack table number ∷ [], record c { due = c.due ++ (dues.Ack table ∷ []) })
 acknowledged false c table number = ([], c)
 
+-- an acknowledgement that isn't of a table of the roster is ignored
+abbrev pub ack_received : Course → Option (ℕ × ℕ) → List Action × Course
+ack_received c (Some (table, number)) = acknowledged (is_out table c.shares) c table number
+ack_received c None = ([], c)
+
 -- this node answers the end of a resync with resync confirmed, whether it requested the resync or not
 abbrev pub said : Course → Control → List Action × Course
 said c controls.ResyncRequest = requested (any_out c.shares) c
@@ -74,7 +80,7 @@ abbrev pub message_received : Course → Taken → List Action × Course
 message_received c (taken.Row u) = (actions.Learn u ∷ [], c)
 message_received c taken.Passed = ([], c)
 message_received c (taken.Said control) = said c control
-message_received c (taken.Acked table number) = acknowledged (is_out table c.shares) c table number
+message_received c (taken.Acked table number) = ack_received c (ack_of c.intake.roster (taken.Acked table number))
 message_received c (taken.Failed kind) = ([], c)
 
 -- ---- messages one after another

@@ -1,3 +1,4 @@
+pub mod Acks
 pub mod Shares
 pub mod Actions
 pub mod Courses

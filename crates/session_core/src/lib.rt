@@ -2,6 +2,7 @@
 //! "Control Messages"). It does no I/O itself: it returns the actions that its caller performs.
 #![tactic(auto)]
 
+mod acks;
 mod action;
 mod course;
 mod due;
@@ -18,6 +19,7 @@ mod session;
 mod share;
 mod state;
 
+pub use acks::ack_of;
 pub use action::Action;
 pub use error::SessionError;
 pub use event::Event;

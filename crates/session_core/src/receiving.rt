@@ -10,6 +10,7 @@ ghost use Rattle.session_core.specs.Shares.{any_out, is_out};
 ghost use Rattle.session_core.specs.Actions.{control_text, sends_control, sends_acks};
 ghost use Rattle.session_core.specs.Courses.{Course, course_fed, requested, acknowledged, said, message_received, is_failure, Receives, AreReceived, IsHalted, ReceivesAll, acks_sent, acks_given};
 
+use crate::acks::ack_of;
 use crate::action::{Action, only, push};
 use crate::course::Course;
 use crate::due::Due;
@@ -79,7 +80,7 @@ impl Course {
         }
     }
 
-    /// Receives an acknowledgement.
+    /// Receives an acknowledgement of a table of the roster.
     fn acknowledge(
         &mut self,
         table: u64,
@@ -128,7 +129,10 @@ impl Course {
         match taken {
             Taken::Row(update) => push(actions, Action::Learn(update)),
             Taken::Said(control) => self.receive_control(alloc, control, actions),
-            Taken::Acked { table, number } => self.acknowledge(table, number, actions),
+            Taken::Acked { .. } => match ack_of(&taken, self.intake.roster()) {
+                Some((table, number)) => self.acknowledge(table, number, actions),
+                None => Ok(()),
+            },
             Taken::Passed | Taken::Failed(_) => Ok(()),
         }
     }

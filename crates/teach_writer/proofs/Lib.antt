@@ -5,3 +5,4 @@ pub mod UpdateStepsAreLegal
 pub mod SelectionsAreCheapest
 pub mod MarksAreReads
 pub mod WrittenLesson
+pub mod LessonsAppend

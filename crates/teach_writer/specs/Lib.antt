@@ -1,3 +1,4 @@
+pub mod Lessons
 pub mod Naming
 pub mod Planning
 pub mod Retained

@@ -1,6 +1,6 @@
 //! What holds of lessons, whatever the program does.
 
-ghost use Rattle.std.specs.Prelude.{◌≡◌, ◌≤◌, ◌<◌, ◌^◌, Bool, true, List, Option, None, ℕ, length};
+ghost use Rattle.std.specs.Prelude.{◌≡◌, ◌≤◌, ◌<◌, ◌^◌, ◌++◌, Bool, true, List, Option, None, ℕ, length};
 ghost use Rattle.std.specs.List.{AllByRecursion};
 ghost use Rattle.table_types.specs.Tables.{Definition, is_definition};
 ghost use Rattle.table_types.specs.Rosters.{roster_fault};
@@ -8,12 +8,13 @@ ghost use Rattle.table_types.specs.Batches.{IsBatchFor};
 ghost use Rattle.table_types.specs.declared.update.Update.{Update};
 ghost use Rattle.peers_msg.specs.declared.message.Message.{Message};
 ghost use Rattle.peers_msg.specs.Spelling.{size_of_all, stream_of};
-ghost use Rattle.known_state.specs.State.{State};
+ghost use Rattle.known_state.specs.State.{Legal, State};
 ghost use Rattle.known_state.specs.Known.{AreOwn, KnownState};
 ghost use Rattle.known_state.specs.Cost.{full, knowledge_of, written_lesson};
 ghost use Rattle.known_state.specs.Lessons.{IsLessonFor};
 ghost use Rattle.known_state.specs.Requests.{reads_of};
 ghost use Rattle.known_state.specs.Shortest.{Shortest};
+ghost use Rattle.teach_writer.specs.Lessons.{IsShortestLesson};
 ghost use Rattle.teach_writer.specs.Sending.{AreSent};
 
 /// Messages that go through a batch read exactly the requests that are marked as kept.
@@ -36,4 +37,21 @@ pub fn names_may_all_be_written()
         roster_fault k.roster ≡ None → AllByRecursion (λ d. is_definition d ≡ true) k.roster →
         AreOwn k.roster k.state.received.tables → IsBatchFor k.roster us → AllByRecursion (λ u. u.number < 2 ^ 32) us →
         Shortest k us ms → size_of_all ms ≤ full k.roster k.state us }
+{}
+
+/// Lessons that follow one another are one lesson: messages that are legal where others end are legal after them and carry
+/// what both carry, their bytes follow those of the others, and the lesson leads to the known state in which the second ends.
+pub fn lessons_append()
+    ensures legal { (roster : List Definition) (a b : List Message) (s mid e : State) (us vs : List Update) →
+        Legal roster s a us mid → Legal roster mid b vs e → Legal roster s (a ++ b) (us ++ vs) e }
+    ensures stream { (a b : List Message) → stream_of (a ++ b) ≡ stream_of a ++ stream_of b }
+    ensures lesson { (k mid after : KnownState) (us vs : List Update) (bytes more : List ℕ) →
+        IsLessonFor k us bytes mid → IsLessonFor mid vs more after → IsLessonFor k (us ++ vs) (bytes ++ more) after }
+{}
+
+/// A lesson that has the bytes of a shortest list of messages for the batch is a shortest lesson: its own messages are among
+/// the shortest.
+pub fn a_lesson_of_fewest_bytes_is_shortest()
+    ensures { (known after : KnownState) (batch : List Update) (bytes : List ℕ) → IsLessonFor known batch bytes after →
+        ((ms : List Message) × (bytes ≡ stream_of ms) × Shortest known batch ms) → IsShortestLesson known batch bytes after }
 {}

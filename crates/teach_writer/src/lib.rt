@@ -9,6 +9,8 @@ mod retained;
 mod sending;
 mod teaching;
 
-pub use laws::{marks_are_reads, names_may_all_be_written};
+pub use laws::{
+    a_lesson_of_fewest_bytes_is_shortest, lessons_append, marks_are_reads, names_may_all_be_written,
+};
 pub use lesson::{Lesson, TeachError};
 pub use teaching::teach;

@@ -1,4 +1,4 @@
-use Rattle.interleave_core.proofs.Teaching.{shortest_lesson}
+use Rattle.teach_writer.proofs.LessonsAppend.{shortest_lesson}
 use Rattle.interleave_core.proofs.connection.lesson_of.Goals as goal
 
 pub returns-in-Ok-clause-lesson : goal.returns-in-Ok-clause-lesson

@@ -2,7 +2,7 @@ use Rattle.std.proofs.Common.{List, ℕ, Some, subst, sym, refl}
 use Rattle.std.proofs.lemmas.Result.{err_from_is_err_and}
 use Rattle.session_core.specs.declared.action.Action.TheVariants as actions
 use Rattle.session_core.specs.declared.event.Event.TheVariants as events
-use Rattle.peers_engine.specs.Doing.{IsShortestLesson}
+use Rattle.teach_writer.specs.Lessons.{IsShortestLesson}
 use Rattle.peers_engine.proofs.AnswerLaws.{falls_short, refused_as}
 use Rattle.peers_engine.proofs.doing.teach_batch.Goals as goal
 

@@ -1,7 +1,7 @@
 use Rattle.std.proofs.Common.{◌≡◌, IfSome, List, Some, arith, length, min, slice_get, subst, sym}
 use Rattle.peers_msg.specs.Integers.{IsBytes}
 use Rattle.table_types.specs.declared.update.Update.{Update}
-use Rattle.interleave_core.specs.Moves.{IsShortestLesson}
+use Rattle.teach_writer.specs.Lessons.{IsShortestLesson}
 use Rattle.interleave_core.specs.Parts.{connection_of}
 use Rattle.interleave_core.proofs.Teaching.{after_lesson, teaches_oldest}
 use Rattle.interleave_core.proofs.connection.Connection.teach.Goals as goal

@@ -23,7 +23,8 @@ pub returns-in-ToTeacher-clause-moves : goal.returns-in-ToTeacher-clause-moves
 returns-in-ToTeacher-clause-moves c =
     let is = c.in-Deliver.is ∙ ap (λ way. steps.Deliver c.in-Deliver.session way c.in-Deliver.count c.in-Deliver.moment) c.in-ToTeacher.is in
     subst (λ step. OnOk c.deliver_to_teacher.result (Moves (world_of c.args.self.now) step (world_of c.deliver_to_teacher.new.self))) (sym is)
-    (on_ok_weaker c.deliver_to_teacher.result (λ moves. moves c.in-Deliver.moment) c.deliver_to_teacher.ensures)
+    (on_ok_weaker c.deliver_to_teacher.result (λ moves. moves c.in-Deliver.moment)
+    (c.deliver_to_teacher.ensures (all_on_track (world_of c.args.self.now) c.requires.order.sound)))
 
 pub returns-in-ToLearner-clause-timely : goal.returns-in-ToLearner-clause-timely
 returns-in-ToLearner-clause-timely c =

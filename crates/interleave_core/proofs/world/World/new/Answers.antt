@@ -25,7 +25,7 @@ loop-before-preserved c =
     let made : after ≡ map (with_session (before + 1)) old.items =
     subst (λ xs. AllByRecursion (CanOpen (before + 1)) xs → after ≡ map (with_session (before + 1)) xs) c.as_mut_slice.ensures.value c.in_ok-open_in_each.ensures can in
     let is : connection_of new ≡ new_connection (roster_of tables) =
-    c.in_ok-new.ensures ∙ ap (λ ds. new_connection ds) (c.in_ok-roster.ensures ∙ ap (λ xs. roster_of xs) c.as_slice-2.ensures.value) in
+    c.in_ok-new.ensures ∙ ap (λ ds. new_connection ds) (c.in_ok-copy.ensures ∙ c.in_ok-roster.ensures ∙ ap (λ xs. roster_of xs) c.as_slice-2.ensures.value) in
     record {
       cells = opened_more before tables old.items (with_items old after).items c.loop-before.invariant.cells (refilled old after (with_session (before + 1)) made);
       connections = connected_more before (new_connection (roster_of tables)) c.loop-before.connections.items c.push.new.self.items new c.loop-before.invariant.connections c.in_ok-push.ensures.items is;
