@@ -12,7 +12,7 @@ from fuzzing.programs import differing, fault_of, refused_line, require
 from fuzzing.received import Learner, learned, spelled
 from fuzzing.rows import read_learned, read_rows, without_moments
 from fuzzing.streams import Talk, cut, random_moment, spoilt, with_other_expires
-from fuzzing.tables import FIRST_MOMENT, KINDS, TYPES, Table, has_names, random_roster, table_line
+from fuzzing.tables import FIRST_MOMENT, TYPES, Table, random_roster, table_line
 
 Kind = namedtuple('Kind', 'name weight make judge shrinks')
 
@@ -331,21 +331,22 @@ def judge_session(program, case):
     updates = [tuple(update) for update in case['updates']]
     lines = lessons.scene_lines(lessons.Scene(roster, [], None, {}, {}, updates))
     case = dict(case, acts=[tuple(act) for act in case['acts']])
-    ending, far = sessions.held(program, case, text(lines))
+    ending, far = sessions.held(program, case, text(lines), Learner(tables, len(roster), FIRST_MOMENT))
+    is_sound = case['sound'] and far.learner.fault is None and far.learner.sure
     judged = sessions.judge_ending(case, ending, far, roster)
     if judged is None:
         return
     rows, turns = judged
-    if case['sound'] or sessions.is_plain(case, far):
+    if is_sound or sessions.is_plain(case, far):
         judge_learned(program, case, ending, far, rows)
-    if case['sound'] and case['acts'] and case['acts'][-1] == ('ask',):
+    if is_sound and case['acts'] and case['acts'][-1] == ('ask',):
         judge_taught(program, far, roster, rows, turns)
 
 
 def judge_learned(program, case, ending, far, rows):
     """A node learns from what was sent what `learn` learns, and acknowledges the same."""
     roster = tables_of(case)[:case['roster']]
-    stream = bytes(far.said)
+    stream = bytes(far.sent)
     back = program.read('learn', learner_scene(roster, FIRST_MOMENT, [stream]))
     require(fault_of(back) == fault_of(ending), 'a fault', 'of a session is not that of learn:', ending.errors, back.errors)
     wanted = {}
@@ -390,4 +391,3 @@ ALL = (
     Kind('session', 30, make_session, judge_session, ('acts', 'updates')),
 )
 BY_NAME = {kind.name: kind for kind in ALL}
-__all__ = ['ALL', 'BY_NAME', 'KINDS', 'Kind', 'has_names']

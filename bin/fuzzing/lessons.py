@@ -3,7 +3,7 @@
 from collections import namedtuple
 
 from fuzzing.messages import encoded
-from fuzzing.received import Received, name_field, spelled, update_data
+from fuzzing.received import Received, spelled, update_data
 from fuzzing.tables import (GREATEST, definition_data, edge, has_names, key_word, name_word, random_key, random_life, random_name,
                             random_roster, random_values, table_line, value_words)
 
@@ -17,6 +17,8 @@ Scene = namedtuple('Scene', 'roster defined selected last slots updates')
 def random_scene(random, most):
     """Returns a scene of at most `most` updates."""
     roster = random_roster(random)
+    if any(table.length > 1000 for table in roster):
+        most = min(most, 20)
     names = [random_name(random) for _ in range(random.choice((1, 3, 20, 150, 150)))]
     defined, last, selected, slots = [], {}, None, {}
     if random.random() < 0.5:
@@ -180,14 +182,13 @@ def verdict(scene, messages, cut, prices):
 def random_stream(random, scene):
     """Returns messages that carry the scene's updates, mostly legal, with prices."""
     known = Known(scene)
-    known.slots = dict(scene.slots)
     said = []
+    spare = random.choice((0, 0, 0.02, 0.2))
+    wrong = random.choice((0, 0, 0.01))
 
     def say(message):
         said.append(message)
         known.take(message)
-    spare = random.choice((0, 0, 0.02, 0.2))
-    wrong = random.choice((0, 0, 0.01))
     for at, number, life, key, values, name in scene.updates:
         table = scene.roster[at]
         while random.random() < spare:
@@ -198,31 +199,33 @@ def random_stream(random, scene):
             else:
                 say(('define', at, table.id, table.expire + (random.random() < wrong)))
         follows = number == known.last.get(table.id, -2) + 1 & GREATEST
-        field = None
-        if has_names(table):
-            field = ('none',)
-            if name is not None:
-                slots = [slot for slot in known.slots if known.slots[slot] == name]
-                if slots and random.random() > spare:
-                    field = 'read', min(slots)
-                elif random.random() < wrong:
-                    field = 'read', random.randrange(1, 129)
-                else:
-                    empty = [slot for slot in range(1, 129) if slot not in known.slots]
-                    field = 'write', min(empty) if empty else random.randrange(1, 129), name
         shown = None if follows and random.random() > spare or random.random() < wrong else number
         lives = life if random.random() > wrong else None
+        field = random_field(random, known, name, spare, wrong) if has_names(table) else None
         say(('update', at, shown, lives, key, values, field))
     if random.random() < 0.1 and said:
         del said[random.randrange(len(said))]
-    names = sum(1 for update in scene.updates if update[5] is not None)
-    prices = [random.choice((0, 0, 0, 1, 5, GREATEST_PRICE)) for _ in range(names)] if random.random() < 0.5 else [0] * names
+    return said, random_prices(random, sum(1 for update in scene.updates if update[5] is not None))
+
+
+def random_field(random, known, name, spare, wrong):
+    """Returns the name field of an update with a name, or none: read if a slot has it, and otherwise written."""
+    if name is None:
+        return ('none',)
+    slots = [slot for slot in known.slots if known.slots[slot] == name]
+    if slots and random.random() > spare:
+        return 'read', min(slots)
+    if random.random() < wrong:
+        return 'read', random.randrange(1, SLOTS + 1)
+    empty = [slot for slot in range(1, SLOTS + 1) if slot not in known.slots]
+    return 'write', min(empty) if empty else random.randrange(1, SLOTS + 1), name
+
+
+def random_prices(random, count):
+    """Returns prices, mostly one for each of `count` requests and in range."""
+    prices = [random.choice((0, 0, 0, 1, 5, GREATEST_PRICE)) for _ in range(count)] if random.random() < 0.5 else [0] * count
     if prices and random.random() < 0.1:
-        prices[random.randrange(names)] = random.choice((GREATEST_PRICE + 1, 2 ** 64 - 1))
+        prices[random.randrange(count)] = random.choice((GREATEST_PRICE + 1, 2 ** 64 - 1))
     if random.random() < 0.05:
         prices = prices[1:] if random.random() < 0.5 else prices + [0]
-    return said, prices
-
-
-__all__ = ['GREATEST_PRICE', 'Scene', 'before_the_scene', 'bound', 'costs', 'name_field', 'random_scene', 'random_stream', 'scene_lines',
-           'verdict']
+    return prices

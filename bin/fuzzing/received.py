@@ -12,7 +12,7 @@ Messages are tuples. Tables are given by their place in a list of the case, of w
 """
 
 from fuzzing.messages import DEFINITION, SWITCH, TABLE_CLASS, UPDATE_TYPES, encoded, message
-from fuzzing.tables import (GREATEST_MOMENT, counted, definition_data, has_names, key_bytes, key_word, name_word, shape, value_bytes,
+from fuzzing.tables import (GREATEST_MOMENT, definition_data, has_names, key_bytes, key_word, name_word, shape, value_bytes,
                             value_words)
 
 
@@ -186,8 +186,3 @@ def learned(tables, roster, moment, messages):
         if learner.fault is not None or not learner.sure:
             return learner, count
     return learner, len(messages)
-
-
-def columns(table):
-    """Returns how many words a row has after its key."""
-    return len(counted(table)) + has_names(table)

@@ -2,10 +2,12 @@
 
 A far side is given as a list of acts:
 
+  say MESSAGE                 a message that goes out with the next `sync`
+  sync PIECES                 sends what was said, in pieces, and waits for the acknowledgements that are due then
   send BYTES; slow BYTES      at once; in pieces with a short wait between
-  sync ACKS                   waits for these acknowledgements, pairs of id and number
   ask                         asks for a resync, acknowledges what it is taught, and waits for its end
   flood BYTES TIMES           the same bytes again and again
+  define COUNT                definitions under ids and names of their own
   ahead                       asks for a resync, and acknowledges more than it was taught
   deaf                        reads nothing from now on
   wait                        does nothing for a while
@@ -22,13 +24,16 @@ from fuzzing.programs import FAULT_LINE, Complaint, require
 from fuzzing.received import spelled
 from fuzzing.rows import read_rows, without_moments
 from fuzzing.streams import OVER, Talk, spoilt
-from fuzzing.tables import FIRST_MOMENT, GREATEST, RATES, counted, definition_data, edge
+from fuzzing.tables import FIRST_MOMENT, GREATEST, RATES, Table, counted, definition_data, edge
 
 HELLO = b'HAProxyS 2.1\nb\na 1 1\n'
 ITS_HELLO = re.compile(rb'HAProxyS 2\.1\nb\na [0-9]+ [0-9]+\n')
 ACCEPTED = b'200\n'
+IMPATIENT = 0.05
 STATUS = re.compile(rb'(?:200|50[1-4])\n')
-REQUEST, FINISHED, PARTIAL = b'\0\0', b'\0\1', b'\0\2'
+REQUEST = b'\0\0'
+# The messages that ask a session for more than to learn.
+ASKING = [('other', 0, 0), ('other', 0, 1), ('other', 0, 2), ('other', 1, 0), ('other', 1, 1), ('other', TABLE_CLASS, 132)]
 
 
 # --- Random sessions
@@ -39,19 +44,11 @@ def sound_acts(random, talk):
     for _ in range(random.choice((1, 1, 3, 10))):
         before = len(talk.messages)
         talk.grow(before + random.choice((1, 3, 20, 60)))
-        acts.append((random.choice(('send', 'send', 'slow')), sent_of(talk, before)))
-        due = talk.state.acks()
-        acts.append(('sync', due))
-        talk.state.owing.difference_update(at for at, _ in due)
+        acts += [('say', said) for said in talk.messages[before:] if said[:3] not in ASKING]
+        acts.append(('sync', random.choice((1, 1, 3, 7))))
         if random.random() < 0.2:
             acts.append(('ask',))
     return acts + [('ask',)] if random.random() < 0.7 else acts
-
-
-def sent_of(talk, begin):
-    """Returns the bytes of the messages from a place on that ask a session for nothing but to learn."""
-    asking = [('other', 0, 0), ('other', 0, 1), ('other', 0, 2), ('other', 1, 0), ('other', 1, 1), ('other', TABLE_CLASS, 132)]
-    return b''.join([spelled(said, talk.tables) for said in talk.messages[begin:] if said[:3] not in asking])
 
 
 def hostile_act(random, talk):
@@ -62,7 +59,7 @@ def hostile_act(random, talk):
     if what == 1:
         return 'flood', REQUEST, random.choice((1, 10, 1000, 10000))
     if what == 2:
-        return 'send', b''.join(definitions(random, talk, random.choice((3, 300, 3000))))
+        return 'define', random.choice((3, 300, 3000))
     if what == 3:
         return 'send', acknowledgement(random.choice(talk.ids + [0, 9, 2 ** 64 - 1]), edge(random, GREATEST))
     if what == 4:
@@ -77,11 +74,10 @@ def hostile_act(random, talk):
     return random.choice(('send', 'slow')), b''.join(spoilt(random, pieces)[0])
 
 
-def definitions(random, talk, count):
-    """Yields definitions under ids of their own."""
-    table = random.choice(talk.tables)._replace(kind='integer', length=4)
-    for number in range(count):
-        yield message(TABLE_CLASS, DEFINITION, definition_data(table._replace(name=b'd%d' % number), 100 + number, 0))
+def definition(number):
+    """Returns the definition of a table that nobody has."""
+    table = Table(100 + number, b'd%d' % number, 'integer', 4, 0, (), ())
+    return message(TABLE_CLASS, DEFINITION, definition_data(table, table.id, table.expire))
 
 
 def random_hello(random, node):
@@ -123,15 +119,18 @@ def random_session(random, roster, updates):
 # --- The far side
 
 class Far:
-    """One end of a connection. `came` is all that was read, `said` what was sent after the hello. `limit` is how long the other end may
-    take, in seconds, and `patience` how long it is waited for what may not come."""
+    """One end of a connection. `came` is all that was read, and `sent` what was sent after the hello. `learner` knows what a learner has of
+    the messages said. `limit` is how long the other end may take, in seconds, and `patience` how long the far side waits for what may
+    not come."""
 
-    def __init__(self, peer, limit):
+    def __init__(self, peer, limit, learner):
         peer.setblocking(False)
         peer.setsockopt(socket.IPPROTO_TCP, socket.TCP_NODELAY, 1)
         self.peer = peer
+        self.learner = learner
         self.came = bytearray()
-        self.said = bytearray()
+        self.sent = bytearray()
+        self.said = b''
         self.is_over = self.is_reset = self.is_deaf = False
         self.begun = 0
         self.read_to = 0
@@ -161,7 +160,7 @@ class Far:
                     self.take(self.peer.recv(1 << 16))
                 if writable:
                     sent = self.peer.send(left[:1 << 16])
-                    self.said += left[:sent]
+                    self.sent += left[:sent]
                     left = left[sent:]
             except BlockingIOError:
                 continue
@@ -213,15 +212,17 @@ class Far:
     def send(self, data):
         self.pump(data)
 
-    def slow(self, data):
-        """Sends bytes in pieces. How they are cut doesn't depend on chance, so that a case is the same each time."""
-        pieces = 1 + len(data) % 7
+    def slow(self, data, pieces=7):
+        """Sends bytes in pieces of equal length."""
         for at in range(pieces):
             self.pump(data[at * len(data) // pieces:(at + 1) * len(data) // pieces])
             self.pump(until=lambda: False, seconds=0.002)
 
     def flood(self, data, times):
         self.pump(data * times)
+
+    def define(self, count):
+        self.pump(b''.join(map(definition, range(count))))
 
     def wait(self):
         self.pump(until=lambda: False, seconds=0.02)
@@ -232,11 +233,26 @@ class Far:
     def in_time(self, until, what, *shown):
         """Waits for what a node has to do. Only if all before was sound, it is a complaint that it doesn't come."""
         came = self.pump(until=until, seconds=self.patience)
-        require(came or self.patience < self.limit, what, 'does not come', *shown)
+        require(came or self.patience == IMPATIENT, what, 'does not come:', *shown)
         return came
 
-    def sync(self, due):
-        self.in_time(lambda: set(due) <= set(self.acks), 'an acknowledgement', due, self.acks[-20:])
+    def say(self, said):
+        self.said += spelled(said, self.learner.tables)
+        self.learner.take(said)
+        if self.learner.fault is not None or not self.learner.sure:
+            self.patience = min(self.patience, IMPATIENT)
+
+    def sync(self, pieces):
+        """Sends what was said. The last number of each table with an update among it is acknowledged, if the table is a local one."""
+        before, data = len(self.acks), self.said
+        self.said = b''
+        if pieces == 1:
+            self.pump(data)
+        else:
+            self.slow(data, pieces)
+        due = self.learner.acks()
+        self.learner.owing.difference_update(at for at, _ in due)
+        self.in_time(lambda: set(due) <= set(self.acks[before:]), 'an acknowledgement', due, self.acks[before:])
 
     def ask(self):
         """Asks for a resync and acknowledges what comes."""
@@ -295,7 +311,7 @@ def connected(child, port, limit):
     raise Complaint('slow', 'nobody listens at the port of serve')
 
 
-def started(program, node, turns, text):
+def started(program, node, turns, text, learner):
     """Starts a node and returns it with its end of the connection."""
     for _ in range(3):
         with socket.socket() as listener:
@@ -318,14 +334,14 @@ def started(program, node, turns, text):
                 child.communicate()
                 raise Complaint('slow', '%s does not connect' % node) from None
         if peer is not None:
-            return child, words, Far(peer, program.patience)
+            return child, words, Far(peer, program.patience, learner)
         program.finished(child, words)
     raise Complaint('status', 'serve ends before anybody connected')
 
 
-def held(program, session, text):
+def held(program, session, text, learner):
     """Holds a session. Returns how the node ended, and the far side."""
-    child, words, far = started(program, session['node'], session['turns'], text)
+    child, words, far = started(program, session['node'], session['turns'], text, learner)
     program.sessions += 1
     try:
         hello = session['hello']
@@ -340,10 +356,11 @@ def held(program, session, text):
                 require(far.pump(until=lambda: b'\n' in far.came), 'slow', 'no status of serve')
                 require(bytes(far.came) == ACCEPTED, 'a status', '', bytes(far.came))
                 far.expect_messages()
-        far.said.clear()
-        far.patience = far.limit if session['sound'] else 0.05
+        far.sent.clear()
+        far.patience = far.limit if session['sound'] else IMPATIENT
         for act in session['acts']:
             far.act(act)
+        far.pump(far.said)
         far.end(session['ending'])
         return program.finished(child, words), far
     except BaseException:
@@ -390,7 +407,7 @@ def is_plain(session, far):
     if session['hello'] != (HELLO if session['node'] == 'serve' else ACCEPTED):
         return False
     return not any(class_byte == 1 and type_byte < 2 or class_byte == 0 and type_byte in (1, 2) and session['node'] == 'join'
-                   or class_byte == TABLE_CLASS and type_byte == 132 for _, class_byte, type_byte, _ in framed(bytes(far.said)))
+                   or class_byte == TABLE_CLASS and type_byte == 132 for _, class_byte, type_byte, _ in framed(bytes(far.sent)))
 
 
 def without_rates(rows, roster):

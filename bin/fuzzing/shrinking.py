@@ -4,7 +4,7 @@ import time
 
 from fuzzing.programs import Complaint
 
-LONGEST_BYTES = 4096
+LONGEST_BYTES, MOST_PARTS = 4096, 10
 
 
 def complaint_of(program, kind, case):
@@ -40,6 +40,7 @@ def shrunk(program, kind, case, complaint, seconds):
             case = without_parts(case, field, fails)
         for field in kind.shrinks:
             case = with_fewer_bytes(case, field, fails)
+            case = with_less(case, field, fails)
     return case, found
 
 
@@ -55,6 +56,19 @@ def without_parts(case, field, fails):
             else:
                 at += size
         size //= 2
+    return case
+
+
+def with_less(case, field, fails):
+    """Halves the numbers in the tuples of a list that is short by now."""
+    for at, part in enumerate(case[field][:MOST_PARTS]):
+        for place in range(len(part) if isinstance(part, tuple) else 0):
+            while isinstance(part[place], int) and part[place] > 0:
+                changed = part[:place] + (part[place] // 2,) + part[place + 1:]
+                smaller = dict(case, **{field: case[field][:at] + [changed] + case[field][at + 1:]})
+                if not fails(smaller):
+                    break
+                case, part = smaller, changed
     return case
 
 

@@ -1,10 +1,11 @@
 """Random streams: valid ones, message by message, and spoilt ones."""
 
 from fuzzing.messages import DEFINITION, LONGEST_DATA, TABLE_CLASS, UPDATE_TYPES, encoded, message
-from fuzzing.received import Learner, name_field, spelled, update_data
-from fuzzing.tables import (FIRST_MOMENT, GREATEST, GREATEST_MOMENT, RATES, SERVER_KEY, definition_data, edge, key_bytes, random_key,
-                            random_name, random_table, random_values, value_bytes)
+from fuzzing.received import Learner, name_field, update_data
+from fuzzing.tables import (FIRST_MOMENT, GREATEST, GREATEST_MOMENT, SERVER_KEY, definition_data, edge, random_key, random_name,
+                            random_table, random_values, value_bytes)
 
+LONG, MOST_WITH_LONG_KEYS = 1000, 100
 OVER = bytes.fromhex('FFF0FEFEFEFEFEFEFE0F')
 
 
@@ -50,8 +51,9 @@ class Talk:
         self.messages = []
 
     def grow(self, count):
-        """Adds messages, up to `count` of them in all or a fault."""
-        while len(self.messages) < count and self.state.fault is None and self.state.sure:
+        """Adds messages, up to `count` of them in all or a fault; fewer if keys may be very long."""
+        most = count if all(table.length < LONG for table in self.tables) else min(count, MOST_WITH_LONG_KEYS)
+        while len(self.messages) < most and self.state.fault is None and self.state.sure:
             said = self.next()
             self.messages.append(said)
             self.state.take(said)
@@ -188,6 +190,3 @@ def cut(random, stream, most=20):
 def with_other_expires(random, tables, messages):
     """Returns the messages with another expire in each definition."""
     return [said[:3] + (edge(random, GREATEST),) if said[0] == 'define' else said for said in messages]
-
-
-__all__ = ['OVER', 'RATES', 'Talk', 'cut', 'key_bytes', 'random_moment', 'spelled', 'spoilt', 'with_other_expires']

@@ -32,35 +32,35 @@ def random_world(random, length):
     for _ in range(length):
         moment = next_moment(random, moment)
         at = random.randrange(len(roster))
-        table, session = roster[at], random.randint(1, sessions)
-        if random.random() < 0.02:
-            session = random.choice((0, 17, GREATEST))
-        chance = random.random()
-        head = [b'%d' % session, b'%d' % table.id]
-        if chance < 0.38:
-            steps.append(b' '.join([b'track', head[1], b'%d' % moment] + change_words(random, table, keys[at])))
-        elif chance < 0.44:
-            steps.append(b' '.join([b'learn'] + head + [b'%d' % moment] + update_words(random, table, keys[at])))
-        elif chance < 0.60:
-            kind = random.choice((b'push', b'push', b'resync'))
-            steps.append(b' '.join([b'copy'] + head + [kind, b'%d' % random.choice((1, 3, 512, 512, 513)), b'%d' % moment]))
-        elif chance < 0.74:
-            steps.append(b'teach %d' % session)
-        elif chance < 0.82:
-            steps += drained(session, random.choice((b'learner', b'teacher')), moment)
-        elif chance < 0.87:
-            steps.append(b'deliver %d %s %d %d' % (session, random.choice((b'learner', b'teacher')), edge(random, 300), moment))
-        elif chance < 0.93:
-            steps.append(b'ack %d' % session)
-        elif chance < 0.96:
-            steps.append(random.choice((b'break %d', b'reopen %d', b'reopen %d')) % session)
-        elif chance < 0.97:
-            steps.append(b'purge %d %d' % (table.id, moment))
-        else:
-            session = random.randint(1, sessions)
-            steps.append(random.choice((b'session %d' % session, b'rows %d' % table.id, b'learner %d %d' % (session, table.id),
-                                        b'events %d' % table.id)))
+        session = random.randint(1, sessions) if random.random() < 0.97 else random.choice((0, 17, GREATEST))
+        steps += random_steps(random, roster[at], keys[at], session, moment)
+        if random.random() < 0.04:
+            steps.append(random.choice((b'session 1', b'rows %d', b'learner 1 %d', b'events %d')).replace(b'%d', b'%d' % roster[at].id))
     return roster, sessions, options, steps, moment + 1
+
+
+def random_steps(random, table, keys, session, moment):
+    """Returns one step, or deliveries after which a pipe is empty."""
+    head, at = [b'%d' % session, b'%d' % table.id], b'%d' % moment
+    chance = random.random()
+    if chance < 0.38:
+        return [b' '.join([b'track', head[1], at] + change_words(random, table, keys))]
+    if chance < 0.44:
+        return [b' '.join([b'learn'] + head + [at] + update_words(random, table, keys))]
+    if chance < 0.60:
+        kind = random.choice((b'push', b'push', b'resync'))
+        return [b' '.join([b'copy'] + head + [kind, b'%d' % random.choice((1, 3, 512, 512, 513)), at])]
+    if chance < 0.76:
+        return [b'teach %d' % session]
+    if chance < 0.84:
+        return drained(session, random.choice((b'learner', b'teacher')), moment)
+    if chance < 0.89:
+        return [b'deliver %d %s %d %d' % (session, random.choice((b'learner', b'teacher')), edge(random, 300), moment)]
+    if chance < 0.95:
+        return [b'ack %d' % session]
+    if chance < 0.98:
+        return [random.choice((b'break %d', b'reopen %d', b'reopen %d')) % session]
+    return [b'purge %d %d' % (table.id, moment)]
 
 
 def script_of(roster, sessions, options, steps, moment):
