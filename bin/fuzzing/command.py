@@ -64,11 +64,13 @@ class Worker:
     def __init__(self, program, seed, chosen, folder):
         self.program, self.seed, self.chosen, self.folder = program, seed, chosen, folder
         self.counts = Counter()
+        self.began = time.monotonic()
 
     def run(self, number):
         """Runs a case, and returns whether it passed."""
         kind, case = case_of(self.seed, number, self.chosen)
         self.counts[kind.name] += 1
+        seconds = time.monotonic() - self.began
         try:
             complaint = complaint_of(self.program, kind, case)
             if complaint is None:
@@ -81,7 +83,7 @@ class Worker:
             what, text = 'fuzzer', traceback.format_exc()
         name = kept_name(number, kind.name, what)
         self.folder.keep(name, dict(case, kind=kind.name), text, self.program.latest)
-        print('FAILED: case %d, %s: %s' % (number, kind.name, text), flush=True)
+        print('FAILED: case %d, %s, begun after %.0f s: %s' % (number, kind.name, seconds, text), flush=True)
         return False
 
     def work(self, following, failures, options, latest):

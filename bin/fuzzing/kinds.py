@@ -1,7 +1,7 @@
 """The kinds of cases: how each is made from chance, and judged by what the program does with it.
 
 A case is plain data, so that it can be kept in a file; tables are tuples there. What a case's judge raises is a `Complaint`. `shrinks`
-names the lists of a case from which parts may be left out."""
+names the lists of a case from which parts may be left out, and `loose` those whose parts may lose bytes too and still make a case."""
 
 import random as chances
 from collections import namedtuple
@@ -14,7 +14,7 @@ from fuzzing.rows import read_learned, read_rows, without_moments
 from fuzzing.streams import Talk, cut, random_moment, spoilt, with_other_expires
 from fuzzing.tables import FIRST_MOMENT, TYPES, Table, random_roster, table_line
 
-Kind = namedtuple('Kind', 'name weight make judge shrinks')
+Kind = namedtuple('Kind', 'name weight make judge shrinks loose')
 
 
 def text(lines):
@@ -380,14 +380,14 @@ def judge_taught(program, far, roster, rows, turns):
 
 
 ALL = (
-    Kind('learn', 30, make_learn, judge_learn, ('messages',)),
-    Kind('spoilt', 30, make_spoilt, judge_spoilt, ('pieces',)),
-    Kind('check', 10, make_check, judge_check, ('messages', 'updates', 'prices')),
-    Kind('lesson', 10, make_lesson, judge_lesson, ('updates',)),
-    Kind('lines', 15, make_lines, judge_lines, ('lines',)),
-    Kind('table', 12, make_table, judge_table, ('lines',)),
-    Kind('world', 12, make_world, judge_world, ('lines', 'options')),
-    Kind('words', 3, make_words, judge_words, ('words',)),
-    Kind('session', 30, make_session, judge_session, ('acts', 'updates')),
+    Kind('learn', 30, make_learn, judge_learn, ('messages',), ()),
+    Kind('spoilt', 30, make_spoilt, judge_spoilt, ('pieces',), ('pieces',)),
+    Kind('check', 10, make_check, judge_check, ('messages', 'updates', 'prices'), ()),
+    Kind('lesson', 10, make_lesson, judge_lesson, ('updates',), ()),
+    Kind('lines', 15, make_lines, judge_lines, ('lines',), ('lines',)),
+    Kind('table', 12, make_table, judge_table, ('lines',), ()),
+    Kind('world', 12, make_world, judge_world, ('lines', 'options'), ()),
+    Kind('words', 3, make_words, judge_words, ('words',), ()),
+    Kind('session', 30, make_session, judge_session, ('acts', 'updates'), ('acts',)),
 )
 BY_NAME = {kind.name: kind for kind in ALL}

@@ -4,7 +4,7 @@ from collections import namedtuple
 
 from fuzzing.messages import encoded
 from fuzzing.received import Received, spelled, update_data
-from fuzzing.tables import (GREATEST, definition_data, edge, has_names, key_word, name_word, random_key, random_life, random_name,
+from fuzzing.tables import (GREATEST, definition_data, edge, has_names, key_word, random_key, random_life, random_name,
                             random_roster, random_values, table_line, value_words)
 
 SLOTS = 128
@@ -56,7 +56,7 @@ def scene_lines(scene):
 def update_line(table, update):
     number, life, key, values, name = update
     words = [b'update', b'%d' % table.id, b'%d' % number, b'%d' % life, key_word(table, key)] + value_words(values)
-    return b' '.join(words + [name_word(name)] * has_names(table))
+    return b' '.join(words + [b'-' if name is None else name] * has_names(table))
 
 
 class Known(Received):

@@ -38,7 +38,7 @@ def shrunk(program, kind, case, complaint, seconds):
         before = case
         for field in kind.shrinks:
             case = without_parts(case, field, fails)
-        for field in kind.shrinks:
+        for field in kind.loose:
             case = with_fewer_bytes(case, field, fails)
             case = with_less(case, field, fails)
     return case, found
