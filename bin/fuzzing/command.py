@@ -25,7 +25,7 @@ def arguments(words):
     parser.add_argument('seconds', metavar='SECONDS', type=float, nargs='?', help='how long to go on')
     parser.add_argument('seed', metavar='SEED', type=int, nargs='?', help='the same seed makes the same cases in the same order')
     parser.add_argument('--cases', metavar='N', type=int, help='at most that many cases')
-    parser.add_argument('--jobs', metavar='N', type=int, default=os.cpu_count(), help='worker processes; one for each core without this option')
+    parser.add_argument('--jobs', metavar='N', type=int, default=len(os.sched_getaffinity(0)), help='worker processes; one for each core without this option')
     parser.add_argument('--kinds', metavar='KIND,..', help='cases of these kinds alone: ' + ', '.join(kind.name for kind in kinds.ALL))
     parser.add_argument('--only', metavar='NUMBER', type=int, help='this case of the seed alone')
     parser.add_argument('--keep', metavar='FOLDER', help='where failed cases are kept; a fresh folder without this option')

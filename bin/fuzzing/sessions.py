@@ -17,6 +17,7 @@ import re
 import select
 import socket
 import struct
+import subprocess
 import time
 
 from fuzzing.messages import DEFINITION, SWITCH, TABLE_CLASS, UPDATES, acknowledgement, decoded, encoded, framed, framed_length, message
@@ -230,10 +231,10 @@ class Far:
     def deaf(self):
         self.is_deaf = True
 
-    def in_time(self, until, what, *shown):
+    def in_time(self, until, what, shown=lambda: ''):
         """Waits for what a node has to do. Only if all before was sound, it is a complaint that it doesn't come."""
         came = self.pump(until=until, seconds=self.patience)
-        require(came or self.patience == IMPATIENT, what, 'does not come:', *shown)
+        require(came or self.patience == IMPATIENT, what, 'does not come, and the connection is %s:' % ('over' if self.is_over else 'open'), shown())
         return came
 
     def say(self, said):
@@ -252,7 +253,7 @@ class Far:
             self.slow(data, pieces)
         due = self.learner.acks()
         self.learner.owing.difference_update(at for at, _ in due)
-        self.in_time(lambda: set(due) <= set(self.acks[before:]), 'an acknowledgement', due, self.acks[before:])
+        self.in_time(lambda: set(due) <= set(self.acks[before:]), 'an acknowledgement', lambda: (due, self.acks[before:]))
 
     def ask(self):
         """Asks for a resync and acknowledges what comes."""
@@ -363,13 +364,23 @@ def held(program, session, text, learner):
         far.pump(far.said)
         far.end(session['ending'])
         return program.finished(child, words), far
-    except BaseException:
-        if child.poll() is None:
-            child.kill()
-            child.communicate()
+    except BaseException as error:
+        stop(child, error)
         raise
     finally:
         far.peer.close()
+
+
+def stop(child, error):
+    """Stops a node whose session went wrong. If a signal ended it before, that is the complaint."""
+    try:
+        child.wait(0.2 if isinstance(error, Complaint) else 0)
+    except subprocess.TimeoutExpired:
+        child.kill()
+        child.communicate()
+        return
+    child.communicate()
+    require(child.returncode >= 0, 'signal', 'of a node, %d, and then: %s' % (-child.returncode, error))
 
 
 def judge_ending(session, ending, far, roster):
