@@ -44,11 +44,13 @@ def arguments(words):
 def built_program():
     """Returns the path of the program to try: PEERS_NODE, or the built one, which is built if need be."""
     named = os.environ.get('PEERS_NODE')
-    if named:
-        return os.path.realpath(named)
-    with open(os.path.join(TOP, 'examples/empty-batch.scene'), 'rb') as scene:
-        subprocess.run([os.path.join(TOP, 'bin/peers_node'), 'lesson'], stdin=scene, stdout=subprocess.DEVNULL, check=True)
-    return os.path.join(TOP, 'crates/peers_node/out/peers_node')
+    path = os.path.realpath(named) if named else os.path.join(TOP, 'crates/peers_node/out/peers_node')
+    if not named:
+        with open(os.path.join(TOP, 'examples/empty-batch.scene'), 'rb') as scene:
+            subprocess.run([os.path.join(TOP, 'bin/peers_node'), 'lesson'], stdin=scene, stdout=subprocess.DEVNULL, check=False)
+    if not os.access(path, os.X_OK):
+        sys.exit('bin/fuzz: there is no program at ' + path)
+    return path
 
 
 def case_of(seed, number, chosen):
@@ -77,8 +79,10 @@ class Worker:
                 return True
             before = self.program.decoded, self.program.sessions
             case, complaint = shrunk(self.program, kind, case, complaint, SECONDS_TO_SHRINK)
-            self.program.decoded, self.program.sessions = before
             what, text = complaint.what, str(complaint)
+            if complaint_of(self.program, kind, case) is None:
+                text += '; run once more it passed'
+            self.program.decoded, self.program.sessions = before
         except Exception:  # the fuzzer itself is wrong: that is a failure too
             what, text = 'fuzzer', traceback.format_exc()
         name = kept_name(number, kind.name, what)
