@@ -4,6 +4,7 @@ import argparse
 import multiprocessing
 import os
 import random as chances
+import signal
 import subprocess
 import sys
 import time
@@ -12,7 +13,7 @@ from collections import Counter
 
 from fuzzing import kinds
 from fuzzing.keeping import Folder, kept_case, kept_name
-from fuzzing.programs import Complaint, Program
+from fuzzing.programs import Program
 from fuzzing.shrinking import complaint_of, shrunk
 
 MOST_FAILURES = 20
@@ -118,7 +119,7 @@ def fuzz(path, seed, options, folder):
     results = multiprocessing.SimpleQueue()
     latest = time.monotonic() + options.seconds
     given = path, seed, options, folder, following, failures, latest, results
-    workers = [multiprocessing.Process(target=run_worker, args=given) for _ in range(options.jobs)]
+    workers = [multiprocessing.Process(target=run_worker, args=given, daemon=True) for _ in range(options.jobs)]
     for worker in workers:
         worker.start()
     for worker in workers:
@@ -132,29 +133,32 @@ def fuzz(path, seed, options, folder):
 def run_again(program, folder):
     """Runs a kept case again, and says what it comes to."""
     name, case = kept_case(folder)
-    try:
-        complaint = complaint_of(program, kinds.BY_NAME[name], case)
-    except Complaint as other:
-        complaint = other
+    complaint = complaint_of(program, kinds.BY_NAME[name], case)
     print('passed' if complaint is None else 'FAILED: %s' % complaint)
     return complaint is not None
 
 
 def main(words):
+    signal.signal(signal.SIGTERM, lambda *_: sys.exit(1))
     options = arguments(words)
     path = built_program()
     if options.again is not None:
         return int(run_again(Program(path, options.patience), options.again))
     seed = chances.SystemRandom().randrange(2 ** 32) if options.seed is None else options.seed
-    began = time.monotonic()
     folder = Folder(options.keep)
-    if options.only is not None:
-        worker = Worker(Program(path, options.patience), seed, options.kinds, folder)
-        failed = int(not worker.run(options.only))
-        counts = Counter(worker.counts, decoded=worker.program.decoded, sessions=worker.program.sessions)
-    else:
-        counts, failed = fuzz(path, seed, options, folder)
-    return report(counts, failed, seed, folder, time.monotonic() - began)
+    began = time.monotonic()
+    try:
+        counts, failed = run_only(path, seed, options, folder) if options.only is not None else fuzz(path, seed, options, folder)
+        return report(counts, failed, seed, folder, time.monotonic() - began)
+    finally:
+        folder.drop()
+
+
+def run_only(path, seed, options, folder):
+    """Runs one case of a seed. Returns the counts, and how many cases failed."""
+    worker = Worker(Program(path, options.patience), seed, options.kinds, folder)
+    failed = int(not worker.run(options.only))
+    return Counter(worker.counts, decoded=worker.program.decoded, sessions=worker.program.sessions), failed
 
 
 def report(counts, failed, seed, folder, seconds):
@@ -164,14 +168,7 @@ def report(counts, failed, seed, folder, seconds):
     print('cases: ' + ', '.join('%s %d' % (kind.name, counts[kind.name]) for kind in kinds.ALL if counts[kind.name]))
     print('messages decoded by learn and check: %d' % counts['decoded'])
     print('sessions: %d' % counts['sessions'])
-    kept = folder.sort()
-    for name in kept:
+    for name in folder.sort():
         print('kept: bin/fuzz --again %s' % os.path.join(folder.path, name))
-    if not kept:
-        folder.drop()
     print('%d passed, %d failed' % (max(0, total - failed), failed))
     return int(failed > 0)
-
-
-if __name__ == '__main__':
-    sys.exit(main(sys.argv[1:]))

@@ -40,7 +40,7 @@ class Folder:
 
     def drop(self):
         """Removes a fresh folder in which nothing was kept."""
-        if self.is_fresh:
+        if self.is_fresh and not os.listdir(self.path):
             os.rmdir(self.path)
 
     def keep(self, name, case, complaint, latest):
