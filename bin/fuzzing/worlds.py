@@ -120,12 +120,13 @@ class Answers:
         require(match, 'rows', '', line)
         rows, before = {}, None
         for _ in range(int(match[1])):
-            row = self.patterns[at].fullmatch(self.line())
-            require(row, 'a row', 'is not written as one of its table', row and row[0])
+            line = self.line()
+            row = self.patterns[at].fullmatch(line)
+            require(row, 'a row', 'is not written as one of its table', line)
             place = key_of(self.tables[at], row[3])
-            require(before is None or before < place, 'order of rows', '', row[0])
+            require(before is None or before < place, 'order of rows', '', line)
             before = place
-            rows[row[3]] = row[0].split(b' ')
+            rows[row[3]] = line.split(b' ')
         return rows
 
     learner = rows
