@@ -13,6 +13,7 @@ use std::io::{Read, Write};
 
 /// Reads a configuration, and ends with `Done` if a node can be run with it. It opens nothing, and writes only to `errors`: the line
 /// that says why a configuration is refused.
+#[tactic(auto, using(crate::proofs::ConfigurationEndings::refusal_said))]
 pub fn check_configuration<R: Read + Faults, E: Write + Faults>(
     alloc: Global,
     input: &mut R,
@@ -22,16 +23,14 @@ pub fn check_configuration<R: Read + Faults, E: Write + Faults>(
     ensures said { result ≢ Ending.Device → Appends (E.contents errors.old) (E.contents errors.new) (line_of result) }
 {
     match configuration_of(alloc, input) {
-        Ok(_) => Ending::Done,
-        Err(ending) => ending.said(alloc, errors),
+        Ok(configuration) => drop(configuration),
+        Err(ending) => return ending.said(alloc, errors),
     }
+    Ending::Done
 }
 
 /// Returns the configuration that `input` has, or how the subcommand ends without one.
-fn configuration_of<R: Read + Faults>(
-    alloc: Global,
-    input: &mut R,
-) -> Result<Configuration, Ending>
+fn configuration_of<R: Read + Faults>(alloc: Global, input: &mut R) -> Result<Configuration, Ending>
     ensures configuration { IfOk result IsConfiguration }
     ensures refused { IfErr result (λ ending. (ending ≢ Ending.Done) × EndsConfiguration ending) }
 {
