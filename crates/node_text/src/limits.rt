@@ -17,11 +17,7 @@ pub fn set_once<T: Drop>(place: &mut Option<T>, value: T) -> Result<(), LineErro
 }
 
 /// Appends `item` to `items` unless that has `most` items already.
-pub fn push_within<T: Drop>(
-    items: &mut Vec<T>,
-    most: usize,
-    item: T,
-) -> Result<(), LineError>
+pub fn push_within<T: Drop>(items: &mut Vec<T>, most: usize, item: T) -> Result<(), LineError>
     ensures pushed { OnOk result ((items.new.items ≡ items.old.items ++ item ∷ []) × (vec_len items.new ≤ most)) }
     ensures refused { result ≡ Err LineError.Refused → most ≤ vec_len items.old }
     ensures stays { OnErr result (items.new.items ≡ items.old.items) }

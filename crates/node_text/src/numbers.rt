@@ -71,11 +71,7 @@ pub(crate) fn push_spaced(text: &mut Vec<u8>, number: u64) -> Result<(), AllocEr
 }
 
 /// Appends `word`, which ends with its space, and `number`.
-pub fn push_word_and_number(
-    text: &mut Vec<u8>,
-    word: &str,
-    number: u64,
-) -> Result<(), AllocError>
+pub fn push_word_and_number(text: &mut Vec<u8>, word: &str, number: u64) -> Result<(), AllocError>
     ensures { OnOk result (text.new.items ≡ text.old.items ++ (word.now ++ decimal number)) }
 {
     text.extend_from_slice(word.as_bytes())?;
