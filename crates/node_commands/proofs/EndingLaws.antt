@@ -22,6 +22,7 @@ early_no_rows endings.Strange early rows = early
 early_no_rows endings.Unasked early rows = early
 early_no_rows (endings.Line n) early rows = rows
 early_no_rows endings.Scene early rows = rows
+early_no_rows endings.Configuration early rows = early
 early_no_rows endings.Memory early rows = rows
 early_no_rows endings.Device early rows = rows
 
@@ -41,6 +42,7 @@ rows_of endings.Device rows = absurd (false≢true rows)
 rows_of endings.NotShortest rows = absurd (false≢true rows)
 rows_of (endings.Line n) rows = absurd (false≢true rows)
 rows_of endings.Scene rows = absurd (false≢true rows)
+rows_of endings.Configuration rows = absurd (false≢true rows)
 rows_of endings.Memory rows = absurd (false≢true rows)
 
 pub rows_printed : (e after : Ending) → has_rows e ≡ true → after ≡ e → (HasRows after → ⊥) → ⊥

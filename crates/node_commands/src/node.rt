@@ -151,8 +151,12 @@ fn has_rows(ending: Ending) -> bool
 {
     match ending {
         Ending::Done | Ending::Stream(_) | Ending::Strange | Ending::Unasked => true,
-        Ending::Line(_) | Ending::Scene | Ending::NotShortest | Ending::Memory | Ending::Device =>
-            false,
+        Ending::Line(_)
+        | Ending::Scene
+        | Ending::Configuration
+        | Ending::NotShortest
+        | Ending::Memory
+        | Ending::Device => false,
     }
 }
 

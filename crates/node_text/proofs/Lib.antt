@@ -2,4 +2,4 @@ mod LessonLines
 mod LineNumbers
 mod Numerals
 mod ReadAgain
-mod WorldTables
+pub mod WorldTables

@@ -9,6 +9,10 @@ is_dash [] = false
 is_dash (byte ∷ []) = byte == 45
 is_dash (byte ∷ _ ∷ _) = false
 
+-- a text that isn't `-`
+abbrev pub may_name : List ℕ → Bool
+may_name word = not (is_dash word) && is_text word
+
 -- the first byte is `~` (126)
 abbrev pub begins_with_tilde : List ℕ → Bool
 begins_with_tilde [] = false

@@ -21,8 +21,8 @@ pub enum SceneError {
 }
 
 /// Why a line wasn't read.
-#[derive(Clone, Copy)]
-pub(crate) enum LineError {
+#[derive(Clone, Copy, Debug, PartialEq, Eq)]
+pub enum LineError {
     /// The line breaks a rule or a limit.
     Refused,
     /// Memory ran out.

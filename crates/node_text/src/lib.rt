@@ -33,12 +33,15 @@ mod worlds;
 
 pub use acks::push_acks;
 pub use calls::Call;
-pub use error::SceneError;
+pub use error::{LineError, SceneError};
 pub use events::push_event;
 pub use keys::push_key;
 pub use laws::printed_is_read;
 pub use lessons::printed_lesson;
-pub use names::push_stored_name;
+pub use limits::{push_within, set_once};
+pub use lines::{LineReader, read_lines};
+pub use names::{name, push_stored_name};
+pub use numbers::{number, number_from_one, push_number, push_word_and_number};
 pub use refusals::{
     ack_refusal, close_refusal, copy_refusal, learn_refusal, open_refusal, purge_refusal,
     track_refusal,
@@ -48,7 +51,9 @@ pub use rows::{push_row, push_stored_row};
 pub use scenes::{Scene, read_scene};
 pub use script_tables::ScriptTable;
 pub use scripts::{Script, read_script};
+pub use tables::{are_alike, table_of};
 pub use updates::push_update;
 pub use verdicts::printed_verdict;
+pub use words::{cut, is_text, words_of};
 pub use world_lines::{WorldLine, WorldQuestion, WorldStep};
 pub use worlds::{WorldScript, read_world};

@@ -4,7 +4,7 @@ ghost use Rattle.std.specs.Prelude.{◌≡◌, ◌∷◌, ◌++◌, ◌≤◌, [
 use crate::error::LineError;
 
 /// Sets `place` to `value` unless it has a value.
-pub(crate) fn set_once<T: Drop>(place: &mut Option<T>, value: T) -> Result<(), LineError>
+pub fn set_once<T: Drop>(place: &mut Option<T>, value: T) -> Result<(), LineError>
     ensures set { OnOk result ((place.old ≡ None) × (place.new ≡ Some value)) }
     ensures refused { OnErr result (IsSome place.old) }
     ensures stays { OnErr result (place.new ≡ place.old) }
@@ -17,11 +17,7 @@ pub(crate) fn set_once<T: Drop>(place: &mut Option<T>, value: T) -> Result<(), L
 }
 
 /// Appends `item` to `items` unless that has `most` items already.
-pub(crate) fn push_within<T: Drop>(
-    items: &mut Vec<T>,
-    most: usize,
-    item: T,
-) -> Result<(), LineError>
+pub fn push_within<T: Drop>(items: &mut Vec<T>, most: usize, item: T) -> Result<(), LineError>
     ensures pushed { OnOk result ((items.new.items ≡ items.old.items ++ item ∷ []) × (vec_len items.new ≤ most)) }
     ensures refused { result ≡ Err LineError.Refused → most ≤ vec_len items.old }
     ensures stays { OnErr result (items.new.items ≡ items.old.items) }

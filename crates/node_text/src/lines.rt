@@ -7,7 +7,7 @@ use crate::words::cut;
 use std::alloc::Global;
 
 /// What is read from a text, line by line.
-pub(crate) trait LineReader {
+pub trait LineReader {
     /// What each line keeps, in a text of this many lines.
     ghost is_sound: { ℕ → Self → Type 0 };
 
@@ -18,7 +18,7 @@ pub(crate) trait LineReader {
 
 /// Reads the lines of `text` in order, up to the first that is refused, which `Line` names. Each line ends with LF; a last
 /// line without it is refused.
-pub(crate) fn read_lines<T: LineReader>(
+pub fn read_lines<T: LineReader>(
     alloc: Global,
     text: &[u8],
     reader: &mut T,

@@ -1,6 +1,7 @@
 //! Names of tables and servers.
-ghost use Rattle.std.specs.Prelude.{◌≡◌, ◌++◌, OnOk, option_copied};
-ghost use Rattle.node_text.specs.Names.{is_plain, name_text, stored_text};
+ghost use Rattle.std.specs.Prelude.{◌≡◌, ◌++◌, IfOk, OnOk, option_copied, true};
+ghost use Rattle.table_types.specs.Names.{is_name};
+ghost use Rattle.node_text.specs.Names.{is_plain, may_name, name_text, stored_text};
 
 use crate::bytes::push_hexadecimal;
 use crate::error::LineError;
@@ -9,12 +10,19 @@ use std::alloc::{AllocError, Global};
 use table_types::Name;
 
 /// Returns whether `word` may be a name: a text that isn't `-`.
-pub(crate) fn may_name(word: &[u8]) -> bool {
-    is_text(word) && word != b"-".as_slice()
+pub(crate) fn may_name(word: &[u8]) -> bool
+    ensures { result ≡ may_name word.now }
+{
+    match word {
+        [b'-'] => false,
+        _ => is_text(word),
+    }
 }
 
 /// Reads a name: a text of 1 to 255 bytes that isn't `-`.
-pub(crate) fn name(alloc: Global, word: &[u8]) -> Result<Name, LineError> {
+pub fn name(alloc: Global, word: &[u8]) -> Result<Name, LineError>
+    ensures { IfOk result (λ name. (name ≡ word.now) × (is_name name ≡ true) × (may_name name ≡ true)) }
+{
     if !may_name(word) {
         return Err(LineError::Refused);
     }

@@ -8,7 +8,7 @@ use std::alloc::AllocError;
 use table_types::Moment;
 
 /// Returns the number that `word` writes in decimal, with no needless zeros; `None` if it writes none, or one above `most`.
-pub(crate) fn number(word: &[u8], most: u64) -> Option<u64>
+pub fn number(word: &[u8], most: u64) -> Option<u64>
     ensures exactly { result ≡ number_of word.now most }
     ensures most { IfSome result (λ value. value ≤ most) }
 {
@@ -41,7 +41,7 @@ pub(crate) fn number32(word: &[u8]) -> Option<u32>
 }
 
 /// Returns the number from 1 to `most` that `word` writes, as `number` reads it.
-pub(crate) fn number_from_one(word: &[u8], most: u32) -> Option<u32>
+pub fn number_from_one(word: &[u8], most: u32) -> Option<u32>
     ensures exactly { result ≡ from_one (number_of word.now most) }
     ensures within { IfSome result (λ value. (1 ≤ value) × (value ≤ most)) }
 {
@@ -55,7 +55,7 @@ pub(crate) fn moment(word: &[u8]) -> Option<Moment> {
 }
 
 /// Appends `number` in decimal.
-pub(crate) fn push_number(text: &mut Vec<u8>, number: u64) -> Result<(), AllocError>
+pub fn push_number(text: &mut Vec<u8>, number: u64) -> Result<(), AllocError>
     ensures { OnOk result (text.new.items ≡ text.old.items ++ decimal number) }
 {
     let mut digits = Buffer::new();
@@ -71,11 +71,7 @@ pub(crate) fn push_spaced(text: &mut Vec<u8>, number: u64) -> Result<(), AllocEr
 }
 
 /// Appends `word`, which ends with its space, and `number`.
-pub(crate) fn push_word_and_number(
-    text: &mut Vec<u8>,
-    word: &str,
-    number: u64,
-) -> Result<(), AllocError>
+pub fn push_word_and_number(text: &mut Vec<u8>, word: &str, number: u64) -> Result<(), AllocError>
     ensures { OnOk result (text.new.items ≡ text.old.items ++ (word.now ++ decimal number)) }
 {
     text.extend_from_slice(word.as_bytes())?;

@@ -1,5 +1,6 @@
 //! Definitions of tables.
-ghost use Rattle.std.specs.Prelude.{◌≡◌};
+ghost use Rattle.std.specs.Prelude.{◌≡◌, IfOk, true};
+ghost use Rattle.node_text.specs.Names.{may_name};
 ghost use Rattle.node_text.specs.Worlds.{are_alike};
 
 use crate::error::LineError;
@@ -11,7 +12,9 @@ use std::alloc::Global;
 use table_types::{DataType, TableDef, is_same_name};
 
 /// Reads the table of a line `table ID NAME KIND L EXPIRE TYPES..`, from the words after the first.
-pub(crate) fn table_of(alloc: Global, words: &[&[u8]]) -> Result<TableDef, LineError> {
+pub fn table_of(alloc: Global, words: &[&[u8]]) -> Result<TableDef, LineError>
+    ensures { IfOk result (λ table. may_name table.name ≡ true) }
+{
     let [id, name, kind, key_length, expire, types @ ..] = words else {
         return Err(LineError::Refused);
     };
@@ -28,7 +31,7 @@ pub(crate) fn table_of(alloc: Global, words: &[&[u8]]) -> Result<TableDef, LineE
 }
 
 /// Returns whether two tables have one id or one name.
-pub(crate) fn are_alike(one: &TableDef, other: &TableDef) -> bool
+pub fn are_alike(one: &TableDef, other: &TableDef) -> bool
     ensures { result ≡ are_alike one.now other.now }
 {
     one.id() == other.id() || is_same_name(one.name(), other.name())

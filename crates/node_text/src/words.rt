@@ -6,7 +6,7 @@ use crate::error::LineError;
 use std::alloc::Global;
 
 /// Returns the bytes before the first `byte` of `text`, and those after it; `None` if `text` has no such byte.
-pub(crate) fn cut(text: &[u8], byte: u8) -> Option<(&[u8], &[u8])>
+pub fn cut(text: &[u8], byte: u8) -> Option<(&[u8], &[u8])>
     ensures { MatchOption result (Contains text.now byte → ⊥) (λ parts. (text.now ≡ parts.0.now ++ (byte ∷ parts.1.now)) × (Contains parts.0.now byte → ⊥)) }
 {
     let end = text.iter().position(|other| *other == byte)?;
@@ -16,7 +16,7 @@ pub(crate) fn cut(text: &[u8], byte: u8) -> Option<(&[u8], &[u8])>
 /// Returns the words of `line`, which one space separates: none if the line is empty or begins with `#`.
 ///
 /// It refuses a line with an empty word.
-pub(crate) fn words_of<'a>(alloc: Global, line: &'a [u8]) -> Result<Vec<&'a [u8]>, LineError> {
+pub fn words_of<'a>(alloc: Global, line: &'a [u8]) -> Result<Vec<&'a [u8]>, LineError> {
     let mut words = Vec::new(alloc);
     if line.is_empty() || line.starts_with(b"#") {
         return Ok(words);
@@ -31,7 +31,7 @@ pub(crate) fn words_of<'a>(alloc: Global, line: &'a [u8]) -> Result<Vec<&'a [u8]
 }
 
 /// Returns whether each byte may stand in a name or in a string that is written as text: 33 to 126.
-pub(crate) fn is_text(word: &[u8]) -> bool
+pub fn is_text(word: &[u8]) -> bool
     ensures { result ≡ is_text word.now }
 {
     word.iter().all(|byte| byte.is_ascii_graphic())

@@ -4,6 +4,7 @@ use Rattle.std.specs.Borrow.{Bor}
 use Rattle.std.specs.Str.Parse.{IsNumeral, digits_value, without_leading_plus}
 use Rattle.clap.specs.Kinds.{HasKind, Kinds}
 use Rattle.clap.specs.Words.{App, Row, Rule, fault_of, first_of, kind_of, new_app, new_rule, one_of, subcommand_of, with_rule, with_subcommand}
+use Rattle.clap.specs.declared.builder.action.ArgAction.TheVariants as actions
 use Rattle.clap.specs.declared.builder.value_parser.ValueParser.TheVariants as parsers
 use Rattle.clap.specs.declared.error.kind.ErrorKind.{ErrorKind}
 use Rattle.clap.specs.declared.error.kind.ErrorKind.TheVariants as kinds
@@ -96,9 +97,15 @@ numbered name = with_rule (with_rule (new_app name) (number_option (codes "turns
 abbrev pub meeting : List ℕ → App
 meeting name = with_rule (with_rule (numbered name) (name_option (codes "name"))) (name_option (codes "peer"))
 
+-- the subcommand that checks a configuration, with its one option, which is required and has no value
+abbrev pub running : App
+running =
+    with_rule (new_app (codes "run"))
+    (record (new_rule (codes "check")) { long = Some (codes "check"); action = Some actions.SetTrue; required = true })
+
 -- the program with all subcommands that need no other node
 abbrev pub alone : App
-alone = with_subcommand scripts rounds.top
+alone = with_subcommand (with_subcommand scripts rounds.top) running.top
 
 -- and with those that meet one
 abbrev pub program : App

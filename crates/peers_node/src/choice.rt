@@ -27,6 +27,8 @@ pub enum Options {
     Table,
     /// Read a script, make its world's steps, and write the answers to its questions.
     World,
+    /// Read a configuration and say whether a node can be run with it.
+    CheckConfiguration,
     /// Run a round.
     Round {
         /// The number of threads: 1 to 8.

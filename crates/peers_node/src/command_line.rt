@@ -119,7 +119,7 @@ fn chosen(alloc: Global, matches: &ArgMatches<'_>) -> Result<Option<Options>, Al
     }
 }
 
-/// Returns the choice of this name that has no options.
+/// Returns the choice of this name whose options have no values.
 fn named(name: &str) -> Option<Options>
     ensures some { IfSome result (λ choice. (name.now ≡ name_of choice) × TakesNone choice) }
     ensures none { result ≡ None → (chosen : Options) → TakesNone chosen → name.now ≡ name_of chosen → ⊥ }
@@ -130,6 +130,7 @@ fn named(name: &str) -> Option<Options>
         "learn" => Some(Options::Learn),
         "table" => Some(Options::Table),
         "world" => Some(Options::World),
+        "run" => Some(Options::CheckConfiguration),
         _ => None,
     }
 }

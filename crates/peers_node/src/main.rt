@@ -14,7 +14,7 @@ pub use command_line::{Refusal, options, read_words};
 pub use node_commands::{Link, RoundSize, join, round, serve};
 pub use options_error::OptionsError;
 use std::process::ExitCode;
-pub use text_commands::{Ending, check, learn, lesson, table, world};
+pub use text_commands::{Ending, check, check_configuration, learn, lesson, table, world};
 
 fn main(rt: HostRuntime) -> ExitCode {
     ExitCode::from(run::status(&rt, &rt))

@@ -2,11 +2,11 @@
 ghost use Rattle.std.specs.Prelude.{◌≡◌, IfOk, false};
 ghost use Rattle.clap.specs.Words.{app_of, new_app, rule_of};
 ghost use Rattle.clap.specs.declared.builder.command.Command.TheViews.{out-Command as fields_of};
-ghost use Rattle.peers_node.specs.CommandLine.{alone, meeting, name_option, number_option, numbered, program, rounds, scenes, scripts, tables, teaching, top};
+ghost use Rattle.peers_node.specs.CommandLine.{alone, meeting, name_option, number_option, numbered, program, rounds, running, scenes, scripts, tables, teaching, top};
 
 use crate::choice::{LAST_PORT, MOST_THREADS, MOST_TRACKS, MOST_TURNS};
 use crate::settings::{
-    required, requiring_subcommand, up_to, with_about, with_after_help, with_help,
+    flag, required, requiring_subcommand, up_to, with_about, with_after_help, with_help,
     with_help_by_default, with_long, with_option, with_parser, with_value_name, with_version,
 };
 use clap::{Arg, Command};
@@ -25,7 +25,7 @@ fn top<'a>(alloc: Global) -> Command<'a>
     );
     let program = with_after_help(
         program,
-        "A scene, or for table and world a script, is read on standard input; docs/FORMATS.md says how they are written.",
+        "A scene, for table and world a script, or for run a configuration, is read on standard input; docs/FORMATS.md says how they are written.",
     );
     with_help_by_default(requiring_subcommand(program))
 }
@@ -123,6 +123,20 @@ fn rounds<'a>(alloc: Global) -> Result<Command<'a>, AllocError>
     with_option(round, with_help(tracks, "How often each of them does"))
 }
 
+/// Makes the subcommand that checks a configuration.
+fn running<'a>(alloc: Global) -> Result<Command<'a>, AllocError>
+    ensures app { IfOk result (λ command. app_of command ≡ running) }
+    ensures local { IfOk result (λ command. (fields_of command).has_globals ≡ false) }
+{
+    let run = bare(
+        alloc,
+        "run",
+        "Reads a configuration, and says whether a node can be run with it",
+    );
+    let check = required(flag(with_long(Arg::new(alloc, "check"), "check")));
+    with_option(run, with_help(check, "Opens nothing"))
+}
+
 /// Makes a subcommand with the numbers of a link as options.
 fn numbered<'a>(alloc: Global, name: &'a str, about: &'a str) -> Result<Command<'a>, AllocError>
     ensures app { IfOk result (λ command. app_of command ≡ numbered name.entry.now) }
@@ -154,7 +168,9 @@ fn meeting<'a>(alloc: Global, name: &'a str, about: &'a str) -> Result<Command<'
 fn alone<'a>(alloc: Global) -> Result<Command<'a>, AllocError>
     ensures { IfOk result (λ command. app_of command ≡ alone) }
 {
-    scripts(alloc)?.subcommand(rounds(alloc)?)
+    scripts(alloc)?
+        .subcommand(rounds(alloc)?)?
+        .subcommand(running(alloc)?)
 }
 
 /// Makes the program with all its subcommands.

@@ -12,7 +12,7 @@ use std::io::{ErrorKind, Read, Write};
 use std::net::{Net, TcpListener, TcpStream};
 use std::sync::Wait;
 use std::thread::Threads;
-use text_commands::{Ending, check, learn, lesson, table, world};
+use text_commands::{Ending, check, check_configuration, learn, lesson, table, world};
 
 /// The exit status if the command line is refused or asks for help.
 const WORDS: u8 = 2;
@@ -75,6 +75,7 @@ fn dispatched<
         Ok(Options::Learn) => learn(alloc, &mut input, &mut output, errors).status(),
         Ok(Options::Table) => run_table(alloc, &mut input, &mut output, errors),
         Ok(Options::World) => run_world(alloc, &mut input, &mut output, errors),
+        Ok(Options::CheckConfiguration) => run_configuration_check(alloc, &mut input, errors),
         Ok(Options::Round { threads, tracks }) => {
             let size = RoundSize { threads, tracks };
             run_round(runner, alloc, size, &mut output, errors)
@@ -123,6 +124,15 @@ fn run_world<I: Read + Faults, O: Write + Faults, E: Write + Faults>(
     errors: &mut E,
 ) -> u8 {
     world(alloc, input, output, errors).status()
+}
+
+#[inline(never)]
+fn run_configuration_check<I: Read + Faults, E: Write + Faults>(
+    alloc: Global,
+    input: &mut I,
+    errors: &mut E,
+) -> u8 {
+    check_configuration(alloc, input, errors).status()
 }
 
 #[inline(never)]

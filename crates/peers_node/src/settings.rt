@@ -3,11 +3,12 @@
 ghost use Rattle.std.specs.Prelude.{◌≡◌, IfOk, Some, false, pos, true};
 ghost use Rattle.clap.specs.Simple.{on_top};
 ghost use Rattle.clap.specs.Words.{app_of, rule_of, with_rule};
+ghost use Rattle.clap.specs.declared.builder.action.ArgAction.TheVariants as actions;
 ghost use Rattle.clap.specs.declared.builder.value_parser.ValueParser.TheVariants as parsers;
 ghost use Rattle.clap.specs.declared.builder.command.Command.TheViews.{out-Command as fields_of};
 
 use clap::builder::ValueParser;
-use clap::{Arg, Command, value_parser};
+use clap::{Arg, ArgAction, Command, value_parser};
 use std::alloc::AllocError;
 
 /// Adds the text that the help begins with.
@@ -72,6 +73,14 @@ pub(crate) fn with_value_name<'a>(option: Arg<'a>, value: &'a str) -> Arg<'a>
     ensures own { result.global ≡ option.entry.global }
 {
     option.value_name(value)
+}
+
+/// Makes the option a flag, which has no value.
+pub(crate) fn flag<'a>(option: Arg<'a>) -> Arg<'a>
+    ensures rule { rule_of result ≡ record (rule_of option.entry) { action = Some actions.SetTrue } }
+    ensures own { result.global ≡ option.entry.global }
+{
+    option.action(ArgAction::SetTrue)
 }
 
 /// Makes the option required.

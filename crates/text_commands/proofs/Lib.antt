@@ -1,3 +1,4 @@
+mod ConfigurationEndings
 mod Printing
 mod SceneLaws
 mod NewWorlds

@@ -8,18 +8,21 @@ use Rattle.peers_devices.specs.declared.input.ReadError.{ReadError}
 use Rattle.peers_devices.specs.declared.input.ReadError.TheVariants as input
 use Rattle.node_text.specs.declared.error.SceneError.{SceneError}
 use Rattle.node_text.specs.declared.error.SceneError.TheVariants as scenes
+use Rattle.admin_text.specs.declared.error.ConfigurationError.{ConfigurationError}
+use Rattle.admin_text.specs.declared.error.ConfigurationError.TheVariants as configurations
 use Rattle.table_types.specs.declared.batch.BatchError.{BatchError}
 use Rattle.table_types.specs.declared.batch.BatchError.TheVariants as batches
 use Rattle.table_types.specs.declared.roster.RosterError.{RosterError}
 use Rattle.table_types.specs.declared.roster.RosterError.TheVariants as rosters
 use Rattle.text_commands.specs.declared.endings.Ending.{Ending}
-use Rattle.text_commands.specs.declared.endings.Ending.TheVariants.{Done, Line, Scene, Stream, NotShortest, Strange, Unasked, Memory, Device}
+use Rattle.text_commands.specs.declared.endings.Ending.TheVariants.{Done, Line, Scene, Configuration, Stream, NotShortest, Strange, Unasked, Memory, Device}
 
 -- the exit status
 abbrev pub status_of : Ending → ℕ
 status_of Done = 0
 status_of (Line number) = 1
 status_of Scene = 1
+status_of Configuration = 1
 status_of (Stream fault) = 1
 status_of NotShortest = 1
 status_of Strange = 1
@@ -32,6 +35,7 @@ abbrev pub line_of : Ending → List ℕ
 line_of Done = []
 line_of (Line number) = codes "line " ++ (decimal number ++ codes ": refused\n")
 line_of Scene = codes "scene: refused\n"
+line_of Configuration = codes "configuration: refused\n"
 line_of (Stream fault) = codes "fault " ++ (fault_name fault ++ codes "\n")
 line_of NotShortest = []
 line_of Strange = codes "fault Strange\n"
@@ -39,9 +43,10 @@ line_of Unasked = codes "fault Unasked\n"
 line_of Memory = codes "memory\n"
 line_of Device = codes "device\n"
 
--- the subcommand ended before it printed anything
+-- a subcommand that reads a scene or a script ended before it printed anything
 abbrev pub IsEarly : Ending → Type 0
 IsEarly Done = ⊥
+IsEarly Configuration = ⊥
 IsEarly (Stream fault) = ⊥
 IsEarly NotShortest = ⊥
 IsEarly Strange = ⊥
@@ -59,6 +64,11 @@ abbrev pub of_scene : SceneError → Ending
 of_scene (scenes.Line number) = Line number
 of_scene scenes.Scene = Scene
 of_scene scenes.Memory = Memory
+
+abbrev pub of_configuration : ConfigurationError → Ending
+of_configuration (configurations.Line number) = Line number
+of_configuration configurations.Configuration = Configuration
+of_configuration configurations.Memory = Memory
 
 abbrev pub of_roster : RosterError → Ending
 of_roster rosters.Memory = Memory

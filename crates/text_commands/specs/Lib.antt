@@ -1,5 +1,6 @@
 pub mod Answers
 pub mod Checking
+pub mod Configuring
 pub mod Endings
 pub mod Learning
 pub mod Running

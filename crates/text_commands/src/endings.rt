@@ -1,9 +1,10 @@
 //! How a subcommand ends.
 ghost use Rattle.std.specs.Prelude.{◌≡◌, ◌≢◌, ◌⊎◌, IfOk, string_bytes};
 ghost use Rattle.std.specs.Io.KnownBytes.{Appends};
-ghost use Rattle.text_commands.specs.Endings.{IsEarly, line_of, of_batch, of_input, of_known, of_roster, of_scene, status_of};
+ghost use Rattle.text_commands.specs.Endings.{IsEarly, line_of, of_batch, of_configuration, of_input, of_known, of_roster, of_scene, status_of};
 ghost use Rattle.text_commands.specs.declared.endings.Ending.TheVariants as endings;
 
+use admin_text::ConfigurationError;
 use known_state::KnownError;
 use learner::Fault;
 use node_text::SceneError;
@@ -22,6 +23,9 @@ pub enum Ending {
     Line(usize),
     /// No line is refused, but the scene lacks what the subcommand needs, or asks for what it can't do: `scene: refused`.
     Scene,
+    /// No line is refused, but the configuration lacks the node's name, the address at which it listens, or a table:
+    /// `configuration: refused`.
+    Configuration,
     /// The stream has this fault: `fault` and its name.
     Stream(Fault),
     /// The verdict on the stream isn't that it is the shortest. The output has the verdict, and the line is empty.
@@ -46,6 +50,7 @@ impl Ending {
             Ending::Done => 0,
             Ending::Line(_)
             | Ending::Scene
+            | Ending::Configuration
             | Ending::Stream(_)
             | Ending::NotShortest
             | Ending::Strange
@@ -93,6 +98,7 @@ impl Ending {
             Ending::Done | Ending::NotShortest => Ok(String::new(alloc)),
             Ending::Line(number) => format!(in alloc; "line {number}: refused\n"),
             Ending::Scene => String::from_str(alloc, "scene: refused\n"),
+            Ending::Configuration => String::from_str(alloc, "configuration: refused\n"),
             Ending::Stream(fault) => {
                 let name = fault.name();
                 format!(in alloc; "fault {name}\n")
@@ -140,6 +146,18 @@ impl From<SceneError> for Ending {
             SceneError::Line(number) => Ending::Line(number),
             SceneError::Scene => Ending::Scene,
             SceneError::Memory => Ending::Memory,
+        }
+    }
+}
+
+impl From<ConfigurationError> for Ending {
+    ghost from_gives = { λ error ending. ending ≡ of_configuration error };
+
+    fn from(error: ConfigurationError) -> Ending {
+        match error {
+            ConfigurationError::Line(number) => Ending::Line(number),
+            ConfigurationError::Configuration => Ending::Configuration,
+            ConfigurationError::Memory => Ending::Memory,
         }
     }
 }

@@ -1,10 +1,11 @@
-//! The subcommands `lesson`, `check`, `learn`, `table` and `world`. Each reads a scene or a script from a reader, writes its output and
-//! its errors to two writers, and returns how it ended.
+//! The subcommands `lesson`, `check`, `learn`, `table`, `world` and `run --check`. Each reads a scene, a script or a configuration from a
+//! reader, writes its output and its errors to writers, and returns how it ended.
 #![tactic(auto)]
 
 mod answers;
 mod cells;
 mod checking;
+mod configuring;
 mod endings;
 mod laws;
 mod learning;
@@ -19,6 +20,7 @@ mod world_running;
 mod worlds;
 
 pub use checking::check;
+pub use configuring::check_configuration;
 pub use endings::Ending;
 pub use laws::taught_lessons_are_shortest;
 pub use learning::{learn, rising_roster};

@@ -1,0 +1,58 @@
+# Checks of `run --check`. They stand in a file of their own, which bin/test reads.
+
+# checked_is ANSWER WHAT: ANSWER is `taken`, or why `run --check` refuses the configuration in $scene.
+checked_is() {
+    run run --check <"$scene"
+    case $1 in
+        taken) ends "run --check of $2" 0 '' '' ;;
+        *) ends "run --check of $2" 1 '' "$1: refused"$'\n' ;;
+    esac
+}
+
+short_configurations() {
+    local begin= answer lines
+    while IFS=$'\t' read -r answer lines; do
+        case $answer in
+            '' | '#'*) continue ;;
+            begin) begin=${lines#-}; continue ;;
+        esac
+        [ "$lines" != - ] || lines=
+        printf '%b' "$begin$lines" >"$scene"
+        checked_is "$answer" "$begin$lines"
+    done <examples/configuration-lines.tsv
+}
+
+# Limits that take long configurations: 15 peers, 64 tables, names of 255 bytes.
+long_configurations() {
+    local needed=$'node a\nlisten 10.0.0.5:10000\ntable 1 t1 integer 4 0\n' longest
+    { printf '%s' "$needed"; repeat_lines 15 'peer b%d'; } >"$scene"
+    checked_is taken '15 peers'
+    { printf '%s' "$needed"; repeat_lines 16 'peer b%d'; } >"$scene"
+    checked_is 'line 19' '16 peers'
+    { printf '%s' "$needed"; repeat_lines 63 'table 2%d u%d integer 4 0'; } >"$scene"
+    checked_is taken '64 tables'
+    { printf '%s' "$needed"; repeat_lines 64 'table 2%d u%d integer 4 0'; } >"$scene"
+    checked_is 'line 67' '65 tables'
+    longest=$(repeat 255 n)
+    { printf '%s' "$needed"; printf 'peer %s\nsection %s\ntable 2 %s integer 4 0\n' "$longest" "$longest" "$longest"; } >"$scene"
+    checked_is taken 'names of 255 bytes'
+    { printf '%s' "$needed"; printf 'peer %sn\n' "$longest"; } >"$scene"
+    checked_is 'line 4' 'a peer with a name of 256 bytes'
+    { printf '%s' "$needed"; printf 'section %sn\n' "$longest"; } >"$scene"
+    checked_is 'line 4' 'a section with a name of 256 bytes'
+    { printf 'node %sn\n' "$longest"; } >"$scene"
+    checked_is 'line 1' 'a node with a name of 256 bytes'
+}
+
+# Standard input that can't be read, standard error that can't be written, and too little memory.
+configuration_devices() {
+    run run --check </
+    ends 'run --check: standard input is a directory' 4 '' $'device\n'
+    run run --check <&-
+    ends 'run --check: standard input is closed' 4 '' $'device\n'
+    keep errors_are_full run --check </dev/null
+    ends 'run --check: standard error is full' 4 '' ''
+    repeat 100000000 '#' >"$scene"
+    keep in_50_megabytes run --check <"$scene"
+    ends 'run --check of a configuration of 100 MB in 50 MB' 3 '' $'memory\n'
+}

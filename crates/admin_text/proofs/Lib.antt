@@ -1,0 +1,3 @@
+mod AddressTexts
+mod PeerNames
+mod Tables

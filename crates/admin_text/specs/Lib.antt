@@ -1,0 +1,4 @@
+pub mod Addresses
+pub mod Configurations
+pub mod Peers
+pub mod TableSettings
