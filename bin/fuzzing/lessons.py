@@ -197,7 +197,7 @@ def random_stream(random, scene):
             if table.id in known.defined and random.random() > spare:
                 say(('switch', table.id))
             else:
-                say(('define', at, table.id, table.expire + (random.random() < wrong)))
+                say(('define', at, table.id, table.expire ^ (random.random() < wrong)))
         follows = number == known.last.get(table.id, -2) + 1 & GREATEST
         shown = None if follows and random.random() > spare or random.random() < wrong else number
         lives = life if random.random() > wrong else None

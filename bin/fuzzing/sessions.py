@@ -271,7 +271,7 @@ class Far:
         """Acknowledges one number more than the greatest that it saw of a table in a resync."""
         self.pump(REQUEST)
         self.pump(until=lambda: self.updates or self.ends, seconds=0.05)
-        for at in self.updates:
+        for at in list(self.updates):
             self.pump(acknowledgement(at, GREATEST))
 
     def act(self, act):
