@@ -24,8 +24,8 @@ IsOnItsWay l more ms us after =
     × (l.intake.unread ++ more ≡ stream_of ms)
     × IsBytes (l.intake.unread ++ more)
 
--- The messages `ns`, which carry `vs`, are the next ones of the stream: they lead the learner to the state of `e`, which has put
--- `vs` among its rows, has not read the bytes after them, and is on its way through the rest.
+-- The messages `ns`, which carry the updates `vs`, are the next ones of the stream. After them the learner is `e`: it has put `vs`
+-- among its rows, hasn't read the bytes that follow, and is on its way through the rest.
 abbrev pub AreNextOf : ℕ → Learning → List ℕ → List Message → List Update → State → List Message → List Update → Learning → Type 0
 AreNextOf now l more ms us after ns vs e =
     (later : List Message) × (rest : List Update)
@@ -37,8 +37,8 @@ AreNextOf now l more ms us after ns vs e =
     × (e.rows ≡ put_all now l.intake.roster vs l.rows)
     × IsOnItsWay e more later rest after
 
--- The next bytes of the stream are fed: there is no fault, and the learner waits. The messages that are then whole were learned,
--- and are the next ones of the stream.
+-- The learner is fed the next bytes of the stream: there is no fault, and it then waits for more. It has learned the messages that
+-- are whole, and they are the next ones of the stream.
 abbrev pub IsFedOnItsWay : ℕ → Learning → List ℕ → List ℕ → List Message → List Update → State → Result ℕ Fault → Learning → Type 0
 IsFedOnItsWay now l piece more ms us after answer e =
     (ns : List Message) × (vs : List Update)

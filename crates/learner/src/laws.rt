@@ -168,9 +168,9 @@ pub fn a_lesson()
 {}
 
 /// A learner on its way through a legal stream stays on its way, at whatever moments the pieces come. The messages that it learns
-/// are the next ones of the stream. If it is fed the next bytes, there is no fault unless memory runs out; the updates of the
-/// messages that are then whole are put among its rows, in order, and nothing else. Once it has been fed all bytes, every update is
-/// put, the state in which the stream ends is reached, and nothing is left unread.
+/// are the next ones of the stream. If it is fed the next bytes, there is no fault unless memory runs out; it puts the updates of
+/// the messages that are then whole among its rows, in order, and nothing else. Once it has been fed all bytes, it has put every
+/// update, is in the state in which the stream ends, and leaves nothing unread.
 pub fn a_learner_stays_on_its_way()
     ensures learned { (now : ℕ) (l e : Learning) (more : List ℕ) (ms ns : List Message) (us vs : List Update) (after : State) →
         IsOnItsWay l more ms us after → AreLearned now l ns vs e → AreNextOf now l more ms us after ns vs e }

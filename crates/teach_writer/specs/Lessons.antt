@@ -8,7 +8,7 @@ use Rattle.known_state.specs.Shortest.{Shortest}
 use Rattle.known_state.specs.State.{Legal}
 
 -- The bytes spell messages that are legal from the known state, carry the batch, and lead to the known state after, which has
--- the same roster. They are among the shortest that do.
+-- the same roster. No messages that are legal from the known state and carry the batch are shorter.
 abbrev pub IsShortestLesson : KnownState → List Update → List ℕ → KnownState → Type 0
 IsShortestLesson known batch bytes after =
     (ms : List Message) × (bytes ≡ stream_of ms) × Legal known.roster known.state ms batch after.state × (after.roster ≡ known.roster)

@@ -51,7 +51,7 @@ pub fn lessons_append()
 
 /// A lesson that has the bytes of a shortest list of messages for the batch is a shortest lesson: its own messages are among
 /// the shortest.
-pub fn a_lesson_of_fewest_bytes_is_shortest()
+pub fn a_lesson_of_the_same_bytes_is_shortest()
     ensures { (known after : KnownState) (batch : List Update) (bytes : List ℕ) → IsLessonFor known batch bytes after →
         ((ms : List Message) × (bytes ≡ stream_of ms) × Shortest known batch ms) → IsShortestLesson known batch bytes after }
 {}

@@ -10,7 +10,8 @@ mod sending;
 mod teaching;
 
 pub use laws::{
-    a_lesson_of_fewest_bytes_is_shortest, lessons_append, marks_are_reads, names_may_all_be_written,
+    a_lesson_of_the_same_bytes_is_shortest, lessons_append, marks_are_reads,
+    names_may_all_be_written,
 };
 pub use lesson::{Lesson, TeachError};
 pub use teaching::teach;
