@@ -54,7 +54,7 @@ fewer k m l d some = omega arith
 -- an event takes the room of one
 pub room_after : (c : CellState) (s : TableState) (h : CellEvent × CellReply) → room_of c ≢ 0 → room_of (record c { history = c.history ++ h ∷ []; state = s }) + 1 ≡ room_of c
 room_after c s h some =
-    subst (λ (n : ℕ). min (1000000 - n) (2 ^ 63 - (c.dropped + n)) + 1 ≡ room_of c) (sym (length_push c.history h)) (fewer 1000000 (2 ^ 63) (length c.history) c.dropped some)
+    subst (λ (n : ℕ). min (1000000 + c.slid - n) (2 ^ 63 - (c.dropped + n)) + 1 ≡ room_of c) (sym (length_push c.history h)) (fewer (1000000 + c.slid) (2 ^ 63) (length c.history) c.dropped some)
 
 -- ---- sessions
 

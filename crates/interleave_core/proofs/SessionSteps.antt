@@ -2,15 +2,11 @@
 use Rattle.std.proofs.Common.{◌≡◌, ◌≢◌, ◌≤◌, ℕ, false, List, [], ◌∷◌, ◌++◌, Option, Some, None, is_none, option_and_then, Result, Ok, Err, refl, sym, ap, ◌∙◌, arith}
 use Rattle.std.proofs.lemmas.Bool.{cond-true, eqb-false}
 use Rattle.peers_msg.specs.Integers.{IsBytes}
-use Rattle.peers_msg.specs.declared.message.Message.{Message}
-use Rattle.peers_msg.specs.Spelling.{stream_of}
 use Rattle.table_types.specs.declared.copies.CopyKind.{CopyKind}
 use Rattle.table_types.specs.declared.copies.Settled.{Settled}
 use Rattle.table_types.specs.declared.update.Update.{Update}
 use Rattle.known_state.specs.Known.{KnownState}
-use Rattle.known_state.specs.Lessons.{IsLessonFor}
-use Rattle.known_state.specs.Shortest.{Shortest}
-use Rattle.teach_writer.proofs.LessonsAppend.{shortest_lesson}
+use Rattle.teach_writer.specs.Lessons.{IsShortestLesson}
 use Rattle.table_cell.specs.declared.errors.CloseError.{CloseError}
 use Rattle.table_cell.specs.declared.errors.CopyError.{CopyError}
 use Rattle.table_cell.specs.declared.errors.CopyError.TheVariants as uncopied
@@ -48,13 +44,12 @@ copied_as w c e s session table limit now kind answer at connected least most so
     rw (in_range limit least most, at, connected) (answer, e, some, call, refl)
 
 pub taught_as : (w : WorldState) (s : ConnectionState) (session : ℕ) (batch : List Update) (rest : List (List Update)) (bytes : List ℕ) (after : KnownState)
-    → connection_at session w.connections ≡ Some s → s.copied ≡ batch ∷ rest → IsBytes bytes → IsLessonFor s.known batch bytes after
-    → ((ms : List Message) × (bytes ≡ stream_of ms) × Shortest s.known batch ms)
+    → connection_at session w.connections ≡ Some s → s.copied ≡ batch ∷ rest → IsBytes bytes → IsShortestLesson s.known batch bytes after
     → Moves w (steps.Teach session)
     (record w { connections = with_connection session (record s { known = after; copied = rest; taught = s.taught ++ batch; to_learner = s.to_learner ++ bytes }) w.connections })
-taught_as w s session batch rest bytes after connected oldest given lesson shortest =
+taught_as w s session batch rest bytes after connected oldest given lesson =
     let changed : ConnectionState = record s { known = after; copied = rest; taught = s.taught ++ batch; to_learner = s.to_learner ++ bytes } in
-    let taught : TeachesOldest s.copied s changed = rw oldest (bytes, after, given, shortest_lesson s.known after batch bytes lesson shortest, refl) in (
+    let taught : TeachesOldest s.copied s changed = rw oldest (bytes, after, given, lesson, refl) in (
       with_connection session changed w.connections,
       rw connected (changed, taught, refl),
       refl,

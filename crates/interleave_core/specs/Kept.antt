@@ -24,7 +24,7 @@ pub record IsOnTrack (roster : List Definition) (s : ConnectionState) : Type 0 w
 abbrev pub AreOnTrack : WorldState → Type 0
 AreOnTrack w = AllByRecursion (IsOnTrack (roster_of w.cells)) w.connections
 
--- the step makes a batch wait
+-- the step is a copy, which makes a batch wait unless the table refuses it
 abbrev pub is_copy : Step → Bool
 is_copy (steps.Copy session table kind limit now) = true
 is_copy step = false

@@ -79,8 +79,8 @@ fn fed(alloc: Global, first: &[u8], more: &[u8]) -> Result<Decoder, Memory>
     Ok(decoder)
 }
 
-/// Returns the next message, or `None` while it isn't whole. Fails with `Memory` at a breach too; the bytes of
-/// acknowledgements have none.
+/// Returns the next message, or `None` while it isn't whole. Fails with `Memory` if memory runs out, and at a breach, which the
+/// bytes of acknowledgements don't have.
 fn next(decoder: &mut Decoder) -> Result<Option<Message>, Memory>
     ensures { IfOk result (λ found. DecoderNext decoder.old (Ok found) decoder.new) }
 {

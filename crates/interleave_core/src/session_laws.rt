@@ -2,14 +2,11 @@
 
 ghost use Rattle.std.specs.Prelude.{◌≡◌, ◌≢◌, ◌≤◌, ◌∷◌, ◌++◌, ℕ, List, Result, Ok, Err, Some, option_and_then};
 ghost use Rattle.peers_msg.specs.Integers.{IsBytes};
-ghost use Rattle.peers_msg.specs.declared.message.Message.{Message};
-ghost use Rattle.peers_msg.specs.Spelling.{stream_of};
 ghost use Rattle.table_types.specs.declared.copies.CopyKind.{CopyKind};
 ghost use Rattle.table_types.specs.declared.copies.Settled.{Settled};
 ghost use Rattle.table_types.specs.declared.update.Update.{Update};
 ghost use Rattle.known_state.specs.Known.{KnownState};
-ghost use Rattle.known_state.specs.Lessons.{IsLessonFor};
-ghost use Rattle.known_state.specs.Shortest.{Shortest};
+ghost use Rattle.teach_writer.specs.Lessons.{IsShortestLesson};
 ghost use Rattle.table_cell.specs.declared.errors.CopyError.{CopyError};
 ghost use Rattle.table_cell.specs.declared.errors.CopyError.TheVariants as uncopied;
 ghost use Rattle.table_cell.specs.declared.errors.LearnError.{LearnError};
@@ -33,8 +30,7 @@ pub fn what_a_session_does_are_steps()
         Moves w (steps.Copy session table kind limit now)
         (record { cells = with_cell table e w.cells; connections = with_connection session (record s { copied = with_batch s.copied answer }) w.connections }) }
     ensures teaches { (w : WorldState) (s : ConnectionState) (session : ℕ) (batch : List Update) (rest : List (List Update)) (bytes : List ℕ) (after : KnownState) →
-        connection_at session w.connections ≡ Some s → s.copied ≡ batch ∷ rest → IsBytes bytes → IsLessonFor s.known batch bytes after →
-        ((ms : List Message) × (bytes ≡ stream_of ms) × Shortest s.known batch ms) →
+        connection_at session w.connections ≡ Some s → s.copied ≡ batch ∷ rest → IsBytes bytes → IsShortestLesson s.known batch bytes after →
         Moves w (steps.Teach session)
         (record w { connections = with_connection session (record s { known = after; copied = rest; taught = s.taught ++ batch; to_learner = s.to_learner ++ bytes }) w.connections }) }
     ensures acknowledges { (c e : CellState) (session number : ℕ) (settled : Settled) → Acknowledges c session number (Ok settled) e → acked session number c ≡ Some e }

@@ -25,6 +25,6 @@ pub fn a_sound_world_is_on_track()
 pub fn a_world_stays_on_track()
     ensures begun { (cells : List CellState) (sessions : ℕ) → roster_fault (roster_of cells) ≡ None →
         AreOnTrack (record { cells = cells; connections = replicate sessions (new_connection (roster_of cells)) }) }
-    ensures other { (w e : WorldState) (step : Step) → is_copy step ≡ false → AreOnTrack w → Moves w step e → AreOnTrack e }
+    ensures not_a_copy { (w e : WorldState) (step : Step) → is_copy step ≡ false → AreOnTrack w → Moves w step e → AreOnTrack e }
     ensures bytes { (w : WorldState) → AreOnTrack w → AllByRecursion (λ s. IsBytes s.to_learner) w.connections }
 {}

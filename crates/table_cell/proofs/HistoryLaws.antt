@@ -1,6 +1,8 @@
 -- An event extends a table with its history.
-use Rattle.std.proofs.Common.{◌≡◌, ℕ, zero, suc, true, false, List, [], ◌∷◌, ◌++◌, length, Option, Some, None, refl, sym, ap, subst, ◌∙◌, inl, inr, true≢false}
-use Rattle.std.specs.Prelude.{Err, slice_get, option_and_then, cond, nat_eq}
+use Rattle.std.proofs.Common.{◌≡◌, ℕ, suc, ◌+◌, ◌-◌, ◌^◌, true, false, List, [], ◌∷◌, ◌++◌, length, Option, Some, None, refl, sym, ap, subst, ◌∙◌, arith, inl, inr, true≢false, ltb-true}
+use Rattle.std.specs.Prelude.{Err, slice_get, option_and_then, cond, nat_eq, nat_lt, min, if◌then◌else◌}
+use Rattle.std.proofs.Math.Seq.{drop-append_seam}
+use Rattle.std.proofs.lemmas.List.{append_assoc, length-append}
 use Rattle.std.specs.Ordering.{is_eq, nat_cmp}
 use Rattle.std.specs.Cmp.{nat_cmp_is}
 use Rattle.std.specs.declared.cmp.Ordering.{Ordering}
@@ -17,42 +19,35 @@ use Rattle.table_cell.specs.declared.events.CellEvent.{CellEvent}
 use Rattle.table_cell.specs.declared.events.CellEvent.TheVariants as events
 use Rattle.table_cell.specs.declared.events.CellReply.{CellReply}
 use Rattle.table_cell.specs.declared.events.CellReply.TheVariants as replies
-use Rattle.table_cell.specs.Machine.{TableState, Step, learn_refusal, new_table}
-use Rattle.table_cell.specs.Histories.{CellState, Learns, Made, batch_in, batch_of, is_copy_of, is_history_full, latest_batch, or_former}
+use Rattle.table_cell.specs.Machine.{TableState, Step, learn_refusal}
+use Rattle.table_cell.specs.Histories.{CellState, Learns, Made, batch_in, batch_of, event_in, events_of, held_batch, is_copy_of, is_history_full, kept_batch, kept_events, latest_batch, or_former, room_of}
 use Rattle.table_cell.specs.Soundness.{IsTimely}
-use Rattle.table_cell.specs.Cells.{AreLatestCopies, IsCell, IsLatestCopy, cell_of}
+use Rattle.table_cell.specs.Cells.{AreLatestCopies, IsCell, IsLatestCopy, OriginState, cell_of, latest_of}
 use Rattle.table_cell.proofs.RefusalLaws.{memory_is_no_learn_refusal}
 use Rattle.table_cell.proofs.RowsLaws.{some_none}
 use Rattle.table_cell.proofs.RunLaws.{made_sound}
 
--- ---- the parameters of the table stay
+-- ---- one more event
 
-same_base : (first : ℕ) (s e : TableState) (event : CellEvent) (reply : CellReply) → Step s event reply e → new_table e.definition e.size e.nopurge first ≡ new_table s.definition s.size s.nopurge first
-same_base first s e (events.Track seat key change now) reply (granted, rest, leaves, answer, is) = ap (λ (x : TableState). new_table x.definition x.size x.nopurge first) is
-same_base first s e (events.Learn session u now) reply (granted, rest, leaves, answer, is) = ap (λ (x : TableState). new_table x.definition x.size x.nopurge first) is
-same_base first s e (events.Copy session kind limit now) reply (granted, answer, is) = ap (λ (x : TableState). new_table x.definition x.size x.nopurge first) is
-same_base first s e (events.Ack session number) reply (granted, answer, is) = ap (λ (x : TableState). new_table x.definition x.size x.nopurge first) is
-same_base first s e (events.Open session) reply (granted, answer, is) = ap (λ (x : TableState). new_table x.definition x.size x.nopurge first) is
-same_base first s e (events.Close session) reply (granted, answer, is) = ap (λ (x : TableState). new_table x.definition x.size x.nopurge first) is
-same_base first s e (events.Purge now) reply (granted, answer, is) = ap (λ (x : TableState). new_table x.definition x.size x.nopurge first) is
-
-pub is_made : (first : ℕ) (s e : TableState) (history later : List (CellEvent × CellReply)) (event : CellEvent) (reply : CellReply) → Step s event reply e → later ≡ history ++ (event, reply) ∷ []
-    → Made (cell_of first s history) event reply (cell_of first e later)
-is_made first s e history later event reply step longer = (
+pub is_made : (o : OriginState) (s e : TableState) (history later : List (CellEvent × CellReply)) (event : CellEvent) (reply : CellReply)
+    → Step s event reply e → later ≡ history ++ (event, reply) ∷ []
+    → Made (cell_of o history s) event reply (cell_of o later e)
+is_made o s e history later event reply step longer = (
   step,
-  ap (λ (b : TableState). record { base = b; dropped = 0; history = later; state = e }) (same_base first s e event reply step)
-      ∙ ap (λ (hs : List (CellEvent × CellReply)). record { base = new_table s.definition s.size s.nopurge first; dropped = 0; history = hs; state = e }) longer,
+  ap (λ (hs : List (CellEvent × CellReply)). record { base = o.base; dropped = o.dropped; history = hs; state = e; slid = length o.past; held = o.held })
+      (ap (λ (hs : List (CellEvent × CellReply)). o.past ++ hs) longer ∙ sym (append_assoc o.past history ((event, reply) ∷ []))),
 )
 
 -- what a call leaves that adds an event
-pub call_made : (first : ℕ) (s e : TableState) (history later : List (CellEvent × CellReply)) (c : CellState) (event : CellEvent) (reply : CellReply) → cell_of first s history ≡ c → is_history_full c ≡ false
-    → Step s event reply e → later ≡ history ++ (event, reply) ∷ [] → (is_history_full c ≡ false) × Made c event reply (cell_of first e later)
-call_made first s e history later c event reply view room step longer =
-    (room, subst (λ (x : CellState). Made x event reply (cell_of first e later)) view (is_made first s e history later event reply step longer))
+pub call_made : (o : OriginState) (s e : TableState) (history later : List (CellEvent × CellReply)) (c : CellState) (event : CellEvent) (reply : CellReply)
+    → cell_of o history s ≡ c → is_history_full c ≡ false
+    → Step s event reply e → later ≡ history ++ (event, reply) ∷ [] → (is_history_full c ≡ false) × Made c event reply (cell_of o later e)
+call_made o s e history later c event reply view room step longer =
+    (room, subst (λ (x : CellState). Made x event reply (cell_of o later e)) view (is_made o s e history later event reply step longer))
 
 -- ---- the latest batches
 
-is_same : (a b : ℕ) → is_eq (nat_cmp a b) ≡ true → a ≡ b
+pub is_same : (a b : ℕ) → is_eq (nat_cmp a b) ≡ true → a ≡ b
 is_same a b tied = exact_unsigned a b (tied_equal (nat_cmp a b) tied)
   where
     tied_equal : (o : Ordering) → is_eq o ≡ true → o ≡ Equal
@@ -69,11 +64,11 @@ is_other session k limit now kind us other = elim (cases_eq session k) [
     cmp_of_equal : (a b : ℕ) → a ≡ b → nat_cmp a b ≡ Equal
     cmp_of_equal a b same = sym (nat_cmp_is a b Equal same)
 
-none_former : (o : Option (List Update)) → or_former None o ≡ o
+pub none_former : (o : Option (List Update)) → or_former None o ≡ o
 none_former None = refl
 none_former (Some us) = refl
 
-former_twice : (a b c : Option (List Update)) → or_former a (or_former b c) ≡ or_former (or_former a b) c
+pub former_twice : (a b c : Option (List Update)) → or_former a (or_former b c) ≡ or_former (or_former a b) c
 former_twice a b None = refl
 former_twice a b (Some us) = refl
 
@@ -82,40 +77,32 @@ latest_end session x [] = sym (none_former (batch_of session x))
 latest_end session x (h ∷ hs) =
     ap (or_former (batch_of session h)) (latest_end session x hs) ∙ former_twice (batch_of session h) (latest_batch session hs) (batch_of session x)
 
-get_longer : {A : Type 0} (xs ys : List A) (i : ℕ) (y : A) → slice_get xs i ≡ Some y → slice_get (xs ++ ys) i ≡ Some y
-get_longer [] ys i y at = absurd (some_none y (sym at))
-get_longer (x ∷ xs) ys zero y at = at
-get_longer (x ∷ xs) ys (suc i) y at = get_longer xs ys i y at
-
-get_end : {A : Type 0} (xs : List A) (y : A) → slice_get (xs ++ y ∷ []) (length xs) ≡ Some y
-get_end [] y = refl
-get_end (x ∷ xs) y = get_end xs y
-
-then_some : {A B : Type 0} (f : A → Option B) (o : Option A) (b : B) → option_and_then f o ≡ Some b → (a : A) × (o ≡ Some a) × (f a ≡ Some b)
+pub then_some : {A B : Type 0} (f : A → Option B) (o : Option A) (b : B) → option_and_then f o ≡ Some b → (a : A) × (o ≡ Some a) × (f a ≡ Some b)
 then_some f None b is = absurd (some_none b (sym is))
 then_some f (Some a) b is = (a, refl, is)
 
-still_latest : (session : ℕ) (x : CellEvent × CellReply) (hs : List (CellEvent × CellReply)) (o : Option ℕ) → batch_of session x ≡ None → IsLatestCopy hs session o → IsLatestCopy (hs ++ x ∷ []) session o
-still_latest session x hs None none latest = latest_end session x hs ∙ ap (or_former (latest_batch session hs)) none ∙ latest
-still_latest session x hs (Some index) none (us, latest, at) =
-    let found = then_some (batch_of session) (slice_get hs index) us at in (
-      us,
-      latest_end session x hs ∙ ap (or_former (latest_batch session hs)) none ∙ latest,
-      ap (option_and_then (batch_of session)) (get_longer hs (x ∷ []) index found.0 found.1) ∙ found.2,
-    )
+of_end : (session : ℕ) (x : CellEvent × CellReply) (held : List (ℕ × (CellEvent × CellReply))) (hs : List (CellEvent × CellReply)) → latest_of session held (hs ++ x ∷ []) ≡ or_former (latest_of session held hs) (batch_of session x)
+of_end session x held hs = ap (or_former (held_batch session held)) (latest_end session x hs) ∙ former_twice (held_batch session held) (latest_batch session hs) (batch_of session x)
 
-pub latest_stay : (x : CellEvent × CellReply) (hs later : List (CellEvent × CellReply)) (copies : List (ℕ × ℕ)) → ((session : ℕ) → batch_of session x ≡ None) → later ≡ hs ++ x ∷ [] → AreLatestCopies copies hs → AreLatestCopies copies later
-latest_stay x hs later copies none longer latest =
-    λ session. subst (λ (l : List (CellEvent × CellReply)). IsLatestCopy l session (lookup (is_at (nat_cmp session)) copies)) (sym longer) (still_latest session x hs (lookup (is_at (nat_cmp session)) copies) (none session) (latest session))
+still_latest : (session : ℕ) (x : CellEvent × CellReply) (held : List (ℕ × (CellEvent × CellReply))) (hs : List (CellEvent × CellReply)) (o : Option (CellEvent × CellReply)) → batch_of session x ≡ None
+    → IsLatestCopy held hs session o → IsLatestCopy held (hs ++ x ∷ []) session o
+still_latest session x held hs None none latest = of_end session x held hs ∙ ap (or_former (latest_of session held hs)) none ∙ latest
+still_latest session x held hs (Some copy) none (us, latest, is) = (us, of_end session x held hs ∙ ap (or_former (latest_of session held hs)) none ∙ latest, is)
 
--- the entries of other sessions stay, and that of the session is the index of its new batch
-pub latest_copied : (session limit now : ℕ) (kind : CopyKind) (us : List Update) (hs later : List (CellEvent × CellReply)) (old new : List (ℕ × ℕ))
+pub latest_stay : (x : CellEvent × CellReply) (held : List (ℕ × (CellEvent × CellReply))) (hs later : List (CellEvent × CellReply)) (copies : List (ℕ × (CellEvent × CellReply))) → ((session : ℕ) → batch_of session x ≡ None)
+    → later ≡ hs ++ x ∷ [] → AreLatestCopies copies held hs → AreLatestCopies copies held later
+latest_stay x held hs later copies none longer latest =
+    λ session. subst (λ (l : List (CellEvent × CellReply)). IsLatestCopy held l session (lookup (is_at (nat_cmp session)) copies)) (sym longer)
+    (still_latest session x held hs (lookup (is_at (nat_cmp session)) copies) (none session) (latest session))
+
+-- the copies for other sessions stay, and that for the session is its new one
+pub latest_copied : (session limit now : ℕ) (kind : CopyKind) (us : List Update) (held : List (ℕ × (CellEvent × CellReply))) (hs later : List (CellEvent × CellReply)) (old new : List (ℕ × (CellEvent × CellReply)))
     → later ≡ hs ++ (events.Copy session kind limit now, replies.Copy us) ∷ []
-    → ((k : ℕ) → lookup (is_at (nat_cmp k)) new ≡ cond (is_eq (nat_cmp session k)) (Some (length hs)) (lookup (is_at (nat_cmp k)) old))
-    → AreLatestCopies old hs → AreLatestCopies new later
-latest_copied session limit now kind us hs later old new longer updates latest =
-    λ k. subst (λ (l : List (CellEvent × CellReply)). IsLatestCopy l k (lookup (is_at (nat_cmp k)) new)) (sym longer)
-    (subst (IsLatestCopy (hs ++ x ∷ []) k) (sym (updates k)) (each k))
+    → ((k : ℕ) → lookup (is_at (nat_cmp k)) new ≡ cond (is_eq (nat_cmp session k)) (Some (events.Copy session kind limit now, replies.Copy us)) (lookup (is_at (nat_cmp k)) old))
+    → AreLatestCopies old held hs → AreLatestCopies new held later
+latest_copied session limit now kind us held hs later old new longer updates latest =
+    λ k. subst (λ (l : List (CellEvent × CellReply)). IsLatestCopy held l k (lookup (is_at (nat_cmp k)) new)) (sym longer)
+    (subst (IsLatestCopy held (hs ++ x ∷ []) k) (sym (updates k)) (each k))
   where
     x : CellEvent × CellReply
     x = (events.Copy session kind limit now, replies.Copy us)
@@ -123,46 +110,72 @@ latest_copied session limit now kind us hs later old new longer updates latest =
     own : batch_of session x ≡ Some us
     own = cond-true (nat_eq session session) (Some us) None (eq-eqb session session refl)
 
-    here : IsLatestCopy (hs ++ x ∷ []) session (Some (length hs))
-    here = (
-      us,
-      latest_end session x hs ∙ ap (or_former (latest_batch session hs)) own,
-      ap (option_and_then (batch_of session)) (get_end hs x) ∙ own,
-    )
+    here : IsLatestCopy held (hs ++ x ∷ []) session (Some x)
+    here = (us, of_end session x held hs ∙ ap (or_former (latest_of session held hs)) own, refl)
 
-    each : (k : ℕ) → IsLatestCopy (hs ++ x ∷ []) k (cond (is_eq (nat_cmp session k)) (Some (length hs)) (lookup (is_at (nat_cmp k)) old))
+    each : (k : ℕ) → IsLatestCopy held (hs ++ x ∷ []) k (cond (is_eq (nat_cmp session k)) (Some x) (lookup (is_at (nat_cmp k)) old))
     each k = elim (cases_Bool (is_eq (nat_cmp session k))) [
       | inl tied ↦
           let same : session ≡ k = is_same session k tied in
-          subst (IsLatestCopy (hs ++ x ∷ []) k) (sym (cond-true (is_eq (nat_cmp session k)) (Some (length hs)) (lookup (is_at (nat_cmp k)) old) tied))
-          (subst (λ (q : ℕ). IsLatestCopy (hs ++ x ∷ []) q (Some (length hs))) same here)
+          subst (IsLatestCopy held (hs ++ x ∷ []) k) (sym (cond-true (is_eq (nat_cmp session k)) (Some x) (lookup (is_at (nat_cmp k)) old) tied))
+          (subst (λ (q : ℕ). IsLatestCopy held (hs ++ x ∷ []) q (Some x)) same here)
       | inr other ↦
-          subst (IsLatestCopy (hs ++ x ∷ []) k) (sym (cond-false (is_eq (nat_cmp session k)) (Some (length hs)) (lookup (is_at (nat_cmp k)) old) other))
-          (still_latest k x hs (lookup (is_at (nat_cmp k)) old) (is_other session k limit now kind us other) (latest k))
+          subst (IsLatestCopy held (hs ++ x ∷ []) k) (sym (cond-false (is_eq (nat_cmp session k)) (Some x) (lookup (is_at (nat_cmp k)) old) other))
+          (still_latest k x held hs (lookup (is_at (nat_cmp k)) old) (is_other session k limit now kind us other) (latest k))
     ]
 
 -- ---- the cell
 
-pub cell_goes_on : (first : ℕ) (s e : TableState) (history later : List (CellEvent × CellReply)) (copies : List (ℕ × ℕ)) (event : CellEvent) (reply : CellReply)
-    → IsTimely event → ((session : ℕ) → batch_of session (event, reply) ≡ None) → is_history_full (cell_of first s history) ≡ false
-    → Step s event reply e → later ≡ history ++ (event, reply) ∷ [] → IsCell first s history copies → IsCell first e later copies
-cell_goes_on first s e history later copies event reply timely none room step longer cell =
+pub cell_goes_on : (o : OriginState) (s e : TableState) (history later : List (CellEvent × CellReply)) (copies : List (ℕ × (CellEvent × CellReply))) (event : CellEvent) (reply : CellReply)
+    → IsTimely event → ((session : ℕ) → batch_of session (event, reply) ≡ None) → is_history_full (cell_of o history s) ≡ false
+    → Step s event reply e → later ≡ history ++ (event, reply) ∷ [] → IsCell o history s copies → IsCell o later e copies
+cell_goes_on o s e history later copies event reply timely none room step longer cell =
     record {
-      sound = made_sound (cell_of first s history) (cell_of first e later) event reply timely room cell.sound (is_made first s e history later event reply step longer);
-      latest = latest_stay (event, reply) history later copies none longer cell.latest;
+      sound = made_sound (cell_of o history s) (cell_of o later e) event reply timely room cell.sound (is_made o s e history later event reply step longer);
+      latest = latest_stay (event, reply) o.held history later copies none longer cell.latest;
     }
 
--- the batch in the history that the index of the latest batch leads to
-of_copy : (session : ℕ) (h : CellEvent × CellReply) (us : List Update) → batch_of session h ≡ Some us → batch_in h.1 ≡ Some us
-of_copy session h us is = elim (cases_Bool (is_copy_of session h.0)) [
-  | inl own ↦ sym (cond-true (is_copy_of session h.0) (batch_in h.1) None own) ∙ is
-  | inr other ↦ absurd (some_none us (sym is ∙ cond-false (is_copy_of session h.0) (batch_in h.1) None other))
-]
+-- the batch of the latest copy
+pub copied_is : (session : ℕ) (held : List (ℕ × (CellEvent × CellReply))) (hs : List (CellEvent × CellReply)) (o : Option (CellEvent × CellReply)) → IsLatestCopy held hs session o
+    → option_and_then (λ h. batch_in h.1) o ≡ latest_of session held hs
+copied_is session held hs None latest = sym latest
+copied_is session held hs (Some copy) (us, latest, is) = is ∙ sym latest
 
-pub latest_at : (session : ℕ) (hs : List (CellEvent × CellReply)) (index : ℕ) → IsLatestCopy hs session (Some index) → option_and_then (λ h. batch_in h.1) (slice_get hs index) ≡ latest_batch session hs
-latest_at session hs index (us, latest, at) =
-    let found = then_some (batch_of session) (slice_get hs index) us at in
-    ap (option_and_then (λ (h : CellEvent × CellReply). batch_in h.1)) found.1 ∙ of_copy session found.0 us found.2 ∙ sym latest
+-- ---- what stands before the events that a table has
+
+pub kept_is : (o : OriginState) (hs : List (CellEvent × CellReply)) (s : TableState) → kept_events (cell_of o hs s) ≡ hs
+kept_is o hs s = drop-append_seam o.past hs
+
+pub batch_is : (session : ℕ) (o : OriginState) (hs : List (CellEvent × CellReply)) (s : TableState) → kept_batch session (cell_of o hs s) ≡ latest_of session o.held hs
+batch_is session o hs s = ap (λ (l : List (CellEvent × CellReply)). latest_of session o.held l) (kept_is o hs s)
+
+pub events_are : (o : OriginState) (hs : List (CellEvent × CellReply)) (s : TableState) → events_of (cell_of o hs s) ≡ o.dropped + length o.past + length hs
+events_are o hs s = omega (arith, length-append o.past hs)
+
+pub room_is : (o : OriginState) (hs : List (CellEvent × CellReply)) (s : TableState) → room_of (cell_of o hs s) ≡ min (1000000 - length hs) (2 ^ 63 - (o.dropped + length o.past + length hs))
+room_is o hs s =
+    let left : 1000000 + length o.past - length (o.past ++ hs) ≡ 1000000 - length hs = omega (arith, length-append o.past hs) in
+    let ever : 2 ^ 63 - (o.dropped + length (o.past ++ hs)) ≡ 2 ^ 63 - (o.dropped + length o.past + length hs) = ap (λ (n : ℕ). 2 ^ 63 - n) (events_are o hs s) in
+    ap (λ (n : ℕ). min n (2 ^ 63 - (o.dropped + length (o.past ++ hs)))) left ∙ ap (min (1000000 - length hs)) ever
+
+get_after : {A : Type 0} (xs ys : List A) (i : ℕ) → slice_get (xs ++ ys) (length xs + i) ≡ slice_get ys i
+get_after {A} [] ys i = let same : 0 + i ≡ i = omega arith in ap (slice_get ys) same
+get_after (x ∷ xs) ys i = let step : length (x ∷ xs) + i ≡ suc (length xs + i) = omega arith in ap (slice_get (x ∷ xs ++ ys)) step ∙ get_after xs ys i
+
+pub event_is : (o : OriginState) (hs : List (CellEvent × CellReply)) (s : TableState) (place : ℕ)
+    → event_in (cell_of o hs s) place ≡ (if nat_lt (o.dropped + length o.past) place then slice_get hs (place - (o.dropped + length o.past + 1)) else None)
+event_is o hs s place = elim (cases_Bool (nat_lt (o.dropped + length o.past) place)) [
+  | inl later ↦
+      let above = ltb-true (o.dropped + length o.past) place later in
+      let index : place - (o.dropped + 1) ≡ length o.past + (place - (o.dropped + length o.past + 1)) = omega (arith, above) in
+      cond-true (nat_lt (o.dropped + length o.past) place) (slice_get (o.past ++ hs) (place - (o.dropped + 1))) None later
+      ∙ ap (slice_get (o.past ++ hs)) index
+      ∙ get_after o.past hs (place - (o.dropped + length o.past + 1))
+      ∙ sym (cond-true (nat_lt (o.dropped + length o.past) place) (slice_get hs (place - (o.dropped + length o.past + 1))) None later)
+  | inr gone ↦
+      cond-false (nat_lt (o.dropped + length o.past) place) (slice_get (o.past ++ hs) (place - (o.dropped + 1))) None gone
+      ∙ sym (cond-false (nat_lt (o.dropped + length o.past) place) (slice_get hs (place - (o.dropped + length o.past + 1))) None gone)
+]
 
 -- ---- what a call refuses
 

@@ -15,6 +15,9 @@ pub mod LearnedLaws
 pub mod AscendingLaws
 pub mod RunLaws
 pub mod HistoryLaws
+pub mod AnewLaws
+pub mod Crosses
+pub mod SlideLaws
 pub mod HandingRows
 pub mod HandingSessions
 pub mod HandingSteps

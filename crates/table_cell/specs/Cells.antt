@@ -1,5 +1,5 @@
 -- What the parts of a cell stand for (profile).
-use Rattle.std.specs.Prelude.{◌≡◌, ℕ, List, slice_get, Option, Some, None, option_and_then}
+use Rattle.std.specs.Prelude.{◌≡◌, ◌≢◌, ℕ, List, ◌++◌, length, Option, Some, None}
 use Rattle.std.specs.Ordering.{nat_cmp}
 use Rattle.std.specs.Map.{lookup}
 use Rattle.std.specs.BTreeMap.{is_at}
@@ -7,23 +7,39 @@ use Rattle.table_types.specs.declared.update.Update.{Update}
 use Rattle.table_cell.specs.declared.events.CellEvent.{CellEvent}
 use Rattle.table_cell.specs.declared.events.CellReply.{CellReply}
 use Rattle.table_cell.specs.Machine.{TableState, new_table}
-use Rattle.table_cell.specs.Histories.{CellState, IsSoundCell, batch_of, latest_batch}
+use Rattle.table_cell.specs.Histories.{CellState, IsSoundCell, batch_in, held_batch, latest_batch, or_former}
 
--- a table with its history, which has dropped no event since the table was new with `first` as its next number
-abbrev pub cell_of : ℕ → TableState → List (CellEvent × CellReply) → CellState
-cell_of first s history = record { base = new_table s.definition s.size s.nopurge first; dropped = 0; history = history; state = s }
+-- What stands before the events that a table has: the state at which its history begins, the number of events dropped
+-- before it, the events of the history that slides dropped, and the copies that slides kept, by session.
+pub record OriginState : Type 0 where
+  pub base : TableState
+  pub dropped : ℕ
+  pub past : List (CellEvent × CellReply)
+  pub held : List (ℕ × (CellEvent × CellReply))
 
--- `index`, if there is one, is the index of the session's latest batch
-abbrev pub IsLatestCopy : List (CellEvent × CellReply) → ℕ → Option ℕ → Type 0
-IsLatestCopy history session None = latest_batch session history ≡ None
-IsLatestCopy history session (Some index) =
-    (us : List Update) × (latest_batch session history ≡ Some us) × (option_and_then (batch_of session) (slice_get history index) ≡ Some us)
+-- a table with its history, of which it has the events after the past ones
+abbrev pub cell_of : OriginState → List (CellEvent × CellReply) → TableState → CellState
+cell_of o kept s = record { base = o.base; dropped = o.dropped; history = o.past ++ kept; state = s; slid = length o.past; held = o.held }
 
--- the index in the history of each session's latest batch
-abbrev pub AreLatestCopies : List (ℕ × ℕ) → List (CellEvent × CellReply) → Type 0
-AreLatestCopies copies history = (session : ℕ) → IsLatestCopy history session (lookup (is_at (nat_cmp session)) copies)
+-- the table is a new one whose next number is `first`, or isn't a new one if there is none
+abbrev pub IsNewFrom : TableState → Option ℕ → Type 0
+IsNewFrom s None = (first : ℕ) → s ≢ new_table s.definition s.size s.nopurge first
+IsNewFrom s (Some first) = s ≡ new_table s.definition s.size s.nopurge first
+
+-- the latest batch of `session` among copies that slides kept and events after them
+abbrev pub latest_of : ℕ → List (ℕ × (CellEvent × CellReply)) → List (CellEvent × CellReply) → Option (List Update)
+latest_of session held kept = or_former (held_batch session held) (latest_batch session kept)
+
+-- `copy`, if there is one, is the session's latest copy
+abbrev pub IsLatestCopy : List (ℕ × (CellEvent × CellReply)) → List (CellEvent × CellReply) → ℕ → Option (CellEvent × CellReply) → Type 0
+IsLatestCopy held kept session None = latest_of session held kept ≡ None
+IsLatestCopy held kept session (Some copy) = (us : List Update) × (latest_of session held kept ≡ Some us) × (batch_in copy.1 ≡ Some us)
+
+-- each session's latest copy
+abbrev pub AreLatestCopies : List (ℕ × (CellEvent × CellReply)) → List (ℕ × (CellEvent × CellReply)) → List (CellEvent × CellReply) → Type 0
+AreLatestCopies copies held kept = (session : ℕ) → IsLatestCopy held kept session (lookup (is_at (nat_cmp session)) copies)
 
 -- the invariant of the parts
-pub record IsCell (first : ℕ) (s : TableState) (history : List (CellEvent × CellReply)) (copies : List (ℕ × ℕ)) : Type 0 where
-  pub sound : IsSoundCell (cell_of first s history)
-  pub latest : AreLatestCopies copies history
+pub record IsCell (o : OriginState) (kept : List (CellEvent × CellReply)) (s : TableState) (copies : List (ℕ × (CellEvent × CellReply))) : Type 0 where
+  pub sound : IsSoundCell (cell_of o kept s)
+  pub latest : AreLatestCopies copies o.held kept

@@ -1,11 +1,12 @@
 -- A table with its history: each event and its reply, from the state at which the history begins (profile).
-use Rattle.std.specs.Prelude.{◌≡◌, ℕ, ◌+◌, ◌-◌, ◌≤◌, ◌^◌, Bool, false, nat_lt, ◌==◌, min, List, [], ◌∷◌, ◌++◌, length, map, take, slice_get, Option, Some, None, Result, Ok, Err, if◌then◌else◌}
+use Rattle.std.specs.Prelude.{◌≡◌, ℕ, ◌+◌, ◌-◌, ◌≤◌, ◌^◌, Bool, true, false, nat_lt, ◌==◌, min, List, [], ◌∷◌, ◌++◌, length, map, take, drop, slice_get, Option, Some, None, option_and_then, Result, Ok, Err, if◌then◌else◌}
 use Rattle.std.specs.List.Sorted.{IsStrictlySortedBy}
 use Rattle.std.specs.Ordering.{nat_cmp}
+use Rattle.std.specs.Map.{lookup}
 use Rattle.table_types.specs.declared.key.Key.{Key}
 use Rattle.table_types.specs.declared.update.Update.{Update}
 use Rattle.table_types.specs.Tables.{Definition}
-use Rattle.table_cell.specs.Machine.{TableState, Step, Replays, new_table, unacked, track_refusal, learn_refusal, copy_refusal, ack_refusal, open_refusal, close_refusal, purge_refusal}
+use Rattle.table_cell.specs.Machine.{TableState, Step, Replays, is_any_out, is_open, new_table, unacked, track_refusal, learn_refusal, copy_refusal, ack_refusal, open_refusal, close_refusal, purge_refusal}
 use Rattle.table_types.specs.declared.change.Change.{Change}
 use Rattle.table_types.specs.declared.copies.CopyKind.{CopyKind}
 use Rattle.table_types.specs.declared.copies.Settled.{Settled}
@@ -29,23 +30,29 @@ use Rattle.table_cell.specs.declared.errors.CloseError.{CloseError}
 use Rattle.table_cell.specs.declared.errors.CloseError.TheVariants as unclosed
 use Rattle.table_cell.specs.declared.errors.PurgeError.{PurgeError}
 use Rattle.table_cell.specs.declared.errors.PurgeError.TheVariants as unpurged
+use Rattle.table_cell.specs.declared.errors.CheckpointError.{CheckpointError}
+use Rattle.table_cell.specs.declared.errors.CheckpointError.TheVariants as unbegun
 
 -- ---- replay
 
 -- A table with its history: the state at which the history begins, the number of events dropped before it, the events
--- with their replies, and the state after them.
+-- with their replies, and the state after them. Slides have dropped the first `slid` of these events too, but for the
+-- copies in `held`, by session.
 pub record CellState : Type 0 where
   pub base : TableState
   pub dropped : ℕ
   pub history : List (CellEvent × CellReply)
   pub state : TableState
+  pub slid : ℕ
+  pub held : List (ℕ × (CellEvent × CellReply))
 
 -- the state is what replaying the history leads to
 abbrev pub IsReplayed : CellState → Type 0
 IsReplayed c = Replays c.base c.history c.state
 
--- each kept batch is what its session had not acknowledged after the events before it; the index counts from 0 within
--- the history, and places count all events from 1, so the place of the batch's event is `dropped + index + 1`
+-- the batch of each copy in the history is what its session had not acknowledged after the events before it, slid ones
+-- included; the index counts from 0 within the history, and places count all events from 1, so the place of the batch's
+-- event is `dropped + index + 1`
 abbrev pub Kept : CellState → Type 0
 Kept c =
     (index session limit now : ℕ) (kind : CopyKind) (us : List Update) →
@@ -63,14 +70,18 @@ abbrev pub events_of : CellState → ℕ
 events_of c = c.dropped + length c.history
 
 abbrev pub room_of : CellState → ℕ
-room_of c = min (1000000 - length c.history) (2 ^ 63 - events_of c)
+room_of c = min (1000000 + c.slid - length c.history) (2 ^ 63 - events_of c)
 
 abbrev pub is_history_full : CellState → Bool
 is_history_full c = room_of c == 0
 
--- the event at a place, with its reply; places count all events from 1, dropped ones included
+-- the events that the table still has, with their replies
+abbrev pub kept_events : CellState → List (CellEvent × CellReply)
+kept_events c = drop c.slid c.history
+
+-- the event at a place, with its reply, if the table still has it; places count all events from 1, dropped ones included
 abbrev pub event_in : CellState → ℕ → Option (CellEvent × CellReply)
-event_in c place = if nat_lt c.dropped place then slice_get c.history (place - (c.dropped + 1)) else None
+event_in c place = if nat_lt (c.dropped + c.slid) place then slice_get c.history (place - (c.dropped + 1)) else None
 
 -- ---- what the calls do
 
@@ -86,7 +97,7 @@ abbrev pub Shares : {A E : Type 0} → (Result A E → Type 0) → CellEvent →
 Shares {A} call event reply (Ok entry) = (answer : A) × (entry ≡ (event, reply answer)) × call (Ok answer)
 Shares call event reply (Err error) = call (Err error)
 
--- the same for a call that returns the answer beside the entry
+-- the same for a call that returns the answer with the entry
 abbrev pub SharesWith : {A E : Type 0} → (Result A E → Type 0) → CellEvent → (A → CellReply) → Result (A × (CellEvent × CellReply)) E → Type 0
 SharesWith call event reply (Ok pair) = (pair.1 ≡ (event, reply pair.0)) × call (Ok pair.0)
 SharesWith call event reply (Err error) = call (Err error)
@@ -152,24 +163,68 @@ abbrev pub latest_batch : ℕ → List (CellEvent × CellReply) → Option (List
 latest_batch session [] = None
 latest_batch session (h ∷ hs) = or_former (batch_of session h) (latest_batch session hs)
 
+-- the batch of a copy for `session` that slides kept
+abbrev pub held_batch : ℕ → List (ℕ × (CellEvent × CellReply)) → Option (List Update)
+held_batch session held = option_and_then (λ h. batch_in h.1) (lookup (λ id. id == session) held)
+
+-- the latest batch of `session` that is kept: that of its latest copy among the events that the table has, or, if there is
+-- none, the one that slides kept
+abbrev pub kept_batch : ℕ → CellState → Option (List Update)
+kept_batch session c = or_former (held_batch session c.held) (latest_batch session (kept_events c))
+
 -- the batch is the latest one of the session
 abbrev pub IsLatestBatch : CellState → ℕ → List Update → Type 0
-IsLatestBatch c session us = latest_batch session c.history ≡ Some us
+IsLatestBatch c session us = kept_batch session c ≡ Some us
+
+-- ---- a history that begins anew, or slides
+
+-- the history begins with the present state; the state and the number of events so far stay
+abbrev pub begun_anew : CellState → CellState
+begun_anew c = record { base = c.state; dropped = events_of c; history = []; state = c.state; slid = 0; held = [] }
+
+-- what beginning a history anew does: it hands out the events that the table had, needs no memory, and is refused exactly
+-- if a batch of an open session is out
+abbrev pub BeginsAnew : CellState → Result (List (CellEvent × CellReply)) CheckpointError → CellState → Type 0
+BeginsAnew c (Ok hs) e = (is_any_out c.state ≡ false) × (hs ≡ kept_events c) × (e ≡ begun_anew c)
+BeginsAnew c (Err unbegun.BatchOut) e = (is_any_out c.state ≡ true) × (e ≡ c)
+BeginsAnew c (Err unbegun.Memory) e = ⊥
+
+-- the same for a call that drops the events itself
+abbrev pub Checkpoints : CellState → Result (Unit {0}) CheckpointError → CellState → Type 0
+Checkpoints c (Ok done) e = BeginsAnew c (Ok (kept_events c)) e
+Checkpoints c (Err error) e = BeginsAnew c (Err error) e
+
+-- What a slide does: it hands out the events that the table had. The history, of which they stay a part, the state and
+-- the number of events stay. The latest batch of each open session stays kept, and no other.
+abbrev pub Slides : CellState → List (CellEvent × CellReply) → CellState → Type 0
+Slides c hs e =
+    (hs ≡ kept_events c)
+    × (held : List (ℕ × (CellEvent × CellReply)))
+    × (e ≡ record c { slid = length c.history; held = held })
+    × ((session : ℕ) → kept_batch session e ≡ (if is_open session c.state then kept_batch session c else None))
 
 -- ---- a new table with its history
 
 -- a new table, without events
 abbrev pub new_cell : Definition → ℕ → Bool → ℕ → CellState
-new_cell d size nopurge first = record { base = new_table d size nopurge first; dropped = 0; history = []; state = new_table d size nopurge first }
+new_cell d size nopurge first =
+    record { base = new_table d size nopurge first; dropped = 0; history = []; state = new_table d size nopurge first; slid = 0; held = [] }
 
 -- ---- soundness
 
+-- a copy that slides kept is the session's latest one among the events that they dropped
+abbrev pub IsHeld : CellState → ℕ → CellEvent × CellReply → Type 0
+IsHeld c session h = (us : List Update) × (batch_in h.1 ≡ Some us) × (latest_batch session (take c.slid c.history) ≡ Some us)
+
 -- The invariant of a table with its history: the state at which the history begins is sound, the moments of the history
--- are below 2^63, the state is the replay of the history, it is sound, and the history keeps to its bounds.
+-- are below 2^63, the state is the replay of the history, it is sound, slides dropped events of the history alone, what
+-- they kept is the latest of its session, and what is left of the history keeps to its bounds.
 pub record IsSoundCell (c : CellState) : Type 0 where
   pub base : IsSound c.base
   pub timely : AreTimely c.history
   pub replayed : IsReplayed c
   pub sound : IsSound c.state
-  pub within : length c.history ≤ 1000000
+  pub slid : c.slid ≤ length c.history
+  pub held : (session : ℕ) (h : CellEvent × CellReply) → lookup (λ id. id == session) c.held ≡ Some h → IsHeld c session h
+  pub within : length c.history ≤ 1000000 + c.slid
   pub few : events_of c ≤ 2 ^ 63

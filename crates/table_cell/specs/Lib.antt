@@ -6,4 +6,5 @@ pub mod LearnedRuns
 pub mod Parts
 pub mod Histories
 pub mod Cells
+pub mod Pasts
 pub mod Handing

@@ -2,7 +2,7 @@
 -- stick-table `size`, `expire` and `nopurge`, and doc/peers-v2.0.txt, "Update Messages" and "Acknowledgement Messages";
 -- the order of refusals, and that each change takes the next number, are the profile's choices).
 use Rattle.std.specs.Prelude.{◌≡◌, ℕ, ◌+◌, ◌^◌, Bool, true, false, not, ◌&&◌, ◌||◌, ◌==◌, nat_lt, nat_le, MatchBool, is_some, is_none, List, [], ◌∷◌, ◌++◌, length, map, filter, take, fold, Option, Some, None, option_and_then, if◌then◌else◌}
-use Rattle.std.specs.List.{list_all}
+use Rattle.std.specs.List.{list_all, list_any}
 use Rattle.std.specs.Ordering.{is_eq}
 use Rattle.std.specs.Map.{lookup}
 use Rattle.table_types.specs.declared.key.Key.{Key}
@@ -74,15 +74,15 @@ tracked s key change now = tracked_row s.definition now s.next change (live_row 
 abbrev pub learned : TableState → Update → ℕ → StoredRow
 learned s u now = row_of now s.definition.expire (record u { number = s.next })
 
--- a row of that key displaces no other: the key has a row, or there is room for one more
+-- a row of `key` displaces no other: the key has a row, or there is room for one more
 abbrev pub has_room : TableState → Key → Bool
 has_room s key = has_row key s || nat_lt (length s.rows) s.size
 
--- a row of that key would displace another, all rows are live, and the table has `nopurge`
+-- a row of `key` would displace another, all rows are live, and the table has `nopurge`
 abbrev pub is_full : TableState → Key → ℕ → Bool
 is_full s key now = s.nopurge && not (has_room s key) && list_all (λ e. is_live now e.1) s.rows
 
--- the rows that remain when a row of that key is to be stored: all of them, or all but the first to end
+-- `rest` are the rows that remain when a row of `key` is to be stored: all of them, or all but the first to end
 abbrev pub Leaves : TableState → Key → List (Key × StoredRow) → Type 0
 Leaves s key rest =
     MatchBool (has_room s key) (rest ≡ s.rows) ((first : Key) × IsFirstToEnd s.rows first × (rest ≡ without first s.rows))
@@ -100,13 +100,20 @@ no_progress = record { acknowledged = 0; taught = 0 }
 abbrev pub progress_of : ℕ → TableState → Option Progress
 progress_of session s = lookup (λ id. id == session) s.sessions
 
+abbrev pub is_open : ℕ → TableState → Bool
+is_open session s = is_some (progress_of session s)
+
 abbrev pub is_out : Progress → Bool
 is_out progress = nat_lt progress.acknowledged progress.taught
 
--- whether a batch of a session with that progress is out; none is out of a session that isn't open
+-- whether a batch of a session is out, given its progress; none is out of a session that isn't open
 abbrev pub has_out : Option Progress → Bool
 has_out None = false
 has_out (Some progress) = is_out progress
+
+-- whether a batch of some open session is out
+abbrev pub is_any_out : TableState → Bool
+is_any_out s = list_any (λ entry. is_out entry.1) s.sessions
 
 abbrev pub acknowledged_by : Option Progress → ℕ
 acknowledged_by None = 0
@@ -124,7 +131,7 @@ abbrev pub is_copied : CopyKind → StoredRow → Bool
 is_copied kinds.Push row = not row.learned
 is_copied kinds.Resync row = true
 
--- a copy of that kind includes the row: the session has not acknowledged it, and it is live
+-- a copy of `kind` includes the row: the session has not acknowledged it, and it is live
 abbrev pub is_unacked : CopyKind → ℕ → ℕ → Key × StoredRow → Bool
 is_unacked kind number now e = nat_lt number e.1.number && is_copied kind e.1 && is_live now e.1
 

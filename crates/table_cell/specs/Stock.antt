@@ -21,7 +21,7 @@ pub record IsStock (s : Stocked) : Type 0 where
   pub keys : KeysDiffer s.rows
   pub most : s.next ≤ 2 ^ 32
 
--- the rows that remain after the row of that key, if there is one, was removed
+-- the rows that remain after the row of a key, if one is given, was removed
 abbrev pub leave : Option Key → List (Key × StoredRow) → List (Key × StoredRow)
 leave None rows = rows
 leave (Some key) rows = without key rows

@@ -1,12 +1,12 @@
 //! Batches: copied for sessions, kept in the history, and settled.
 
-ghost use Rattle.std.specs.Prelude.{◌≡◌, ◌↔◌, ◌≤◌, ◌∷◌, ◌++◌, [], IfOk, IfSome, IsOk, None, OnErr, false, option_and_then, option_copied, slice_get};
+ghost use Rattle.std.specs.Prelude.{◌≡◌, ◌↔◌, ◌≤◌, ◌∷◌, ◌++◌, [], ℕ, IfOk, IfSome, IsOk, List, None, OnErr, false, option_copied};
 ghost use Rattle.table_cell.specs.Cells.{AreLatestCopies};
 ghost use Rattle.table_cell.specs.declared.events.CellEvent.{CellEvent};
 ghost use Rattle.table_cell.specs.declared.events.CellEvent.TheVariants as events;
 ghost use Rattle.table_cell.specs.declared.events.CellReply.{CellReply};
 ghost use Rattle.table_cell.specs.declared.events.CellReply.TheVariants as replies;
-ghost use Rattle.table_cell.specs.Histories.{Copies, IsLatestBatch, Shares, SharesWith, batch_in, latest_batch};
+ghost use Rattle.table_cell.specs.Histories.{Copies, IsLatestBatch, Shares, SharesWith, batch_in, kept_batch};
 ghost use Rattle.table_cell.specs.Machine.{Step, copy_refusal};
 ghost use Rattle.table_cell.specs.Soundness.{IsSound};
 ghost use Rattle.table_types.specs.Batches.{IsBatchFor};
@@ -25,21 +25,20 @@ use table_types::{Batch, CopyKind, Memory, Moment};
 fn copy(
     table: &mut Table,
     history: &mut Vec<Entry>,
-    latest_copies: &mut BTreeMap<u32, usize>,
+    latest_copies: &mut BTreeMap<u32, Entry>,
     session: u32,
     kind: CopyKind,
     limit: usize,
     now: Moment,
 ) -> Result<(Batch, Entry), Memory>
     requires sound { IsSound table.old }
-    requires latest { AreLatestCopies latest_copies.old.entries history.old.items }
     requires limit { limit ≤ 512 }
     requires granted { copy_refusal false table.old session kind limit now ≡ None }
     ensures step { IfOk result (λ pair. Step table.old (events.Copy session kind limit now) (replies.Copy pair.0) table.new) }
     ensures entry { IfOk result (λ pair. pair.1 ≡ (events.Copy session kind limit now, replies.Copy pair.0)) }
     ensures event { IfOk result (λ pair. history.new.items ≡ history.old.items ++ (events.Copy session kind limit now, replies.Copy pair.0) ∷ []) }
     ensures for_table { IfOk result (λ pair. IsBatchFor (table.old.definition ∷ []) pair.0) }
-    ensures latest { AreLatestCopies latest_copies.new.entries history.new.items }
+    ensures latest { (held : List (ℕ × (CellEvent × CellReply))) → AreLatestCopies latest_copies.old.entries held history.old.items → AreLatestCopies latest_copies.new.entries held history.new.items }
     ensures stays { OnErr result (table.new ≡ table.old) }
     ensures no_event { OnErr result (history.new.items ≡ history.old.items) }
 {
@@ -52,18 +51,10 @@ fn copy(
     };
     let reply = CellReply::Copy(batch.copy()?);
     let (kept, entry) = prepare(table.alloc(), history, event, reply)?;
-    latest_copies.insert(session, history.len())?;
+    latest_copies.insert(session, entry.copy()?)?;
     table.teach(session, last_number(batch.updates(), 0), now);
     history.push_reserved(kept);
     Ok((batch, entry))
-}
-
-/// Returns the batch of the reply at `index`.
-fn batch_at(history: &[Entry], index: usize) -> Option<&Batch>
-    ensures { option_copied result ≡ option_and_then (λ h. batch_in h.1) (slice_get history.now index) }
-{
-    let entry = history.get(index)?;
-    entry.batch()
 }
 
 impl TableCell {
@@ -101,7 +92,7 @@ impl TableCell {
         Ok(entry)
     }
 
-    /// Copies like `copy`, and returns the entry that the history shares beside the batch, which shares its updates
+    /// Copies like `copy`, and returns the batch and the entry that the history shares. The batch shares its updates
     /// with the entry.
     pub fn copy_with_reply(
         &mut self,
@@ -133,18 +124,18 @@ impl TableCell {
         Ok(copied)
     }
 
-    /// Returns the latest batch of `session`.
+    /// Returns the latest batch of `session`, if it is kept.
     fn latest_batch(&self, session: u32) -> Option<&Batch>
-        ensures { option_copied result ≡ latest_batch session self.now.history }
+        ensures { option_copied result ≡ kept_batch session self.now }
     {
         match self.latest_copies.get(&session) {
-            Some(index) => batch_at(self.history.as_slice(), *index),
+            Some(entry) => entry.batch(),
             None => None,
         }
     }
 
-    /// Returns `Ok` if `batch` is the latest one of `session`, which may have been closed since, and otherwise
-    /// `StrangeBatch`. Doesn't allocate.
+    /// Returns `Ok` if `batch` is the latest one of `session` and still kept, and otherwise `StrangeBatch`. The session may
+    /// have been closed since. Doesn't allocate.
     pub fn settle(&self, session: u32, batch: &Batch) -> Result<(), StrangeBatch>
         ensures { IsOk result ↔ IsLatestBatch self.now session batch.now }
     {

@@ -107,7 +107,7 @@ impl TableCell {
         Ok(entry)
     }
 
-    /// Acknowledges like `ack`, and returns the entry that the history shares beside what the acknowledgement settled.
+    /// Acknowledges like `ack`, and returns what the acknowledgement settled and the entry that the history shares.
     pub fn ack_with_reply(
         &mut self,
         session: u32,
@@ -187,7 +187,7 @@ impl TableCell {
         Ok(entry)
     }
 
-    /// Purges like `purge`, and returns the entry that the history shares beside the number of rows removed.
+    /// Purges like `purge`, and returns the number of rows removed and the entry that the history shares.
     pub fn purge_with_reply(&mut self, now: Moment) -> Result<(usize, Entry), PurgeError>
         ensures { SharesWith (λ r. Purges self.old now r self.new) (events.Purge now) replies.Purge result }
     {

@@ -1,12 +1,13 @@
 //! Stick tables with their history.
 
-ghost use Rattle.std.specs.Prelude.{◌≡◌, ◌≤◌, ◌↔◌, IfOk, IsOk, IsTrue, false, is_none, option_map};
+ghost use Rattle.std.specs.Prelude.{◌≡◌, ◌+◌, ◌≤◌, ◌↔◌, IfOk, IsOk, IsTrue, false, is_none, option_map};
 ghost use Rattle.table_cell.specs.Machine.{ack_refusal, has_out, new_table, progress_of};
 ghost use Rattle.table_cell.specs.Stock.{AreInRisingKey};
 ghost use Rattle.table_cell.specs.Histories.{IsSoundCell, Kept, events_of, event_in, is_history_full, new_cell, room_of};
 
 use crate::entry::Entry;
 use crate::events::{CellEvent, CellReply};
+use crate::origin::Origin;
 use crate::table::Table;
 use std::alloc::Global;
 use std::collections::BTreeMap;
@@ -15,17 +16,18 @@ use table_types::{Key, Memory, Row, TableDef};
 
 /// A stick table that keeps its history: each event with its reply, including the batches that were copied.
 ///
-/// Its state is always what replaying the history leads to (`IsSoundCell`), so each kept batch is what its session had
-/// not acknowledged at that point of the history (`batches_are_kept`). A refused call changes nothing, and adds no
-/// event.
+/// Its state is always what replaying the history leads to (`IsSoundCell`), so the batch of each copy is what its session
+/// had not acknowledged at that point of the history (`batches_are_kept`). The history begins with the new table, or with the
+/// state of the last `checkpoint` or `begin_anew`. After a `slide` the table has only the later events of it, and the latest
+/// batch of each session that was open then. A refused call changes nothing, and adds no event.
 #[derive(Drop)]
 pub struct TableCell {
-    /// The first number that the table assigned, or will assign.
-    pub(crate) first: u32,
+    pub(crate) origin: Origin,
     pub(crate) table: Table,
+    /// The events that the table has, with their replies.
     pub(crate) history: Vec<Entry>,
-    /// The index in the history of each session's latest copy. Closing a session keeps it.
-    pub(crate) latest_copies: BTreeMap<u32, usize>,
+    /// Each session's latest copy. Closing a session keeps it until the next `slide`.
+    pub(crate) latest_copies: BTreeMap<u32, Entry>,
 }
 
 impl Model for TableCell {
@@ -34,17 +36,20 @@ impl Model for TableCell {
 
     ghost Value = { CellState };
 
-    ghost view = { λ c. cell_of c.first c.table c.history.items };
+    ghost view = { λ c. cell_of c.origin c.history.items c.table };
 
-    ghost invariant = { λ c. IsCell c.first c.table c.history.items c.latest_copies.entries };
+    ghost invariant = { λ c. IsCell c.origin c.history.items c.table c.latest_copies.entries };
 }
 
 impl TableCell {
     /// The most rows that a table may have.
     pub const MOST_ROWS: usize = 1_000_000;
 
-    /// The most events that a history may have.
+    /// The most events that a table may have at once.
     pub const MOST_EVENTS: usize = 1_000_000;
+
+    /// The most events that a table may ever have, dropped ones included.
+    pub const MOST_EVENTS_EVER: u64 = 1 << 63;
 
     /// Makes a table without rows or sessions, whose next number is `first`. It has at most `size` rows, up to
     /// `MOST_ROWS`; with `nopurge`, it refuses a row of a new key while it is full of live rows. Always succeeds, and
@@ -61,11 +66,13 @@ impl TableCell {
         ensures made { IsOk result }
         ensures cell { IfOk result (λ cell. cell ≡ new_cell definition size nopurge first) }
     {
+        let table = Table::new(alloc, definition, size, nopurge, first);
+        let latest_copies = BTreeMap::new(alloc);
         Ok(TableCell {
-            first,
-            table: Table::new(alloc, definition, size, nopurge, first),
+            origin: Origin::at(&table, 0, &latest_copies),
+            table,
             history: Vec::new(alloc),
-            latest_copies: BTreeMap::new(alloc),
+            latest_copies,
         })
     }
 
@@ -80,7 +87,13 @@ impl TableCell {
     pub fn begins_new(&self, size: usize, nopurge: bool, first: u32) -> bool
         ensures { IsTrue result ↔ (self.now.base ≡ new_table self.now.state.definition size nopurge first) }
     {
-        self.table.size == size && self.table.nopurge == nopurge && self.first == first
+        if !self.table.has_limits(size, nopurge) {
+            return false;
+        }
+        match self.origin.first() {
+            Some(begun) => begun == u64::from(first),
+            None => false,
+        }
     }
 
     /// Returns the number of all events so far.
@@ -89,14 +102,24 @@ impl TableCell {
         ensures sound { IsSoundCell self.now }
         ensures kept { Kept self.now }
     {
-        self.history.len() as u64
+        self.origin.before() + self.history.len() as u64
+    }
+
+    /// Returns how many of these events were dropped, by `checkpoint`, `begin_anew` or `slide`.
+    pub fn dropped(&self) -> u64
+        ensures dropped { result ≡ self.now.dropped + self.now.slid }
+        ensures sound { IsSoundCell self.now }
+        ensures kept { Kept self.now }
+    {
+        self.origin.before()
     }
 
     /// Returns how many more events there is room for.
     pub fn room(&self) -> u64
         ensures { result ≡ room_of self.now }
     {
-        (TableCell::MOST_EVENTS - self.history.len()) as u64
+        let in_history = (TableCell::MOST_EVENTS - self.history.len()) as u64;
+        in_history.min(TableCell::MOST_EVENTS_EVER - self.events())
     }
 
     pub(crate) fn is_history_full(&self) -> bool
@@ -105,11 +128,12 @@ impl TableCell {
         self.room() == 0
     }
 
-    /// Returns the event at `place` with its reply, or `None` if there is none. Places count all events from 1.
+    /// Returns the event at `place` with its reply, or `None` if there is none or it was dropped. Places count all events
+    /// from 1.
     pub fn event_at(&self, place: u64) -> Option<(&CellEvent, &CellReply)>
         ensures { option_map (λ e. (e.0.now, e.1.now)) result ≡ event_in self.now place }
     {
-        let index = usize::try_from(place.checked_sub(1)?).ok()?;
+        let index = usize::try_from(place.checked_sub(self.origin.before() + 1)?).ok()?;
         let entry = self.history.get(index)?;
         Some((entry.event(), entry.reply()))
     }

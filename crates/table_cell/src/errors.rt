@@ -1,4 +1,4 @@
-//! Why a table refuses an event, or a batch isn't settled.
+//! Why a table refuses an event, a batch isn't settled, or a history doesn't begin anew.
 
 use thiserror::Error;
 
@@ -138,6 +138,17 @@ pub enum PurgeError {
     #[error("the history is full")]
     HistoryFull,
     /// Memory ran out.
+    #[error("memory")]
+    Memory,
+}
+
+/// Why a history doesn't begin anew.
+#[derive(Clone, Copy, Debug, PartialEq, Eq, Error)]
+pub enum CheckpointError {
+    /// A batch of an open session is out.
+    #[error("a batch is out")]
+    BatchOut,
+    /// Memory ran out. A history begins anew without memory, so no call returns this.
     #[error("memory")]
     Memory,
 }

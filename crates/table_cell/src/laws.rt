@@ -11,7 +11,7 @@ ghost use Rattle.table_cell.specs.declared.events.CellReply.{CellReply};
 ghost use Rattle.table_cell.specs.declared.events.CellReply.TheVariants as replies;
 ghost use Rattle.table_cell.specs.Machine.{IsGranted, Replays, Step, TableState, new_table, unacked};
 ghost use Rattle.table_cell.specs.Soundness.{AreTimely, IsSound, IsTimely};
-ghost use Rattle.table_cell.specs.Histories.{AreAscending, CellState, IsReplayed, IsSoundCell, Kept, Made, is_history_full, new_cell};
+ghost use Rattle.table_cell.specs.Histories.{AreAscending, CellState, IsLatestBatch, IsReplayed, IsSoundCell, Kept, Made, begun_anew, is_history_full, latest_batch, new_cell};
 
 /// A run continues by one step.
 pub fn a_run_goes_on()
@@ -53,18 +53,25 @@ pub fn a_history_goes_on()
     ensures { (c e : CellState) (event : CellEvent) (reply : CellReply) → IsReplayed c → Made c event reply e → IsReplayed e }
 {}
 
-/// If the state is the replay of the history, each kept batch is what was not acknowledged at its place.
+/// If the state is the replay of the history, each batch in it is what was not acknowledged at its place.
 pub fn batches_are_kept()
     ensures { (c : CellState) → IsReplayed c → Kept c }
 {}
 
+/// The batch that settles in a sound cell is that of the session's latest copy in the whole history, also if slides have dropped
+/// the events.
+pub fn what_settles_is_the_latest()
+    ensures { (c : CellState) (session : ℕ) (us : List Update) → IsSoundCell c → IsLatestBatch c session us → latest_batch session c.history ≡ Some us }
+{}
+
 /// An event keeps a table with its history sound if the history has room for it and its moment, if it has one, is below
-/// 2^63. A new one is sound.
+/// 2^63. A new one is sound, and so is a sound one whose history begins anew.
 pub fn a_cell_stays_sound()
     ensures step { (c e : CellState) (event : CellEvent) (reply : CellReply) → IsTimely event → is_history_full c ≡ false →
         IsSoundCell c → Made c event reply e → IsSoundCell e }
     ensures new { (d : Definition) (size first : ℕ) (nopurge : Bool) → is_definition d ≡ true → 1 ≤ size → 1 ≤ first → first ≤ 2 ^ 32 →
         IsSoundCell (new_cell d size nopurge first) }
+    ensures anew { (c : CellState) → IsSoundCell c → IsSoundCell (begun_anew c) }
 {}
 
 /// After each beginning of its history, a sound table with its history was a sound table, and the updates of each batch

@@ -7,6 +7,7 @@ mod batch;
 mod batches;
 mod calls;
 mod cell;
+mod checkpoints;
 mod copying;
 mod entry;
 mod errors;
@@ -14,6 +15,8 @@ mod events;
 mod handing;
 mod laws;
 mod learned_run;
+mod origin;
+mod past;
 mod progress;
 mod refusals;
 mod sessions;
@@ -22,15 +25,17 @@ mod table;
 mod tracking;
 
 pub use cell::TableCell;
+pub use checkpoints::Dropped;
 pub use entry::Entry;
 pub use errors::{
-    AckError, CloseError, CopyError, LearnError, OpenError, PurgeError, StrangeBatch, TrackError,
+    AckError, CheckpointError, CloseError, CopyError, LearnError, OpenError, PurgeError,
+    StrangeBatch, TrackError,
 };
 pub use events::{CellEvent, CellReply, Reply};
 pub use handing::{a_cell_keeps_up, acknowledged_rows_were_handed_out, other_events_hand_nothing};
 pub use laws::{
     a_cell_stays_sound, a_history_goes_on, a_run_goes_on, a_sound_cell_was_always_sound,
     a_step_exists, a_step_is_unique, a_table_stays_sound, batches_are_kept,
-    what_is_copied_is_a_batch,
+    what_is_copied_is_a_batch, what_settles_is_the_latest,
 };
 pub use table_types::{CopyKind, Settled};

@@ -1,9 +1,10 @@
 //! The sessions of a table.
 
 ghost use Rattle.std.specs.Prelude.{◌≡◌, ◌≤◌, ◌==◌, ◌++◌, ◌∷◌, [], OnErr, OnOk, filter, not};
+ghost use Rattle.std.specs.List.{list_any};
 ghost use Rattle.std.specs.Map.{lookup};
 ghost use Rattle.table_cell.specs.Parts.{index_of};
-ghost use Rattle.table_cell.specs.Machine.{acknowledged_by, acknowledging, no_progress, progress_of, settled_by, teaching, with_progress};
+ghost use Rattle.table_cell.specs.Machine.{acknowledged_by, acknowledging, is_any_out, is_out, no_progress, progress_of, settled_by, teaching, with_progress};
 
 use crate::progress::Progress;
 use crate::table::Table;
@@ -19,6 +20,18 @@ fn progress_in(sessions: &[(u32, Progress)], session: u32) -> Option<Progress>
         }
     }
     None
+}
+
+/// Returns whether a batch of one of the sessions is out.
+fn is_any_out(sessions: &[(u32, Progress)]) -> bool
+    ensures { result ≡ list_any (λ entry. is_out entry.1) sessions.now }
+{
+    for entry in sessions {
+        if entry.1.acknowledged < entry.1.taught {
+            return true;
+        }
+    }
+    false
 }
 
 /// Returns the index of `session`, or `None` if it isn't open.
@@ -63,6 +76,13 @@ impl Table {
         ensures { result ≡ progress_of session self.now }
     {
         progress_in(self.sessions.as_slice(), session)
+    }
+
+    /// Returns whether a batch of some open session is out.
+    pub(crate) fn is_any_out(&self) -> bool
+        ensures { result ≡ is_any_out self.now }
+    {
+        is_any_out(self.sessions.as_slice())
     }
 
     /// Returns the number up to which `session` has acknowledged, or 0 if it isn't open.

@@ -1,10 +1,11 @@
 //! The state of a stick table.
 
-ghost use Rattle.std.specs.Prelude.{◌≡◌, ◌≤◌, ◌<◌, ◌^◌, IfOk, IfSome, List, nat_lt, OnErr, OnOk, filter, length, not, option_copied};
+ghost use Rattle.std.specs.Prelude.{◌≡◌, ◌↔◌, ◌≤◌, ◌<◌, ◌^◌, IfOk, IfSome, IsTrue, List, nat_lt, OnErr, OnOk, filter, length, not, option_copied};
 ghost use Rattle.std.specs.List.{list_all};
 ghost use Rattle.table_types.specs.declared.key.Key.{Key};
 ghost use Rattle.table_types.specs.Rows.{StoredRow};
 ghost use Rattle.table_rows.specs.Rows.{IsFirstToEnd, is_live};
+ghost use Rattle.table_cell.specs.Cells.{IsNewFrom};
 ghost use Rattle.table_cell.specs.Machine.{Leaves, has_room, is_full, learned, live_row, new_table, stored, tracked};
 ghost use Rattle.table_cell.specs.Stock.{AreInRisingKey, left_for};
 
@@ -84,6 +85,30 @@ impl Table {
         ensures { IfOk result (λ list. AreInRisingKey self.now.rows list.items) }
     {
         self.stock.list()
+    }
+
+    /// Returns whether the table may have at most `size` rows, and has `nopurge` or not.
+    pub(crate) fn has_limits(&self, size: usize, nopurge: bool) -> bool
+        ensures { IsTrue result ↔ ((self.now.size ≡ size) × (self.now.nopurge ≡ nopurge)) }
+    {
+        self.size == size && self.nopurge == nopurge
+    }
+
+    /// Returns the next number if the table is as a new one with that number is.
+    #[tactic(auto, using(crate::proofs::AnewLaws::is_new, crate::proofs::AnewLaws::has_rows, crate::proofs::AnewLaws::has_sessions, crate::proofs::AnewLaws::has_moved))]
+    pub(crate) fn next_if_new(&self) -> Option<u64>
+        ensures { IsNewFrom self.now result }
+    {
+        if self.stock.len() > 0 {
+            return None;
+        }
+        if self.sessions.len() > 0 {
+            return None;
+        }
+        if self.latest.milliseconds() > Moment::least().milliseconds() {
+            return None;
+        }
+        Some(self.stock.next())
     }
 
     /// Returns whether `now` is before the latest moment of an event.

@@ -246,8 +246,8 @@ impl TableCell {
         self.add_tracked(seat, key, change, now, row)
     }
 
-    /// Tracks like `track`, and returns the entry that the history shares beside the reply, whose copy is made before
-    /// anything changes.
+    /// Tracks like `track`, and returns the reply and the entry that the history shares. Copies the reply before anything
+    /// changes.
     pub fn track_with_reply(
         &mut self,
         seat: u32,
@@ -288,8 +288,8 @@ impl TableCell {
         self.add_learned(session, update, now, row)
     }
 
-    /// Learns like `learn`, and returns the entry that the history shares beside the reply, whose copy is made before
-    /// anything changes.
+    /// Learns like `learn`, and returns the reply and the entry that the history shares. Copies the reply before anything
+    /// changes.
     pub fn learn_with_reply(
         &mut self,
         session: u32,

@@ -21,9 +21,8 @@ returns-clause-step c =
     (c.requires.granted, ap replies.Copy is, taught_is c.args.table.now c.teach.new.self c.args.session c.args.now c.last_number.result us c.teach.ensures last found.1.some)
 
 pub returns-clause-latest : goal.returns-clause-latest
-returns-clause-latest c =
+returns-clause-latest c = λ held latest.
     let event = events.Copy c.args.session c.args.kind c.args.limit c.args.now in
-    let size : c.len.result ≡ length c.args.history.now.items = omega (arith, c.len.ensures, c.prepare.new.history.ok.0, ap (λ (l : List (CellEvent × CellReply)). length l) c.prepare.ensures.stays) in
     let longer : c.push_reserved.new.self.items ≡ c.args.history.now.items ++ (event, replies.Copy c.in_ok-batch.batch) ∷ [] = search rules in
-    latest_copied c.args.session c.args.limit c.args.now c.args.kind c.in_ok-batch.batch c.args.history.now.items c.push_reserved.new.self.items c.args.latest_copies.now.entries c.insert.new.self.entries longer
-    (λ k. c.in_ok-insert.ensures.updates.0 k ∙ ap (λ (n : ℕ). cond (is_eq (nat_cmp c.args.session k)) (Some n) (lookup (is_at (nat_cmp k)) c.args.latest_copies.now.entries)) size) c.requires.latest
+    latest_copied c.args.session c.args.limit c.args.now c.args.kind c.in_ok-batch.batch held c.args.history.now.items c.push_reserved.new.self.items c.args.latest_copies.now.entries c.insert.new.self.entries longer
+    (λ k. c.in_ok-insert.ensures.updates.0 k ∙ search rules) latest

@@ -1,3 +1,4 @@
+use Rattle.table_cell.proofs.AnewLaws.{begun_sound}
 use Rattle.table_cell.proofs.RunLaws.{made_sound, new_cell_sound}
 use Rattle.table_cell.proofs.laws.a_cell_stays_sound.Goals as goal
 
@@ -6,3 +7,6 @@ returns-clause-step c = made_sound
 
 pub returns-clause-new : goal.returns-clause-new
 returns-clause-new c = new_cell_sound
+
+pub returns-clause-anew : goal.returns-clause-anew
+returns-clause-anew c = begun_sound

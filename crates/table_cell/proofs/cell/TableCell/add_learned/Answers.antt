@@ -16,15 +16,15 @@ learn_row-requires-clause-granted c =
 pub invariant_of-self-2 : goal.invariant_of-self-2
 invariant_of-self-2 c =
     let free = learn_free (is_history_full c.args.self.now) c.args.self.now.state c.args.session c.args.update c.args.now c.requires.granted in
-    cell_goes_on c.self.inside.first c.self.inside.table c.learn_row.new.table c.self.inside.history.items c.learn_row.new.history.items c.self.inside.latest_copies.entries (events.Learn c.args.session c.args.update c.args.now) (replies.Learn (reply_of c.args.row))
+    cell_goes_on c.self.inside.origin c.self.inside.table c.learn_row.new.table c.self.inside.history.items c.learn_row.new.history.items c.self.inside.latest_copies.entries (events.Learn c.args.session c.args.update c.args.now) (replies.Learn (reply_of c.args.row))
     c.requires.timely (λ session. refl) (ap is_history_full c.self.view_is ∙ free.0) c.in-Ok.ensures.step c.in-Ok.ensures.event c.self.invariant
 
 pub returns-clause-shared : goal.returns-clause-shared
 returns-clause-shared c =
     let free = learn_free (is_history_full c.args.self.now) c.args.self.now.state c.args.session c.args.update c.args.now c.requires.granted in
-    (reply_of c.args.row, c.in-Ok.ensures.entry, call_made c.self.inside.first c.self.inside.table c.learn_row.new.table c.self.inside.history.items c.learn_row.new.history.items c.args.self.now (events.Learn c.args.session c.args.update c.args.now) (replies.Learn (reply_of c.args.row)) c.self.view_is free.0 c.in-Ok.ensures.step c.in-Ok.ensures.event)
+    (reply_of c.args.row, c.in-Ok.ensures.entry, call_made c.self.inside.origin c.self.inside.table c.learn_row.new.table c.self.inside.history.items c.learn_row.new.history.items c.args.self.now (events.Learn c.args.session c.args.update c.args.now) (replies.Learn (reply_of c.args.row)) c.self.view_is free.0 c.in-Ok.ensures.step c.in-Ok.ensures.event)
 
 pub returns-clause-call : goal.returns-clause-call
 returns-clause-call c =
     let free = learn_free (is_history_full c.args.self.now) c.args.self.now.state c.args.session c.args.update c.args.now c.requires.granted in
-    call_made c.self.inside.first c.self.inside.table c.learn_row.new.table c.self.inside.history.items c.learn_row.new.history.items c.args.self.now (events.Learn c.args.session c.args.update c.args.now) (replies.Learn (reply_of c.args.row)) c.self.view_is free.0 c.in-Ok.ensures.step c.in-Ok.ensures.event
+    call_made c.self.inside.origin c.self.inside.table c.learn_row.new.table c.self.inside.history.items c.learn_row.new.history.items c.args.self.now (events.Learn c.args.session c.args.update c.args.now) (replies.Learn (reply_of c.args.row)) c.self.view_is free.0 c.in-Ok.ensures.step c.in-Ok.ensures.event
