@@ -14,6 +14,8 @@ use Rattle.table_cell.specs.declared.errors.CloseError.{CloseError}
 use Rattle.table_cell.specs.declared.errors.CloseError.TheVariants as unclosed
 use Rattle.table_cell.specs.declared.errors.PurgeError.{PurgeError}
 use Rattle.table_cell.specs.declared.errors.PurgeError.TheVariants as unpurged
+use Rattle.table_cell.specs.declared.errors.CheckpointError.{CheckpointError}
+use Rattle.table_cell.specs.declared.errors.CheckpointError.TheVariants as unbegun
 
 -- Each refusal has its name. Out of memory has none, since it ends the program.
 
@@ -64,3 +66,7 @@ abbrev pub purge_refusal : PurgeError → Option (List ℕ)
 purge_refusal unpurged.MomentBack = Some (codes "MomentBack")
 purge_refusal unpurged.HistoryFull = Some (codes "HistoryFull")
 purge_refusal unpurged.Memory = None
+
+abbrev pub checkpoint_refusal : CheckpointError → Option (List ℕ)
+checkpoint_refusal unbegun.BatchOut = Some (codes "BatchOut")
+checkpoint_refusal unbegun.Memory = None

@@ -65,6 +65,10 @@ pub enum Call {
     },
     /// Removes the rows that have ended by the moment.
     Purge(Moment),
+    /// Lets the history begin anew with the present state.
+    Checkpoint,
+    /// Drops the history, and keeps the latest batch of each open session.
+    Slide,
     /// Reads the number of events, and how many more may come.
     Events,
     /// Reads the event at a place below 2^63.
@@ -95,11 +99,13 @@ pub(crate) fn call_of(
     }
 }
 
-/// Reads a call `events` or `rows`.
+/// Reads a call `checkpoint`, `slide`, `events` or `rows`.
 fn bare_call(kind: &[u8]) -> Option<Call>
     ensures { IfSome result IsCall }
 {
     match kind {
+        b"checkpoint" => Some(Call::Checkpoint),
+        b"slide" => Some(Call::Slide),
         b"events" => Some(Call::Events),
         b"rows" => Some(Call::Rows),
         _ => None,

@@ -43,8 +43,8 @@ pub use lines::{LineReader, read_lines};
 pub use names::{name, push_stored_name};
 pub use numbers::{number, number_from_one, push_number, push_word_and_number};
 pub use refusals::{
-    ack_refusal, close_refusal, copy_refusal, learn_refusal, open_refusal, purge_refusal,
-    track_refusal,
+    ack_refusal, checkpoint_refusal, close_refusal, copy_refusal, learn_refusal, open_refusal,
+    purge_refusal, track_refusal,
 };
 pub use replies::{push_event_reply, push_reply, settled_name};
 pub use rows::{push_row, push_stored_row};

@@ -1,8 +1,10 @@
 //! Names of a table's refusals. Out of memory has none, since it ends the program.
 ghost use Rattle.std.specs.Prelude.{◌≡◌, option_copied};
-ghost use Rattle.node_text.specs.Refusals.{ack_refusal, close_refusal, copy_refusal, learn_refusal, open_refusal, purge_refusal, track_refusal};
+ghost use Rattle.node_text.specs.Refusals.{ack_refusal, checkpoint_refusal, close_refusal, copy_refusal, learn_refusal, open_refusal, purge_refusal, track_refusal};
 
-use table_cell::{AckError, CloseError, CopyError, LearnError, OpenError, PurgeError, TrackError};
+use table_cell::{
+    AckError, CheckpointError, CloseError, CopyError, LearnError, OpenError, PurgeError, TrackError,
+};
 
 /// Returns the name of the refusal of a change.
 pub fn track_refusal(error: TrackError) -> Option<&'static str>
@@ -91,5 +93,15 @@ pub fn purge_refusal(error: PurgeError) -> Option<&'static str>
         PurgeError::MomentBack => Some("MomentBack"),
         PurgeError::HistoryFull => Some("HistoryFull"),
         PurgeError::Memory => None,
+    }
+}
+
+/// Returns the name of the refusal of a checkpoint.
+pub fn checkpoint_refusal(error: CheckpointError) -> Option<&'static str>
+    ensures { option_copied result ≡ checkpoint_refusal error }
+{
+    match error {
+        CheckpointError::BatchOut => Some("BatchOut"),
+        CheckpointError::Memory => None,
     }
 }

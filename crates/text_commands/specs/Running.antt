@@ -6,6 +6,8 @@ use Rattle.table_types.specs.declared.copies.Settled.{Settled}
 use Rattle.table_types.specs.declared.update.Update.{Update}
 use Rattle.table_types.specs.Rows.{StoredRow}
 use Rattle.table_types.specs.Tables.{Definition}
+use Rattle.table_cell.specs.declared.events.CellEvent.{CellEvent}
+use Rattle.table_cell.specs.declared.events.CellReply.{CellReply}
 use Rattle.table_cell.specs.declared.events.Reply.{Reply}
 use Rattle.table_cell.specs.declared.errors.TrackError.{TrackError}
 use Rattle.table_cell.specs.declared.errors.LearnError.{LearnError}
@@ -15,13 +17,14 @@ use Rattle.table_cell.specs.declared.errors.StrangeBatch.{StrangeBatch}
 use Rattle.table_cell.specs.declared.errors.OpenError.{OpenError}
 use Rattle.table_cell.specs.declared.errors.CloseError.{CloseError}
 use Rattle.table_cell.specs.declared.errors.PurgeError.{PurgeError}
+use Rattle.table_cell.specs.declared.errors.CheckpointError.{CheckpointError}
 use Rattle.table_cell.specs.Stock.{AreInRisingKey}
-use Rattle.table_cell.specs.Histories.{Acknowledges, CellState, Closes, Copies, IsLatestBatch, Learns, Opens, Purges, Tracks, event_in, events_of, new_cell, room_of}
+use Rattle.table_cell.specs.Histories.{Acknowledges, CellState, Checkpoints, Closes, Copies, IsLatestBatch, Learns, Opens, Purges, Slides, Tracks, event_in, events_of, new_cell, room_of}
 use Rattle.node_text.specs.declared.calls.Call.{Call}
 use Rattle.node_text.specs.declared.calls.Call.TheVariants as calls
 use Rattle.node_text.specs.declared.script_tables.ScriptTable.{ScriptTable}
 use Rattle.node_text.specs.declared.scripts.Script.{Script}
-use Rattle.text_commands.specs.Answers.{acknowledged, closed, copied, event_line, events_line, learned, opened, purged, rows_lines, settled, tracked}
+use Rattle.text_commands.specs.Answers.{acknowledged, begun_anew, closed, copied, dropped_line, event_line, events_line, learned, opened, purged, rows_lines, settled, tracked}
 use Rattle.text_commands.specs.Endings.{IsEarly}
 use Rattle.text_commands.specs.declared.endings.Ending.{Ending}
 use Rattle.text_commands.specs.declared.endings.Ending.TheVariants as endings
@@ -67,6 +70,10 @@ Prints c given (calls.Ack session number) text e more =
     (r : Result Settled AckError) × Acknowledges c session number r e × (acknowledged r ≡ Some text) × (more ≡ given)
 Prints c given (calls.Purge now) text e more =
     (r : Result ℕ PurgeError) × Purges c now r e × (purged r ≡ Some text) × (more ≡ given)
+Prints c given calls.Checkpoint text e more =
+    (r : Result (Unit {0}) CheckpointError) × Checkpoints c r e × (begun_anew r ≡ Some text) × (more ≡ given)
+Prints c given calls.Slide text e more =
+    (hs : List (CellEvent × CellReply)) × Slides c hs e × (text ≡ dropped_line (length hs)) × (more ≡ given)
 Prints c given calls.Events text e more = (text ≡ events_line (events_of c) (room_of c)) × (e ≡ c) × (more ≡ given)
 Prints c given (calls.Event place) text e more = (text ≡ event_line (definition_of c) (event_in c place)) × (e ≡ c) × (more ≡ given)
 Prints c given calls.Rows text e more =

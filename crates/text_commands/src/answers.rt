@@ -1,22 +1,25 @@
 //! Calls that change a table, or compare a batch with its own, and what is printed of them.
-ghost use Rattle.std.specs.Prelude.{ℕ, OnOk, Result};
+ghost use Rattle.std.specs.Prelude.{◌≡◌, ◌++◌, ℕ, List, OnOk, Result, length};
 ghost use Rattle.table_types.specs.declared.copies.Settled.{Settled};
+ghost use Rattle.table_cell.specs.declared.events.CellEvent.{CellEvent};
+ghost use Rattle.table_cell.specs.declared.events.CellReply.{CellReply};
 ghost use Rattle.table_cell.specs.declared.events.Reply.{Reply};
 ghost use Rattle.table_cell.specs.declared.errors.AckError.{AckError};
+ghost use Rattle.table_cell.specs.declared.errors.CheckpointError.{CheckpointError};
 ghost use Rattle.table_cell.specs.declared.errors.CloseError.{CloseError};
 ghost use Rattle.table_cell.specs.declared.errors.LearnError.{LearnError};
 ghost use Rattle.table_cell.specs.declared.errors.OpenError.{OpenError};
 ghost use Rattle.table_cell.specs.declared.errors.PurgeError.{PurgeError};
 ghost use Rattle.table_cell.specs.declared.errors.StrangeBatch.{StrangeBatch};
 ghost use Rattle.table_cell.specs.declared.errors.TrackError.{TrackError};
-ghost use Rattle.table_cell.specs.Histories.{Acknowledges, Closes, Learns, Opens, Purges, Tracks};
-ghost use Rattle.text_commands.specs.Answers.{Adds, acknowledged, closed, learned, opened, purged, settled, tracked};
+ghost use Rattle.table_cell.specs.Histories.{Acknowledges, Checkpoints, Closes, Learns, Opens, Purges, Slides, Tracks};
+ghost use Rattle.text_commands.specs.Answers.{Adds, acknowledged, begun_anew, closed, dropped_line, learned, opened, purged, settled, tracked};
 ghost use Rattle.text_commands.specs.Running.{Settles, definition_of};
 
 use crate::lines::{end_line, push_line, push_refusal};
 use node_text::{
-    ack_refusal, close_refusal, learn_refusal, open_refusal, purge_refusal, push_reply,
-    settled_name, track_refusal,
+    ack_refusal, checkpoint_refusal, close_refusal, learn_refusal, open_refusal, purge_refusal,
+    push_reply, settled_name, track_refusal,
 };
 use std::alloc::Global;
 use table_cell::TableCell;
@@ -115,6 +118,26 @@ pub(crate) fn purge(
         Ok(count) => Ok(text.extend_from_slice(format!(in alloc; "purged {count}\n")?.as_bytes())?),
         Err(error) => push_refusal(text, purge_refusal(error)),
     }
+}
+
+/// Lets the history begin anew, and appends the line of the result.
+pub(crate) fn checkpoint(cell: &mut TableCell, text: &mut Vec<u8>) -> Result<(), Memory>
+    ensures { OnOk result ((r : Result (Unit {0}) CheckpointError) × Checkpoints cell.old r cell.new × Adds (begun_anew r) text.old.items text.new.items) }
+{
+    match cell.checkpoint() {
+        Ok(()) => push_line(text, "ok"),
+        Err(error) => push_refusal(text, checkpoint_refusal(error)),
+    }
+}
+
+/// Drops the events of the history, and appends the line with their number.
+pub(crate) fn slide(alloc: Global, cell: &mut TableCell, text: &mut Vec<u8>) -> Result<(), Memory>
+    ensures { OnOk result ((hs : List (CellEvent × CellReply)) × Slides cell.old hs cell.new
+        × (text.new.items ≡ text.old.items ++ dropped_line (length hs))) }
+{
+    let dropped = cell.slide();
+    let count = dropped.count();
+    Ok(text.extend_from_slice(format!(in alloc; "dropped {count}\n")?.as_bytes())?)
 }
 
 /// Compares `batch` with the latest one of a session, and appends the line of the result.
