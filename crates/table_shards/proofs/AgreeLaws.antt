@@ -74,7 +74,7 @@ as_many (suc n) low rs all once =
 
 -- the place of an event is at most the number of events
 entry_within : (c : CellState) (place : ℕ) (e : CellEvent × CellReply) → event_in c place ≡ Some e → place ≤ events_of c
-entry_within c place e is = elim (cases_Bool (nat_lt c.dropped place)) [
+entry_within c place e is = elim (cases_Bool (nat_lt (c.dropped + c.slid) place)) [
   | inl kept ↦
       let there : slice_get c.history (place - (c.dropped + 1)) ≡ Some e = rw kept at is in
       let within = slice_get_within c.history (place - (c.dropped + 1)) e there in

@@ -20,7 +20,7 @@ pub one_last : {A : Type 0} (P : A → Type 0) (xs : List A) (y : A) → P y →
 one_last P [] y here = inl here
 one_last P (x ∷ xs) y here = inr (one_last P xs y here)
 
-none_of_all : {A : Type 0} (P Q : A → Type 0) (xs : List A) → ((x : A) → P x → Q x → ⊥) → AllByRecursion P xs → OneOf Q xs → ⊥
+pub none_of_all : {A : Type 0} (P Q : A → Type 0) (xs : List A) → ((x : A) → P x → Q x → ⊥) → AllByRecursion P xs → OneOf Q xs → ⊥
 none_of_all P Q [] apart all one = one
 none_of_all P Q (x ∷ xs) apart (first, rest) (inl here) = apart x first here
 none_of_all P Q (x ∷ xs) apart (first, rest) (inr there) = none_of_all P Q xs apart rest there

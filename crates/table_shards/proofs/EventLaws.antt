@@ -17,10 +17,10 @@ at_end (x ∷ xs) y = at_end xs y
 pub then_last : (c e : CellState) (event : CellEvent) (reply : CellReply) → Made c event reply e → events_of e ≡ events_of c + 1
 then_last c e event reply made = ap events_of made.1 ∙ omega (arith, length-append c.history ((event, reply) ∷ []))
 
-pub then_entry : (c e : CellState) (event : CellEvent) (reply : CellReply) → Made c event reply e → IsEntry e (record { place = events_of c + 1; event = event; reply = reply })
-then_entry c e event reply made =
+pub then_entry : (c e : CellState) (event : CellEvent) (reply : CellReply) → c.slid ≤ length c.history → Made c event reply e → IsEntry e (record { place = events_of c + 1; event = event; reply = reply })
+then_entry c e event reply slid made =
     let longer = record c { history = c.history ++ (event, reply) ∷ []; state = e.state } in
-    let kept : nat_lt c.dropped (events_of c + 1) ≡ true = lt-ltb _ _ (omega arith) in
+    let kept : nat_lt (c.dropped + c.slid) (events_of c + 1) ≡ true = lt-ltb _ _ (omega (arith, slid)) in
     let index : events_of c + 1 - (c.dropped + 1) ≡ length c.history = omega arith in
     subst (λ (x : CellState). IsEntry x (record { place = events_of c + 1; event = event; reply = reply })) (sym made.1)
     (rw (kept, index) (at_end c.history (event, reply)))

@@ -1,6 +1,8 @@
 pub mod PageLaws
+pub mod ForgetLaws
 pub mod AllLaws
 pub mod ReceiptLaws
+pub mod CountLaws
 pub mod RollLaws
 pub mod AgreeLaws
 pub mod MatchLaws
@@ -8,5 +10,8 @@ pub mod CompareLaws
 pub mod FaultLaws
 pub mod RoundLaws
 pub mod EventLaws
+pub mod MissLaws
 pub mod HeldLaws
 pub mod NotedLaws
+pub mod Crosses
+pub mod NextLaws

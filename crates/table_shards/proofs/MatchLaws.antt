@@ -1,8 +1,10 @@
 -- If receipts agree with a history, they are its events, in another order.
-use Rattle.std.proofs.Common.{◌≡◌, ℕ, suc, ◌+◌, ◌-◌, ◌<◌, ◌≤◌, ◌==◌, false, List, [], ◌∷◌, length, Some, slice_get, sum_by, not, refl, sym, ap, ◌∙◌, subst, arith, inl, inr, eq-eqb, lt-ltb, true≢false}
+use Rattle.std.proofs.Common.{◌≡◌, ℕ, zero, suc, ◌+◌, ◌-◌, ◌<◌, ◌≤◌, ◌==◌, false, List, [], ◌∷◌, length, drop, Some, None, nat_lt, slice_get, sum_by, not, refl, sym, ap, ◌∙◌, subst, arith, inl, inr, eq-eqb, true≢false}
 use Rattle.std.specs.List.{AllByRecursion}
 use Rattle.std.proofs.lemmas.Bool.{cases_Bool, cases_eq}
+use Rattle.std.proofs.lemmas.List.{length-drop}
 use Rattle.std.proofs.lemmas.List.Sums.{sum_by-cons}
+use Rattle.std.proofs.lemmas.Option.{slice_get_past}
 use Rattle.table_cell.specs.declared.events.CellEvent.{CellEvent}
 use Rattle.table_cell.specs.declared.events.CellReply.{CellReply}
 use Rattle.table_cell.specs.Histories.{CellState}
@@ -116,14 +118,48 @@ each_of P (h ∷ hs) low rs all once each = (
 
 -- ---- receipts that agree
 
-are_of : (c : CellState) (seats : List SeatState) → Agree c c.dropped seats → AllByRecursion (IsOf c.history c.dropped) (all_receipts (id_of c) seats)
-are_of c seats agree = all_so (λ (r : ReceiptState). (c.dropped < r.place) × IsEntry c r) (IsOf c.history c.dropped) one (all_receipts (id_of c) seats) agree.own
+get_dropped : {A : Type 0} (k : ℕ) (xs : List A) (i : ℕ) → slice_get (drop k xs) i ≡ slice_get xs (k + i)
+get_dropped zero xs i = let same : i ≡ 0 + i = omega arith in ap (slice_get xs) same
+get_dropped (suc k) [] i = slice_get_past [] i (omega arith) ∙ sym (slice_get_past [] (suc k + i) (omega arith))
+get_dropped (suc k) (x ∷ xs) i = let step : suc (k + i) ≡ suc k + i = omega arith in get_dropped k xs i ∙ ap (slice_get (x ∷ xs)) step
+
+-- the events after the first `began`
+abbrev pub after_first : ℕ → CellState → List (CellEvent × CellReply)
+after_first began c = drop (began - c.dropped) c.history
+
+are_of : (c : CellState) (began : ℕ) (seats : List SeatState) → c.dropped ≤ began → Agree c began seats → AllByRecursion (IsOf (after_first began c) began) (all_receipts (id_of c) seats)
+are_of c began seats from agree = all_so (λ (r : ReceiptState). (began < r.place) × IsEntry c r) (IsOf (after_first began c) began) one (all_receipts (id_of c) seats) agree.own
   where
-    one : (r : ReceiptState) → (c.dropped < r.place) × IsEntry c r → IsOf c.history c.dropped r
-    one r (above, is) = (above, rw (lt-ltb c.dropped r.place above) at is)
+    one : (r : ReceiptState) → (began < r.place) × IsEntry c r → IsOf (after_first began c) began r
+    one r (above, is) = elim (cases_Bool (nat_lt (c.dropped + c.slid) r.place)) [
+      | inl kept ↦
+          let there : slice_get c.history (r.place - (c.dropped + 1)) ≡ Some (r.event, r.reply) = rw kept at is in
+          let index : began - c.dropped + (r.place - (began + 1)) ≡ r.place - (c.dropped + 1) = omega (arith, from, above) in
+          (above, get_dropped (began - c.dropped) c.history (r.place - (began + 1)) ∙ ap (slice_get c.history) index ∙ there)
+      | inr gone ↦
+          let none : None ≡ Some (r.event, r.reply) = rw gone at is in
+          absurd (some_none (r.event, r.reply) (sym none))
+    ]
+
+once_after : (c : CellState) (began : ℕ) (seats : List SeatState) → c.dropped ≤ began → Agree c began seats → AreOnce (after_first began c) began (all_receipts (id_of c) seats)
+once_after c began seats from agree place above within =
+    let left = length-drop (began - c.dropped) c.history in
+    agree.once place above (omega (arith, from, above, within, left))
+
+pub round_summed : (c : CellState) (began : ℕ) (seats : List SeatState) (f : CellEvent → ℕ) → c.dropped ≤ began → Agree c began seats
+    → sum_by (λ (r : ReceiptState). f r.event) (all_receipts (id_of c) seats) ≡ sum_by (λ (h : CellEvent × CellReply). f h.0) (drop (began - c.dropped) c.history)
+round_summed c began seats f from agree = sum_of f (after_first began c) began (all_receipts (id_of c) seats) (are_of c began seats from agree) (once_after c began seats from agree)
+
+pub round_each : (c : CellState) (began : ℕ) (seats : List SeatState) (P : CellEvent → Type 0) → c.dropped ≤ began → Agree c began seats → AllByRecursion (λ (r : ReceiptState). P r.event) (all_receipts (id_of c) seats)
+    → AllByRecursion (λ (h : CellEvent × CellReply). P h.0) (drop (began - c.dropped) c.history)
+round_each c began seats P from agree each = each_of P (after_first began c) began (all_receipts (id_of c) seats) (are_of c began seats from agree) (once_after c began seats from agree) each
+
+-- the same if the round began with the history
+whole_after : (c : CellState) → after_first c.dropped c ≡ c.history
+whole_after c = let none : c.dropped - c.dropped ≡ 0 = omega arith in ap (λ (n : ℕ). drop n c.history) none
 
 pub summed : (c : CellState) (seats : List SeatState) (f : CellEvent → ℕ) → Agree c c.dropped seats → sum_by (λ (r : ReceiptState). f r.event) (all_receipts (id_of c) seats) ≡ sum_by (λ (h : CellEvent × CellReply). f h.0) c.history
-summed c seats f agree = sum_of f c.history c.dropped (all_receipts (id_of c) seats) (are_of c seats agree) agree.once
+summed c seats f agree = round_summed c c.dropped seats f (omega arith) agree ∙ ap (sum_by (of_entry f)) (whole_after c)
 
 pub each_event : (c : CellState) (seats : List SeatState) (P : CellEvent → Type 0) → Agree c c.dropped seats → AllByRecursion (λ (r : ReceiptState). P r.event) (all_receipts (id_of c) seats) → AllByRecursion (λ (h : CellEvent × CellReply). P h.0) c.history
-each_event c seats P agree each = each_of P c.history c.dropped (all_receipts (id_of c) seats) (are_of c seats agree) agree.once each
+each_event c seats P agree each = subst (AllByRecursion (λ (h : CellEvent × CellReply). P h.0)) (whole_after c) (round_each c c.dropped seats P (omega arith) agree each)

@@ -1,11 +1,6 @@
 -- How often a place occurs among receipts.
-use Rattle.std.proofs.Common.{◌≡◌, ℕ, zero, suc, ◌+◌, ◌<◌, ◌≤◌, ◌==◌, true, false, cond, List, [], ◌∷◌, ◌++◌, length, get_or, take, drop, Result, Ok, Err, is_ok, refl, sym, ap, ◌∙◌, subst, arith, inl, inr, nat_cmp, Less, Equal, Greater, eq-eqb, ne_eqb, append-nil, append_assoc}
+use Rattle.std.proofs.Common.{◌≡◌, ℕ, zero, suc, ◌+◌, ◌<◌, ◌≤◌, ◌==◌, true, false, cond, List, [], ◌∷◌, ◌++◌, length, get_or, take, drop, refl, sym, ap, ◌∙◌, subst, arith, ne_eqb, append-nil, append_assoc}
 use Rattle.std.specs.List.{AllByRecursion}
-use Rattle.std.specs.List.Sorted.{IsSearchInRange, IsBinarySearchResult, IsNonDecreasingBy}
-use Rattle.std.specs.Ordering.{ordering_index}
-use Rattle.std.proofs.lemmas.Cmp.{ranked}
-use Rattle.std.proofs.lemmas.Bool.{cases_lt}
-use Rattle.std.proofs.lemmas.Bool.Decides.{nat_tests}
 use Rattle.std.proofs.lemmas.List.{drop_more, take_more}
 use Rattle.std.proofs.lemmas.List.Sums.{sum_by-cons, sum_by-append}
 use Rattle.table_shards.specs.Receipts.{ReceiptState, SeatState, PlacesRise, all_receipts, receipts_of, times}
@@ -41,44 +36,12 @@ times_other place r rs other =
     let none : cond (r.place == place) 1 0 ≡ 0 = rw other refl in
     sum_by-cons (λ (q : ReceiptState). cond (q.place == place) 1 0) r rs ∙ ap (λ (n : ℕ). n + times place rs) none
 
-times_above : (place before seen : ℕ) (rs : List ReceiptState) → PlacesRise before rs seen → place ≤ before → times place rs ≡ 0
+pub times_above : (place before seen : ℕ) (rs : List ReceiptState) → PlacesRise before rs seen → place ≤ before → times place rs ≡ 0
 times_above place before seen [] rise le = refl
 times_above place before seen (r ∷ rs) (first, rest) le =
     let other = times_other place r rs (ne_eqb r.place place (λ is. absurd (omega arith))) in
     let none : times place rs ≡ 0 = times_above place r.place seen rs rest (omega arith) in
     omega (arith, other, none)
-
-pub found_once : (place before seen : ℕ) (rs : List ReceiptState) (i : ℕ) (d : ReceiptState) → PlacesRise before rs seen → i < length rs → (get_or rs i d).place ≡ place → times place rs ≡ 1
-found_once place before seen [] i d rise lt is = absurd (omega arith)
-found_once place before seen (r ∷ rs) zero d (first, rest) lt is =
-    let here = times_here place r rs (eq-eqb r.place place is) in
-    let none : times place rs ≡ 0 = times_above place r.place seen rs rest (omega arith) in
-    omega (arith, here, none)
-found_once place before seen (r ∷ rs) (suc i) d (first, rest) lt is =
-    let low : r.place < (get_or rs i d).place = rise_low r.place seen rs i d rest (omega arith) in
-    let other = times_other place r rs (ne_eqb r.place place (λ same. absurd (omega arith))) in
-    let one : times place rs ≡ 1 = found_once place r.place seen rs i d rest (omega arith) is in
-    omega (arith, other, one)
-
-pub found_never : (place : ℕ) (rs : List ReceiptState) → ((i : ℕ) (d : ReceiptState) → i < length rs → (get_or rs i d).place ≡ place → ⊥) → times place rs ≡ 0
-found_never place [] none = refl
-found_never place (r ∷ rs) none =
-    let other = times_other place r rs (ne_eqb r.place place (none zero r (omega arith))) in
-    let rest : times place rs ≡ 0 = found_never place rs (λ i d lt. none (suc i) d (omega arith)) in
-    omega (arith, other, rest)
-
--- what a binary search for a place finds
-pub searched : (place seen : ℕ) (rs : List ReceiptState) → PlacesRise 0 rs seen → (r : Result ℕ ℕ) → IsSearchInRange r (length rs) → IsBinarySearchResult (λ q. nat_cmp q.place place) rs r → cond (is_ok r) 1 0 ≡ times place rs
-searched place seen [] rise (Ok i) within equal = absurd (omega arith)
-searched place seen (q ∷ rs) rise (Ok i) within equal = sym (found_once place 0 seen (q ∷ rs) i q rise within (ranked _ place Equal (sym (equal q))))
-searched place seen rs rise (Err i) within parted =
-    let order : IsNonDecreasingBy (λ q. ordering_index (nat_cmp q.place place)) rs =
-    λ a b d le lt. let up = rise_order 0 seen rs a b d rise le lt in grind (arith, nat_tests) in
-    let parts = parted order in
-    sym (found_never place rs (λ j d lt is. elim (cases_lt j i) [
-      | inl below ↦ let less : (get_or rs j d).place < place = ranked _ place Less (sym (parts.0 j d (omega arith) below)) in absurd (omega arith)
-      | inr above ↦ let more : place < (get_or rs j d).place = ranked _ place Greater (sym (parts.1 j d above lt)) in absurd (omega arith)
-    ]))
 
 -- ---- seats
 

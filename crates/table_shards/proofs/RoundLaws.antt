@@ -1,22 +1,12 @@
 -- The seats with which a round begins.
-use Rattle.std.proofs.Common.{◌≡◌, ℕ, zero, suc, ◌+◌, ◌-◌, ◌<◌, ◌≤◌, true, false, nat_lt, nat_le, List, [], ◌∷◌, ◌++◌, length, map, slice_get, Some, None, refl, sym, ap, ◌∙◌, arith, inl, inr, ltb-true, ltb-false}
-use Rattle.std.proofs.lemmas.Bool.{cases_Bool}
-use Rattle.std.proofs.lemmas.Bool.Decides.{nat_tests}
-use Rattle.table_cell.specs.declared.events.CellEvent.{CellEvent}
-use Rattle.table_cell.specs.declared.events.CellReply.{CellReply}
-use Rattle.table_cell.specs.Histories.{CellState, events_of, event_in}
-use Rattle.table_shards.proofs.PageLaws.{some_none}
+use Rattle.std.proofs.Common.{◌≡◌, ℕ, zero, suc, ◌+◌, List, [], ◌∷◌, ◌++◌, map, refl, sym, ap, ◌∙◌, arith}
+use Rattle.table_cell.specs.Histories.{CellState}
 use Rattle.table_shards.specs.Receipts.{SeatState, fresh_seat}
 use Rattle.table_shards.specs.declared.shards.Shard.{Shard}
 use Rattle.table_shards.specs.declared.unlocked.UnlockedTable.{UnlockedTable}
 use Rattle.table_shards.specs.Rounds.{begun, fresh_from, fresh_seats}
 use Rattle.table_shards.specs.Locks.{shard_rounds}
 use Rattle.table_shards.specs.Audits.{table_rounds}
-
-there : (hs : List (CellEvent × CellReply)) (i : ℕ) → i < length hs → slice_get hs i ≡ None → ⊥
-there [] i lt none = absurd (omega arith)
-there (h ∷ hs) zero lt none = some_none h none
-there (h ∷ hs) (suc i) lt none = there hs i (omega arith) none
 
 fresh_more : (first count : ℕ) → fresh_from first (count + 1) ≡ fresh_from first count ++ fresh_seat (first + count) ∷ []
 fresh_more first zero =
@@ -34,30 +24,9 @@ one_seat_more count =
     let same : count + 1 ≡ 1 + count = omega arith in
     ap (λ (n : ℕ). fresh_seats count ++ fresh_seat n ∷ []) same ∙ sym (fresh_more 1 count)
 
--- ---- which events a cell still has
-
-pub past_round : (c : CellState) (began : ℕ) → events_of c ≤ began → true ≡ nat_le c.dropped began
-past_round c began le = let within : c.dropped ≤ began = omega arith in grind (arith, nat_tests)
-
-pub round_kept : (c : CellState) (began : ℕ) (e : CellEvent × CellReply) → Some e ≡ event_in c (began + 1) → true ≡ nat_le c.dropped began
-round_kept c began e is = elim (cases_Bool (nat_lt c.dropped (began + 1))) [
-  | inl kept ↦ let less = ltb-true c.dropped (began + 1) kept in grind (arith, nat_tests)
-  | inr gone ↦ let none : Some e ≡ None = rw gone at is in absurd (some_none e none)
-]
-
-pub round_dropped : (c : CellState) (began : ℕ) → began < events_of c → None ≡ event_in c (began + 1) → false ≡ nat_le c.dropped began
-round_dropped c began less is = elim (cases_Bool (nat_lt c.dropped (began + 1))) [
-  | inl kept ↦
-      let above = ltb-true c.dropped (began + 1) kept in
-      let none : None ≡ slice_get c.history (began + 1 - (c.dropped + 1)) = rw kept at is in
-      let within : began + 1 - (c.dropped + 1) < length c.history = omega (arith, above, less) in
-      absurd (there c.history (began + 1 - (c.dropped + 1)) within (sym none))
-  | inr gone ↦ let below = ltb-false c.dropped (began + 1) gone in grind (arith, nat_tests)
-]
-
 -- ---- tables moved one by one
 
-rounds_append : {A B : Type 0} (f : A → B) (xs ys : List A) → map f (xs ++ ys) ≡ map f xs ++ map f ys
+pub rounds_append : {A B : Type 0} (f : A → B) (xs ys : List A) → map f (xs ++ ys) ≡ map f xs ++ map f ys
 rounds_append f [] ys = refl
 rounds_append f (x ∷ xs) ys = ap (λ zs. f x ∷ zs) (rounds_append f xs ys)
 

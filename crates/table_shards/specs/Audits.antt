@@ -1,5 +1,5 @@
 -- An audit (profile): whether the receipts of all seats agree with the histories of all tables.
-use Rattle.std.specs.Prelude.{◌≡◌, ℕ, ◌<◌, ◌==◌, ◌&&◌, ◌⊎◌, Bool, true, false, nat_le, List, Option, Some, None, map, if◌then◌else◌}
+use Rattle.std.specs.Prelude.{◌≡◌, ℕ, ◌+◌, ◌<◌, ◌==◌, ◌&&◌, ◌⊎◌, Bool, true, false, nat_le, List, Option, Some, None, map, if◌then◌else◌}
 use Rattle.std.specs.List.{AllByRecursion}
 use Rattle.table_cell.specs.Histories.{CellState, IsSoundCell, Kept}
 use Rattle.table_shards.specs.declared.unlocked.UnlockedTable.{UnlockedTable}
@@ -21,9 +21,9 @@ pub record AuditState : Type 0 where
   pub unlocked : UnlockedState
   pub seats : List SeatState
 
--- the cell is the table's own, and still has all events of the round
+-- the cell is the table's own, and still has all events of the round, which neither a checkpoint nor a slide has dropped
 abbrev pub is_its_own : UnlockedTable → Bool
-is_its_own t = id_of t.cell == t.table && nat_le t.cell.dropped t.began
+is_its_own t = id_of t.cell == t.table && nat_le (t.cell.dropped + t.cell.slid) t.began
 
 -- the state is the replay of the history, and each kept batch is what was unacknowledged at its place
 abbrev pub IsLegal : CellState → Type 0

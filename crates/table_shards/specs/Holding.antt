@@ -1,7 +1,7 @@
 -- What the calls of the module `held` do (profile), under the lock of one table and for one seat.
 use Rattle.std.specs.Prelude.{◌≡◌, ◌≢◌, ℕ, ◌+◌, ◌≤◌, List, Some, Result, Ok, Err}
 use Rattle.table_types.specs.declared.update.Update.{Update}
-use Rattle.table_cell.specs.Histories.{CellState, IsLatestBatch, events_of}
+use Rattle.table_cell.specs.Histories.{CellState, IsLatestBatch, Slides, events_of}
 use Rattle.table_cell.specs.declared.errors.StrangeBatch.{StrangeBatch}
 use Rattle.table_cell.specs.declared.events.CellEvent.{CellEvent}
 use Rattle.table_cell.specs.declared.events.CellReply.{CellReply}
@@ -60,3 +60,8 @@ Refuses table c s (errors.Cell error) = ⊥
 abbrev pub Settles : CellState → ℕ → List Update → Result (Unit {0}) StrangeBatch → CellState → Type 0
 Settles c session us (Ok done) e = IsLatestBatch c session us × (e ≡ c)
 Settles c session us (Err strange) e = (IsLatestBatch c session us → ⊥) × (e ≡ c)
+
+-- the cell's history slides, which is never refused
+abbrev pub SlidesAlways : {E : Type 0} → CellState → Result (List (CellEvent × CellReply)) E → CellState → Type 0
+SlidesAlways c (Ok hs) e = Slides c hs e
+SlidesAlways c (Err error) e = ⊥

@@ -1,5 +1,6 @@
 pub mod Receipts
 pub mod Pages
+pub mod Counts
 pub mod Agreement
 pub mod Roll
 pub mod Holding
@@ -7,3 +8,5 @@ pub mod Noting
 pub mod Audits
 pub mod Rounds
 pub mod Locks
+pub mod NextRounds
+pub mod Anew

@@ -1,5 +1,5 @@
 -- Receipts (profile): what a seat keeps of each event that its thread made, and of its latest call that made none.
-use Rattle.std.specs.Prelude.{ℕ, ◌+◌, ◌%◌, ◌^◌, ◌<◌, ◌≤◌, ◌==◌, List, [], ◌∷◌, ◌++◌, Option, Some, None, if◌then◌else◌, nat_lt}
+use Rattle.std.specs.Prelude.{ℕ, ◌+◌, ◌%◌, ◌^◌, ◌<◌, ◌≤◌, ◌==◌, List, [], ◌∷◌, ◌++◌, map, Option, Some, None, if◌then◌else◌, nat_lt}
 use Rattle.std.specs.List.{count_by, flat_map}
 use Rattle.table_cell.specs.declared.events.CellEvent.{CellEvent}
 use Rattle.table_cell.specs.declared.events.CellReply.{CellReply}
@@ -64,6 +64,14 @@ pages_with table r (p ∷ ps) = if p.table == table then page_with p r ∷ ps el
 
 abbrev pub with_receipt : SeatState → ℕ → ReceiptState → SeatState
 with_receipt s table r = record s { pages = pages_with table r s.pages }
+
+-- the page without its receipts, if it is the table's; what was seen of the table stays
+abbrev pub forgotten_page : ℕ → PageState → PageState
+forgotten_page table p = if p.table == table then record p { receipts = [] } else p
+
+-- the seat without its receipts of the table
+abbrev pub forgotten : ℕ → SeatState → SeatState
+forgotten table s = record s { pages = map (forgotten_page table) s.pages }
 
 -- the seat with one more answer; the count starts again after 2^64 - 1
 abbrev pub with_answer : SeatState → Answered → SeatState

@@ -1,11 +1,11 @@
 //! What a seat keeps.
 
 ghost use Rattle.std.specs.Prelude.{◌≡◌, ◌<◌, IfOk};
-ghost use Rattle.table_shards.specs.Receipts.{ahead_of, seen_of, with_receipt};
+ghost use Rattle.table_shards.specs.Receipts.{ahead_of, forgotten, seen_of, with_receipt};
 ghost use Rattle.table_shards.specs.Pages.{page_states, seat_of, ArePages, HasRoomIn};
 
 use crate::answers::Answered;
-use crate::pages::{Page, Room, make_room_for, page_of, write_in};
+use crate::pages::{Page, Room, forget, make_room_for, page_of, write_in};
 use crate::receipt::Receipt;
 use std::alloc::Global;
 use table_types::Memory;
@@ -62,5 +62,14 @@ impl Book {
         ensures pages { ArePages (page_states self.new.pages.items) }
     {
         write_in(&mut self.pages, room, table, receipt);
+    }
+
+    /// Drops the receipts of the table. What was seen of it stays. Doesn't allocate.
+    pub fn forget(&mut self, table: u64)
+        requires { ArePages (page_states self.old.pages.items) }
+        ensures forgotten { seat_of self.new ≡ forgotten table (seat_of self.old) }
+        ensures pages { ArePages (page_states self.new.pages.items) }
+    {
+        forget(self.pages.as_mut_slice(), self.alloc, table);
     }
 }

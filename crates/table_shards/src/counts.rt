@@ -1,48 +1,91 @@
 //! Counting the receipts of events.
 
-ghost use Rattle.std.specs.Prelude.{◌≡◌, ◌<◌, ◌≤◌, ℕ, IsTrue};
+ghost use Rattle.std.specs.Prelude.{◌≡◌, ◌↔◌, ◌+◌, ◌<◌, ◌≤◌, ℕ, EachIndex, IsTrue, length, slice_index};
 ghost use Rattle.std.specs.Bool.{MatchBool};
 ghost use Rattle.std.specs.List.{AllByRecursion};
+ghost use Rattle.table_shards.specs.Counts.{AreAdded, AreCounts, AreOnce, HaveRoom, RiseAfter};
 ghost use Rattle.table_shards.specs.Receipts.{PlacesRise, all_receipts, receipts_of, seen_of, times};
 
-use crate::pages::has_place;
 use crate::receipt::Receipt;
 use crate::seat::Seat;
 
-/// Returns how many receipts of `place` of `table` the seat has.
-fn held_by(seat: &Seat, table: u64, place: u64) -> usize
-    ensures times { result ≡ times place (receipts_of table seat.now) }
-    ensures most { result ≤ 1 }
+/// How many places are counted at a time, so that no memory is needed for a count of each event. Each seat is searched once for
+/// each such span.
+const SPAN: usize = 512;
+
+/// Returns the receipts of places after `from`.
+fn later_than(from: u64, receipts: &[Receipt]) -> &[Receipt]
+    requires { RiseAfter 0 receipts.now }
+    ensures rising { RiseAfter from result.now }
+    ensures times { (place : ℕ) → from < place → times place result.now ≡ times place receipts.now }
 {
-    if has_place(seat.receipts(table), seat.seen(table), place) {
-        1
-    } else {
-        0
+    let first = receipts.partition_point(|receipt| receipt.place() <= from);
+    &receipts[first..]
+}
+
+/// Adds one to the count of each of the `SPAN` places after `from` that a receipt is of. All receipts are of places after `from`.
+fn add_places(from: u64, receipts: &[Receipt], counts: &mut [usize; SPAN])
+    requires rising { RiseAfter from receipts.now }
+    requires room { HaveRoom counts.old }
+    ensures { AreAdded from receipts.now counts.old counts.new }
+{
+    for receipt in receipts {
+        let index = receipt.place() - from - 1;
+        if index >= SPAN as u64 {
+            return;
+        }
+        counts[index as usize] += 1;
     }
 }
 
-/// Returns how many receipts of `place` of `table` the seats have.
-#[tactic(auto, using(crate::proofs::ReceiptLaws::times_next))]
-fn holders(table: u64, place: u64, seats: &[Seat]) -> usize
-    ensures { result ≡ times place (all_receipts table seats.now) }
+/// Adds one to the count of each of the `SPAN` places after `from` of which the seat has a receipt.
+fn add_seat(seat: &Seat, table: u64, from: u64, counts: &mut [usize; SPAN])
+    requires { HaveRoom counts.old }
+    ensures added { AreAdded from (receipts_of table seat.now) counts.old counts.new }
+    ensures most { (index : ℕ) → index < 512 → slice_index counts.new index ≤ slice_index counts.old index + 1 }
 {
-    let mut count = 0;
+    add_places(from, later_than(from, seat.receipts(table)), counts);
+}
+
+/// Returns how many receipts of `table` the seats have of each of the `SPAN` places after `from`.
+fn counts_after(table: u64, from: u64, seats: &[Seat]) -> [usize; SPAN]
+    ensures counted { AreCounts from (all_receipts table seats.now) result }
+    ensures long { length result ≡ 512 }
+{
+    let mut counts = [0; SPAN];
     for seat in seats {
-        count += held_by(seat, table, place);
+        add_seat(seat, table, from, &mut counts);
     }
-    count
+    counts
+}
+
+/// Returns whether all the counts are one.
+fn are_ones(counts: &[usize]) -> bool
+    ensures { IsTrue result ↔ EachIndex counts.now (λ index. slice_index counts.now index ≡ 1) }
+{
+    counts.iter().all(|count| *count == 1)
+}
+
+/// Returns whether each of the `width` events after the first `from` is a receipt exactly once. There are at most `SPAN` of them.
+fn are_next_once(table: u64, from: u64, width: u64, seats: &[Seat]) -> bool
+    requires { width ≤ 512 }
+    ensures { MatchBool result (AreOnce table seats.now from (from + width)) (AreOnce table seats.now from (from + width) → ⊥) }
+{
+    let counts = counts_after(table, from, seats);
+    are_ones(&counts[..width as usize])
 }
 
 /// Returns whether each event after the first `from`, up to place `last`, is a receipt exactly once.
 pub fn are_once(table: u64, from: u64, last: u64, seats: &[Seat]) -> bool
-    ensures { MatchBool result
-        ((place : ℕ) → from < place → place ≤ last → times place (all_receipts table seats.now) ≡ 1)
-        (((place : ℕ) → from < place → place ≤ last → times place (all_receipts table seats.now) ≡ 1) → ⊥) }
+    ensures { MatchBool result (AreOnce table seats.now from last) (AreOnce table seats.now from last → ⊥) }
 {
-    for before in from..last {
-        if holders(table, before + 1, seats) != 1 {
+    let mut counted = from;
+    while counted < last {
+        let width = (last - counted).min(SPAN as u64);
+        if !are_next_once(table, counted, width, seats) {
             return false;
         }
+        counted += width;
     }
     true
 }

@@ -53,3 +53,14 @@ pub enum AuditError {
         seat: u32,
     },
 }
+
+/// Why another round can't begin: the first of these that applies. No table has changed.
+#[derive(Clone, Copy, Debug, PartialEq, Eq, Error)]
+pub enum RoundError {
+    /// A batch of an open session is out.
+    #[error("a batch is out")]
+    BatchOut,
+    /// Memory ran out.
+    #[error("memory")]
+    Memory,
+}

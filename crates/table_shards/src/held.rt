@@ -4,10 +4,10 @@
 //! `noted` may then leave the table's answer at the seat.
 
 ghost use Rattle.std.specs.Prelude.{◌≡◌, ◌≤◌};
-ghost use Rattle.table_cell.specs.Histories.{Acknowledges, Closes, Copies, Learns, Opens, Purges, Tracks};
+ghost use Rattle.table_cell.specs.Histories.{Acknowledges, BeginsAnew, Closes, Copies, Learns, Opens, Purges, Tracks};
 ghost use Rattle.table_cell.specs.declared.events.CellEvent.TheVariants as events;
 ghost use Rattle.table_cell.specs.declared.events.CellReply.TheVariants as replies;
-ghost use Rattle.table_shards.specs.Holding.{Holds, Looks, Settles, receipted};
+ghost use Rattle.table_shards.specs.Holding.{Holds, Looks, Settles, SlidesAlways, receipted};
 
 pub mod lent;
 pub mod noted;
@@ -15,9 +15,10 @@ pub mod noted;
 use crate::errors::ShardError;
 use crate::locked::Locked;
 use crate::seat::Seat;
+use std::convert::Infallible;
 use table_cell::{
-    AckError, CloseError, CopyError, LearnError, OpenError, PurgeError, Reply, StrangeBatch,
-    TrackError,
+    AckError, CheckpointError, CloseError, CopyError, Dropped, LearnError, OpenError, PurgeError,
+    Reply, StrangeBatch, TrackError,
 };
 use table_types::{Batch, Change, CopyKind, Key, Moment, Settled, Update};
 
@@ -101,6 +102,32 @@ pub fn settle(
     ensures { Looks (λ c r e. Settles c session batch.now r e) table locked.old seat result.1 locked.new result.0 }
 {
     let result = lent::settle(locked, &mut seat, table, session, batch);
+    (seat, result)
+}
+
+/// Calls `TableCell::begin_anew`. If it drops an event of the round, an audit of the round then fails. Makes no event,
+/// doesn't allocate, and returns the seat as it was.
+pub fn begin_anew(
+    locked: &mut Locked,
+    seat: Seat,
+    table: u64,
+) -> (Seat, Result<Dropped, ShardError<CheckpointError>>)
+    ensures { Looks (λ c r e. BeginsAnew c r e) table locked.old seat result.1 locked.new result.0 }
+{
+    let result = lent::begin_anew(locked, &seat, table);
+    (seat, result)
+}
+
+/// Calls `TableCell::slide`. If it drops an event of the round, an audit of the round then fails. Makes no event, doesn't
+/// allocate, and returns the seat as it was.
+pub fn slide(
+    locked: &mut Locked,
+    seat: Seat,
+    table: u64,
+) -> (Seat, Result<Dropped, ShardError<Infallible>>)
+    ensures { Looks SlidesAlways table locked.old seat result.1 locked.new result.0 }
+{
+    let result = lent::slide(locked, &seat, table);
     (seat, result)
 }
 

@@ -10,6 +10,7 @@ mod errors;
 pub mod held;
 mod laws;
 mod locked;
+mod next_round;
 mod pages;
 mod receipt;
 mod roll;
@@ -19,9 +20,10 @@ mod unlocked;
 
 pub use answers::{Answer, Answered};
 pub use comparing::compare;
-pub use errors::{AuditError, ShardError};
+pub use errors::{AuditError, RoundError, ShardError};
 pub use laws::{
-    a_receipt_is_of_the_new_event, an_answer_changes_the_seat, as_many_receipts_as_events,
+    a_receipt_is_of_the_new_event, an_answer_changes_the_seat, an_audit_finds_what_is_missed,
+    as_many_receipts_as_events, dropped_events_are_missed, forgotten_receipts_are_missed,
     one_receipt_more, receipts_are_the_events,
 };
 pub use locked::Locked;

@@ -1,8 +1,8 @@
 //! What a seat has of each table.
 
-ghost use Rattle.std.specs.Prelude.{◌≡◌, ◌<◌, [], None, cond, option_map, IfNone, IfOk, IfSome, OnOk, HoldsAt};
+ghost use Rattle.std.specs.Prelude.{◌≡◌, ◌<◌, [], None, map, option_map, IfNone, IfOk, IfSome, OnOk, HoldsAt};
 ghost use Rattle.std.specs.Vec.{vec_len, vec_capacity};
-ghost use Rattle.table_shards.specs.Receipts.{PlacesRise, page_at, page_with, pages_with, times};
+ghost use Rattle.table_shards.specs.Receipts.{forgotten_page, page_at, page_with, pages_with};
 ghost use Rattle.table_shards.specs.Pages.{page_state, page_states, HasRoom, HasRoomIn, IsPageAt};
 
 use crate::receipt::Receipt;
@@ -136,12 +136,20 @@ pub fn write_in(pages: &mut Vec<Page>, room: Room, table: u64, receipt: Receipt)
     }
 }
 
-/// Returns whether one of the receipts is of `place`.
-pub fn has_place(receipts: &[Receipt], seen: u64, place: u64) -> bool
-    requires { PlacesRise 0 receipts.now seen }
-    ensures { cond result 1 0 ≡ times place receipts.now }
+/// Drops the receipts on the page, if it is the page of `table`.
+fn forget_page(page: &mut Page, alloc: Global, table: u64)
+    ensures { page_state page.new ≡ forgotten_page table (page_state page.old) }
 {
-    receipts
-        .binary_search_by_key(&place, |receipt| receipt.place())
-        .is_ok()
+    if page.table == table {
+        page.receipts = Vec::new(alloc);
+    }
+}
+
+/// Drops the receipts of `table`. What was seen of it stays.
+pub fn forget(pages: &mut [Page], alloc: Global, table: u64)
+    ensures { page_states pages.new ≡ map (forgotten_page table) (page_states pages.old) }
+{
+    for page in pages.iter_mut() {
+        forget_page(page, alloc, table);
+    }
 }

@@ -1,12 +1,13 @@
 //! A thread's seat: its number, and its receipts.
 
-ghost use Rattle.std.specs.Prelude.{◌≡◌};
-ghost use Rattle.table_shards.specs.Receipts.{PlacesRise, ahead_of, fresh_seat, receipts_of, seen_of};
+ghost use Rattle.std.specs.Prelude.{◌≡◌, ◌≢◌, ℕ, [], None};
+ghost use Rattle.table_shards.specs.Receipts.{PlacesRise, ahead_of, forgotten, fresh_seat, receipts_of, seen_of};
 ghost use Rattle.table_shards.specs.Noting.{noted};
+ghost use Rattle.table_shards.specs.Pages.{ArePages, page_states};
 
 use crate::answers::{Answer, Answered};
 use crate::book::Book;
-use crate::pages::page_of;
+use crate::pages::{Page, page_of};
 use crate::receipt::Receipt;
 use std::alloc::Global;
 use std::marker::Model;
@@ -40,6 +41,22 @@ impl Seat {
                 alloc,
                 number,
                 pages: Vec::new(alloc),
+                answers: 0,
+                latest: None,
+            },
+        }
+    }
+
+    /// Makes a seat with these pages. Doesn't allocate.
+    pub(crate) fn with_pages(alloc: Global, number: u32, pages: Vec<Page>) -> Seat
+        requires { ArePages (page_states pages.items) }
+        ensures { result ≡ record { number = number; pages = page_states pages.items; answers = 0; latest = None } }
+    {
+        Seat {
+            book: Book {
+                alloc,
+                number,
+                pages,
                 answers: 0,
                 latest: None,
             },
@@ -83,6 +100,18 @@ impl Seat {
         ensures { result ≡ self.now.latest }
     {
         self.book.latest
+    }
+
+    /// Drops the seat's receipts of the table. Its number, what it has seen, and its receipts of other tables stay. If one of
+    /// the receipts is of an event of the round, an audit of the round then fails. Doesn't allocate.
+    #[tactic(auto, using(crate::proofs::ForgetLaws::no_receipts, crate::proofs::ForgetLaws::same_positions, crate::proofs::ForgetLaws::other_receipts))]
+    pub fn forget(&mut self, table: u64)
+        ensures seat { self.new ≡ forgotten table self.old }
+        ensures none { receipts_of table self.new ≡ [] }
+        ensures seen { (other : ℕ) → seen_of other self.new ≡ seen_of other self.old }
+        ensures others { (other : ℕ) → other ≢ table → receipts_of other self.new ≡ receipts_of other self.old }
+    {
+        self.book.forget(table);
     }
 
     /// Adds the answer, if there is one, to a call of the session when the table had `events` events. Doesn't allocate.

@@ -31,6 +31,9 @@ pub struct Shards {
     shards: Vec<Shard>,
 }
 
+// Threads share tables under their locks.
+unsafe impl Sync for Shards {}
+
 impl Model for Shards {
     ghost use Rattle.table_shards.specs.Rounds.{ShardsState};
     ghost use Rattle.table_shards.specs.Locks.{shard_rounds};
@@ -53,7 +56,7 @@ fn lock_of(shards: &[Shard], table: u64) -> Option<&Mutex<Locked>>
 }
 
 /// Puts a table under a lock.
-fn put_under_lock(cell: TableCell) -> Shard
+pub(crate) fn put_under_lock(cell: TableCell) -> Shard
     ensures { (result.table, result.began) ≡ begun cell }
 {
     Shard {
@@ -126,6 +129,13 @@ impl Shards {
         let shards = lock_all(alloc, cells)?;
         let made = seat_all(alloc, seats)?;
         Ok((Shards { seats, shards }, made))
+    }
+
+    /// Joins `shards` with the number of seats that are made with them.
+    pub(crate) fn of(seats: u32, shards: Vec<Shard>) -> Shards
+        ensures { result ≡ record { seats = seats; tables = shard_rounds shards.items } }
+    {
+        Shards { seats, shards }
     }
 
     /// Returns the lock of `table`, or `None` if there is no such table. Doesn't allocate or wait.

@@ -1,6 +1,6 @@
 //! Tables that were taken out of their locks, and the audit of a round.
 
-ghost use Rattle.std.specs.Prelude.{◌≡◌, ◌∷◌, ◌++◌, [], List, IfErr, IfOk, IsTrue, None, Some, nat_le};
+ghost use Rattle.std.specs.Prelude.{◌≡◌, ◌∷◌, ◌++◌, [], List, IfErr, IfOk, IsTrue, None, Some};
 ghost use Rattle.table_shards.specs.declared.unlocked.UnlockedTable.{UnlockedTable};
 ghost use Rattle.table_shards.specs.Audits.{Audits, Faults, Finds, IsLegal, UnlockedState, is_its_own, lesser_fault};
 
@@ -56,27 +56,12 @@ impl Model for Audit {
     ghost invariant = { λ a. Audits a.unlocked a.seats.items None };
 }
 
-/// Returns whether the cell still has all its events after the first `began`.
-#[tactic(auto, using(crate::proofs::RoundLaws::past_round, crate::proofs::RoundLaws::round_kept, crate::proofs::RoundLaws::round_dropped))]
-fn has_round(cell: &TableCell, began: u64) -> bool
-    ensures round { result ≡ nat_le cell.now.dropped began }
-    ensures legal { IsLegal cell.now }
-{
-    if cell.events() <= began {
-        return true;
-    }
-    match cell.event_at(began + 1) {
-        Some(_) => true,
-        None => false,
-    }
-}
-
 /// Returns whether the cell is the table's own, and still has all events of the round.
 fn is_its_own(table: &UnlockedTable) -> bool
     ensures own { result ≡ is_its_own table.now }
     ensures legal { IsTrue result → IsLegal table.now.cell }
 {
-    table.cell.definition().id() == table.table && has_round(&table.cell, table.began)
+    table.cell.definition().id() == table.table && table.cell.dropped() <= table.began
 }
 
 /// Returns what is wrong with a table, or `None`: the seat that `AuditError::Mismatch` names.
@@ -161,8 +146,9 @@ impl Unlocked {
     }
 
     /// Audits the round: the seats must be those that were made with the tables, each once, and each event of each
-    /// table in the round must be the receipt of exactly one seat. If the audit fails, returns the tables and the seats
-    /// with the error. Doesn't allocate.
+    /// table, from where the round began to the table's number of events, must be the receipt of exactly one seat. If the
+    /// audit fails, returns the tables and the seats with the error. Doesn't allocate. Takes time in the number of events
+    /// and receipts.
     pub fn audit(self, seats: Vec<Seat>) -> Result<Audit, (AuditError, Unlocked, Vec<Seat>)>
         ensures audited { IfOk result (λ audit. (audit ≡ record { unlocked = self; seats = seats.items }) × Audits self seats.items None) }
         ensures refused { IfErr result (λ back. Audits self seats.items (Some back.0) × (back.1 ≡ self) × (back.2 ≡ seats)) }
@@ -192,5 +178,13 @@ impl Audit {
         ensures audited { Audits self.now.unlocked self.now.seats None }
     {
         self.seats.as_slice()
+    }
+
+    /// Returns how many seats were made with the tables, and the tables. The seats are dropped.
+    pub(crate) fn into_tables(self) -> (u32, Vec<UnlockedTable>)
+        ensures { (result.0 ≡ self.unlocked.seats) × (result.1.items ≡ self.unlocked.tables) }
+    {
+        let Audit { unlocked, seats: _ } = self;
+        (unlocked.seats, unlocked.tables)
     }
 }

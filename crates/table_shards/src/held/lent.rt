@@ -1,12 +1,12 @@
 //! The calls of `held` for a seat that is lent.
 
 ghost use Rattle.std.specs.Prelude.{◌≡◌, ◌≤◌, ◌<◌, IfErr, IfOk};
-ghost use Rattle.table_cell.specs.Histories.{Acknowledges, Closes, Copies, Learns, Opens, Purges, Tracks, events_of};
+ghost use Rattle.table_cell.specs.Histories.{Acknowledges, BeginsAnew, Closes, Copies, Learns, Opens, Purges, Tracks, events_of};
 ghost use Rattle.table_cell.specs.declared.events.CellEvent.TheVariants as events;
 ghost use Rattle.table_cell.specs.declared.events.CellReply.TheVariants as replies;
 ghost use Rattle.table_shards.specs.Receipts.{seen_of, with_receipt};
 ghost use Rattle.table_shards.specs.Pages.{page_states, seat_of, ArePages, HasRoomIn};
-ghost use Rattle.table_shards.specs.Holding.{Allows, Holds, Leaves, Looks, MayCall, Refuses, Settles, receipted};
+ghost use Rattle.table_shards.specs.Holding.{Allows, Holds, Leaves, Looks, MayCall, Refuses, Settles, SlidesAlways, receipted};
 
 use crate::book::Book;
 use crate::errors::ShardError;
@@ -14,9 +14,10 @@ use crate::locked::Locked;
 use crate::pages::Room;
 use crate::receipt::Receipt;
 use crate::seat::Seat;
+use std::convert::Infallible;
 use table_cell::{
-    AckError, CloseError, CopyError, Entry, LearnError, OpenError, PurgeError, Reply, StrangeBatch,
-    TrackError,
+    AckError, CheckpointError, CloseError, CopyError, Dropped, Entry, LearnError, OpenError,
+    PurgeError, Reply, StrangeBatch, TrackError,
 };
 use table_types::{Batch, Change, CopyKind, Key, Moment, Settled, Update};
 
@@ -200,6 +201,30 @@ pub fn settle(
 {
     allow(locked, &seat.book, table)?;
     locked.cell.settle(session, batch).map_err(ShardError::Cell)
+}
+
+/// Calls `TableCell::begin_anew`. Makes no event, doesn't allocate, and leaves the seat as it was.
+pub fn begin_anew(
+    locked: &mut Locked,
+    seat: &Seat,
+    table: u64,
+) -> Result<Dropped, ShardError<CheckpointError>>
+    ensures { Looks (λ c r e. BeginsAnew c r e) table locked.old seat.now result locked.new seat.now }
+{
+    allow(locked, &seat.book, table)?;
+    locked.cell.begin_anew().map_err(ShardError::Cell)
+}
+
+/// Calls `TableCell::slide`. Makes no event, doesn't allocate, and leaves the seat as it was.
+pub fn slide(
+    locked: &mut Locked,
+    seat: &Seat,
+    table: u64,
+) -> Result<Dropped, ShardError<Infallible>>
+    ensures { Looks SlidesAlways table locked.old seat.now result locked.new seat.now }
+{
+    allow(locked, &seat.book, table)?;
+    Ok(locked.cell.slide())
 }
 
 /// Calls `TableCell::open_session`, and adds a receipt.

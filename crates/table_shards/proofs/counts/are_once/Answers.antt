@@ -1,12 +1,19 @@
-use Rattle.std.proofs.Common.{◌≡◌, ℕ, ◌+◌, inl, inr, sym, subst, ◌∙◌, arith}
-use Rattle.std.proofs.lemmas.Bool.{cases_eq}
-use Rattle.table_shards.specs.Receipts.{all_receipts, times}
+use Rattle.std.proofs.Common.{inl, inr, arith}
+use Rattle.std.proofs.lemmas.Bool.{cases_lt}
 use Rattle.table_shards.proofs.counts.are_once.Goals as goal
 
-pub loop-before-preserved : goal.loop-before-preserved
-loop-before-preserved c = λ place above within.
-    let one : times (c.loop-before.before + 1) (all_receipts c.args.table c.args.seats.now) ≡ 1 = sym c.holders.ensures ∙ c.if-holders-ne1.false in
-    elim (cases_eq place (c.loop-before.before + 1)) [
-      | inl is ↦ subst (λ (n : ℕ). times n (all_receipts c.args.table c.args.seats.now) ≡ 1) (sym is) one
-      | inr other ↦ c.loop-before.invariant place above (omega (arith, other, within))
-    ]
+pub loop-counted-preserved : goal.loop-counted-preserved
+loop-counted-preserved c = record {
+  once = λ place above within. elim (cases_lt c.loop-counted.counted place) [
+    | inl beyond ↦ c.if-not-are_next_once.ensures place beyond (omega (arith, within))
+    | inr so_far ↦ c.loop-counted.invariant.once place above so_far
+  ];
+  begun = omega (arith, c.loop-counted.invariant.begun);
+}
+
+pub returns-then-not-are_next_once : goal.returns-then-not-are_next_once
+returns-then-not-are_next_once c = λ once.
+    c.if-not-are_next_once.ensures (λ place above within. once place (omega (arith, c.loop-counted.invariant.begun, above)) (omega (arith, within)))
+
+pub returns : goal.returns
+returns c = λ place above within. c.loop-counted.invariant.once place above (omega (arith, within))
