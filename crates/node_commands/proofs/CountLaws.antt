@@ -1,7 +1,9 @@
 -- What the table of a round counts.
-use Rattle.std.proofs.Common.{◌≡◌, ℕ, suc, ◌+◌, ◌-◌, ◌^◌, ◌<◌, ◌≤◌, ◌==◌, ◌⊎◌, Bool, true, false, not, cond, if◌then◌else◌, nat_lt, nat_le, List, [], ◌∷◌, ◌++◌, length, get_or, Option, Some, None, MatchBool, option_and_then, sum_by, count_by, refl, sym, ap, ◌∙◌, subst, arith, inl, inr, eq-eqb, ne_eqb, lt-ltb, leb-true, length-append, true≢false}
+use Rattle.std.proofs.Common.{◌≡◌, ℕ, suc, ◌+◌, ◌-◌, ◌*◌, ◌^◌, ◌<◌, ◌≤◌, ◌==◌, ◌⊎◌, Bool, true, false, not, cond, if◌then◌else◌, nat_lt, nat_le, List, [], ◌∷◌, ◌++◌, drop, length, get_or, take, Option, Some, None, MatchBool, option_and_then, sum_by, count_by, refl, sym, ap, ◌∙◌, subst, arith, inl, inr, eq-eqb, ne_eqb, lt-ltb, leb-true, length-append, true≢false}
 use Rattle.std.specs.List.{AllByRecursion}
+use Rattle.std.specs.Io.KnownBytes.{Appends}
 use Rattle.std.specs.Ordering.{is_eq}
+use Rattle.std.proofs.Math.Nat.{one-le-mul, one-mul}
 use Rattle.std.proofs.lemmas.Bool.{and_parts, cases_Bool, cases_eq, cases_lt, cond-true, cond-false, or_right}
 use Rattle.std.proofs.lemmas.List.Sums.{sum_by-append, sum_by-cons}
 use Rattle.table_types.specs.declared.change.Change.{Change}
@@ -21,6 +23,8 @@ use Rattle.table_cell.specs.declared.events.CellEvent.{CellEvent}
 use Rattle.table_cell.specs.declared.events.CellEvent.TheVariants as events
 use Rattle.table_cell.specs.declared.events.CellReply.{CellReply}
 use Rattle.table_cell.specs.Machine.{Replays, Step, TableState, has_room, has_row, if_live, live_row, new_table, tracked, without}
+use Rattle.table_cell.specs.Histories.{CellState}
+use Rattle.table_cell.specs.Stock.{AreInRisingKey}
 use Rattle.table_cell.proofs.RowsLaws.{filter_shorter}
 use Rattle.table_cell.proofs.StockLaws.{rows-put}
 use Rattle.table_shards.specs.declared.unlocked.UnlockedTable.{UnlockedTable}
@@ -32,8 +36,9 @@ use Rattle.table_shards.specs.Rounds.{ShardsState}
 use Rattle.table_shards.proofs.AllLaws.{all_both, all_so}
 use Rattle.table_shards.proofs.MatchLaws.{each_event, summed}
 use Rattle.table_shards.proofs.RollLaws.{seats_each}
-use Rattle.node_commands.specs.Rounds.{HasCount, IsAudited, IsRoundTable, round_table}
+use Rattle.node_commands.specs.Rounds.{AreRounds, GoesOn, HasCount, HasCountAmong, IsAudited, IsCountingTable, IsCutShort, IsFirst, IsRoundTable, IsTextOf, round_table}
 use Rattle.node_commands.specs.Tracks.{HasDoneItsPart, IsTrack, keeps_rows}
+use Rattle.node_commands.proofs.Lists.{next_left}
 
 abbrev up : Change
 up = changes.Add types.Gpc0 1
@@ -84,7 +89,7 @@ key_apart k key apart = elim (cases_Bool (is_eq (key_cmp (keys.Int k) (keys.Int 
 
 -- ---- the row of a key
 
--- the row at a key, if there is one, counts so much; it never expires
+-- the row at a key counts `count` and never expires; `count` is 0 if there is no row
 abbrev Counts : ℕ → Option StoredRow → Type 0
 Counts count None = count ≡ 0
 Counts count (Some row) = (row.cells ≡ cells.Count count ∷ []) × (row.ends ≡ None)
@@ -296,7 +301,7 @@ begun_count key = record { definition = refl; size = refl; rows = omega arith; b
 table_counts : (threads tracks key : ℕ) (seats : List SeatState) (t : UnlockedTable) → key ≤ threads → 1 ≤ tracks → count_by (has_number key) seats ≡ 1 → AllByRecursion (HasDoneItsPart threads tracks) seats
     → t.began ≡ 0 → IsRight seats t → IsRoundTable t.cell → HasCount key tracks t.cell
 table_counts threads tracks key seats t low some once done began (own, legal, agree) (definition, base) =
-    let kept : t.cell.dropped ≤ t.began = leb-true t.cell.dropped t.began (and_parts (id_of t.cell == t.table) (nat_le t.cell.dropped t.began) own).1 in
+    let kept : t.cell.dropped + t.cell.slid ≤ t.began = leb-true (t.cell.dropped + t.cell.slid) t.began (and_parts (id_of t.cell == t.table) (nat_le (t.cell.dropped + t.cell.slid) t.began) own).1 in
     let whole : t.began ≡ t.cell.dropped = omega (arith, kept, began) in
     let here : Agree t.cell t.cell.dropped seats = subst (λ (n : ℕ). Agree t.cell n seats) whole agree in
     let receipts : all_receipts (id_of t.cell) seats ≡ all_receipts 1 seats = ap (λ (d : Definition). all_receipts d.id seats) definition in
@@ -305,7 +310,7 @@ table_counts threads tracks key seats t low some once done began (own, legal, ag
     let parts : AllByRecursion (λ (h : CellEvent × CellReply). IsPart h.0) t.cell.history =
     each_event t.cell seats IsPart here (subst (AllByRecursion (λ (r : ReceiptState). IsPart r.event)) (sym receipts) (all_parts threads tracks seats done)) in
     let run : Replays (new_table round_table 1000000 false 1) t.cell.history t.cell.state = subst (λ (s : TableState). Replays s t.cell.history t.cell.state) base legal.0.replayed in
-    let counts = counted key t.cell.history (new_table round_table 1000000 false 1) t.cell.state 0 0 parts run (omega (arith, legal.0.within)) (begun_count key) in
+    let counts = counted key t.cell.history (new_table round_table 1000000 false 1) t.cell.state 0 0 parts run (omega (arith, legal.0.within, kept, began)) (begun_count key) in
     let all : 0 + tracks_in key t.cell.history ≡ tracks = omega (arith, total) in
     found t.cell.state.rows key tracks (row_at (keys.Int key) t.cell.state.rows) refl some (subst (λ (n : ℕ). Counts n (row_at (keys.Int key) t.cell.state.rows)) all counts)
 
@@ -319,9 +324,69 @@ tables_count threads tracks key seats (t ∷ u ∷ us) low some once done rounds
     let lengths : suc (suc (length (table_rounds us))) ≡ 1 = ap (λ (l : List (ℕ × ℕ)). length l) rounds in
     absurd (omega (arith, lengths))
 
-pub round_counts : (a : AuditState) (threads tracks key : ℕ) → IsAudited threads tracks a → 1 ≤ key → key ≤ threads → 1 ≤ tracks → AllByRecursion (λ (t : UnlockedTable). HasCount key tracks t.cell) a.unlocked.tables
-round_counts a threads tracks key is least low some =
-    let rounds = is.0.1 in
+first_counts : (a : AuditState) (threads tracks key : ℕ) → IsAudited threads tracks a → IsFirst threads a → 1 ≤ key → key ≤ threads → 1 ≤ tracks → AllByRecursion (λ (t : UnlockedTable). HasCount key tracks t.cell) a.unlocked.tables
+first_counts a threads tracks key (audited, done) (rounds, new) least low some =
     let seats : a.unlocked.seats ≡ threads + 2 = ap (λ (s : ShardsState). s.seats) rounds in
-    let once = seats_each a.unlocked.seats a.seats is.0.0.0 key least (omega (arith, seats, low)) in
-    tables_count threads tracks key a.seats a.unlocked.tables low some once is.1.1 (ap (λ (s : ShardsState). s.tables) rounds) is.0.0.1 is.1.0
+    let once = seats_each a.unlocked.seats a.seats audited.0 key least (omega (arith, seats, low)) in
+    tables_count threads tracks key a.seats a.unlocked.tables low some once done (ap (λ (s : ShardsState). s.tables) rounds) audited.1 new
+
+-- ---- rounds
+
+later_counts : (a last : AuditState) (threads count key : ℕ) → GoesOn threads count last a → 1 ≤ count → 1 ≤ key → key ≤ threads → AllByRecursion (λ (t : UnlockedTable). HasCount key count t.cell) a.unlocked.tables
+later_counts a last threads count key (quiet, rounds, counting) some least low =
+    all_so (λ (t : UnlockedTable). IsCountingTable threads count t.cell) (λ (t : UnlockedTable). HasCount key count t.cell) (λ t is. is.counts some key least low) a.unlocked.tables counting
+
+pub rounds_count : (a : AuditState) (earlier : List AuditState) (threads tracks key : ℕ) → AreRounds threads tracks (a ∷ earlier) → 1 ≤ key → key ≤ threads → 1 ≤ tracks
+    → AllByRecursion (λ (t : UnlockedTable). HasCount key (length (a ∷ earlier) * tracks) t.cell) a.unlocked.tables
+rounds_count a [] threads tracks key (audited, first) least low some =
+    subst (λ (n : ℕ). AllByRecursion (λ (t : UnlockedTable). HasCount key n t.cell) a.unlocked.tables) (sym (one-mul tracks)) (first_counts a threads tracks key audited first least low some)
+rounds_count a (last ∷ earlier) threads tracks key (audited, on, are) least low some =
+    let rounds : 1 ≤ suc (length (last ∷ earlier)) = omega arith in
+    later_counts a last threads (length (a ∷ last ∷ earlier) * tracks) key on (one-le-mul rounds some) least low
+
+pub one_more_round : (threads tracks before : ℕ) (a last : AuditState) (earlier : List AuditState) → length (last ∷ earlier) ≡ before → AreRounds threads tracks (last ∷ earlier) → IsAudited threads tracks a → GoesOn threads ((before + 1) * tracks) last a
+    → (more : List AuditState) × (length (a ∷ more) ≡ before + 1) × AreRounds threads tracks (a ∷ more)
+one_more_round threads tracks before a last earlier so are audited on =
+    let total : before + 1 ≡ suc (length (last ∷ earlier)) = omega (arith, so) in
+    (last ∷ earlier, sym total, (audited, subst (λ (n : ℕ). GoesOn threads (n * tracks) last a) total on, are))
+
+-- ---- the rows of a table that counts
+
+row_here : (key : Key) (e : Key × StoredRow) (rest : List (Key × StoredRow)) → is_eq (key_cmp key e.0) ≡ true → row_at key (e ∷ rest) ≡ Some e.1
+row_here key e rest same = cond-true (is_eq (key_cmp key e.0)) (Some e.1) (row_at key rest) same
+
+row_later : (key : Key) (e : Key × StoredRow) (rest : List (Key × StoredRow)) → is_eq (key_cmp key e.0) ≡ false → row_at key (e ∷ rest) ≡ row_at key rest
+row_later key e rest other = cond-false (is_eq (key_cmp key e.0)) (Some e.1) (row_at key rest) other
+
+pub found_here : (key : Key) (rows : List (Key × StoredRow)) (i : ℕ) (e : Key × StoredRow) → i < length rows → e ≡ get_or rows i e → is_eq (key_cmp key e.0) ≡ true
+    → row_at key (drop i rows) ≡ row_at key rows → row_at key rows ≡ Some e.1
+found_here key rows i e below is same so = sym so ∙ ap (row_at key) (next_left rows i e below is) ∙ row_here key e (drop (i + 1) rows) same
+
+pub found_later : (key : Key) (rows : List (Key × StoredRow)) (i : ℕ) (e : Key × StoredRow) → i < length rows → e ≡ get_or rows i e → is_eq (key_cmp key e.0) ≡ false
+    → row_at key (drop i rows) ≡ row_at key rows → row_at key (drop (i + 1) rows) ≡ row_at key rows
+found_later key rows i e below is other so = sym (row_later key e (drop (i + 1) rows) other) ∙ sym (ap (row_at key) (next_left rows i e below is)) ∙ so
+
+pub one_more_counted : (rows : List (Key × StoredRow)) (count before found : ℕ) → 1 ≤ count → found ≡ count → (1 ≤ found → HasCountAmong (before + 1) found rows)
+    → ((key : ℕ) → 1 ≤ key → key ≤ before → HasCountAmong key count rows) → (key : ℕ) → 1 ≤ key → key ≤ before + 1 → HasCountAmong key count rows
+one_more_counted rows count before n some is this earlier key least within = elim (cases_lt before key) [
+  | inl above ↦
+      let same : before + 1 ≡ key = omega (arith, above, within) in
+      subst (λ (k : ℕ). HasCountAmong k count rows) same (subst (λ (m : ℕ). HasCountAmong (before + 1) m rows) is (this (omega (arith, is, some))))
+  | inr below ↦ earlier key least below
+]
+
+pub counts_so : (c : CellState) (list : List (Key × StoredRow)) (threads count : ℕ) → c.state.definition ≡ round_table → AreInRisingKey c.state.rows list
+    → ((key : ℕ) → 1 ≤ key → key ≤ threads → HasCountAmong key count list) → IsCountingTable threads count c
+counts_so c list threads count definition rising all = record {
+  definition = definition;
+  counts = λ some key least within. (let has = all key least within in (has.0, sym (rising.1 (keys.Int key)) ∙ has.1, has.2));
+}
+
+pub counts_none : (c : CellState) (threads count : ℕ) → c.state.definition ≡ round_table → count ≡ 0 → IsCountingTable threads count c
+counts_none c threads count definition none = record { definition = definition; counts = λ some. absurd (omega (arith, some, none)) }
+
+-- ---- a text that is cut short
+
+pub cut_short : (threads tracks rounds : ℕ) (old new : Option (List ℕ)) (text bytes : List ℕ) (sent : ℕ) → bytes ≡ text → IsTextOf threads tracks rounds text → sent < length bytes → Appends old new (take sent bytes)
+    → IsCutShort threads tracks rounds old new
+cut_short threads tracks rounds old new text bytes sent same is less appends = (bytes, sent, subst (IsTextOf threads tracks rounds) (sym same) is, less, appends)

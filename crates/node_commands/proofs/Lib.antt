@@ -1,4 +1,6 @@
+mod AuditingLaws
 mod CountLaws
+mod Crosses
 mod EndingLaws
 mod Lists
 mod LoadingLaws

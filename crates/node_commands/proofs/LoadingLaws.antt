@@ -1,55 +1,96 @@
--- Tables that learn one update after another, and are loaded one after another.
-use Rattle.std.proofs.Common.{◌≡◌, ◌≤◌, ◌<◌, ◌+◌, ◌++◌, ◌∙◌, ℕ, Bool, true, false, ◌==◌, List, [], ◌∷◌, Ok, ap, append_assoc, drop, get_or, length, refl, subst, sym}
-use Rattle.std.proofs.lemmas.List.{append-nil, drop_all}
-use Rattle.std.specs.Prelude.{MatchBool, Result}
+-- A seat that gains one receipt after another.
+use Rattle.std.proofs.Common.{arith, ◌≡◌, ◌≤◌, ◌<◌, ◌+◌, ◌++◌, ◌∙◌, ℕ, zero, suc, List, [], ◌∷◌, Ok, Result, ap, drop, get_or, length, map, refl, subst, sym}
+use Rattle.std.specs.List.{flat_map}
+use Rattle.std.proofs.lemmas.List.{drop_all}
 use Rattle.table_types.specs.Tables.{Definition}
 use Rattle.table_types.specs.declared.update.Update.{Update}
-use Rattle.table_cell.specs.declared.events.Reply.{Reply}
-use Rattle.table_cell.specs.declared.errors.LearnError.{LearnError}
-use Rattle.table_cell.specs.Histories.{CellState, Learns}
-use Rattle.table_shards.specs.Agreement.{id_of}
-use Rattle.node_commands.specs.Loading.{AreLoaded, IsLoaded, Loads, loaded_at}
+use Rattle.table_cell.specs.Histories.{CellState, events_of}
+use Rattle.table_cell.specs.declared.events.CellEvent.{CellEvent}
+use Rattle.table_cell.specs.declared.events.CellEvent.TheVariants as events
+use Rattle.table_cell.specs.declared.events.CellReply.{CellReply}
+use Rattle.table_shards.specs.Receipts.{SeatState, fresh_seat, with_receipt}
+use Rattle.table_shards.specs.Rounds.{begun, fresh_from, fresh_seats}
+use Rattle.table_shards.specs.Holding.{Leaves, receipted}
+use Rattle.table_shards.specs.declared.errors.ShardError.{ShardError}
+use Rattle.node_commands.specs.declared.node.loading.NodeTables.{NodeTables}
+use Rattle.node_commands.specs.Loading.{AreOpened, Gains, loaded_at, loads_of, opens_of, untouched}
 use Rattle.node_commands.proofs.Lists.{next_left}
 
--- the table learns its own update first
-pub learns_first : (c mid e : CellState) (u : Update) (us : List Update) (reply : Reply) → (u.table == id_of c) ≡ true → Learns c 1 u loaded_at (Ok reply) mid → Loads mid us e → Loads c (u ∷ us) e
-learns_first c mid e u us reply own learns loads =
-    subst (λ (b : Bool). MatchBool b ((mid : CellState) × (reply : Reply) × Learns c 1 u loaded_at (Ok reply) mid × Loads mid us e) (Loads c us e)) (sym own) (mid, reply, learns, loads)
+-- ---- one receipt
 
--- and skips an update of another table
-pub passes_first : (c e : CellState) (u : Update) (us : List Update) → (u.table == id_of c) ≡ false → Loads c us e → Loads c (u ∷ us) e
-passes_first c e u us other loads =
-    subst (λ (b : Bool). MatchBool b ((mid : CellState) × (reply : Reply) × Learns c 1 u loaded_at (Ok reply) mid × Loads mid us e) (Loads c us e)) (sym other) loads
+-- the receipt of a call of `held`
+pub one_gained : (table : ℕ) (event : CellEvent) (s e : SeatState) (c : CellState) (reply : CellReply) → e ≡ receipted table c s event reply → Gains ((table, event) ∷ []) s e
+one_gained table event s e c reply is = (events_of c + 1, reply, is)
 
--- the first table, and the others
-pub one_more : (d : Definition) (ds : List Definition) (us : List Update) (c : CellState) (rest : List CellState) → IsLoaded d us c → AreLoaded ds us rest → AreLoaded (d ∷ ds) us (c ∷ rest)
-one_more d ds us c rest one others = (one, others)
+-- the same of a table that learns the update itself, at the moment at which the rows are loaded
+pub one_learned : (table now : ℕ) (u own : Update) (s e : SeatState) (c : CellState) (reply : CellReply) → own ≡ u → now ≡ loaded_at
+    → e ≡ receipted table c s (events.Learn 1 own now) reply → Gains ((table, events.Learn 1 u loaded_at) ∷ []) s e
+one_learned table now u own s e c reply same at is =
+    one_gained table (events.Learn 1 u loaded_at) s e c reply
+    (is ∙ (ap (λ (x : Update). receipted table c s (events.Learn 1 x now) reply) same ∙ ap (λ (m : ℕ). receipted table c s (events.Learn 1 u m) reply) at))
 
--- the table learns the update itself, at the moment at which the rows are loaded
-pub learned_as : (c e : CellState) (u own : Update) (now : ℕ) (r : Result Reply LearnError) (reply : Reply) → own ≡ u → now ≡ loaded_at → r ≡ Ok reply → Learns c 1 own now r e
-    → (reply : Reply) × Learns c 1 u loaded_at (Ok reply) e
-learned_as c e u own now r reply same at ok learns = (
-  reply,
-  subst (λ (x : Update). Learns c 1 x loaded_at (Ok reply) e) same
-      (subst (λ (m : ℕ). Learns c 1 own m (Ok reply) e) at (subst (λ (a : Result Reply LearnError). Learns c 1 own now a e) ok learns)),
+-- after a call of `held` that succeeds and returns no reply, the seat has a receipt with some reply
+pub leaves_ok : {A E : Type 0} (call : CellState → Result A E → CellState → Type 0) (event : CellEvent) (reply : A → CellReply) (table : ℕ) (c e : CellState) (s t : SeatState)
+    (r : Result (Unit {0}) (ShardError E)) → r ≡ Ok tt → Leaves call event reply table c s r e t → (answer : A) × (t ≡ receipted table c s event (reply answer))
+leaves_ok {A = A} {E = E} call event reply table c e s t r is leaves =
+    let done = subst (λ (x : Result (Unit {0}) (ShardError E)). Leaves call event reply table c s x e t) is leaves in
+    (done.0, done.1.2)
+
+-- ---- one after another
+
+pub gains_more : (calls more : List (ℕ × CellEvent)) (s m e : SeatState) → Gains calls s m → Gains more m e → Gains (calls ++ more) s e
+gains_more [] more s m e same rest = subst (λ (x : SeatState). Gains more x e) same rest
+gains_more (call ∷ calls) more s m e (place, reply, gains) rest =
+    (place, reply, gains_more calls more (with_receipt s call.0 (record { place = place; event = call.1; reply = reply })) m e gains rest)
+
+-- ---- sessions
+
+opens_more : (table first count : ℕ) → opens_of table first (count + 1) ≡ opens_of table first count ++ (table, events.Open (first + count)) ∷ []
+opens_more table first zero =
+    let same : first ≡ first + 0 = omega arith in
+    ap (λ (n : ℕ). (table, events.Open n) ∷ []) same
+opens_more table first (suc count) =
+    let same : first + 1 + count ≡ first + suc count = omega arith in
+    let step : suc count + 1 ≡ suc (count + 1) = omega arith in
+    let later : opens_of table (first + 1) (count + 1) ≡ opens_of table (first + 1) count ++ (table, events.Open (first + suc count)) ∷ [] =
+    opens_more table (first + 1) count ∙ ap (λ (n : ℕ). opens_of table (first + 1) count ++ (table, events.Open n) ∷ []) same in
+    ap (λ (n : ℕ). opens_of table first n) step ∙ ap (λ (calls : List (ℕ × CellEvent)). (table, events.Open first) ∷ calls) later
+
+pub none_opened : (table : ℕ) (s : SeatState) → Gains (opens_of table 1 0) s s
+none_opened table s = refl
+
+pub one_more_opened : (table count : ℕ) (s m e : SeatState) → Gains (opens_of table 1 count) s m → Gains ((table, events.Open (count + 1)) ∷ []) m e → Gains (opens_of table 1 (count + 1)) s e
+one_more_opened table count s m e so_far opened =
+    let same : count + 1 ≡ 1 + count = omega arith in
+    subst (λ (calls : List (ℕ × CellEvent)). Gains calls s e) (sym (opens_more table 1 count))
+    (gains_more (opens_of table 1 count) ((table, events.Open (1 + count)) ∷ []) s m e so_far
+    (subst (λ (n : ℕ). Gains ((table, events.Open n) ∷ []) m e) same opened))
+
+-- ---- lists
+
+-- what comes of an element and then of those after it, comes of the list from that element on
+pub next_gained : {A : Type 0} (f : A → List (ℕ × CellEvent)) (xs : List A) (i : ℕ) (x : A) (s m e : SeatState) → i < length xs → x ≡ get_or xs i x
+    → Gains (f x) s m → Gains (flat_map f (drop (i + 1) xs)) m e → Gains (flat_map f (drop i xs)) s e
+next_gained {A = A} f xs i x s m e lt is one rest =
+    subst (λ (ys : List A). Gains (flat_map f ys) s e) (sym (next_left xs i x lt is)) (gains_more (f x) (flat_map f (drop (i + 1) xs)) s m e one rest)
+
+-- and nothing comes of the list from its end on
+pub none_gained : {A : Type 0} (f : A → List (ℕ × CellEvent)) (xs : List A) (i : ℕ) (s : SeatState) → length xs ≤ i → Gains (flat_map f (drop i xs)) s s
+none_gained {A = A} f xs i s most = subst (λ (ys : List A). Gains (flat_map f ys) s s) (sym (drop_all i xs most)) refl
+
+-- ---- the tables of a node
+
+-- the first seat, and those of the sessions
+pub first_seat : (sessions : ℕ) → fresh_seats (sessions + 1) ≡ fresh_seat 1 ∷ fresh_from 2 sessions
+first_seat sessions =
+    let same : sessions + 1 ≡ suc sessions = omega arith in
+    ap (λ (n : ℕ). fresh_from 1 n) same
+
+pub opened_with : (sessions : ℕ) (ds : List Definition) (us : List Update) (t : NodeTables) (cells : List CellState) (first : SeatState) → t.roster ≡ ds
+    → t.shards ≡ record { seats = sessions + 1; tables = map begun cells } → map begun cells ≡ map untouched ds → first ≡ fresh_seat 1
+    → Gains (loads_of sessions ds us) first t.loader → AreOpened sessions ds us t
+opened_with sessions ds us t cells first same locked new fresh gains = (
+  same,
+  locked ∙ ap (λ (ts : List (ℕ × ℕ)). record { seats = sessions + 1; tables = ts }) new,
+  subst (λ (s : SeatState). Gains (loads_of sessions ds us) s t.loader) fresh gains,
 )
-
--- ---- one table after another
-
--- with the tables from place i on, the loaded ones are all
-abbrev SoFar : List Definition → List Update → ℕ → List CellState → Type 0
-SoFar ds us i before = (rest : List CellState) → AreLoaded (drop i ds) us rest → AreLoaded ds us (before ++ rest)
-
--- one more table
-pub cell_added : (ds : List Definition) (us : List Update) (i : ℕ) (d : Definition) (before after : List CellState) (c : CellState) (rest : List CellState) → i < length ds → d ≡ get_or ds i d
-    → IsLoaded d us c → after ≡ before ++ c ∷ [] → AreLoaded (drop (i + 1) ds) us rest → SoFar ds us i before → AreLoaded ds us (after ++ rest)
-cell_added ds us i d before after c rest lt is one same others so_far =
-    let left : AreLoaded (drop i ds) us (c ∷ rest) = subst (λ (xs : List Definition). AreLoaded xs us (c ∷ rest)) (sym (next_left ds i d lt is)) (one, others) in
-    let cells : before ++ (c ∷ [] ++ rest) ≡ after ++ rest = sym (append_assoc before (c ∷ []) rest) ∙ ap (λ (xs : List CellState). xs ++ rest) (sym same) in
-    subst (λ (xs : List CellState). AreLoaded ds us xs) cells (so_far (c ∷ rest) left)
-
--- all tables are loaded
-pub all_added : (ds : List Definition) (us : List Update) (i : ℕ) (before : List CellState) → length ds ≤ i → SoFar ds us i before → AreLoaded ds us before
-all_added ds us i before most so_far =
-    let none : AreLoaded (drop i ds) us [] = subst (λ (xs : List Definition). AreLoaded xs us []) (sym (drop_all i ds most)) refl in
-    subst (λ (xs : List CellState). AreLoaded ds us xs) (append-nil before) (so_far [] none)

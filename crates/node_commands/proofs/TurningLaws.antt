@@ -1,5 +1,5 @@
 -- One turn after another.
-use Rattle.std.proofs.Common.{arith, ◌≡◌, ◌≤◌, ◌<◌, ◌+◌, ◌-◌, ◌++◌, ℕ, suc, Bool, List, [], Option, Some, None, Result, Ok, Err, IfErr, IfOk, append_assoc, inl, inr, refl, subst, sym}
+use Rattle.std.proofs.Common.{arith, ◌≡◌, ◌≤◌, ◌<◌, ◌+◌, ◌-◌, ◌++◌, ℕ, suc, List, [], Option, Some, None, Result, Ok, Err, IfErr, IfOk, append_assoc, inl, inr, refl, subst, sym}
 use Rattle.std.specs.Prelude.{◌↔◌, OnErr, OnOk}
 use Rattle.std.proofs.lemmas.List.{append-nil}
 use Rattle.std.proofs.KnownBytes.{Appends-nil, Appends-trans, Consumes-nil, Consumes-trans}
@@ -8,39 +8,38 @@ use Rattle.session_core.specs.declared.event.Event.{Event}
 use Rattle.session_core.specs.declared.event.Event.TheVariants as events
 use Rattle.session_core.specs.declared.state.State.TheVariants as states
 use Rattle.table_shards.specs.Receipts.{SeatState}
-use Rattle.table_types.specs.Rows.{later_by}
 use Rattle.session_core.specs.Sessions.{SessionState, state_of}
 use Rattle.peers_engine.specs.declared.errors.EngineError.{EngineError}
 use Rattle.peers_engine.specs.declared.turned.Turned.{Turned}
 use Rattle.peers_engine.specs.declared.turned.Turned.TheVariants as turned
-use Rattle.peers_engine.specs.Acting.{Worker, worker}
+use Rattle.peers_engine.specs.declared.worker.Worker.{Worker}
+use Rattle.peers_engine.specs.Acting.{Worker as WorkerAt, worker}
 use Rattle.peers_engine.specs.Reading.{IsRead}
 use Rattle.peers_engine.specs.Turns.{StopsTurn, TakesTurn}
 use Rattle.text_commands.specs.declared.endings.Ending.{Ending}
 use Rattle.text_commands.specs.declared.endings.Ending.TheVariants as endings
-use Rattle.node_commands.specs.Loading.{loaded_at}
-use Rattle.node_commands.specs.Turning.{GoesOn, Plays, Rests, Takes, ending_after, turn_after}
+use Rattle.node_commands.specs.declared.node.turns.Pace.{Pace}
+use Rattle.node_commands.specs.Turning.{GoesOn, Plays, Rests, Takes, ending_after, moment_of, turn_after}
 
 -- `before` of the turns were made, which received and sent the bytes given, and the session goes on
-abbrev pub SoFar : Bool → SessionState → SeatState → ℕ → ℕ → List ℕ → List ℕ → SessionState → SeatState → Type 0
-SoFar leaves start place turns before received sent s seat =
-    (made : ℕ) (ending : Ending) (more out : List ℕ) (e : SessionState)
-    → Plays leaves before s seat (turns - before) made ending more out e → Plays leaves 0 start place turns (before + made) ending (received ++ more) (sent ++ out) e
+abbrev pub SoFar : Pace → Worker → ℕ → ℕ → List ℕ → List ℕ → Worker → Type 0
+SoFar pace start turns before received sent w =
+    (made : ℕ) (ending : Ending) (more out : List ℕ) (e : Worker)
+    → Plays pace before w (turns - before) made ending more out e → Plays pace 0 start turns (before + made) ending (received ++ more) (sent ++ out) e
 
-pub begins : (leaves : Bool) (s : SessionState) (seat : SeatState) (turns : ℕ) → SoFar leaves s seat turns 0 [] [] s seat
-begins leaves s seat turns made ending more out e plays =
+pub begins : (pace : Pace) (w : Worker) (turns : ℕ) → SoFar pace w turns 0 [] [] w
+begins pace w turns made ending more out e plays =
     let left : turns - 0 ≡ turns = omega arith in
     let none : 0 + made ≡ made = omega arith in
-    subst (λ (m : ℕ). Plays leaves 0 s seat turns m ending more out e) (sym none) (subst (λ (n : ℕ). Plays leaves 0 s seat n made ending more out e) left plays)
+    subst (λ (m : ℕ). Plays pace 0 w turns m ending more out e) (sym none) (subst (λ (n : ℕ). Plays pace 0 w n made ending more out e) left plays)
 
 -- a turn after which the session goes on
-goes_first : (leaves : Bool) (before : ℕ) (s mid e : SessionState) (seat back : SeatState) (left made : ℕ) (gave : Result Turned EngineError) (ending : Ending) (first out more others : List ℕ)
-    → Takes (turn_after before s seat) gave first out (turn_after before mid back) → ending_after leaves mid gave ≡ None → Plays leaves (before + 1) mid back left made ending more others e
-    → Plays leaves before s seat (suc left) (made + 1) ending (first ++ more) (out ++ others) e
-goes_first leaves before s mid e seat back left made gave ending first out more others takes none plays = (
+goes_first : (pace : Pace) (before : ℕ) (w mid e : Worker) (left made : ℕ) (gave : Result Turned EngineError) (ending : Ending) (first out more others : List ℕ)
+    → Takes (turn_after pace before w) gave first out (turn_after pace before mid) → ending_after pace.leaves mid.session gave ≡ None → Plays pace (before + 1) mid left made ending more others e
+    → Plays pace before w (suc left) (made + 1) ending (first ++ more) (out ++ others) e
+goes_first pace before w mid e left made gave ending first out more others takes none plays = (
   gave,
   mid,
-  back,
   first,
   out,
   more,
@@ -48,17 +47,16 @@ goes_first leaves before s mid e seat back left made gave ending first out more 
   takes,
   refl,
   refl,
-  subst (λ (o : Option Ending). GoesOn o (made + 1) ending (Rests mid more others e) ((later : ℕ) × (made + 1 ≡ later + 1) × Plays leaves (before + 1) mid back left later ending more others e)) (sym none)
+  subst (λ (o : Option Ending). GoesOn o (made + 1) ending (Rests mid more others e) ((later : ℕ) × (made + 1 ≡ later + 1) × Plays pace (before + 1) mid left later ending more others e)) (sym none)
       (made, refl, plays),
 )
 
 -- the turn after which the session ends
-ends_first : (leaves : Bool) (before : ℕ) (s mid : SessionState) (seat back : SeatState) (left : ℕ) (gave : Result Turned EngineError) (ending : Ending) (first out : List ℕ)
-    → Takes (turn_after before s seat) gave first out (turn_after before mid back) → ending_after leaves mid gave ≡ Some ending → Plays leaves before s seat (suc left) 1 ending first out mid
-ends_first leaves before s mid seat back left gave ending first out takes some = (
+ends_first : (pace : Pace) (before : ℕ) (w mid : Worker) (left : ℕ) (gave : Result Turned EngineError) (ending : Ending) (first out : List ℕ)
+    → Takes (turn_after pace before w) gave first out (turn_after pace before mid) → ending_after pace.leaves mid.session gave ≡ Some ending → Plays pace before w (suc left) 1 ending first out mid
+ends_first pace before w mid left gave ending first out takes some = (
   gave,
   mid,
-  back,
   first,
   out,
   [],
@@ -66,86 +64,86 @@ ends_first leaves before s mid seat back left gave ending first out takes some =
   takes,
   sym (append-nil first),
   sym (append-nil out),
-  subst (λ (o : Option Ending). GoesOn o 1 ending (Rests mid [] [] mid) ((later : ℕ) × (1 ≡ later + 1) × Plays leaves (before + 1) mid back left later ending [] [] mid)) (sym some)
+  subst (λ (o : Option Ending). GoesOn o 1 ending (Rests mid [] [] mid) ((later : ℕ) × (1 ≡ later + 1) × Plays pace (before + 1) mid left later ending [] [] mid)) (sym some)
       (refl, refl, (refl, refl, refl)),
 )
 
-pub one_more : (leaves : Bool) (start s mid : SessionState) (place seat back : SeatState) (turns before : ℕ) (gave : Result Turned EngineError) (received sent first out : List ℕ) → before < turns
-    → SoFar leaves start place turns before received sent s seat → Takes (turn_after before s seat) gave first out (turn_after before mid back) → ending_after leaves mid gave ≡ None
-    → SoFar leaves start place turns (before + 1) (received ++ first) (sent ++ out) mid back
-one_more leaves start s mid place seat back turns before gave received sent first out room so_far takes none made ending more others e plays =
+pub one_more : (pace : Pace) (start w mid : Worker) (turns before : ℕ) (gave : Result Turned EngineError) (received sent first out : List ℕ) → before < turns
+    → SoFar pace start turns before received sent w → Takes (turn_after pace before w) gave first out (turn_after pace before mid) → ending_after pace.leaves mid.session gave ≡ None
+    → SoFar pace start turns (before + 1) (received ++ first) (sent ++ out) mid
+one_more pace start w mid turns before gave received sent first out room so_far takes none made ending more others e plays =
     let left : turns - before ≡ suc (turns - (before + 1)) = omega arith in
     let counted : before + (made + 1) ≡ (before + 1) + made = omega arith in
-    let here = goes_first leaves before s mid e seat back (turns - (before + 1)) made gave ending first out more others takes none plays in
-    let there = so_far (made + 1) ending (first ++ more) (out ++ others) e (subst (λ (n : ℕ). Plays leaves before s seat n (made + 1) ending (first ++ more) (out ++ others) e) (sym left) here) in
-    subst (λ (m : ℕ). Plays leaves 0 start place turns m ending ((received ++ first) ++ more) ((sent ++ out) ++ others) e) counted
-    (subst (λ (r : List ℕ). Plays leaves 0 start place turns (before + (made + 1)) ending r ((sent ++ out) ++ others) e) (sym (append_assoc received first more))
-    (subst (λ (o : List ℕ). Plays leaves 0 start place turns (before + (made + 1)) ending (received ++ (first ++ more)) o e) (sym (append_assoc sent out others)) there))
+    let here = goes_first pace before w mid e (turns - (before + 1)) made gave ending first out more others takes none plays in
+    let there = so_far (made + 1) ending (first ++ more) (out ++ others) e (subst (λ (n : ℕ). Plays pace before w n (made + 1) ending (first ++ more) (out ++ others) e) (sym left) here) in
+    subst (λ (m : ℕ). Plays pace 0 start turns m ending ((received ++ first) ++ more) ((sent ++ out) ++ others) e) counted
+    (subst (λ (r : List ℕ). Plays pace 0 start turns (before + (made + 1)) ending r ((sent ++ out) ++ others) e) (sym (append_assoc received first more))
+    (subst (λ (o : List ℕ). Plays pace 0 start turns (before + (made + 1)) ending (received ++ (first ++ more)) o e) (sym (append_assoc sent out others)) there))
 
-pub stops : (leaves : Bool) (start s mid : SessionState) (place seat back : SeatState) (turns before : ℕ) (gave : Result Turned EngineError) (ending : Ending) (received sent first out : List ℕ) → before < turns
-    → SoFar leaves start place turns before received sent s seat → Takes (turn_after before s seat) gave first out (turn_after before mid back) → ending_after leaves mid gave ≡ Some ending
-    → Plays leaves 0 start place turns (before + 1) ending (received ++ first) (sent ++ out) mid
-stops leaves start s mid place seat back turns before gave ending received sent first out room so_far takes some =
+pub stops : (pace : Pace) (start w mid : Worker) (turns before : ℕ) (gave : Result Turned EngineError) (ending : Ending) (received sent first out : List ℕ) → before < turns
+    → SoFar pace start turns before received sent w → Takes (turn_after pace before w) gave first out (turn_after pace before mid) → ending_after pace.leaves mid.session gave ≡ Some ending
+    → Plays pace 0 start turns (before + 1) ending (received ++ first) (sent ++ out) mid
+stops pace start w mid turns before gave ending received sent first out room so_far takes some =
     let left : turns - before ≡ suc (turns - (before + 1)) = omega arith in
     so_far 1 ending first out mid
-    (subst (λ (n : ℕ). Plays leaves before s seat n 1 ending first out mid) (sym left) (ends_first leaves before s mid seat back (turns - (before + 1)) gave ending first out takes some))
+    (subst (λ (n : ℕ). Plays pace before w n 1 ending first out mid) (sym left) (ends_first pace before w mid (turns - (before + 1)) gave ending first out takes some))
 
-pub all_made : (leaves : Bool) (start s : SessionState) (place seat : SeatState) (turns before : ℕ) (received sent : List ℕ) → turns ≤ before → before ≤ turns
-    → SoFar leaves start place turns before received sent s seat → Plays leaves 0 start place turns turns endings.Done received sent s
-all_made leaves start s place seat turns before received sent enough most so_far =
+pub all_made : (pace : Pace) (start w : Worker) (turns before : ℕ) (received sent : List ℕ) → turns ≤ before → before ≤ turns
+    → SoFar pace start turns before received sent w → Plays pace 0 start turns turns endings.Done received sent w
+all_made pace start w turns before received sent enough most so_far =
     let none : turns - before ≡ 0 = omega arith in
     let counted : before + 0 ≡ turns = omega arith in
-    let here : Plays leaves before s seat 0 0 endings.Done [] [] s = (refl, refl, (refl, refl, refl)) in
-    let there = so_far 0 endings.Done [] [] s (subst (λ (n : ℕ). Plays leaves before s seat n 0 endings.Done [] [] s) (sym none) here) in
-    subst (λ (m : ℕ). Plays leaves 0 start place turns m endings.Done received sent s) counted
-    (subst (λ (r : List ℕ). Plays leaves 0 start place turns (before + 0) endings.Done r sent s) (append-nil received)
-    (subst (λ (o : List ℕ). Plays leaves 0 start place turns (before + 0) endings.Done (received ++ []) o s) (append-nil sent) there))
+    let here : Plays pace before w 0 0 endings.Done [] [] w = (refl, refl, (refl, refl, refl)) in
+    let there = so_far 0 endings.Done [] [] w (subst (λ (n : ℕ). Plays pace before w n 0 endings.Done [] [] w) (sym none) here) in
+    subst (λ (m : ℕ). Plays pace 0 start turns m endings.Done received sent w) counted
+    (subst (λ (r : List ℕ). Plays pace 0 start turns (before + 0) endings.Done r sent w) (append-nil received)
+    (subst (λ (o : List ℕ). Plays pace 0 start turns (before + 0) endings.Done (received ++ []) o w) (append-nil sent) there))
 
 -- ---- what the reader lost, and what the writer gained
 
 -- the turns so far, with the reader and the writer before and after them
-abbrev pub HasPlayed : Bool → SessionState → SeatState → ℕ → ℕ → SessionState → SeatState → Option (List ℕ) → Option (List ℕ) → Option (List ℕ) → Option (List ℕ) → Type 0
-HasPlayed leaves start place turns before s seat from to a b =
-    (received sent : List ℕ) × SoFar leaves start place turns before received sent s seat × Consumes from to received × Appends a b sent
+abbrev pub HasPlayed : Pace → Worker → ℕ → ℕ → Worker → Option (List ℕ) → Option (List ℕ) → Option (List ℕ) → Option (List ℕ) → Type 0
+HasPlayed pace start turns before w from to a b =
+    (received sent : List ℕ) × SoFar pace start turns before received sent w × Consumes from to received × Appends a b sent
 
 -- one turn, with the same
-abbrev pub HasTaken : Worker → Result Turned EngineError → Worker → Option (List ℕ) → Option (List ℕ) → Option (List ℕ) → Option (List ℕ) → Type 0
+abbrev pub HasTaken : WorkerAt → Result Turned EngineError → WorkerAt → Option (List ℕ) → Option (List ℕ) → Option (List ℕ) → Option (List ℕ) → Type 0
 HasTaken w gave e from to a b = (received sent : List ℕ) × Takes w gave received sent e × Consumes from to received × Appends a b sent
 
 -- all turns of the session, with the same
-abbrev pub IsPlayed : Bool → SessionState → SeatState → ℕ → ℕ → Ending → SessionState → Option (List ℕ) → Option (List ℕ) → Option (List ℕ) → Option (List ℕ) → Type 0
-IsPlayed leaves start place turns made ending e from to a b =
-    (received sent : List ℕ) × Plays leaves 0 start place turns made ending received sent e × Consumes from to received × Appends a b sent
+abbrev pub IsPlayed : Pace → Worker → ℕ → ℕ → Ending → Worker → Option (List ℕ) → Option (List ℕ) → Option (List ℕ) → Option (List ℕ) → Type 0
+IsPlayed pace start turns made ending e from to a b =
+    (received sent : List ℕ) × Plays pace 0 start turns made ending received sent e × Consumes from to received × Appends a b sent
 
-pub begins_there : (leaves : Bool) (s : SessionState) (seat : SeatState) (turns : ℕ) (from a : Option (List ℕ)) → HasPlayed leaves s seat turns 0 s seat from from a a
-begins_there leaves s seat turns from a = ([], [], begins leaves s seat turns, Consumes-nil from, Appends-nil a)
+pub begins_there : (pace : Pace) (w : Worker) (turns : ℕ) (from a : Option (List ℕ)) → HasPlayed pace w turns 0 w from from a a
+begins_there pace w turns from a = ([], [], begins pace w turns, Consumes-nil from, Appends-nil a)
 
-pub one_more_there : (leaves : Bool) (start s mid : SessionState) (place seat back : SeatState) (turns before : ℕ) (gave : Result Turned EngineError) (from then to a b d : Option (List ℕ)) → before < turns
-    → HasPlayed leaves start place turns before s seat from then a b → HasTaken (turn_after before s seat) gave (turn_after before mid back) then to b d → ending_after leaves mid gave ≡ None
-    → HasPlayed leaves start place turns (before + 1) mid back from to a d
-one_more_there leaves start s mid place seat back turns before gave from then to a b d room (received, sent, so_far, consumed, appended) (first, out, takes, more, further) none = (
+pub one_more_there : (pace : Pace) (start w mid : Worker) (turns before : ℕ) (gave : Result Turned EngineError) (from then to a b d : Option (List ℕ)) → before < turns
+    → HasPlayed pace start turns before w from then a b → HasTaken (turn_after pace before w) gave (turn_after pace before mid) then to b d → ending_after pace.leaves mid.session gave ≡ None
+    → HasPlayed pace start turns (before + 1) mid from to a d
+one_more_there pace start w mid turns before gave from then to a b d room (received, sent, so_far, consumed, appended) (first, out, takes, more, further) none = (
   received ++ first,
   sent ++ out,
-  one_more leaves start s mid place seat back turns before gave received sent first out room so_far takes none,
+  one_more pace start w mid turns before gave received sent first out room so_far takes none,
   Consumes-trans from then to received first consumed more,
   Appends-trans a b d sent out appended further,
 )
 
-pub stops_there : (leaves : Bool) (start s mid : SessionState) (place seat back : SeatState) (turns before : ℕ) (gave : Result Turned EngineError) (ending : Ending) (from then to a b d : Option (List ℕ)) → before < turns
-    → HasPlayed leaves start place turns before s seat from then a b → HasTaken (turn_after before s seat) gave (turn_after before mid back) then to b d → ending_after leaves mid gave ≡ Some ending
-    → IsPlayed leaves start place turns (before + 1) ending mid from to a d
-stops_there leaves start s mid place seat back turns before gave ending from then to a b d room (received, sent, so_far, consumed, appended) (first, out, takes, more, further) some = (
+pub stops_there : (pace : Pace) (start w mid : Worker) (turns before : ℕ) (gave : Result Turned EngineError) (ending : Ending) (from then to a b d : Option (List ℕ)) → before < turns
+    → HasPlayed pace start turns before w from then a b → HasTaken (turn_after pace before w) gave (turn_after pace before mid) then to b d → ending_after pace.leaves mid.session gave ≡ Some ending
+    → IsPlayed pace start turns (before + 1) ending mid from to a d
+stops_there pace start w mid turns before gave ending from then to a b d room (received, sent, so_far, consumed, appended) (first, out, takes, more, further) some = (
   received ++ first,
   sent ++ out,
-  stops leaves start s mid place seat back turns before gave ending received sent first out room so_far takes some,
+  stops pace start w mid turns before gave ending received sent first out room so_far takes some,
   Consumes-trans from then to received first consumed more,
   Appends-trans a b d sent out appended further,
 )
 
-pub all_made_there : (leaves : Bool) (start s : SessionState) (place seat : SeatState) (turns before : ℕ) (from to a b : Option (List ℕ)) → turns ≤ before → before ≤ turns
-    → HasPlayed leaves start place turns before s seat from to a b → IsPlayed leaves start place turns turns endings.Done s from to a b
-all_made_there leaves start s place seat turns before from to a b enough most (received, sent, so_far, consumed, appended) =
-    (received, sent, all_made leaves start s place seat turns before received sent enough most so_far, consumed, appended)
+pub all_made_there : (pace : Pace) (start w : Worker) (turns before : ℕ) (from to a b : Option (List ℕ)) → turns ≤ before → before ≤ turns
+    → HasPlayed pace start turns before w from to a b → IsPlayed pace start turns turns endings.Done w from to a b
+all_made_there pace start w turns before from to a b enough most (received, sent, so_far, consumed, appended) =
+    (received, sent, all_made pace start w turns before received sent enough most so_far, consumed, appended)
 
 -- ---- one turn
 
@@ -165,23 +163,23 @@ still_read at_end (Some (events.Settled table settled)) received reads = absurd 
 still_read at_end (Some (events.Refused table)) received reads = absurd reads
 
 -- a turn whose first event leaves something to do receives nothing
-still_takes : {untouched : Type 0} (w e : Worker) (event : Option Event) (received sent : List ℕ) → IsRead (received ≡ []) event received → TakesTurn untouched w event sent e → TakesTurn (received ≡ []) w event sent e
+still_takes : {untouched : Type 0} (w e : WorkerAt) (event : Option Event) (received sent : List ℕ) → IsRead (received ≡ []) event received → TakesTurn untouched w event sent e → TakesTurn (received ≡ []) w event sent e
 still_takes w e event received sent reads (inl (still, none, reacts)) = inl (subst (λ (x : Option Event). IsRead (received ≡ []) x received) none reads, none, reacts)
 still_takes w e event received sent reads (inr more) = inr more
 
-still_stops : {untouched : Type 0} (w : Worker) (e : SessionState) (seat : SeatState) (event : Option Event) (error : EngineError) (received sent : List ℕ) → IsRead (received ≡ []) event received → StopsTurn untouched w event error sent e seat
+still_stops : {untouched : Type 0} (w : WorkerAt) (e : SessionState) (seat : SeatState) (event : Option Event) (error : EngineError) (received sent : List ℕ) → IsRead (received ≡ []) event received → StopsTurn untouched w event error sent e seat
     → StopsTurn (received ≡ []) w event error sent e seat
 still_stops w e seat event error received sent reads (inl (still, none, halts)) = inl (subst (λ (x : Option Event). IsRead (received ≡ []) x received) none reads, none, halts)
 still_stops w e seat event error received sent reads (inr more) = inr more
 
-ok_way : {untouched : Type 0} (at_end : Type 0) (w e : Worker) (gave : Turned) (from to a b : Option (List ℕ))
+ok_way : {untouched : Type 0} (at_end : Type 0) (w e : WorkerAt) (gave : Turned) (from to a b : Option (List ℕ))
     → (event : Option Event) × (received sent : List ℕ) × IsRead at_end event received × TakesTurn untouched w event sent e × Consumes from to received × Appends a b sent
     → ((gave ≡ turned.Closed) ↔ (state_of e.session.phase ≡ states.Ended)) → HasTaken w (Ok gave) e from to a b
 ok_way at_end w e gave from to a b (event, received, sent, given, takes, consumed, appended) closed =
     let reads = still_read at_end event received given in
     (received, sent, ((event, reads, still_takes w e event received sent reads takes), closed), consumed, appended)
 
-err_way : {untouched : Type 0} (at_end : Type 0) (w e : Worker) (error : EngineError) (from to a b : Option (List ℕ))
+err_way : {untouched : Type 0} (at_end : Type 0) (w e : WorkerAt) (error : EngineError) (from to a b : Option (List ℕ))
     → (event : Option Event) × (received sent : List ℕ) × IsRead at_end event received × StopsTurn untouched w event error sent e.session e.seat × Consumes from to received × Appends a b sent
     → state_of e.session.phase ≡ states.Ended → HasTaken w (Err error) e from to a b
 err_way at_end w e error from to a b (event, received, sent, given, stops, consumed, appended) over =
@@ -189,7 +187,7 @@ err_way at_end w e error from to a b (event, received, sent, given, stops, consu
     (received, sent, ((event, reads, still_stops w e.session e.seat event error received sent reads stops), over), consumed, appended)
 
 -- a turn, from the contract for its success and the one for its error
-pub both_ways : (at_end untouched : Type 0) (w e : Worker) (gave : Result Turned EngineError) (from to a b : Option (List ℕ))
+pub both_ways : (at_end untouched : Type 0) (w e : WorkerAt) (gave : Result Turned EngineError) (from to a b : Option (List ℕ))
     → OnOk gave ((event : Option Event) × (received sent : List ℕ) × IsRead at_end event received × TakesTurn untouched w event sent e × Consumes from to received × Appends a b sent)
     → IfOk gave (λ t. (t ≡ turned.Closed) ↔ (state_of e.session.phase ≡ states.Ended))
     → IfErr gave (λ error. (event : Option Event) × (received sent : List ℕ) × IsRead at_end event received × StopsTurn untouched w event error sent e.session e.seat × Consumes from to received × Appends a b sent)
@@ -198,6 +196,7 @@ both_ways at_end untouched w e (Ok gave) from to a b written closed stopped over
 both_ways at_end untouched w e (Err error) from to a b written closed stopped over = err_way at_end w e error from to a b stopped over
 
 -- a turn at the moment that belongs to it is the turn after `before` others
-pub taken_after : (before now : ℕ) (s e : SessionState) (seat back : SeatState) (gave : Result Turned EngineError) (from to a b : Option (List ℕ)) → now ≡ later_by (before + 1) loaded_at
-    → HasTaken (worker s seat 1 now) gave (worker e back 1 now) from to a b → HasTaken (turn_after before s seat) gave (turn_after before e back) from to a b
-taken_after before now s e seat back gave from to a b is taken = subst (λ (n : ℕ). HasTaken (worker s seat 1 n) gave (worker e back 1 n) from to a b) is taken
+pub taken_after : (pace : Pace) (before now : ℕ) (w e : Worker) (gave : Result Turned EngineError) (from to a b : Option (List ℕ)) → now ≡ moment_of pace before
+    → HasTaken (worker w.session w.seat w.number now) gave (worker e.session e.seat e.number now) from to a b → HasTaken (turn_after pace before w) gave (turn_after pace before e) from to a b
+taken_after pace before now w e gave from to a b is taken =
+    subst (λ (n : ℕ). HasTaken (worker w.session w.seat w.number n) gave (worker e.session e.seat e.number n) from to a b) is taken

@@ -1,3 +1,4 @@
+pub mod Auditing
 pub mod Loading
 pub mod Nodes
 pub mod Printing

@@ -3,7 +3,6 @@ use Rattle.std.specs.Prelude.{◌≡◌, ◌↔◌, ◌+◌, ℕ, zero, suc, Boo
 use Rattle.table_types.specs.Rows.{later_by}
 use Rattle.learner.specs.declared.fault.Fault.{Fault}
 use Rattle.session_core.specs.declared.error.SessionError.TheVariants as refusals
-use Rattle.table_shards.specs.Receipts.{SeatState}
 use Rattle.session_core.specs.declared.event.Event.{Event}
 use Rattle.session_core.specs.declared.state.State.TheVariants as states
 use Rattle.session_core.specs.Sessions.{SessionState, state_of}
@@ -11,11 +10,13 @@ use Rattle.peers_engine.specs.declared.errors.EngineError.{EngineError}
 use Rattle.peers_engine.specs.declared.errors.EngineError.TheVariants as errors
 use Rattle.peers_engine.specs.declared.turned.Turned.{Turned}
 use Rattle.peers_engine.specs.declared.turned.Turned.TheVariants as turned
-use Rattle.peers_engine.specs.Acting.{Worker, worker}
+use Rattle.peers_engine.specs.declared.worker.Worker.{Worker}
+use Rattle.peers_engine.specs.Acting.{Worker as WorkerAt, worker}
 use Rattle.peers_engine.specs.Reading.{IsRead}
 use Rattle.peers_engine.specs.Turns.{StopsTurn, TakesTurn}
 use Rattle.text_commands.specs.declared.endings.Ending.{Ending}
 use Rattle.text_commands.specs.declared.endings.Ending.TheVariants as endings
+use Rattle.node_commands.specs.declared.node.turns.Pace.{Pace}
 use Rattle.node_commands.specs.Loading.{loaded_at}
 
 -- how a session ends that closed the connection: with the fault of the other node's messages if there was one
@@ -39,39 +40,43 @@ ending_after leaves s (Ok turned.Going) = if leaves && s.confirmed then Some end
 ending_after leaves s (Ok turned.Closed) = Some (closed_by s.fault)
 ending_after leaves s (Err error) = Some (broken_by s.fault error)
 
--- The node's session, which has number 1 in the tables, in the turn that follows `before` others. The first turn comes a
--- millisecond after the rows were loaded, and each other turn a millisecond after the last one.
-abbrev pub turn_after : ℕ → SessionState → SeatState → Worker
-turn_after before s seat = worker s seat 1 (later_by (before + 1) loaded_at)
+-- The moment of the turn that follows `before` others: each comes a millisecond after the one before, and the first a millisecond
+-- after the rows were loaded; or all come at that very moment.
+abbrev pub moment_of : Pace → ℕ → ℕ
+moment_of pace before = if pace.stands then loaded_at else later_by (before + 1) loaded_at
+
+-- the worker in the turn that follows `before` others
+abbrev pub turn_after : Pace → ℕ → Worker → WorkerAt
+turn_after pace before w = worker w.session w.seat w.number (moment_of pace before)
 
 -- A turn takes the worker to another state, returns its result, and received and sent the bytes given. After an error the session
 -- is over.
-abbrev pub Takes : Worker → Result Turned EngineError → List ℕ → List ℕ → Worker → Type 0
+abbrev pub Takes : WorkerAt → Result Turned EngineError → List ℕ → List ℕ → WorkerAt → Type 0
 Takes w (Ok gave) received sent e =
     ((event : Option Event) × IsRead (received ≡ []) event received × TakesTurn (received ≡ []) w event sent e) × ((gave ≡ turned.Closed) ↔ (state_of e.session.phase ≡ states.Ended))
 Takes w (Err error) received sent e =
     ((event : Option Event) × IsRead (received ≡ []) event received × StopsTurn (received ≡ []) w event error sent e.session e.seat) × (state_of e.session.phase ≡ states.Ended)
 
--- nothing more is received or sent, and the session stays as it is
-abbrev pub Rests : SessionState → List ℕ → List ℕ → SessionState → Type 0
-Rests s received sent e = (received ≡ []) × (sent ≡ []) × (e ≡ s)
+-- nothing more is received or sent, and the worker stays as it is
+abbrev pub Rests : Worker → List ℕ → List ℕ → Worker → Type 0
+Rests w received sent e = (received ≡ []) × (sent ≡ []) × (e ≡ w)
 
 -- the session ends after this turn, or goes on
 abbrev pub GoesOn : Option Ending → ℕ → Ending → Type 0 → Type 0 → Type 0
 GoesOn None made ending rests on = on
 GoesOn (Some by) made ending rests on = (made ≡ 1) × (ending ≡ by) × rests
 
--- After `before` turns, the session makes `made` more, of at most as many as given. It makes them one after another, up to the one
--- after which it ends; if none ends it, it ends with `Done`. It received and sent the bytes given, one turn's after another's.
-abbrev pub Plays : Bool → ℕ → SessionState → SeatState → ℕ → ℕ → Ending → List ℕ → List ℕ → SessionState → Type 0
-Plays leaves before s seat zero made ending received sent e = (made ≡ 0) × (ending ≡ endings.Done) × Rests s received sent e
-Plays leaves before s seat (suc left) made ending received sent e =
+-- After `before` turns, the worker makes `made` more, of at most as many as given. It makes them one after another, up to the one
+-- after which its session ends; if none ends it, it ends with `Done`. The worker received and sent the bytes given, one turn's after
+-- another's.
+abbrev pub Plays : Pace → ℕ → Worker → ℕ → ℕ → Ending → List ℕ → List ℕ → Worker → Type 0
+Plays pace before w zero made ending received sent e = (made ≡ 0) × (ending ≡ endings.Done) × Rests w received sent e
+Plays pace before w (suc left) made ending received sent e =
     (gave : Result Turned EngineError)
-    × (mid : SessionState)
-    × (back : SeatState)
+    × (mid : Worker)
     × (first out later_received later_sent : List ℕ)
-    × Takes (turn_after before s seat) gave first out (turn_after before mid back)
+    × Takes (turn_after pace before w) gave first out (turn_after pace before mid)
     × (received ≡ first ++ later_received)
     × (sent ≡ out ++ later_sent)
-    × GoesOn (ending_after leaves mid gave) made ending (Rests mid later_received later_sent e)
-    ((later : ℕ) × (made ≡ later + 1) × Plays leaves (before + 1) mid back left later ending later_received later_sent e)
+    × GoesOn (ending_after pace.leaves mid.session gave) made ending (Rests mid later_received later_sent e)
+    ((later : ℕ) × (made ≡ later + 1) × Plays pace (before + 1) mid left later ending later_received later_sent e)

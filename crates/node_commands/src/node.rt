@@ -1,42 +1,42 @@
 //! A node that meets another: its tables, its session, and what it prints once the session is over.
 
+mod auditing;
 mod loading;
 mod turns;
 
-ghost use Rattle.std.specs.Prelude.{◌≡◌, ◌≢◌, ◌⊎◌, ℕ, List, Ok, true, false, IfErr, IfOk, string_bytes};
+ghost use Rattle.std.specs.Prelude.{◌≡◌, ◌≢◌, ◌⊎◌, ◌∷◌, [], ℕ, List, true, false, IfErr, IfOk, string_bytes};
 ghost use Rattle.std.specs.Io.KnownBytes.{Appends, Consumes};
 ghost use Rattle.node_text.specs.declared.scenes.Scene.{Scene};
 ghost use Rattle.text_commands.specs.Endings.{IsEarly, line_of};
 ghost use Rattle.text_commands.specs.declared.endings.Ending.TheVariants as endings;
 ghost use Rattle.session_core.specs.Sessions.{connecting};
-ghost use Rattle.table_shards.specs.Audits.{table_rounds};
-ghost use Rattle.table_shards.specs.declared.unlocked.UnlockedTable.{UnlockedTable};
-ghost use Rattle.node_commands.specs.Nodes.{AppendsSome, AreOpened, IsJoining, IsPrinted, IsServing, has_rows};
+ghost use Rattle.table_shards.specs.Audits.{AuditState};
+ghost use Rattle.node_commands.specs.Auditing.{IsAuditOf};
+ghost use Rattle.node_commands.specs.Nodes.{AppendsSome, IsJoining, IsPrinted, IsServing, has_rows};
 ghost use Rattle.node_commands.specs.Printing.{IsText};
 
-use crate::node::loading::loaded;
-use crate::node::turns::{Played, play};
+use crate::node::auditing::audited;
+use crate::node::loading::{NodeTables, SESSION, opened};
+use crate::node::turns::{Pace, Played, play};
 use crate::printing::session_text;
 use node_text::{Scene, read_scene};
 use peers_devices::{Faults, read_to_end, write_all};
+use peers_engine::Worker;
 use peers_hello::Hello;
 use session_core::Session;
 use std::alloc::Global;
 use std::io::{Read, Write};
 use std::sync::Wait;
-use table_shards::{Seat, Shards};
-use table_types::{Memory, Name, Roster, TableDef, Update};
+use table_shards::Seat;
+use table_types::{Memory, Name, Roster};
 use text_commands::{Ending, rising_roster};
 
-/// A node that is about to meet another: its tables under their locks, its session, and the seat from which the session works on
-/// the tables.
+/// A node that is about to meet another: its tables, which are loaded, and its session, ready to work.
 #[derive(Drop)]
 pub struct Node {
-    pub(crate) session: Session,
-    pub(crate) shards: Shards,
-    pub(crate) seat: Seat,
-    /// Whether the session ends once it has sent `resync confirmed`.
-    pub(crate) leaves: bool,
+    pub(crate) tables: NodeTables,
+    pub(crate) worker: Worker,
+    pub(crate) pace: Pace,
 }
 
 /// What a node has to print once its session is over: a text for the output, and the line of the ending for the writer for
@@ -58,65 +58,42 @@ fn scene_of<I: Read + Faults>(alloc: Global, input: &mut I) -> Result<Scene, End
     Ok(read_scene(alloc, text.as_slice())?)
 }
 
-/// Makes the tables of `definitions`, which learn `updates`, puts them under their locks, and makes the one seat.
-#[tactic(auto, using(crate::proofs::NodeLaws::opened_with))]
-fn opened(
-    alloc: Global,
-    definitions: &[TableDef],
-    updates: &[Update],
-) -> Result<(Shards, Seat), Ending>
-    ensures opened { IfOk result (λ made. AreOpened definitions.now updates.now made.0 made.1) }
-    ensures early { IfErr result IsEarly }
-{
-    let cells = loaded(alloc, definitions, updates)?;
-    let (shards, mut seats) = Shards::new(alloc, cells, 1)?;
-    let seat = seats.remove(0);
-    Ok((shards, seat))
-}
-
-/// Makes a node of its parts. Drops the tables and the seat if there is no session.
-fn node_of(
-    session: Result<Session, Memory>,
-    shards: Shards,
-    seat: Seat,
-    leaves: bool,
-) -> Result<Node, Ending>
-    ensures session { IfOk result (λ node. session ≡ Ok node.session) }
-    ensures node { IfOk result (λ node. (node.shards ≡ shards) × (node.seat ≡ seat) × (node.leaves ≡ leaves)) }
-    ensures early { IfErr result IsEarly }
-{
-    match session {
-        Ok(session) => Ok(Node {
-            session,
-            shards,
-            seat,
-            leaves,
-        }),
-        Err(error) => {
-            drop(shards);
-            drop(seat);
-            Err(Ending::from(error))
-        }
-    }
-}
-
 /// Makes the node that serves the rows of `scene`.
 #[tactic(auto, using(crate::proofs::NodeLaws::serving_with))]
-fn serving_of(alloc: Global, name: Name, peer: Name, scene: Scene) -> Result<Node, Ending>
+fn serving_of<H: Wait>(
+    rt: &H,
+    alloc: Global,
+    name: Name,
+    peer: Name,
+    scene: Scene,
+) -> Result<Node, Ending>
     ensures node { IfOk result (λ node. IsServing scene name peer node) }
     ensures early { IfErr result IsEarly }
 {
     let Scene {
-        tables,
+        tables: definitions,
         updates,
         ..
     } = scene;
-    let roster = rising_roster(tables)?;
-    let (shards, seat) = opened(alloc, roster.tables(), updates.as_slice())?;
+    let roster = rising_roster(definitions)?;
+    let shared = roster.copy(alloc)?;
+    let (tables, mut seats) = opened(rt, alloc, roster, updates.as_slice(), 1)?;
     let mut peers = Vec::new(alloc);
     peers.push(peer).map_err(Memory::from)?;
-    let session = Session::accept(alloc, name, peers, roster, true);
-    node_of(session, shards, seat, false)
+    let session = Session::accept(alloc, name, peers, shared, true)?;
+    let worker = Worker {
+        session,
+        seat: seats.remove(0),
+        number: SESSION,
+    };
+    Ok(Node {
+        tables,
+        worker,
+        pace: Pace {
+            leaves: false,
+            stands: false,
+        },
+    })
 }
 
 /// Makes the session of a node that joins: it isn't up to date.
@@ -134,15 +111,37 @@ fn joining_session(alloc: Global, name: Name, peer: Name, roster: Roster) -> Res
 
 /// Makes the node that joins with the tables of `scene`.
 #[tactic(auto, using(crate::proofs::NodeLaws::joining_with))]
-fn joining_of(alloc: Global, name: Name, peer: Name, scene: Scene) -> Result<Node, Ending>
+fn joining_of<H: Wait>(
+    rt: &H,
+    alloc: Global,
+    name: Name,
+    peer: Name,
+    scene: Scene,
+) -> Result<Node, Ending>
     ensures node { IfOk result (λ node. IsJoining scene name peer node) }
     ensures early { IfErr result IsEarly }
 {
-    let Scene { tables, .. } = scene;
-    let roster = rising_roster(tables)?;
-    let (shards, seat) = opened(alloc, roster.tables(), &[])?;
-    let session = joining_session(alloc, name, peer, roster);
-    node_of(session, shards, seat, true)
+    let Scene {
+        tables: definitions,
+        ..
+    } = scene;
+    let roster = rising_roster(definitions)?;
+    let shared = roster.copy(alloc)?;
+    let (tables, mut seats) = opened(rt, alloc, roster, &[], 1)?;
+    let session = joining_session(alloc, name, peer, shared)?;
+    let worker = Worker {
+        session,
+        seat: seats.remove(0),
+        number: SESSION,
+    };
+    Ok(Node {
+        tables,
+        worker,
+        pace: Pace {
+            leaves: true,
+            stands: false,
+        },
+    })
 }
 
 /// Returns whether the rows are printed after a session that ended with `ending`.
@@ -170,22 +169,36 @@ fn early(ending: Ending) -> Ending
     }
 }
 
-/// Makes the report of a session that is over: the number of its turns, and the rows that the tables now have. Fails with the
-/// session's ending if no rows are printed after it, and with `Memory` if memory runs out.
-fn report_of(alloc: Global, shards: Shards, played: Played) -> Result<Report, Ending>
-    ensures text { IfOk result (λ report. (tables : List UnlockedTable) × (table_rounds tables ≡ shards.tables) × IsText played.turns tables report.text.items) }
+/// Audits the tables with the seat of the only session, and returns the text of the session's `turns` turns and of the tables' rows.
+fn text_of(alloc: Global, tables: NodeTables, seat: Seat, turns: u32) -> Result<Vec<u8>, Ending>
+    ensures text { IfOk result (λ text. (a : AuditState) × IsAuditOf tables (seat ∷ []) a × IsText turns a.unlocked.tables text.items) }
+    ensures early { IfErr result (λ ending. (ending ≡ endings.Memory) ⊎ (ending ≡ endings.Device)) }
+{
+    let mut seats = Vec::with_capacity(alloc, 1)?;
+    seats.push(seat).map_err(Memory::from)?;
+    let audit = audited(alloc, tables, seats)?;
+    let text = session_text(alloc, turns, audit.tables())?;
+    Ok(text)
+}
+
+/// Makes the report of a session that is over, from the seat as the session left it: the number of its turns, and the rows that the
+/// tables now have, once they are audited. Fails with the session's ending if no rows are printed after it, with `Device` if the
+/// audit finds a fault, and with `Memory` if memory runs out.
+fn report_of(
+    alloc: Global,
+    tables: NodeTables,
+    seat: Seat,
+    played: Played,
+) -> Result<Report, Ending>
+    ensures text { IfOk result (λ report. (a : AuditState) × IsAuditOf tables (seat ∷ []) a × IsText played.turns a.unlocked.tables report.text.items) }
     ensures ending { IfOk result (λ report. report.ending ≡ played.ending) }
     ensures early { IfErr result (λ ending. (ending ≡ endings.Memory) ⊎ (ending ≡ endings.Device)) }
 {
-    if !has_rows(played.ending) {
-        drop(shards);
-        return Err(early(played.ending));
-    }
-    let Ok(unlocked) = shards.unlock(alloc) else {
-        return Err(Ending::Memory);
-    };
     let Played { turns, ending } = played;
-    let text = session_text(alloc, turns, unlocked.tables())?;
+    if !has_rows(ending) {
+        return Err(early(ending));
+    }
+    let text = text_of(alloc, tables, seat, turns)?;
     let line = ending.line(alloc)?;
     Ok(Report { text, ending, line })
 }
@@ -194,7 +207,8 @@ impl Node {
     /// Makes the node `name` that waits for `peer` to connect. Reads a scene from `input`: the node has the scene's tables, which
     /// have learned its updates. Its session is up to date. Fails with `Line` or `Scene` if the scene is refused, with `Device`
     /// if the input can't be read, and with `Memory` if memory runs out.
-    pub fn serving<I: Read + Faults>(
+    pub fn serving<H: Wait, I: Read + Faults>(
+        rt: &H,
         alloc: Global,
         name: Name,
         peer: Name,
@@ -204,13 +218,14 @@ impl Node {
         ensures early { IfErr result IsEarly }
     {
         let scene = scene_of(alloc, input)?;
-        let node = serving_of(alloc, name, peer, scene)?;
+        let node = serving_of(rt, alloc, name, peer, scene)?;
         Ok(node)
     }
 
     /// Makes the node `name` that connects to `peer`. Reads a scene from `input`: the node has the scene's tables, without rows.
     /// Its session isn't up to date: it requests a resync, and ends once it has confirmed it. Fails as `serving` does.
-    pub fn joining<I: Read + Faults>(
+    pub fn joining<H: Wait, I: Read + Faults>(
+        rt: &H,
         alloc: Global,
         name: Name,
         peer: Name,
@@ -220,13 +235,13 @@ impl Node {
         ensures early { IfErr result IsEarly }
     {
         let scene = scene_of(alloc, input)?;
-        let node = joining_of(alloc, name, peer, scene)?;
+        let node = joining_of(rt, alloc, name, peer, scene)?;
         Ok(node)
     }
 
-    /// Runs the session with the other node for at most `turns` turns, and returns what is to be printed. `from` reads what the
-    /// other node sends, and `to` writes what it receives. Fails with `Device` if a read or a write fails, and with `Memory` if
-    /// memory runs out: then nothing is printed.
+    /// Runs the session with the other node for at most `turns` turns, audits the tables, and returns what is to be printed. `from`
+    /// reads what the other node sends, and `to` writes what it receives. Fails with `Device` if a read or a write fails or the audit
+    /// finds a fault, and with `Memory` if memory runs out: then nothing is printed.
     pub fn meet<H: Wait, R: Read + Faults, W: Write + Faults>(
         self,
         rt: &H,
@@ -241,24 +256,21 @@ impl Node {
         ensures early { IfErr result (λ ending. (ending ≡ endings.Memory) ⊎ (ending ≡ endings.Device)) }
     {
         let Node {
-            mut session,
-            shards,
-            seat,
-            leaves,
+            tables,
+            mut worker,
+            pace,
         } = self;
         let played = play(
             rt,
             alloc,
-            &mut session,
-            &shards,
-            seat,
-            leaves,
+            &tables.shards,
+            &mut worker,
+            pace,
             turns,
             from,
             to,
         );
-        drop(session);
-        report_of(alloc, shards, played)
+        report_of(alloc, tables, worker.seat, played)
     }
 }
 

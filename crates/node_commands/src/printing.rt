@@ -1,6 +1,7 @@
 //! The texts that `serve`, `join` and `round` print.
 
-ghost use Rattle.std.specs.Prelude.{◌≡◌, ◌++◌, ℕ, List, IfOk, OnOk, flat_map};
+ghost use Rattle.std.specs.Prelude.{◌≡◌, ◌++◌, ℕ, List, IfOk, OnOk, codes, flat_map};
+ghost use Rattle.std.specs.List.{repeat};
 ghost use Rattle.node_text.specs.Rows.{row_line};
 ghost use Rattle.node_commands.specs.Printing.{AreRowsOf, IsText, turns_line};
 ghost use Rattle.node_commands.specs.Rounds.{IsPrinted};
@@ -54,15 +55,22 @@ pub(crate) fn session_text(
     Ok(text)
 }
 
-/// Returns the text of a round: the line `audit ok`, then the rows of its only table. Returns `Device` unless the audit has
-/// exactly one table.
-pub(crate) fn round_text(alloc: Global, audit: &Audit) -> Result<Vec<u8>, Ending>
-    ensures { IfOk result (λ text. IsPrinted audit.now text.items) }
+/// Returns the line `audit ok`, `rounds` times.
+fn audit_lines(alloc: Global, rounds: u32) -> Result<Vec<u8>, AllocError>
+    ensures { IfOk result (λ lines. lines.items ≡ repeat rounds (codes "audit ok\n")) }
+{
+    Ok("audit ok\n".repeat(alloc, rounds as usize)?.into_bytes())
+}
+
+/// Returns the text of `rounds` rounds: the line `audit ok` for each, then the rows of the last audit's only table. Returns `Device`
+/// unless the audit has exactly one table.
+pub(crate) fn round_text(alloc: Global, rounds: u32, audit: &Audit) -> Result<Vec<u8>, Ending>
+    ensures { IfOk result (λ text. IsPrinted rounds audit.now text.items) }
 {
     let [table] = audit.tables() else {
         return Err(Ending::Device);
     };
-    let mut text = Vec::from_slice(alloc, b"audit ok\n")?;
+    let mut text = audit_lines(alloc, rounds)?;
     push_table(&mut text, &table.cell)?;
     Ok(text)
 }

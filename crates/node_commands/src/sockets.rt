@@ -58,10 +58,7 @@ fn met<H: Wait>(
             &mut Counting::new(&stream),
             &mut Counting::new(&stream),
         ),
-        Err(_) => {
-            drop(node);
-            Err(Ending::Device)
-        }
+        Err(_) => Err(Ending::Device),
     }
 }
 
@@ -81,7 +78,7 @@ fn served<N: Net<Listener = TcpListener, Stream = TcpStream> + Wait, I: Read + F
         name,
         peer,
     } = link;
-    let node = Node::serving(alloc, name, peer, input)?;
+    let node = Node::serving(rt, alloc, name, peer, input)?;
     met(rt, alloc, node, turns, accepted(rt, port))
 }
 
@@ -101,7 +98,7 @@ fn joined<N: Net<Listener = TcpListener, Stream = TcpStream> + Wait, I: Read + F
         name,
         peer,
     } = link;
-    let node = Node::joining(alloc, name, peer, input)?;
+    let node = Node::joining(rt, alloc, name, peer, input)?;
     met(rt, alloc, node, turns, connected(rt, port))
 }
 
@@ -126,11 +123,12 @@ fn reported<O: Write + Faults, E: Write + Faults>(
 }
 
 /// Reads a scene from `input`, waits on the link's port for the other node to connect, and runs one session with it, which
-/// teaches the rows of the scene. Then writes on `output` how many turns the session made, and the rows that the tables now have.
+/// teaches the rows of the scene. Then audits the tables, and writes on `output` how many turns the session made, and the rows that
+/// the tables now have.
 ///
 /// The session ends after the link's turns, when the other node closes the connection, or when it has a fault. If the scene is
-/// refused, memory runs out or the connection fails, `serve` writes nothing on `output`. Unless a device fails, it writes the
-/// line of the ending on `errors`. `serve` waits for the other node.
+/// refused, memory runs out, the connection fails or the audit finds anything wrong, `serve` writes nothing on `output`. Unless a
+/// device fails, it writes the line of the ending on `errors`. `serve` waits for the other node.
 pub fn serve<
     N: Net<Listener = TcpListener, Stream = TcpStream> + Wait,
     I: Read + Faults,
@@ -150,10 +148,10 @@ pub fn serve<
 }
 
 /// Reads a scene from `input`, of which it takes only the tables, connects to the link's port, and runs one session with the node
-/// that listens there, from which it requests all rows. Then writes on `output` how many turns the session made, and the rows
-/// that the tables now have.
+/// that listens there, from which it requests all rows. Then audits the tables, and writes on `output` how many turns the session
+/// made, and the rows that the tables now have.
 ///
-/// The session ends as in `serve`, and also once it has all rows: after the turn that sent `resync confirmed`.
+/// The session ends as in `serve`, and also after the turn that sent `resync confirmed`, even if the resync was partial.
 pub fn join<
     N: Net<Listener = TcpListener, Stream = TcpStream> + Wait,
     I: Read + Faults,

@@ -1,12 +1,12 @@
 -- What clap meets of the program.
-use Rattle.std.proofs.Common.{◌≡◌, ◌≤◌, ◌∙◌, ℕ, List, codes, refl, rules, subst, sym, true}
+use Rattle.std.proofs.Common.{◌≡◌, ◌≤◌, ◌∙◌, ℕ, List, arith, codes, refl, rules, subst, sym, true}
 use Rattle.std.specs.Prelude.{IfSome, Option, None, Some, option_map}
 use Rattle.clap.specs.Words.{Row, is_simple, is_simple_and_free, subcommand_name_of, subcommand_rows_of}
 use Rattle.clap.specs.declared.parser.matches.ArgMatches.{ArgMatches}
 use Rattle.clap.proofs.OnLiterals.{clap_on_literals}
 use Rattle.peers_node.specs.Choices.{TakesNone, name_of}
 use Rattle.peers_node.specs.CommandLine.{HasOptions, Meets, program}
-use Rattle.peers_node.proofs.Numbers.{number_within}
+use Rattle.peers_node.proofs.Numbers.{number_or_least, number_within}
 use Rattle.peers_node.specs.declared.choice.Options.{Options}
 use Rattle.peers_node.specs.declared.choice.Options.TheVariants.{Lesson, Check, Learn, Table, World, CheckConfiguration, Round, Serve, Join}
 
@@ -33,9 +33,14 @@ some_meets met (Some choice) chosen is meets = subst (Meets met) (some_is choice
     some_is x y is = cc
 
 -- a round that was met has at most 8 threads
-pub few_threads : (met : Option (List ℕ × List Row)) (threads tracks : ℕ) → Meets met (Round threads tracks) → threads ≤ 8
-few_threads None threads tracks meets = elim meets [ ]
-few_threads (Some met) threads tracks (same, has) = (number_within met.1 (codes "threads") 8 threads has.0).1
+pub few_threads : (met : Option (List ℕ × List Row)) (threads tracks rounds : ℕ) → Meets met (Round threads tracks rounds) → threads ≤ 8
+few_threads None threads tracks rounds meets = elim meets [ ]
+few_threads (Some met) threads tracks rounds (same, has) = (number_within met.1 (codes "threads") 8 threads has.0).1
+
+-- and there is at least one
+pub some_rounds : (met : Option (List ℕ × List Row)) (threads tracks rounds : ℕ) → Meets met (Round threads tracks rounds) → 1 ≤ rounds
+some_rounds None threads tracks rounds meets = elim meets [ ]
+some_rounds (Some met) threads tracks rounds (same, has) = number_or_least met.1 (codes "rounds") 100 1 rounds (omega arith) has.2
 
 -- what has no options is met without any
 pub has_none : (rows : List Row) (chosen : Options) → TakesNone chosen → HasOptions rows chosen
@@ -45,7 +50,7 @@ has_none rows Learn none = tt
 has_none rows Table none = tt
 has_none rows World none = tt
 has_none rows CheckConfiguration none = tt
-has_none rows (Round threads tracks) none = elim none [ ]
+has_none rows (Round threads tracks rounds) none = elim none [ ]
 has_none rows (Serve link) none = elim none [ ]
 has_none rows (Join link) none = elim none [ ]
 

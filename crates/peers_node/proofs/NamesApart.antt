@@ -10,13 +10,13 @@ differ index byte name x y is other has not = true≢false (sym has ∙ ap (λ (
 
 -- what holds of a choice that has the name of a round holds of some round
 pub round_is : (P : Options → Type 0) (name : List ℕ) (chosen : Options) → name ≡ codes "round" → name ≡ name_of chosen → P chosen
-    → (threads tracks : ℕ) × P (Round threads tracks)
+    → (threads tracks rounds : ℕ) × P (Round threads tracks rounds)
 round_is P name Lesson is other holds = absurd (differ 0 114 name (codes "round") (codes "lesson") is other refl refl)
 round_is P name Check is other holds = absurd (differ 0 114 name (codes "round") (codes "check") is other refl refl)
 round_is P name Learn is other holds = absurd (differ 0 114 name (codes "round") (codes "learn") is other refl refl)
 round_is P name Table is other holds = absurd (differ 0 114 name (codes "round") (codes "table") is other refl refl)
 round_is P name World is other holds = absurd (differ 0 114 name (codes "round") (codes "world") is other refl refl)
 round_is P name CheckConfiguration is other holds = absurd (differ 1 111 name (codes "round") (codes "run") is other refl refl)
-round_is P name (Round threads tracks) is other holds = (threads, tracks, holds)
+round_is P name (Round threads tracks rounds) is other holds = (threads, tracks, rounds, holds)
 round_is P name (Serve link) is other holds = absurd (differ 0 114 name (codes "round") (codes "serve") is other refl refl)
 round_is P name (Join link) is other holds = absurd (differ 0 114 name (codes "round") (codes "join") is other refl refl)

@@ -11,13 +11,13 @@ name_of Learn = codes "learn"
 name_of Table = codes "table"
 name_of World = codes "world"
 name_of CheckConfiguration = codes "run"
-name_of (Round threads tracks) = codes "round"
+name_of (Round threads tracks rounds) = codes "round"
 name_of (Serve link) = codes "serve"
 name_of (Join link) = codes "join"
 
 -- no option of the subcommand has a value
 abbrev pub TakesNone : Options → Type 0
-TakesNone (Round threads tracks) = ⊥
+TakesNone (Round threads tracks rounds) = ⊥
 TakesNone (Serve link) = ⊥
 TakesNone (Join link) = ⊥
 TakesNone chosen = Unit {0}

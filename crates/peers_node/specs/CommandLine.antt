@@ -1,5 +1,5 @@
 -- What words choose: the program as clap sees it, and what clap meets in the words.
-use Rattle.std.specs.Prelude.{◌≡◌, ◌≤◌, ℕ, pos, true, List, [], Option, None, Some, codes, map}
+use Rattle.std.specs.Prelude.{◌≡◌, ◌≤◌, ℕ, pos, true, ◌⊎◌, List, [], Option, None, Some, codes, map}
 use Rattle.std.specs.Borrow.{Bor}
 use Rattle.std.specs.Str.Parse.{IsNumeral, digits_value, without_leading_plus}
 use Rattle.clap.specs.Kinds.{HasKind, Kinds}
@@ -33,6 +33,10 @@ IsNumber most number text =
 abbrev pub HasNumber : List Row → List ℕ → ℕ → ℕ → Type 0
 HasNumber rows option most number = (text : List ℕ) × (one_of option rows ≡ Some text) × IsNumber most number text
 
+-- the option was met so, or it wasn't met, and the number is `otherwise`
+abbrev pub HasNumberOr : List Row → List ℕ → ℕ → ℕ → ℕ → Type 0
+HasNumberOr rows option most otherwise number = HasNumber rows option most number ⊎ ((first_of option rows ≡ None) × (number ≡ otherwise))
+
 -- the option was met, with the name `name`
 abbrev pub HasName : List Row → List ℕ → List ℕ → Type 0
 HasName rows option name = (first_of option rows ≡ Some name) × (is_name name ≡ true)
@@ -45,7 +49,8 @@ HasLink rows link =
 
 -- what clap met after the subcommand's name are the options
 abbrev pub HasOptions : List Row → Options → Type 0
-HasOptions rows (Round threads tracks) = HasNumber rows (codes "threads") 8 threads × HasNumber rows (codes "tracks") 1000 tracks
+HasOptions rows (Round threads tracks rounds) =
+    HasNumber rows (codes "threads") 8 threads × HasNumber rows (codes "tracks") 1000 tracks × HasNumberOr rows (codes "rounds") 100 1 rounds
 HasOptions rows (Serve link) = HasLink rows link
 HasOptions rows (Join link) = HasLink rows link
 HasOptions rows chosen = Unit {0}
@@ -81,9 +86,17 @@ scripts = with_subcommand tables (new_app (codes "world")).top
 abbrev pub number_option : List ℕ → ℕ → Rule
 number_option name most = record (new_rule name) { long = Some name; value_names = 1; parser = Some (parsers.Signed (pos 1) (pos most)); required = true }
 
--- the subcommand that runs a round
+-- an option that may be left out, with such a number
+abbrev pub optional_number : List ℕ → ℕ → Rule
+optional_number name most = record (new_rule name) { long = Some name; value_names = 1; parser = Some (parsers.Signed (pos 1) (pos most)) }
+
+-- the subcommand that runs rounds, without their number
+abbrev pub round : App
+round = with_rule (with_rule (new_app (codes "round")) (number_option (codes "threads") 8)) (number_option (codes "tracks") 1000)
+
+-- and with it
 abbrev pub rounds : App
-rounds = with_rule (with_rule (new_app (codes "round")) (number_option (codes "threads") 8)) (number_option (codes "tracks") 1000)
+rounds = with_rule round (optional_number (codes "rounds") 100)
 
 -- a required option, with any text
 abbrev pub name_option : List ℕ → Rule

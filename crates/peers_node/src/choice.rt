@@ -8,6 +8,9 @@ pub(crate) const MOST_THREADS: u32 = 8;
 /// The most updates that a thread of a round tracks.
 pub(crate) const MOST_TRACKS: u32 = 1_000;
 
+/// The most rounds.
+pub(crate) const MOST_ROUNDS: u32 = 100;
+
 /// The most turns of a session.
 pub(crate) const MOST_TURNS: u32 = 1_000_000;
 
@@ -29,12 +32,14 @@ pub enum Options {
     World,
     /// Read a configuration and say whether a node can be run with it.
     CheckConfiguration,
-    /// Run a round.
+    /// Run rounds, one after another.
     Round {
         /// The number of threads: 1 to 8.
         threads: u32,
-        /// The number of times each of them tracks: 1 to 1,000.
+        /// The number of times each of them tracks in a round: 1 to 1,000.
         tracks: u32,
+        /// The number of rounds: 1 to 100.
+        rounds: u32,
     },
     /// Read a scene, wait for another node to connect, and teach it the rows.
     Serve(Link),

@@ -7,9 +7,9 @@ ghost use Rattle.peers_node.specs.declared.choice.Options.{Options};
 ghost use Rattle.peers_node.specs.declared.choice.Options.TheVariants as choices;
 ghost use Rattle.peers_node.specs.declared.options_error.OptionsError.TheVariants as errors;
 ghost use Rattle.peers_node.specs.Choices.{TakesNone, name_of};
-ghost use Rattle.peers_node.specs.CommandLine.{Chooses, HasLink, HasName, HasNumber, HasOptions, Meets, Refuses, cause_of, faults_of, program, texts};
+ghost use Rattle.peers_node.specs.CommandLine.{Chooses, HasLink, HasName, HasNumber, HasNumberOr, HasOptions, Meets, Refuses, cause_of, faults_of, program, texts};
 
-use crate::choice::{LAST_PORT, MOST_THREADS, MOST_TRACKS, MOST_TURNS, Options};
+use crate::choice::{LAST_PORT, MOST_ROUNDS, MOST_THREADS, MOST_TRACKS, MOST_TURNS, Options};
 use crate::options_error::OptionsError;
 use crate::program::command;
 use clap::error::ErrorKind;
@@ -135,10 +135,10 @@ fn named(name: &str) -> Option<Options>
     }
 }
 
-/// Returns the round that the options ask for.
+/// Returns the rounds that the options ask for.
 fn round_met(options: &ArgMatches<'_>) -> Option<Options>
     ensures some { IfSome result (λ choice. (codes "round" ≡ name_of choice) × HasOptions (rows_of (found_of options.now)) choice) }
-    ensures none { result ≡ None → (threads tracks : ℕ) → HasOptions (rows_of (found_of options.now)) (choices.Round threads tracks) → ⊥ }
+    ensures none { result ≡ None → (threads tracks rounds : ℕ) → HasOptions (rows_of (found_of options.now)) (choices.Round threads tracks rounds) → ⊥ }
 {
     let Some(threads) = number_met(options, "threads", MOST_THREADS) else {
         return None;
@@ -146,7 +146,14 @@ fn round_met(options: &ArgMatches<'_>) -> Option<Options>
     let Some(tracks) = number_met(options, "tracks", MOST_TRACKS) else {
         return None;
     };
-    Some(Options::Round { threads, tracks })
+    let Some(rounds) = number_or(options, "rounds", MOST_ROUNDS, 1) else {
+        return None;
+    };
+    Some(Options::Round {
+        threads,
+        tracks,
+        rounds,
+    })
 }
 
 /// Returns the link that the options give, with copies of its names.
@@ -182,6 +189,17 @@ fn number_met(matches: &ArgMatches<'_>, option: &str, most: u32) -> Option<u32>
     match matches.get_one::<u32>(option) {
         Some(number) if 1 <= number && number <= most => Some(number),
         _ => None,
+    }
+}
+
+/// Returns the number of `option` if it is 1 to `most`, or `otherwise` if clap didn't meet the option.
+fn number_or(matches: &ArgMatches<'_>, option: &str, most: u32, otherwise: u32) -> Option<u32>
+    ensures some { IfSome result (λ number. HasNumberOr (rows_of (found_of matches.now)) option.now most otherwise number) }
+    ensures none { result ≡ None → (number : ℕ) → HasNumberOr (rows_of (found_of matches.now)) option.now most otherwise number → ⊥ }
+{
+    match text_met(matches, option) {
+        Some(_) => number_met(matches, option, most),
+        None => Some(otherwise),
     }
 }
 

@@ -2,9 +2,9 @@
 ghost use Rattle.std.specs.Prelude.{◌≡◌, IfOk, false};
 ghost use Rattle.clap.specs.Words.{app_of, new_app, rule_of};
 ghost use Rattle.clap.specs.declared.builder.command.Command.TheViews.{out-Command as fields_of};
-ghost use Rattle.peers_node.specs.CommandLine.{alone, meeting, name_option, number_option, numbered, program, rounds, running, scenes, scripts, tables, teaching, top};
+ghost use Rattle.peers_node.specs.CommandLine.{alone, meeting, name_option, number_option, numbered, optional_number, program, round, rounds, running, scenes, scripts, tables, teaching, top};
 
-use crate::choice::{LAST_PORT, MOST_THREADS, MOST_TRACKS, MOST_TURNS};
+use crate::choice::{LAST_PORT, MOST_ROUNDS, MOST_THREADS, MOST_TRACKS, MOST_TURNS};
 use crate::settings::{
     flag, required, requiring_subcommand, up_to, with_about, with_after_help, with_help,
     with_help_by_default, with_long, with_option, with_parser, with_value_name, with_version,
@@ -99,6 +99,15 @@ fn number_option<'a>(alloc: Global, name: &'a str, value: &'a str, most: u32) ->
     with_parser(name_option(alloc, name, value), up_to(most))
 }
 
+/// Makes an option that may be left out, with a number from 1 to `most` as its value.
+fn optional_number<'a>(alloc: Global, name: &'a str, value: &'a str, most: u32) -> Arg<'a>
+    ensures rule { rule_of result ≡ optional_number name.entry.now most }
+    ensures own { result.global ≡ false }
+{
+    let option = with_value_name(with_long(Arg::new(alloc, name), name), value);
+    with_parser(option, up_to(most))
+}
+
 /// Makes a subcommand without options.
 fn bare<'a>(alloc: Global, name: &'a str, about: &'a str) -> Command<'a>
     ensures app { app_of result ≡ new_app name.entry.now }
@@ -107,9 +116,9 @@ fn bare<'a>(alloc: Global, name: &'a str, about: &'a str) -> Command<'a>
     with_about(Command::new(alloc, name), about)
 }
 
-/// Makes the subcommand that runs a round.
-fn rounds<'a>(alloc: Global) -> Result<Command<'a>, AllocError>
-    ensures app { IfOk result (λ command. app_of command ≡ rounds) }
+/// Makes the subcommand that runs rounds, without their number.
+fn round<'a>(alloc: Global) -> Result<Command<'a>, AllocError>
+    ensures app { IfOk result (λ command. app_of command ≡ round) }
     ensures local { IfOk result (λ command. (fields_of command).has_globals ≡ false) }
 {
     let round = bare(
@@ -120,7 +129,22 @@ fn rounds<'a>(alloc: Global) -> Result<Command<'a>, AllocError>
     let threads = number_option(alloc, "threads", "T", MOST_THREADS);
     let round = with_option(round, with_help(threads, "How many threads track"))?;
     let tracks = number_option(alloc, "tracks", "N", MOST_TRACKS);
-    with_option(round, with_help(tracks, "How often each of them does"))
+    with_option(
+        round,
+        with_help(tracks, "How often each of them does in a round"),
+    )
+}
+
+/// Makes the subcommand that runs rounds.
+fn rounds<'a>(alloc: Global) -> Result<Command<'a>, AllocError>
+    ensures app { IfOk result (λ command. app_of command ≡ rounds) }
+    ensures local { IfOk result (λ command. (fields_of command).has_globals ≡ false) }
+{
+    let rounds = optional_number(alloc, "rounds", "R", MOST_ROUNDS);
+    with_option(
+        round(alloc)?,
+        with_help(rounds, "How many rounds follow one another, 1 by default"),
+    )
 }
 
 /// Makes the subcommand that checks a configuration.

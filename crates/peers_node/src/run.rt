@@ -60,7 +60,7 @@ fn texts<'a>(alloc: Global, arguments: &'a [String]) -> Result<Vec<&'a str>, All
 
 /// Runs the subcommand that `words` choose. All but `learn`, whose frame is small, run in functions that aren't inlined, so that
 /// the stack holds the frame of only one of them.
-#[tactic(auto, using(crate::proofs::Choices::few_threads))]
+#[tactic(auto, using(crate::proofs::Choices::few_threads, crate::proofs::Choices::some_rounds))]
 fn dispatched<
     'a,
     R: Threads + Wait + Sync + Net<Listener = TcpListener, Stream = TcpStream>,
@@ -76,8 +76,18 @@ fn dispatched<
         Ok(Options::Table) => run_table(alloc, &mut input, &mut output, errors),
         Ok(Options::World) => run_world(alloc, &mut input, &mut output, errors),
         Ok(Options::CheckConfiguration) => run_configuration_check(alloc, &mut input, errors),
-        Ok(Options::Round { threads, tracks }) => {
-            let size = RoundSize { threads, tracks };
+        Ok(
+            Options::Round {
+                threads,
+                tracks,
+                rounds,
+            },
+        ) => {
+            let size = RoundSize {
+                threads,
+                tracks,
+                rounds,
+            };
             run_round(runner, alloc, size, &mut output, errors)
         }
         Ok(Options::Serve(link)) => run_serve(runner, alloc, link, &mut input, &mut output, errors),
@@ -143,7 +153,8 @@ fn run_round<R: Threads + Wait + Sync, O: Write + Faults, E: Write + Faults>(
     output: &mut O,
     errors: &mut E,
 ) -> u8
-    requires { size.threads ≤ 8 }
+    requires threads { size.threads ≤ 8 }
+    requires rounds { 1 ≤ size.rounds }
 {
     round(runner, alloc, size, output, errors).status()
 }

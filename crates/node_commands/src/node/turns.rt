@@ -2,18 +2,27 @@
 
 ghost use Rattle.std.specs.Prelude.{◌≡◌, ◌≤◌, ◌<◌, ◌+◌, ◌^◌, List, ℕ};
 ghost use Rattle.std.specs.Io.KnownBytes.{Appends, Consumes};
-ghost use Rattle.node_commands.specs.Turning.{Plays, Takes, broken_by, closed_by, ending_after, turn_after};
+ghost use Rattle.node_commands.specs.Turning.{Plays, Takes, broken_by, closed_by, ending_after, moment_of, turn_after};
 
-use crate::node::loading::SESSION;
 use peers_devices::Faults;
-use peers_engine::{AlwaysOpen, EngineError, Turned, turn};
+use peers_engine::{AlwaysOpen, EngineError, Turned, Worker};
 use session_core::{Session, SessionError};
 use std::alloc::Global;
 use std::io::{Read, Write};
 use std::sync::Wait;
-use table_shards::{Seat, Shards};
+use table_shards::Shards;
 use table_types::Moment;
 use text_commands::Ending;
+
+/// When a session's turns come, and when it ends.
+#[derive(Clone, Copy, Debug)]
+pub struct Pace {
+    /// Whether the session ends once it has sent `resync confirmed`.
+    pub(crate) leaves: bool,
+    /// Whether every turn comes at the moment at which the rows were loaded. Otherwise the first one comes a millisecond after it,
+    /// and each other one a millisecond after the one before.
+    pub(crate) stands: bool,
+}
 
 /// The course of a session: the number of turns that it made, and how it ended.
 #[derive(Clone, Copy, Debug)]
@@ -68,60 +77,60 @@ fn ending_after(
     }
 }
 
-/// Makes the turn of a session that follows `before` others.
+impl Pace {
+    /// Returns the moment of the turn that follows `before` others.
+    fn moment(self, before: u32) -> Moment
+        requires { before + 1 < 2 ^ 32 }
+        ensures { result ≡ moment_of self before }
+    {
+        if self.stands {
+            Moment::least()
+        } else {
+            Moment::least().later_by(before + 1)
+        }
+    }
+}
+
+/// Takes the turn of the worker's session that follows `before` others.
 fn take_turn<H: Wait, R: Read + Faults, W: Write + Faults>(
     rt: &H,
     alloc: Global,
-    session: &mut Session,
     shards: &Shards,
-    seat: Seat,
+    worker: &mut Worker,
+    pace: Pace,
     before: u32,
     from: &mut R,
     to: &mut W,
-) -> (Seat, Result<Turned, EngineError>)
+) -> Result<Turned, EngineError>
     requires { before + 1 < 2 ^ 32 }
-    ensures { (received sent : List ℕ) × Takes (turn_after before session.old seat) result.1 received sent (turn_after before session.new result.0)
+    ensures { (received sent : List ℕ) × Takes (turn_after pace before worker.old) result received sent (turn_after pace before worker.new)
         × Consumes (R.remaining from.old) (R.remaining from.new) received
         × Appends (W.contents to.old) (W.contents to.new) sent }
 {
-    let now = Moment::least().later_by(before + 1);
-    turn(
-        rt,
-        alloc,
-        session,
-        from,
-        to,
-        &AlwaysOpen,
-        shards,
-        seat,
-        SESSION,
-        now,
-    )
+    let now = pace.moment(before);
+    worker.turn(rt, alloc, from, to, &AlwaysOpen, shards, now)
 }
 
-/// Makes the turns of a session: `turns` of them, or fewer if the session ends before. The first turn comes a millisecond after
-/// the rows were loaded, and each other turn a millisecond after the last one.
+/// Takes the turns of the worker's session, each at the moment that `pace` gives it: `turns` of them, or fewer if the session ends
+/// before.
 pub(crate) fn play<H: Wait, R: Read + Faults, W: Write + Faults>(
     rt: &H,
     alloc: Global,
-    session: &mut Session,
     shards: &Shards,
-    seat: Seat,
-    leaves: bool,
+    worker: &mut Worker,
+    pace: Pace,
     turns: u32,
     from: &mut R,
     to: &mut W,
 ) -> Played
-    ensures plays { (received sent : List ℕ) × Plays leaves 0 session.old seat turns result.turns result.ending received sent session.new
+    ensures plays { (received sent : List ℕ) × Plays pace 0 worker.old turns result.turns result.ending received sent worker.new
         × Consumes (R.remaining from.old) (R.remaining from.new) received
         × Appends (W.contents to.old) (W.contents to.new) sent }
     ensures within { result.turns ≤ turns }
 {
-    let mut seat = seat;
     for before in 0..turns {
-        let (back, turned) = take_turn(rt, alloc, session, shards, seat, before, from, to);
-        seat = back;
-        if let Some(ending) = ending_after(session, leaves, turned) {
+        let turned = take_turn(rt, alloc, shards, worker, pace, before, from, to);
+        if let Some(ending) = ending_after(&worker.session, pace.leaves, turned) {
             return Played {
                 turns: before + 1,
                 ending,

@@ -1,11 +1,11 @@
 //! The gate at which the threads of a round stop when they have started.
 
 use crate::rounds::tracking::track_all;
-use crate::rounds::worker::{Worker, work};
+use crate::rounds::worker::work;
+use known_state::Known;
 use peers_engine::AlwaysOpen;
 use std::alloc::Global;
 use std::sync::Wait;
-use table_cell::Reply;
 use table_shards::{Seat, Shards};
 use text_commands::Ending;
 
@@ -19,20 +19,18 @@ impl StartGate for AlwaysOpen {
     fn at_start<R: Wait>(&self, _: &R) {}
 }
 
-/// The result of a thread that changes the table: its seat, and the reply to its last change.
-pub(crate) type Tracked = (Seat, Result<Option<Reply>, Ending>);
-
-/// Stops at the gate, and then calls `track_all`.
+/// Stops at the gate, and then changes the key that is the seat's number, as `track_all` does.
 pub(crate) fn track_from_gate<R: Wait, G: StartGate>(
     rt: &R,
     gate: &G,
     shards: &Shards,
-    seat: Seat,
+    seat: &mut Seat,
     tracks: u32,
-) -> Tracked {
+) -> Result<(), Ending> {
     gate.at_start(rt);
     let key = seat.number();
-    track_all(rt, shards, seat, key, tracks)
+    track_all(rt, shards, seat, key, tracks)?;
+    Ok(())
 }
 
 /// Stops at the gate, and then calls `work`, which stops at no gate.
@@ -41,8 +39,9 @@ pub(crate) fn work_from_gate<R: Wait, G: StartGate>(
     alloc: Global,
     gate: &G,
     shards: &Shards,
-    worker: Worker,
-) -> (Worker, Result<(), Ending>) {
+    seat: &mut Seat,
+    known: &mut Known,
+) -> Result<(), Ending> {
     gate.at_start(rt);
-    work(rt, alloc, &AlwaysOpen, shards, worker)
+    work(rt, alloc, &AlwaysOpen, shards, seat, known)
 }

@@ -1,14 +1,16 @@
 //! The table of a round.
 
-ghost use Rattle.std.specs.Prelude.{◌≡◌, IfOk, IsTrue, false};
+ghost use Rattle.std.specs.Prelude.{◌≡◌, ◌≤◌, ◌∷◌, [], ℕ, IfOk, IsTrue, false};
+ghost use Rattle.table_types.specs.declared.row.Cell.TheVariants as cells;
 ghost use Rattle.table_cell.specs.Histories.{new_cell};
 ghost use Rattle.table_shards.specs.Rounds.{begun};
-ghost use Rattle.node_commands.specs.Rounds.{IsRoundTable, round_table};
+ghost use Rattle.node_commands.specs.Rounds.{HasCountAmong, IsCountingTable, IsRoundTable, round_table};
 
 use std::alloc::Global;
+use std::sync::{MutexGuard, Wait};
 use table_cell::TableCell;
-use table_shards::ShardError;
-use table_types::{DataType, DefError, KeyKind, Memory, Roster, TableDef};
+use table_shards::{Locked, ShardError, Shards};
+use table_types::{Cell, DataType, DefError, Key, KeyKind, Memory, Roster, Row, TableDef};
 use text_commands::Ending;
 
 /// The id of the table.
@@ -58,7 +60,82 @@ pub(crate) fn is_round_table(alloc: Global, cell: &TableCell) -> Result<bool, En
     Ok(begins_so && cell.definition().is_same(&wanted))
 }
 
-/// Returns how a round ends if a call under the table's lock is refused with `error`: `Memory` if memory ran out, and `Device`
+/// Returns whether the cell's table has that definition.
+fn has_definition(alloc: Global, cell: &TableCell) -> Result<bool, Ending>
+    ensures { IfOk result (λ has. IsTrue has → cell.now.state.definition ≡ round_table) }
+{
+    let wanted = definition(alloc)?;
+    Ok(cell.definition().is_same(&wanted))
+}
+
+/// Returns gpc0 of the row, or 0 if it has other data.
+fn count_of(row: &Row) -> u64
+    ensures { 1 ≤ result → row.now.cells ≡ cells.Count result ∷ [] }
+{
+    match row.cells() {
+        [Cell::Count(count)] => *count,
+        _ => 0,
+    }
+}
+
+/// Returns gpc0 of the row of the integer key `number`, or 0 if there is no such row, or it has other data.
+fn count_at(rows: &[(Key, Row)], number: u32) -> u64
+    ensures { 1 ≤ result → HasCountAmong number result rows.now }
+{
+    for (key, row) in rows {
+        if Key::Int(number).cmp(key).is_eq() {
+            return count_of(row);
+        }
+    }
+    0
+}
+
+/// Returns whether the key of each of `threads` threads counts `count`.
+fn have_counted(rows: &[(Key, Row)], threads: u32, count: u64) -> bool
+    requires { 1 ≤ count }
+    ensures { IsTrue result → (key : ℕ) → 1 ≤ key → key ≤ threads → HasCountAmong key count rows.now }
+{
+    for before in 0..threads {
+        if count_at(rows, before + 1) != count {
+            return false;
+        }
+    }
+    true
+}
+
+/// Returns whether the cell's table has that definition, and the key of each of `threads` threads counts `count`, if that is at
+/// least 1.
+#[tactic(auto, using(crate::proofs::CountLaws::counts_none))]
+pub(crate) fn is_counting_table(
+    alloc: Global,
+    cell: &TableCell,
+    threads: u32,
+    count: u64,
+) -> Result<bool, Ending>
+    ensures { IfOk result (λ is. IsTrue is → IsCountingTable threads count cell.now) }
+{
+    if !has_definition(alloc, cell)? {
+        return Ok(false);
+    }
+    if count == 0 {
+        return Ok(true);
+    }
+    let rows = cell.rows()?;
+    Ok(have_counted(rows.as_slice(), threads, count))
+}
+
+/// Waits for the table's lock and takes it.
+pub(crate) fn lock<'a, R: Wait>(
+    rt: &R,
+    shards: &'a Shards,
+) -> Result<MutexGuard<'a, Locked>, Ending> {
+    match shards.cell(TABLE) {
+        Some(lock) => Ok(lock.lock(rt)),
+        None => Err(Ending::Device),
+    }
+}
+
+/// Returns how a round ends if a call under the table's lock fails with `error`: `Memory` if memory ran out, and `Device`
 /// otherwise. `memory` is the table's own error for the former.
 pub(crate) fn refused<E: Copy + PartialEq>(error: ShardError<E>, memory: E) -> Ending {
     if error == ShardError::Memory || error == ShardError::Cell(memory) {

@@ -1,69 +1,55 @@
 //! The threads of a round that change the table.
 
-ghost use Rattle.std.specs.Prelude.{◌≡◌, IfOk, IsTrue, true};
+ghost use Rattle.std.specs.Prelude.{◌≡◌, OnOk, IsTrue, true};
 ghost use Rattle.std.specs.List.{AllByRecursion};
 ghost use Rattle.node_commands.specs.Tracks.{GainsTracks, HasDoneItsPart, HasTracked, IsTrack, keeps_rows};
 
-use crate::rounds::table::{TABLE, refused};
+use crate::rounds::table::{TABLE, lock, refused};
 use std::sync::Wait;
 use table_cell::{CellEvent, Reply, TrackError};
-use table_shards::{Receipt, Seat, Shards, held};
+use table_shards::held::lent;
+use table_shards::{Receipt, Seat, Shards};
 use table_types::{Change, DataType, Key, Moment};
 use text_commands::Ending;
 
 /// Adds 1 to gpc0 of `key` at the least moment, while it holds the table's lock.
 #[tactic(auto, using(crate::proofs::TrackLaws::one_tracked))]
-fn track_once<R: Wait>(
-    rt: &R,
-    shards: &Shards,
-    seat: Seat,
-    key: u32,
-) -> (Seat, Result<Reply, Ending>)
-    ensures { IfOk result.1 (λ reply. GainsTracks key 1 seat result.0) }
+fn track_once<R: Wait>(rt: &R, shards: &Shards, seat: &mut Seat, key: u32) -> Result<Reply, Ending>
+    ensures { OnOk result (GainsTracks key 1 seat.old seat.new) }
 {
-    let Some(lock) = shards.cell(TABLE) else {
-        return (seat, Err(Ending::Device));
-    };
     let change = Change::Add(DataType::Gpc0, 1);
-    let mut locked = lock.lock(rt);
-    let (seat, answer) = held::track(
+    let mut locked = lock(rt, shards)?;
+    match lent::track_with_reply(
         &mut locked,
         seat,
         TABLE,
         Key::Int(key),
         change,
         Moment::least(),
-    );
-    match answer {
-        Ok(reply) => (seat, Ok(reply)),
-        Err(error) => (seat, Err(refused(error, TrackError::Memory))),
+    ) {
+        Ok(reply) => Ok(reply),
+        Err(error) => Err(refused(error, TrackError::Memory)),
     }
 }
 
-/// Adds 1 to gpc0 of `key` in table 1 of `shards`, `tracks` times, and takes the table's lock anew each time. Returns the seat,
-/// with the reply to the last change, or `None` if `tracks` is 0. Stops at the first change that is refused: with `Memory` if
-/// memory ran out, and with `Device` otherwise.
+/// Adds 1 to gpc0 of `key` in table 1 of `shards`, `tracks` times, and takes the table's lock anew each time. Returns the reply to
+/// the last change, or `None` if `tracks` is 0. Stops at the first change that is refused, and fails with `Memory` if memory ran
+/// out, and with `Device` otherwise. The seat keeps the receipts of the changes before it.
 #[tactic(auto, using(crate::proofs::TrackLaws::none_tracked, crate::proofs::TrackLaws::one_more_tracked))]
 pub fn track_all<R: Wait>(
     rt: &R,
     shards: &Shards,
-    seat: Seat,
+    seat: &mut Seat,
     key: u32,
     tracks: u32,
-) -> (Seat, Result<Option<Reply>, Ending>)
-    ensures { IfOk result.1 (λ last. GainsTracks key tracks seat result.0) }
+) -> Result<Option<Reply>, Ending>
+    ensures { OnOk result (GainsTracks key tracks seat.old seat.new) }
 {
-    let mut seat = seat;
     let mut last = None;
     for done in 0..tracks {
-        let (back, answer) = track_once(rt, shards, seat, key);
-        seat = back;
-        match answer {
-            Ok(reply) => last = Some(reply),
-            Err(error) => return (seat, Err(error)),
-        }
+        last = Some(track_once(rt, shards, seat, key)?);
     }
-    (seat, Ok(last))
+    Ok(last)
 }
 
 /// Returns whether the receipt is of a track by the seat `number` that adds 1 to the key of the same number.

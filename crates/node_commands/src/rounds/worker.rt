@@ -3,33 +3,22 @@
 ghost use Rattle.std.specs.Prelude.{ℕ, IfOk, List};
 ghost use Rattle.known_state.specs.Lessons.{IsLessonFor};
 
-use crate::rounds::table::{SESSION, TABLE, refused};
+use crate::rounds::table::{SESSION, TABLE, lock, refused};
 use known_state::Known;
 use peers_engine::{Gate, Stage};
 use std::alloc::Global;
 use std::sync::Wait;
 use table_cell::{AckError, CopyError, TableCell};
-use table_shards::{Seat, ShardError, Shards, held};
+use table_shards::held::lent;
+use table_shards::{Seat, ShardError, Shards};
 use table_types::{Batch, CopyKind, Moment};
 use teach_writer::teach;
 use text_commands::Ending;
 
-/// The worker of a session: its seat, and what its learner knows.
-#[derive(Debug, Drop)]
-pub struct Worker {
-    /// The seat from which it works on the table.
-    pub seat: Seat,
-    /// The state of a learner that has received all lessons so far.
-    pub known: Known,
-}
-
 /// Copies the updates that the session hasn't been taught yet, while it holds the lock. Returns `None` if there are none.
-fn copied<R: Wait>(rt: &R, shards: &Shards, seat: Seat) -> (Seat, Result<Option<Batch>, Ending>) {
-    let Some(lock) = shards.cell(TABLE) else {
-        return (seat, Err(Ending::Device));
-    };
-    let mut locked = lock.lock(rt);
-    let (seat, answer) = held::copy(
+fn copy<R: Wait>(rt: &R, shards: &Shards, seat: &mut Seat) -> Result<Option<Batch>, Ending> {
+    let mut locked = lock(rt, shards)?;
+    match lent::copy(
         &mut locked,
         seat,
         TABLE,
@@ -37,11 +26,10 @@ fn copied<R: Wait>(rt: &R, shards: &Shards, seat: Seat) -> (Seat, Result<Option<
         CopyKind::Push,
         Batch::MOST,
         Moment::least(),
-    );
-    match answer {
-        Ok(batch) => (seat, Ok(Some(batch))),
-        Err(ShardError::Cell(CopyError::Nothing)) => (seat, Ok(None)),
-        Err(error) => (seat, Err(refused(error, CopyError::Memory))),
+    ) {
+        Ok(batch) => Ok(Some(batch)),
+        Err(ShardError::Cell(CopyError::Nothing)) => Ok(None),
+        Err(error) => Err(refused(error, CopyError::Memory)),
     }
 }
 
@@ -58,65 +46,49 @@ fn planned(alloc: Global, known: &Known, batch: &Batch) -> Result<Known, Ending>
 }
 
 /// Settles the batch, while it holds the lock.
-fn settled<R: Wait>(
-    rt: &R,
-    shards: &Shards,
-    seat: Seat,
-    batch: &Batch,
-) -> (Seat, Result<(), Ending>) {
-    let Some(lock) = shards.cell(TABLE) else {
-        return (seat, Err(Ending::Device));
-    };
-    let mut locked = lock.lock(rt);
-    let (seat, answer) = held::settle(&mut locked, seat, TABLE, SESSION, batch);
-    (seat, answer.map_err(|_| Ending::Device))
+fn settle<R: Wait>(rt: &R, shards: &Shards, seat: &mut Seat, batch: &Batch) -> Result<(), Ending> {
+    let mut locked = lock(rt, shards)?;
+    lent::settle(&mut locked, seat, TABLE, SESSION, batch).map_err(|_| Ending::Device)
 }
 
 /// Acknowledges the last number of the batch, while it holds the lock.
-fn acknowledged<R: Wait>(
+fn acknowledge<R: Wait>(
     rt: &R,
     shards: &Shards,
-    seat: Seat,
+    seat: &mut Seat,
     batch: &Batch,
-) -> (Seat, Result<(), Ending>) {
-    let (Some(lock), Some(last)) = (shards.cell(TABLE), batch.updates().last()) else {
-        return (seat, Err(Ending::Device));
+) -> Result<(), Ending> {
+    let Some(last) = batch.updates().last() else {
+        return Err(Ending::Device);
     };
-    let mut locked = lock.lock(rt);
-    let (seat, answer) = held::ack(&mut locked, seat, TABLE, SESSION, last.number);
-    match answer {
-        Ok(_) => (seat, Ok(())),
-        Err(error) => (seat, Err(refused(error, AckError::Memory))),
+    let mut locked = lock(rt, shards)?;
+    match lent::ack(&mut locked, seat, TABLE, SESSION, last.number) {
+        Ok(_) => Ok(()),
+        Err(error) => Err(refused(error, AckError::Memory)),
     }
 }
 
 /// Plans, settles and acknowledges a batch. Calls the gate before the plan and after it.
-fn taught<R: Wait, G: Gate>(
+fn teach_batch<R: Wait, G: Gate>(
     rt: &R,
     alloc: Global,
     gate: &G,
     shards: &Shards,
-    worker: Worker,
+    seat: &mut Seat,
+    known: &mut Known,
     batch: &Batch,
-) -> (Worker, Result<(), Ending>) {
-    let Worker { seat, known } = worker;
+) -> Result<(), Ending> {
     gate.at(rt, Stage::Copied);
-    let known = match planned(alloc, &known, batch) {
-        Ok(after) => after,
-        Err(error) => return (Worker { seat, known }, Err(error)),
-    };
+    *known = planned(alloc, known, batch)?;
     gate.at(rt, Stage::Planned);
-    let (seat, answer) = settled(rt, shards, seat, batch);
-    if let Err(error) = answer {
-        return (Worker { seat, known }, Err(error));
-    }
-    let (seat, answer) = acknowledged(rt, shards, seat, batch);
-    (Worker { seat, known }, answer)
+    settle(rt, shards, seat, batch)?;
+    acknowledge(rt, shards, seat, batch)
 }
 
 /// Copies, plans, settles and acknowledges what session 1 of table 1 of `shards` hasn't been taught yet, until there is nothing to
-/// copy. Writes nothing. Holds the lock for one call of the table at a time, and no lock while it plans or is at the gate.
-/// Returns the worker. Stops at the first call that is refused: with `Memory` if memory ran out, and with `Device` otherwise.
+/// copy. `known` is the state of a learner that has received all lessons so far. Writes nothing. Holds the lock for one call of the
+/// table at a time, and no lock while it plans or is at the gate. Stops at the first call that is refused: with `Memory` if memory
+/// ran out, and with `Device` otherwise.
 ///
 /// Each copy is an event of the table, so `work` makes at most as many as a history holds.
 pub fn work<R: Wait, G: Gate>(
@@ -124,23 +96,14 @@ pub fn work<R: Wait, G: Gate>(
     alloc: Global,
     gate: &G,
     shards: &Shards,
-    worker: Worker,
-) -> (Worker, Result<(), Ending>) {
-    let mut worker = worker;
+    seat: &mut Seat,
+    known: &mut Known,
+) -> Result<(), Ending> {
     for _ in 0..TableCell::MOST_EVENTS {
-        let Worker { seat, known } = worker;
-        let (seat, answer) = copied(rt, shards, seat);
-        worker = Worker { seat, known };
-        let batch = match answer {
-            Ok(Some(batch)) => batch,
-            Ok(None) => return (worker, Ok(())),
-            Err(error) => return (worker, Err(error)),
+        let Some(batch) = copy(rt, shards, seat)? else {
+            return Ok(());
         };
-        let (back, answer) = taught(rt, alloc, gate, shards, worker, &batch);
-        worker = back;
-        if let Err(error) = answer {
-            return (worker, Err(error));
-        }
+        teach_batch(rt, alloc, gate, shards, seat, known, &batch)?;
     }
-    (worker, Err(Ending::Device))
+    Err(Ending::Device)
 }

@@ -15,4 +15,4 @@ returns-in-Some-round-default-clause-none c = λ none chosen meets.
     let by = meets_by (subcommand_rows_of m) (codes "round") rows chosen name (sym arm.ensures.rows) meets in
     let round = round_is (λ o. HasOptions rows o) (codes "round") chosen refl by.0 by.1 in
     let gone : c.round_met.result ≡ None = cc in
-    c.round_met.ensures.none gone round.0 round.1 round.2
+    c.round_met.ensures.none gone round.0 round.1 round.2 round.3

@@ -1,7 +1,8 @@
 use Rattle.std.proofs.Common.{drop}
-use Rattle.table_cell.specs.Histories.{CellState}
-use Rattle.node_commands.specs.Loading.{Loads}
+use Rattle.table_shards.specs.Receipts.{SeatState}
+use Rattle.node_commands.specs.Loading.{Gains, loads_of}
 use Rattle.node_commands.proofs.node.loading.load.Given as goal
 
-abbrev pub invariant-loop-update : goal.invariant-loop-update
-invariant-loop-update l = (e : CellState) → Loads l.cell (drop l.update-index l.updates) e → Loads l.fn.cell l.updates e
+abbrev pub invariant-loop-definition : goal.invariant-loop-definition
+invariant-loop-definition g l =
+    (e : SeatState) → Gains (loads_of l.sessions (drop l.definition-index l.definitions) l.updates) l.seat e → Gains (loads_of l.sessions l.definitions l.updates) l.fn.seat e
