@@ -18,3 +18,5 @@ mod machine;
 mod rounds;
 #[cfg(test)]
 mod turns;
+#[cfg(test)]
+mod workers;

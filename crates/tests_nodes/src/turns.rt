@@ -157,7 +157,7 @@ const LEARNING: &[Exchange] = &[Exchange {
 }];
 
 /// `b` accepts the hello, and is asked for its rows.
-const ASKING: &[Exchange] = &[Exchange {
+pub const ASKING: &[Exchange] = &[Exchange {
     comes: HELLO_AND_REQUEST,
     sends: b"200\n",
     ends: Ok(Turned::Going),

@@ -98,17 +98,13 @@ fn join<H: Wait>(
     most: usize,
 ) -> Option<bool> {
     let mut joiner = meeting.joiner.side(alloc, Role::Connects)?;
-    let agreed = agree(rt, alloc, &mut joiner, server, meeting, most);
-    drop(joiner);
-    agreed
+    agree(rt, alloc, &mut joiner, server, meeting, most)
 }
 
 /// Returns what `join` does, with a new server.
 fn serve<H: Wait>(rt: &H, alloc: Global, meeting: &Meeting, most: usize) -> Option<bool> {
     let mut server = meeting.server.side(alloc, Role::Accepts)?;
-    let agreed = join(rt, alloc, &mut server, meeting, most);
-    drop(server);
-    agreed
+    join(rt, alloc, &mut server, meeting, most)
 }
 
 /// Calls `serve` for each length of the pieces.

@@ -10,7 +10,7 @@ use text_commands::{Ending, lesson};
 pub enum Device {
     /// It counts its failed calls.
     Counted(u32, Then),
-    /// It doesn't, and each second call fails besides.
+    /// It doesn't, and each second call fails as well.
     Uncounted(u32, Then),
 }
 

@@ -3,11 +3,10 @@
 use crate::sides::Side;
 use crate::turns::{Exchange, Story, are_so, goes_so, is_lived, is_so};
 use crate::waiting::Waiting;
-use peers_devices::{Counting, Faults};
-use peers_engine::{AlwaysOpen, EngineError, Fused, Turned};
+use peers_devices::Counting;
+use peers_engine::{AlwaysOpen, Fused};
 use session_core::State;
 use std::alloc::Global;
-use std::io::Write;
 use std::sync::Wait;
 
 /// The device that fails, and what it passes on before: a number of reads, or of written bytes.
@@ -28,17 +27,6 @@ pub struct Failure {
     pub after: Exchange,
 }
 
-/// Takes a turn for which these bytes have come, over a writer.
-fn wrote<H: Wait, W: Write + Faults>(
-    rt: &H,
-    alloc: Global,
-    side: &mut Side,
-    comes: &[u8],
-    output: &mut W,
-) -> Option<Result<Turned, EngineError>> {
-    side.take_turn(rt, alloc, &mut Waiting::new(comes), output, &AlwaysOpen)
-}
-
 /// Returns whether the turn goes as it says over a writer that takes `room` bytes and then fails.
 fn writes_so<H: Wait>(
     rt: &H,
@@ -46,11 +34,12 @@ fn writes_so<H: Wait>(
     side: &mut Side,
     turn: &Exchange,
     room: usize,
-) -> Option<bool> {
+) -> bool {
+    let mut input = Waiting::new(turn.comes);
     let mut output = Counting::new(Fused::new(Vec::new(alloc), room));
-    let turned = wrote(rt, alloc, side, turn.comes, &mut output)?;
+    let turned = side.take_turn(rt, alloc, &mut input, &mut output, &AlwaysOpen);
     let written = output.into_inner().into_inner();
-    Some(turned == turn.ends && written.as_slice() == turn.sends)
+    turned == turn.ends && written.as_slice() == turn.sends
 }
 
 /// Returns whether the turn goes as it says over a reader that fails after `reads` reads.
@@ -60,13 +49,13 @@ fn reads_so<H: Wait>(
     side: &mut Side,
     turn: &Exchange,
     reads: usize,
-) -> Option<bool> {
+) -> bool {
     let mut input = Counting::new(Fused::new(turn.comes, reads));
     goes_so(rt, alloc, side, &mut input, turn)
 }
 
 /// Returns whether the turn over the device that fails goes as it says.
-fn fails_so<H: Wait>(rt: &H, alloc: Global, side: &mut Side, failure: &Failure) -> Option<bool> {
+fn fails_so<H: Wait>(rt: &H, alloc: Global, side: &mut Side, failure: &Failure) -> bool {
     match failure.device {
         Fails::Reader(reads) => reads_so(rt, alloc, side, &failure.turn, reads),
         Fails::Writer(room) => writes_so(rt, alloc, side, &failure.turn, room),
@@ -76,14 +65,12 @@ fn fails_so<H: Wait>(rt: &H, alloc: Global, side: &mut Side, failure: &Failure) 
 /// Returns whether the story and the turns after it go as they say.
 fn is_begun<H: Wait>(rt: &H, alloc: Global, side: &mut Side, failure: &Failure) -> Option<bool> {
     let was_lived = is_lived(rt, alloc, side, &failure.story)?;
-    Some(was_lived && are_so(rt, alloc, side, failure.before)?)
+    Some(was_lived && are_so(rt, alloc, side, failure.before))
 }
 
 /// Returns whether the session has ended, and the turn after the failure says so.
-fn is_over<H: Wait>(rt: &H, alloc: Global, side: &mut Side, failure: &Failure) -> Option<bool> {
-    let has_ended = side.session.state() == State::Ended;
-    let says_so = is_so(rt, alloc, side, &failure.after)?;
-    Some(has_ended && says_so)
+fn is_over<H: Wait>(rt: &H, alloc: Global, side: &mut Side, failure: &Failure) -> bool {
+    side.worker.session.state() == State::Ended && is_so(rt, alloc, side, &failure.after)
 }
 
 fn ends_session<H: Wait>(
@@ -93,17 +80,13 @@ fn ends_session<H: Wait>(
     failure: &Failure,
 ) -> Option<bool> {
     let was_begun = is_begun(rt, alloc, side, failure)?;
-    let failed = fails_so(rt, alloc, side, failure)?;
-    let is_over = is_over(rt, alloc, side, failure)?;
-    Some(was_begun && failed && is_over)
+    Some(was_begun && fails_so(rt, alloc, side, failure) && is_over(rt, alloc, side, failure))
 }
 
 /// Plays the failure with a new side.
 fn comes_true<H: Wait>(rt: &H, alloc: Global, failure: &Failure) -> Option<bool> {
     let mut side = failure.story.tables.side(alloc, failure.story.role)?;
-    let ended = ends_session(rt, alloc, &mut side, failure);
-    drop(side);
-    ended
+    ends_session(rt, alloc, &mut side, failure)
 }
 
 /// Plays the failures. Returns the index of the first that fails.

@@ -1,11 +1,10 @@
 //! Sessions at the gate.
 
-use crate::sides::{SESSION, Side, turned};
+use crate::sides::{SESSION, Side};
 use crate::turns::{Story, is_lived};
 use crate::waiting::Waiting;
 use peers_devices::{Counting, Faults};
-use peers_engine::{EngineError, Gate, Stage, Turned};
-use session_core::Session;
+use peers_engine::{EngineError, Gate, Stage, Turned, Worker};
 use std::alloc::Global;
 use std::io::Write;
 use std::sync::Wait;
@@ -13,7 +12,8 @@ use std::sync::atomic::{AtomicBool, AtomicU32, Ordering};
 use std::thread::Threads;
 use std::time::Clock;
 use std::{io, thread};
-use table_shards::{Seat, Shards, held};
+use table_shards::held::lent;
+use table_shards::{Seat, Shards};
 use table_types::{CopyKind, Moment};
 use tests_play_tables::{comes, track};
 
@@ -112,43 +112,36 @@ struct Outcome {
     sent: usize,
 }
 
-/// Takes a turn that finds nothing to read. Returns `None` if there is no seat.
+/// Takes a turn at the least moment that finds nothing to read.
 fn teaches<H: Wait, W: Write + Faults, G: Gate>(
     rt: &H,
     alloc: Global,
-    session: &mut Session,
+    worker: &mut Worker,
     output: &mut W,
-    shards: &Shards,
-    seat: &mut Option<Seat>,
     gate: &G,
-) -> Option<Result<Turned, EngineError>> {
+    shards: &Shards,
+) -> Result<Turned, EngineError> {
     let mut input = Waiting::new(b"");
-    turned(rt, alloc, session, &mut input, output, gate, shards, seat)
+    worker.turn(rt, alloc, &mut input, output, gate, shards, Moment::least())
 }
 
-/// Takes such a turn, and returns its outcome, or `None` if there is no seat.
+/// Takes such a turn, and returns its outcome.
 fn taught<H: Wait, G: Gate>(
     rt: &H,
     alloc: Global,
-    session: &mut Session,
-    shards: &Shards,
-    seat: &mut Option<Seat>,
+    worker: &mut Worker,
     gate: &G,
-) -> Option<Outcome> {
+    shards: &Shards,
+) -> Outcome {
     let mut output = Counting::new(Vec::new(alloc));
-    let turned = teaches(rt, alloc, session, &mut output, shards, seat, gate)?;
+    let turned = teaches(rt, alloc, worker, &mut output, gate, shards);
     let sent = output.into_inner().len();
-    Some(Outcome { turned, sent })
+    Outcome { turned, sent }
 }
 
 /// Returns whether a lesson is copied, planned and written in this order, and no lock is held at the gate or while it is written.
-fn notes_stages<H: Wait>(rt: &H, alloc: Global, side: &mut Side) -> Option<bool> {
-    let Side {
-        session,
-        shards,
-        seat,
-        ..
-    } = side;
+fn notes_stages<H: Wait>(rt: &H, alloc: Global, side: &mut Side) -> bool {
+    let Side { worker, shards, .. } = side;
     let gate = Noting {
         shards: &*shards,
         stages: AtomicU32::new(0),
@@ -159,25 +152,23 @@ fn notes_stages<H: Wait>(rt: &H, alloc: Global, side: &mut Side) -> Option<bool>
         inner: Counting::new(Vec::new(alloc)),
         was_locked: false,
     };
-    let turned = teaches(rt, alloc, session, &mut output, shards, seat, &gate)?;
+    let turned = teaches(rt, alloc, worker, &mut output, &gate, &*shards);
     let stages = gate.stages.load(Ordering::SeqCst);
     let was_locked = gate.was_locked.load(Ordering::SeqCst) || output.was_locked;
-    Some(turned == Ok(Turned::Going) && stages == 123 && !was_locked)
+    turned == Ok(Turned::Going) && stages == 123 && !was_locked
 }
 
 /// Calls `notes_stages` with a side after a story.
 fn notes_after<H: Wait>(rt: &H, alloc: Global, side: &mut Side, story: &Story) -> Option<bool> {
     let was_lived = is_lived(rt, alloc, side, story)?;
-    Some(was_lived && notes_stages(rt, alloc, side)?)
+    Some(was_lived && notes_stages(rt, alloc, side))
 }
 
 /// Returns whether the turn after a story, which writes a lesson, reaches all stages in their order, and no lock is held at one of
 /// them or while the lesson is written.
 pub fn reaches_stages<H: Wait>(rt: &H, alloc: Global, story: &Story) -> Option<bool> {
     let mut side = story.tables.side(alloc, story.role)?;
-    let noted = notes_after(rt, alloc, &mut side, story);
-    drop(side);
-    noted
+    notes_after(rt, alloc, &mut side, story)
 }
 
 /// What another thread does while the gate holds a session.
@@ -191,23 +182,19 @@ pub enum Meanwhile {
 
 /// Closes the session in `t1` and opens it again. Returns whether both calls succeeded.
 fn reopens<R: Wait>(rt: &R, shards: &Shards, seat: &mut Option<Seat>) -> Option<bool> {
-    let lock = shards.cell(1)?;
-    let taken = seat.take()?;
-    let mut locked = lock.lock(rt);
-    let (back, closed) = held::close_session(&mut locked, taken, 1, SESSION);
-    let (back, opened) = held::open_session(&mut locked, back, 1, SESSION);
-    *seat = Some(back);
+    let seat = seat.as_mut()?;
+    let mut locked = shards.cell(1)?.lock(rt);
+    let closed = lent::close_session(&mut locked, seat, 1, SESSION);
+    let opened = lent::open_session(&mut locked, seat, 1, SESSION);
     Some(closed.is_ok() && opened.is_ok())
 }
 
 /// Copies a batch of the rows that were changed here. Returns whether it has one key.
 fn copies<R: Wait>(rt: &R, shards: &Shards, seat: &mut Option<Seat>) -> Option<bool> {
-    let lock = shards.cell(1)?;
-    let taken = seat.take()?;
-    let mut locked = lock.lock(rt);
+    let seat = seat.as_mut()?;
+    let mut locked = shards.cell(1)?.lock(rt);
     let now = Moment::least();
-    let (back, copied) = held::copy(&mut locked, taken, 1, SESSION, CopyKind::Push, 512, now);
-    *seat = Some(back);
+    let copied = lent::copy(&mut locked, seat, 1, SESSION, CopyKind::Push, 512, now);
     Some(copied.is_ok_and(|batch| batch.updates().len() == 1))
 }
 
@@ -274,19 +261,18 @@ fn held_over<H: Threads + Wait + Clock + Sync>(
         gave_up: &gave_up,
     };
     let Side {
-        session,
+        worker,
         shards,
-        seat,
         other,
     } = side;
     let shards = &*shards;
-    let (outcome, was_answered) = thread::join(
+    let (was_answered, outcome) = thread::join(
         rt,
-        || taught(rt, alloc, session, shards, seat, &gate),
         || lets_go(rt, shards, other, scene.meanwhile, &came, &let_go),
+        || taught(rt, alloc, worker, &gate, shards),
     );
     if was_answered && !gave_up.load(Ordering::SeqCst) {
-        outcome
+        Some(outcome)
     } else {
         None
     }
@@ -313,9 +299,7 @@ fn is_held_so<H: Threads + Wait + Clock + Sync>(
     scene: Scene,
 ) -> Option<bool> {
     let mut side = story.tables.side(alloc, story.role)?;
-    let held = is_held_after(rt, alloc, &mut side, story, scene);
-    drop(side);
-    held
+    is_held_after(rt, alloc, &mut side, story, scene)
 }
 
 /// Plays each scene in the turn after the story. Returns the index of the first that fails.

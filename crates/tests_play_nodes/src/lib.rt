@@ -19,5 +19,6 @@ pub mod sides;
 pub mod tables;
 pub mod turns;
 mod waiting;
+pub mod workers;
 
 pub use narrow::Then;

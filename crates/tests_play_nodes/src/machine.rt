@@ -16,7 +16,7 @@ pub enum Given {
     End,
     ReadFault,
     Turn,
-    /// A batch of that table, always the same: key 7 of `t1` has 5.
+    /// A batch of the table with this id, always the same: key 7 of `t1` has 5.
     Copied(u64),
     Nothing(u64),
     /// With what `b` knows after that batch.

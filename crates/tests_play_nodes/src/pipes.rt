@@ -48,7 +48,7 @@ impl Side {
     ) -> Option<(usize, Vec<u8>)> {
         let mut reader = Waiting::new(piece);
         let mut writer = Counting::new(Vec::new(alloc));
-        let turned = self.take_turn(rt, alloc, &mut reader, &mut writer, &AlwaysOpen)?;
+        let turned = self.take_turn(rt, alloc, &mut reader, &mut writer, &AlwaysOpen);
         let read = piece.len().saturating_sub(reader.left());
         let sent = writer.into_inner();
         if turned == Ok(Turned::Going) {
@@ -90,7 +90,7 @@ fn are_met<H: Wait>(
     for _ in 0..turns {
         joiner.go_on(rt, alloc, to_joiner, most, to_server)?;
         server.go_on(rt, alloc, to_server, most, to_joiner)?;
-        if joiner.session.confirmed() {
+        if joiner.worker.session.confirmed() {
             return Some(true);
         }
     }

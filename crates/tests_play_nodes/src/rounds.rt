@@ -4,7 +4,7 @@
 use crate::gates::Held;
 use crate::sides::SESSION;
 use known_state::Known;
-use node_commands::{RoundSize, StartGate, Worker, gated_round, work};
+use node_commands::{RoundSize, StartGate, gated_round, work};
 use peers_devices::Counting;
 use peers_engine::Stage;
 use std::alloc::Global;
@@ -13,18 +13,17 @@ use std::sync::atomic::{AtomicBool, AtomicU32, Ordering};
 use std::thread;
 use std::thread::Threads;
 use std::time::{Clock, Duration};
-use table_shards::{Seat, Shards, held};
+use table_shards::held::lent;
+use table_shards::{Seat, Shards};
 use tests_play_data::parts::{T1, alone};
 use tests_play_tables::{TwoSeats, comes, track};
 use text_commands::Ending;
 
 /// Opens the worker's session in `t1`. Returns whether it is open.
 fn opens<R: Wait>(rt: &R, shards: &Shards, seat: &mut Option<Seat>) -> Option<bool> {
-    let lock = shards.cell(1)?;
-    let taken = seat.take()?;
-    let mut locked = lock.lock(rt);
-    let (back, answer) = held::open_session(&mut locked, taken, 1, SESSION);
-    *seat = Some(back);
+    let seat = seat.as_mut()?;
+    let mut locked = shards.cell(1)?.lock(rt);
+    let answer = lent::open_session(&mut locked, seat, 1, SESSION);
     Some(answer.is_ok())
 }
 
@@ -49,16 +48,17 @@ fn changes<R: Wait + Clock>(
     ready && counted == Some(1)
 }
 
-/// Has the worker wait at `stage` while another thread changes the table, and then continue until there is nothing to copy. Returns
-/// the worker, and whether the change was made before the gate gave up.
+/// Has the worker wait at `stage` while another thread changes the table from `seat`, and then continue until there is nothing to
+/// copy. Returns whether the change was made before the gate gave up.
 fn is_held<R: Threads + Wait + Clock + Sync>(
     rt: &R,
     alloc: Global,
     shards: &Shards,
-    worker: Worker,
+    own: &mut Seat,
+    known: &mut Known,
     seat: &mut Option<Seat>,
     stage: Stage,
-) -> (Worker, bool) {
+) -> bool {
     let (came, changed, gave_up) = (
         AtomicBool::new(false),
         AtomicBool::new(false),
@@ -71,24 +71,17 @@ fn is_held<R: Threads + Wait + Clock + Sync>(
         let_go: &changed,
         gave_up: &gave_up,
     };
-    let ((worker, ended), is_changed) = thread::join(
+    let (is_changed, ended) = thread::join(
         rt,
-        || work(rt, alloc, &gate, shards, worker),
         || changes(rt, shards, seat, &came, &changed),
+        || work(rt, alloc, &gate, shards, own, known),
     );
-    let went_on = ended == Ok(()) && !gave_up.load(Ordering::SeqCst);
-    (worker, is_changed && went_on)
+    is_changed && ended == Ok(()) && !gave_up.load(Ordering::SeqCst)
 }
 
 /// Makes the state of a learner of `t1` that has received nothing.
 fn fresh(alloc: Global) -> Option<Known> {
     Some(Known::fresh(alloc, alone(alloc, &T1)?))
-}
-
-/// Makes the worker of `t1`'s session with that seat, whose learner has received nothing.
-fn worker(alloc: Global, seat: Option<Seat>) -> Option<Worker> {
-    let (seat, known) = seat.zip(fresh(alloc))?;
-    Some(Worker { seat, known })
 }
 
 /// Returns whether a worker with the second seat is held at `stage` while the table is changed from the first.
@@ -104,10 +97,9 @@ fn holds<R: Threads + Wait + Clock + Sync>(
         second,
     } = two;
     let was_begun = is_begun(rt, &*shards, first)?;
-    let worker = worker(alloc, second.take())?;
-    let (worker, was_held) = is_held(rt, alloc, &*shards, worker, first, stage);
-    *second = Some(worker.seat);
-    Some(was_begun && was_held)
+    let mut known = fresh(alloc)?;
+    let own = second.as_mut()?;
+    Some(was_begun && is_held(rt, alloc, &*shards, own, &mut known, first, stage))
 }
 
 /// Returns whether an audit of the table with both seats finds no fault.
@@ -177,25 +169,23 @@ impl<C: Clock> StartGate for Meeting<'_, C> {
     }
 }
 
-/// Runs a round of which each thread, the worker's too, waits at the gate until all have started. Returns whether they did, and the
-/// round ended well and printed `text`.
+/// Runs rounds. Each thread of the first one, the worker's too, waits at the gate until all have started. Returns whether they did, and
+/// the rounds ended well and printed `text`.
 pub fn runs_at_once<R: Threads + Wait + Clock + Sync>(
     rt: &R,
     alloc: Global,
-    threads: u32,
-    tracks: u32,
+    size: RoundSize,
     text: &[u8],
 ) -> bool {
-    if threads > 8 {
+    if size.threads > 8 || size.rounds == 0 {
         return false;
     }
     let gate = Meeting {
         clock: rt,
-        threads: threads + 1,
+        threads: size.threads + 1,
         came: AtomicU32::new(0),
         gave_up: AtomicBool::new(false),
     };
-    let size = RoundSize { threads, tracks };
     let mut output = Counting::new(Vec::new(alloc));
     let mut errors = Counting::new(Vec::new(alloc));
     let ended = gated_round(rt, alloc, &gate, size, &mut output, &mut errors);

@@ -1,8 +1,7 @@
 //! A session with its tables.
 
 use peers_devices::Faults;
-use peers_engine::{EngineError, Gate, Turned, turn};
-use session_core::Session;
+use peers_engine::{EngineError, Gate, Turned, Worker};
 use std::alloc::Global;
 use std::io::{Read, Write};
 use std::sync::Wait;
@@ -12,40 +11,17 @@ use table_types::{Key, Moment, Row};
 /// The number of the session in the tables of its side.
 pub const SESSION: u32 = 1;
 
-/// One side of a session: the session, its tables under their locks, the seat from which it works on them, and a seat for another
-/// thread. Each seat is `None` while a call uses it.
-///
-/// A function that makes a side lends it to others and ends with `drop`: the drop of a side is then proved in few functions.
+/// One side of a session: the session at work, its tables under their locks, and a seat for another thread, which is `None` while a
+/// call uses it.
 #[derive(Drop)]
 pub struct Side {
-    pub session: Session,
+    pub worker: Worker,
     pub shards: Shards,
-    pub seat: Option<Seat>,
     pub other: Option<Seat>,
 }
 
-/// Takes a turn at the least moment. Returns `None` if there is no seat.
-pub(crate) fn turned<H: Wait, R: Read + Faults, W: Write + Faults, G: Gate>(
-    rt: &H,
-    alloc: Global,
-    session: &mut Session,
-    input: &mut R,
-    output: &mut W,
-    gate: &G,
-    shards: &Shards,
-    seat: &mut Option<Seat>,
-) -> Option<Result<Turned, EngineError>> {
-    let taken = seat.take()?;
-    let now = Moment::least();
-    let (back, turned) = turn(
-        rt, alloc, session, input, output, gate, shards, taken, SESSION, now,
-    );
-    *seat = Some(back);
-    Some(turned)
-}
-
 impl Side {
-    /// Takes a turn at the least moment. Returns `None` if there is no seat.
+    /// Takes a turn at the least moment.
     pub(crate) fn take_turn<H: Wait, R: Read + Faults, W: Write + Faults, G: Gate>(
         &mut self,
         rt: &H,
@@ -53,14 +29,10 @@ impl Side {
         input: &mut R,
         output: &mut W,
         gate: &G,
-    ) -> Option<Result<Turned, EngineError>> {
-        let Side {
-            session,
-            shards,
-            seat,
-            ..
-        } = self;
-        turned(rt, alloc, session, input, output, gate, shards, seat)
+    ) -> Result<Turned, EngineError> {
+        let now = Moment::least();
+        self.worker
+            .turn(rt, alloc, input, output, gate, &self.shards, now)
     }
 }
 

@@ -2,6 +2,7 @@
 
 use crate::sessions::{accepting, connecting, roster};
 use crate::sides::{SESSION, Side};
+use peers_engine::Worker;
 use session_core::Session;
 use std::alloc::Global;
 use table_cell::TableCell;
@@ -81,11 +82,16 @@ impl Tables {
     /// Makes a side with these tables.
     pub(crate) fn side(&self, alloc: Global, role: Role) -> Option<Side> {
         let (session, (shards, mut seats)) = self.session(alloc, role).zip(self.shards(alloc))?;
-        let (other, seat) = (seats.pop(), seats.pop());
-        Some(Side {
+        let other = seats.pop();
+        let seat = seats.pop()?;
+        let worker = Worker {
             session,
-            shards,
             seat,
+            number: SESSION,
+        };
+        Some(Side {
+            worker,
+            shards,
             other,
         })
     }

@@ -3,6 +3,7 @@
 use crate::sides::{Side, rows};
 use crate::tables::{Role, Tables};
 use crate::waiting::Waiting;
+use node_commands::track_all;
 use peers_devices::{Counting, Faults};
 use peers_engine::{AlwaysOpen, EngineError, Turned};
 use session_core::State;
@@ -12,7 +13,6 @@ use std::mem;
 use std::sync::Wait;
 use table_shards::Shards;
 use table_types::{Cell, Key, Row};
-use tests_play_tables::track;
 
 /// A turn: the bytes that have come before it, those that the side sends in it, and how it ends.
 #[derive(Drop)]
@@ -40,38 +40,28 @@ pub(crate) fn goes_so<H: Wait, R: Read + Faults>(
     side: &mut Side,
     input: &mut R,
     turn: &Exchange,
-) -> Option<bool> {
+) -> bool {
     let mut output = Counting::new(Vec::new(alloc));
-    let turned = side.take_turn(rt, alloc, input, &mut output, &AlwaysOpen)?;
-    Some(turned == turn.ends && output.into_inner().as_slice() == turn.sends)
+    let turned = side.take_turn(rt, alloc, input, &mut output, &AlwaysOpen);
+    turned == turn.ends && output.into_inner().as_slice() == turn.sends
 }
 
 /// Returns whether a turn goes as it says.
-pub(crate) fn is_so<H: Wait>(
-    rt: &H,
-    alloc: Global,
-    side: &mut Side,
-    turn: &Exchange,
-) -> Option<bool> {
+pub(crate) fn is_so<H: Wait>(rt: &H, alloc: Global, side: &mut Side, turn: &Exchange) -> bool {
     goes_so(rt, alloc, side, &mut Waiting::new(turn.comes), turn)
 }
 
 /// Returns whether turns go as they say.
-pub(crate) fn are_so<H: Wait>(
-    rt: &H,
-    alloc: Global,
-    side: &mut Side,
-    turns: &[Exchange],
-) -> Option<bool> {
+pub(crate) fn are_so<H: Wait>(rt: &H, alloc: Global, side: &mut Side, turns: &[Exchange]) -> bool {
     for turn in turns {
-        if !is_so(rt, alloc, side, turn)? {
-            return Some(false);
+        if !is_so(rt, alloc, side, turn) {
+            return false;
         }
     }
-    Some(true)
+    true
 }
 
-/// Returns whether a row has that count alone.
+/// Returns whether the only cell of a row is the count `expected`.
 fn has_count(row: &Row, expected: u64) -> bool {
     match row.cells() {
         [Cell::Count(count)] => *count == expected,
@@ -108,17 +98,15 @@ pub(crate) fn is_lived<H: Wait>(
     side: &mut Side,
     story: &Story,
 ) -> Option<bool> {
-    let went = are_so(rt, alloc, side, story.opening)? && are_so(rt, alloc, side, story.turns)?;
+    let went = are_so(rt, alloc, side, story.opening) && are_so(rt, alloc, side, story.turns);
     let has_rows = has_rows(rt, &side.shards, story.rows)?;
-    Some(went && side.session.state() == story.state && has_rows)
+    Some(went && side.worker.session.state() == story.state && has_rows)
 }
 
 /// Returns what `is_lived` does, with a new side.
 fn comes_true<H: Wait>(rt: &H, alloc: Global, story: &Story) -> Option<bool> {
     let mut side = story.tables.side(alloc, story.role)?;
-    let lived = is_lived(rt, alloc, &mut side, story);
-    drop(side);
-    lived
+    is_lived(rt, alloc, &mut side, story)
 }
 
 /// Plays each story with a new side. Returns the index of the first that fails.
@@ -136,12 +124,12 @@ fn is_lived_from<H: Wait>(
     rt: &H,
     alloc: Global,
     side: &mut Side,
-    other: &mut Side,
+    elsewhere: &mut Side,
     story: &Story,
 ) -> Option<bool> {
-    let count = track(rt, &other.shards, &mut other.seat, 1, 9);
-    mem::swap(&mut side.seat, &mut other.seat);
-    Some(count == Some(1) && is_lived(rt, alloc, side, story)?)
+    let tracked = track_all(rt, &elsewhere.shards, &mut elsewhere.worker.seat, 9, 1);
+    mem::swap(&mut side.worker.seat, &mut elsewhere.worker.seat);
+    Some(tracked.is_ok() && is_lived(rt, alloc, side, story)?)
 }
 
 /// Returns whether a story goes as it says with a new side whose seat has seen more events of `t1` than the side's own `t1` has had:
@@ -152,13 +140,7 @@ pub fn comes_true_ahead<H: Wait>(
     story: &Story,
     other: &Tables,
 ) -> Option<bool> {
-    let sides = story
-        .tables
-        .side(alloc, story.role)
-        .zip(other.side(alloc, story.role));
-    let (mut side, mut other) = sides?;
-    let lived = is_lived_from(rt, alloc, &mut side, &mut other, story);
-    drop(side);
-    drop(other);
-    lived
+    let mut side = story.tables.side(alloc, story.role)?;
+    let mut elsewhere = other.side(alloc, story.role)?;
+    is_lived_from(rt, alloc, &mut side, &mut elsewhere, story)
 }

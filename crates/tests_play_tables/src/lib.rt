@@ -1,5 +1,5 @@
 //! Plays the examples of tables that only a call can show: of update numbers, of rows and their ends, of tables with their
-//! history, under locks, with seats and audits, and of calls for which memory runs out. The library has no tests, so it is
+//! history, under locks, with seats, audits and rounds, and of calls for which memory runs out. The library has no tests, so it is
 //! proved once. Others begin with its seats, tracks and threads that wait for each other. A function that returns an `Option`
 //! returns `None` also if memory runs out, so that a test of what it returns fails.
 #![tactic(auto)]
@@ -12,6 +12,7 @@ pub mod counts;
 pub mod ends;
 pub mod holders;
 pub mod locks;
+pub mod next_rounds;
 pub mod numbered;
 pub mod numbers;
 mod round;

@@ -3,6 +3,7 @@
 use tests_play_tables::answers::keeps_answers;
 use tests_play_tables::audits::{misses_one_of_two, wants_its_own_seats};
 use tests_play_tables::locks::are_apart;
+use tests_play_tables::next_rounds::{begins_another, is_missed, is_noticed, waits_for_a_batch};
 use tests_play_tables::seats::{
     compares_receipts, is_ahead_of_others, leaves_receipts, looks_ahead, refuses_a_text,
 };
@@ -50,4 +51,24 @@ fn a_refused_call_gives_no_receipt(rt: HostRuntime) {
 #[test]
 fn a_seat_keeps_answers_without_an_event(rt: HostRuntime) {
     assert!(rt; keeps_answers(&rt, rt.alloc()) == Some(true));
+}
+
+#[test]
+fn another_round_begins(rt: HostRuntime) {
+    assert!(rt; begins_another(&rt, rt.alloc()) == Some(true));
+}
+
+#[test]
+fn no_other_round_begins_while_a_batch_is_out(rt: HostRuntime) {
+    assert!(rt; waits_for_a_batch(&rt, rt.alloc()) == Some(true));
+}
+
+#[test]
+fn a_slide_in_a_round_is_noticed(rt: HostRuntime) {
+    assert!(rt; is_noticed(&rt, rt.alloc()) == Some(true));
+}
+
+#[test]
+fn forgotten_receipts_are_missed(rt: HostRuntime) {
+    assert!(rt; is_missed(&rt, rt.alloc()) == Some(true));
 }
