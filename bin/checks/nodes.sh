@@ -19,11 +19,14 @@ listens() {
     return 1
 }
 
+# The words with which a node is started: none, or those of a command that limits it.
+within=()
+
 # start serve|join PORT TURNS: starts a node. `serve` reads $scratch/served, and `join` waits for its scene.
 start() {
     case $1 in
         serve)
-            timeout 60 "$program" serve --turns "$3" --port "$2" --name b --peer a \
+            timeout 60 "${within[@]}" "$program" serve --turns "$3" --port "$2" --name b --peer a \
                 <"$scratch/served" >"$scratch/serve.output" 2>"$scratch/serve.errors" &
             server=$! ;;
         join)
@@ -124,8 +127,9 @@ strangers() {
 
 # The far side takes a command a line, and answers each with a line. `port`: a port at which nobody listens. `listen WORD..` and
 # `connect PORT WORD..`: it plays the other side of one connection, and answers with all that came over it, in hexadecimal,
-# after the port at which it listens. It follows the words in turn: it sends hexadecimal; `<N` reads N bytes; `end` sends no
-# more; `pause` waits a little; `leave` closes the connection, and `reset` resets it. At the end it reads until nothing comes.
+# after the port at which it listens. It follows the words in turn: it sends hexadecimal; `<N` reads N bytes, and `~N` reads N that
+# aren't answered; `end` sends no more; `pause` waits a little; `leave` closes the connection, and `reset` resets it. At the end it reads
+# until nothing comes.
 far_side() {
     python3 -c 'if True:
         import socket, struct, sys, time
@@ -159,6 +163,8 @@ far_side() {
                 for word in words:
                     if word[0] == "<":
                         came += read(peer, int(word[1:]))
+                    elif word[0] == "~":
+                        read(peer, int(word[1:]))
                     elif word == "end":
                         peer.shutdown(socket.SHUT_WR)
                     elif word == "pause":
@@ -206,6 +212,13 @@ tell() {
     echo "$@" >&"${FAR[1]}"
 }
 
+# join_far PORT TURNS: starts a node that reads $scratch/served and joins the far side.
+join_far() {
+    timeout 60 "${within[@]}" "$program" join --turns "$2" --port "$1" --name a --peer b \
+        <"$scratch/served" >"$scratch/join.output" 2>"$scratch/join.errors" &
+    server=$!
+}
+
 # far_from serve|join WORDS [TURNS]: has the far side follow the words against a node that reads $scratch/served and makes TURNS turns, or
 # 100. Sets `came` to what came over the connection; how the node ended is in `status`, $scratch/NODE.output and $scratch/NODE.errors.
 far_from() {
@@ -219,9 +232,7 @@ far_from() {
     else
         tell listen "$2"
         read -r -t 20 port <&"${FAR[0]}"
-        timeout 60 "$program" join --turns "${3-100}" --port "$port" --name a --peer b \
-            <"$scratch/served" >"$scratch/join.output" 2>"$scratch/join.errors" &
-        server=$!
+        join_far "$port" "${3-100}"
     fi
     read -r -t 20 came <&"${FAR[0]}"
     wait "$server"; status=$?
@@ -338,11 +349,7 @@ far_turns() {
 # A far side that asks for a resync and then reads nothing until it leaves. The lesson has 4 MB, more than the connection buffers, so
 # a write of the node waits and then fails.
 far_that_stops_reading() {
-    awk 'BEGIN {
-        for (i = 0; i < 8180; i++) long = long "k"
-        print "table 1 t1 string 8192 0 gpc0"
-        for (i = 1; i <= 512; i++) print "update 1 " i " 0 =" long i " 5"
-    }' >"$scratch/served"
+    long_keys 512 >"$scratch/served"
     far serve 'stops reading' "narrow ${HELLO}0000 <4 pause pause pause pause pause leave" "$ACCEPTED" 4 $'device\n' ''
     cp examples/two-updates.scene "$scratch/served"
 }

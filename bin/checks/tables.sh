@@ -46,16 +46,18 @@ last_of_a_million() {
     in_kilobytes 1048576 table >"$scratch/answers" && wc -l <"$scratch/answers" && tail -n "$1" "$scratch/answers"
 }
 
-# A history of 1,000,000 events is full. Each of its events can be read. The script takes at most 10 s.
+# A history of 1,000,000 events is full. Each of its events can be read. After a checkpoint there is room again. The script takes at most
+# 10 s.
 million_tracks() {
     local began took
     { printf '%s\n' 'table 1 t1 integer 4 30000 gpc0' 'size 10'
         repeat_lines 1000001 'track 0 4294967296 1 add gpc0 1'
-        printf '%s\n' 'open 1' 'purge 4294967296' events rows 'event 1000000' 'event 1000001'; } >"$scene"
+        printf '%s\n' 'open 1' 'purge 4294967296' events rows 'event 1000000' 'event 1000001'
+        printf '%s\n' checkpoint 'track 0 4294967296 1 add gpc0 1' events 'event 1' 'event 1000001'; } >"$scene"
     began=${EPOCHREALTIME/./}
-    keep last_of_a_million 9 <"$scene"
+    keep last_of_a_million 14 <"$scene"
     took=$((${EPOCHREALTIME/./} - began))
-    ends 'table of a script of 1,000,001 changes' 0 "1000008
+    ends 'table of a script of 1,000,001 changes' 0 "1000013
 reply 1000000 4294997296 1 1000000 local
 HistoryFull
 HistoryFull
@@ -65,8 +67,38 @@ rows 1
 row 1000000 4294997296 1 1000000 local
 track 0 4294967296 1 add gpc0 1 = reply 1000000 4294997296 1 1000000 local
 none
+ok
+reply 1000001 4294997296 1 1000001 local
+events 1000001 room 999999
+none
+track 0 4294967296 1 add gpc0 1 = reply 1000001 4294997296 1 1000001 local
 " ''
     if [ "$took" -le 10000000 ]; then pass; else fail "1,000,001 changes took $took microseconds"; fi
+}
+
+# A full history whose last event is a copy: with its batch out no checkpoint is made, but a slide is, and keeps the batch.
+million_tracks_and_a_batch() {
+    { printf '%s\n' 'table 1 t1 integer 4 30000 gpc0' 'size 10' 'open 1'
+        repeat_lines 999998 'track 0 4294967296 1 add gpc0 1'
+        printf '%s\n' 'copy 1 push 512 4294967296' 'track 0 4294967296 1 add gpc0 1' checkpoint slide 'settle 1 1' \
+            'track 0 4294967296 1 add gpc0 1' 'ack 1 999998' events 'event 1000000' 'event 1000001' checkpoint events; } >"$scene"
+    keep last_of_a_million 14 <"$scene"
+    ends 'table of a script of 999,998 changes and a copy' 0 "1000012
+reply 999998 4294997296 1 999998 local
+batch 1 1
+update 1 999998 30000 1 999998
+HistoryFull
+BatchOut
+dropped 1000000
+ok
+reply 999999 4294997296 1 999999 local
+all
+events 1000002 room 999998
+none
+track 0 4294967296 1 add gpc0 1 = reply 999999 4294997296 1 999999 local
+ok
+events 1000002 room 1000000
+" ''
 }
 
 # A table of 1,000,000 rows, each with a key of its own: it drops none to make room, and answers each change.
@@ -109,6 +141,14 @@ round_of() {
         for ((key = 1; key <= $1; key++)); do echo "row 1 - $key $2"; done)"$'\n' ''
 }
 
+# rounds_of THREADS TRACKS ROUNDS: there is a line for each round, and the row of each thread counts what it tracked in all of them.
+rounds_of() {
+    run round --threads "$1" --tracks "$2" --rounds "$3"
+    ends "$3 rounds of $1 threads that track $2 times" 0 "$(
+        for ((round = 1; round <= $3; round++)); do echo 'audit ok'; done
+        for ((key = 1; key <= $1; key++)); do echo "row 1 - $key $(($2 * $3))"; done)"$'\n' ''
+}
+
 # A round of three threads that track 1,000 times each takes less than a second.
 quick_round() {
     local began=${EPOCHREALTIME/./} took
@@ -138,10 +178,16 @@ rounds() {
     round_of 2 3
     round_of 1 1
     for ((times = 0; times < 10; times++)); do round_of 8 1000; done
+    rounds_of 2 3 2
+    rounds_of 3 2 1
+    rounds_of 1 1 100
+    rounds_of 8 1000 3
     quick_round
     run round --tracks=3 --threads=2
     ends 'a round with the options the other way round' 0 $'audit ok\nrow 1 - 1 3\nrow 1 - 2 3\n' ''
     round_in_less_and_less
     keep output_is_full round --threads 2 --tracks 3
     ends 'a round: standard output is full' 4 '' $'device\n'
+    keep output_is_full round --threads 2 --tracks 3 --rounds 2
+    ends 'rounds: standard output is full' 4 '' $'device\n'
 }

@@ -297,8 +297,10 @@ def make_words(random):
     words = []
     if random.random() < 0.5:
         words = ['round', '--threads', str(random.randint(1, 8)), '--tracks', str(random.choice((1, 2, 50, 1000)))]
+        if random.random() < 0.3:
+            words += ['--rounds', str(random.choice((1, 2, 3)))]
     else:
-        some = ('lesson', 'learn', 'check', 'table', 'world', 'round', 'serve', 'join', '--threads', '--tracks', '--turns', '--port', '--name',
+        some = ('lesson', 'learn', 'check', 'table', 'world', 'round', 'serve', 'join', '--threads', '--tracks', '--rounds', '--turns', '--port', '--name',
                 '--peer', '--', '-', '', '-h', '--help', '0', '1', '-1', '9', '1001', '65536', '1000001', '99999999999999999999', 'a', '--x=1', '\u00e9')
         words = [random.choice(some) for _ in range(random.randint(0, 6))]
     return {'words': words}
@@ -307,10 +309,12 @@ def make_words(random):
 def judge_words(program, case):
     words = case['words']
     ending = program.run(*words, text=b'table 1 t1 integer 4 30000 gpc0\nmoment 4294967296\n')
-    is_round = len(words) == 5 and words[0] == 'round' and words[1] == '--threads' and words[3] == '--tracks'
-    if is_round and words[2] in map(str, range(1, 9)) and words[4] in map(str, range(1, 1001)):
-        rows = b''.join(b'row 1 - %d %s\n' % (key, words[4].encode()) for key in range(1, int(words[2]) + 1))
-        require(ending == (0, b'audit ok\n' + rows, b''), 'a round', 'ends otherwise', ending)
+    is_round = len(words) in (5, 7) and words[0] == 'round' and words[1] == '--threads' and words[3] == '--tracks' and words[5:6] in ([], ['--rounds'])
+    rounds = words[6] if len(words) == 7 else '1'
+    if is_round and words[2] in map(str, range(1, 9)) and words[4] in map(str, range(1, 1001)) and rounds in map(str, range(1, 101)):
+        counted = int(words[4]) * int(rounds)
+        rows = b''.join(b'row 1 - %d %d\n' % (key, counted) for key in range(1, int(words[2]) + 1))
+        require(ending == (0, b'audit ok\n' * int(rounds) + rows, b''), 'a round', 'ends otherwise', ending)
         return
     require(ending.status in (0, 1, 2, 4), 'status', 'of a command line', ending)
     require(ending.status != 1 or refused_line(ending), 'standard error', 'of a command line', ending)

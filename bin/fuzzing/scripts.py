@@ -16,7 +16,10 @@ REFUSALS = {
     'open': 'AlreadyOpen TooMany HistoryFull',
     'close': 'NoSession HistoryFull',
     'purge': 'MomentBack HistoryFull',
+    'checkpoint': 'BatchOut',
 }
+# The calls that are events of the table if they aren't refused.
+EVENTS = frozenset(REFUSALS) - {'settle', 'checkpoint'}
 OPTIONS = (b'size', b'nopurge', b'first')
 HISTORY = 1000000
 MOST_SESSIONS = 16
@@ -82,7 +85,9 @@ def random_script(random, length):
             line = [b'ack', session, b'%d' % random.choice((number, number, max(0, number - random.randrange(5)), min(GREATEST, number + 1), 0))]
         elif chance < 0.9:
             line = [b'purge', at]
-        elif chance < 0.94:
+        elif chance < 0.92:
+            line = [random.choice((b'slide', b'slide', b'checkpoint'))]
+        elif chance < 0.95:
             line = [b'event', b'%d' % random.randrange(length)]
         else:
             line = [random.choice((b'rows', b'events'))]
@@ -116,6 +121,7 @@ class Audit:
         self.batches = []
         self.latest = {}
         self.history = []
+        self.dropped = 0
         self.stored = {}
         self.moment = 0
         kind = b' (local|learned)'
@@ -133,13 +139,15 @@ class Audit:
             require(self.may_refuse(said.decode(), what, words), 'a refusal', 'that the calls before rule out:', line, said)
             return
         getattr(self, what)(words, said, answers)
-        if what in REFUSALS and what != 'settle':
+        if what in EVENTS:
             if what == 'learn' and has_names(self.table) or what == 'track' and words[4] == b'name':
                 words[-1] = words[-1] if words[-1] == b'-' else name_word(words[-1])
             self.history.append(b' '.join(words) + b' = ' + (b'batch ' + said.split(b' ')[2] if what == 'copy' else said))
 
     def may_refuse(self, refusal, what, words):
         """Whether the calls before leave room for a refusal."""
+        if what == 'checkpoint':
+            return any(session.out for session in self.sessions.values())
         session = self.sessions.get(words[1])
         if refusal == 'NoSession':
             return session is None
@@ -237,13 +245,25 @@ class Audit:
         require(said == b'purged %d' % (len(self.stored) - len(kept)), 'purge', 'of other rows than those that ended', said)
         self.stored = kept
 
+    def checkpoint(self, _, said, __):
+        out = [name for name, session in self.sessions.items() if session.out]
+        require(said == b'ok' and not out, 'checkpoint', 'while a batch is out', said, out)
+        self.dropped = len(self.history)
+        self.latest = {}
+
+    def slide(self, _, said, __):
+        wanted = b'dropped %d' % (len(self.history) - self.dropped)
+        require(said == wanted, 'slide', 'is not %s but' % short(wanted), said)
+        self.dropped = len(self.history)
+        self.latest = {name: batch for name, batch in self.latest.items() if name in self.sessions}
+
     def event(self, words, said, _):
         place = int(words[1])
-        wanted = self.history[place - 1] if 1 <= place <= len(self.history) else b'none'
+        wanted = self.history[place - 1] if self.dropped < place <= len(self.history) else b'none'
         require(said == wanted, 'an event', 'is not %s but' % short(wanted), said)
 
     def events(self, _, said, __):
-        wanted = b'events %d room %d' % (len(self.history), HISTORY - len(self.history))
+        wanted = b'events %d room %d' % (len(self.history), HISTORY - len(self.history) + self.dropped)
         require(said == wanted, 'events', 'are not %s but' % short(wanted), said)
 
     def rows(self, _, said, answers):
