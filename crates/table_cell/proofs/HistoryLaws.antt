@@ -20,7 +20,7 @@ use Rattle.table_cell.specs.declared.events.CellEvent.TheVariants as events
 use Rattle.table_cell.specs.declared.events.CellReply.{CellReply}
 use Rattle.table_cell.specs.declared.events.CellReply.TheVariants as replies
 use Rattle.table_cell.specs.Machine.{TableState, Step, learn_refusal}
-use Rattle.table_cell.specs.Histories.{CellState, Learns, Made, batch_in, batch_of, event_in, events_of, held_batch, is_copy_of, is_history_full, kept_batch, kept_events, latest_batch, or_former, room_of}
+use Rattle.table_cell.specs.Histories.{CellState, Learns, Made, batch_in, batch_of, event_in, events_of, held_batch, is_history_full, kept_batch, kept_events, latest_batch, or_former, room_of}
 use Rattle.table_cell.specs.Soundness.{IsTimely}
 use Rattle.table_cell.specs.Cells.{AreLatestCopies, IsCell, IsLatestCopy, OriginState, cell_of, latest_of}
 use Rattle.table_cell.proofs.RefusalLaws.{memory_is_no_learn_refusal}

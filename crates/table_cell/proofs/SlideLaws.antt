@@ -1,6 +1,6 @@
 -- Histories whose events are dropped.
-use Rattle.std.proofs.Common.{◌≡◌, ℕ, ◌==◌, ◌≤◌, Bool, true, false, List, [], ◌∷◌, ◌++◌, length, Option, Some, None, refl, sym, ap, subst, ◌∙◌, arith, inl, inr, true≢false}
-use Rattle.std.specs.Prelude.{option_and_then, cond, nat_eq, take, if◌then◌else◌}
+use Rattle.std.proofs.Common.{◌≡◌, ℕ, ◌==◌, Bool, true, false, List, [], ◌∷◌, ◌++◌, length, Option, Some, None, refl, sym, ap, subst, ◌∙◌, arith, inl, inr, true≢false}
+use Rattle.std.specs.Prelude.{option_and_then, cond, take, if◌then◌else◌}
 use Rattle.std.specs.List.{filter}
 use Rattle.std.specs.Cmp.{nat_cmp_is}
 use Rattle.std.specs.Ordering.{is_eq, nat_cmp}
@@ -8,7 +8,7 @@ use Rattle.std.specs.declared.cmp.Ordering.TheVariants.{Equal}
 use Rattle.std.specs.Map.{lookup}
 use Rattle.std.specs.BTreeMap.{is_at}
 use Rattle.std.proofs.Math.Seq.{take-append_seam}
-use Rattle.std.proofs.lemmas.Bool.{cases_Bool, cond-true, cond-false, cases_eq, eq-eqb, eqb-true, ne_eqb}
+use Rattle.std.proofs.lemmas.Bool.{cases_Bool, cond-true, cond-false, eq-eqb, eqb-true}
 use Rattle.std.proofs.lemmas.List.{append-nil, take-append-drop}
 use Rattle.std.proofs.lemmas.Map.Entries.{lookup-filter-keys}
 use Rattle.table_types.specs.declared.update.Update.{Update}
@@ -16,10 +16,11 @@ use Rattle.table_cell.specs.declared.events.CellEvent.{CellEvent}
 use Rattle.table_cell.specs.declared.events.CellReply.{CellReply}
 use Rattle.table_cell.specs.Machine.{TableState, Replays, is_open}
 use Rattle.table_cell.specs.Soundness.{AreTimely}
-use Rattle.table_cell.specs.Histories.{CellState, IsHeld, IsSoundCell, Slides, batch_in, batch_of, held_batch, kept_batch, kept_events, latest_batch, or_former}
+use Rattle.table_cell.specs.Histories.{CellState, IsReplayed, IsSoundCell, Kept, Slides, batch_in, batch_of, held_batch, kept_batch, kept_events, latest_batch, or_former}
 use Rattle.table_cell.specs.Cells.{AreLatestCopies, IsCell, IsLatestCopy, OriginState, cell_of, latest_of}
-use Rattle.table_cell.proofs.HistoryLaws.{batch_is, copied_is, former_twice, is_same, kept_is, none_former, then_some, events_are}
+use Rattle.table_cell.proofs.HistoryLaws.{batch_is, copied_is, former_twice, is_same, kept_is, none_former, then_some}
 use Rattle.table_cell.proofs.RowsLaws.{some_none}
+use Rattle.table_cell.proofs.RunLaws.{runs_keep}
 
 abbrev pub Entries : Type 0
 Entries = List (CellEvent × CellReply)
@@ -165,3 +166,23 @@ slid_so o hs s copies c view cell = subst (λ (x : CellState). Slides x hs (cell
   ap (λ (l : Entries). record { base = o.base; dropped = o.dropped; history = l; state = s; slid = length (o.past ++ hs); held = open_of s copies }) (append-nil (o.past ++ hs)),
   λ session. kept_open session o hs s copies cell,
 )
+
+-- after a slide the state is the replay of the history, and its batches are kept
+stays_so : (c e : CellState) (hs : Entries) → IsReplayed c → Slides c hs e → IsReplayed e × Kept e
+stays_so c e hs replayed (given, held, is, batches) =
+    let still : IsReplayed e = subst IsReplayed (sym is) replayed in
+    (still, runs_keep e still)
+
+-- what a slide did, from what each of its steps did
+pub slid_to : (o to : OriginState) (hs handed left : Entries) (s : TableState) (copies kept : Copies) (c : CellState) → cell_of o hs s ≡ c → IsCell o hs s copies
+    → handed ≡ hs → left ≡ [] → kept ≡ open_of s copies → to ≡ slid_origin o hs kept
+    → Slides c handed (cell_of to left s) × IsReplayed (cell_of to left s) × Kept (cell_of to left s)
+slid_to o to hs handed left s copies kept c view cell same none opened origin =
+    let slides : Slides c handed (cell_of to left s) =
+    subst (λ (given : Entries). Slides c given (cell_of to left s)) (sym same)
+    (subst (λ (q : OriginState). Slides c hs (cell_of q left s)) (sym origin)
+    (subst (λ (rest : Entries). Slides c hs (cell_of (slid_origin o hs kept) rest s)) (sym none)
+    (subst (λ (cs : Copies). Slides c hs (cell_of (slid_origin o hs cs) [] s)) (sym opened)
+    (slid_so o hs s copies c view cell)))) in
+    let stays = stays_so c (cell_of to left s) handed (subst IsReplayed view cell.sound.replayed) slides in
+    (slides, stays.0, stays.1)

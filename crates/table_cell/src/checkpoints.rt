@@ -2,7 +2,7 @@
 
 ghost use Rattle.std.specs.Prelude.{◌≡◌, length};
 ghost use Rattle.std.specs.List.{filter};
-ghost use Rattle.table_cell.specs.Histories.{BeginsAnew, Checkpoints, Slides};
+ghost use Rattle.table_cell.specs.Histories.{BeginsAnew, Checkpoints, IsReplayed, Kept, Slides};
 ghost use Rattle.table_cell.specs.Machine.{is_any_out, is_open};
 
 use crate::cell::TableCell;
@@ -85,10 +85,13 @@ impl TableCell {
     }
 
     /// Drops the events that the table has, also while batches are out, and returns them. The rows, their numbers, the
-    /// sessions and the number of events so far stay. Of the batches, the latest one of each open session stays kept. Takes
-    /// time in the number of sessions alone, and doesn't allocate.
+    /// sessions and the number of events so far stay; the state is the replay of all events, dropped ones included. Of the
+    /// batches, the latest one of each open session stays kept. Takes time in the number of sessions alone, and doesn't
+    /// allocate.
     pub fn slide(&mut self) -> Dropped
-        ensures { Slides self.old result self.new }
+        ensures slides { Slides self.old result self.new }
+        ensures replayed { IsReplayed self.new }
+        ensures kept { Kept self.new }
     {
         let alloc = self.table.alloc();
         retain_open(&mut self.latest_copies, &self.table);

@@ -3,9 +3,11 @@
 use crate::round::Round;
 use crate::seats::tracked;
 use std::alloc::Global;
+use std::convert::Infallible;
 use std::sync::Wait;
+use table_cell::CheckpointError;
 use table_shards::held::lent;
-use table_shards::{Audit, AuditError, RoundError, Seat, Shards};
+use table_shards::{Audit, AuditError, RoundError, Seat, ShardError, Shards, held};
 use table_types::{CopyKind, Moment};
 
 /// Makes a round of `t1` with three tracks of key 7, and audits it.
@@ -100,4 +102,39 @@ pub fn is_missed<R: Wait>(rt: &R, alloc: Global) -> Option<bool> {
     round.seat.as_mut()?.forget(1);
     let fault = AuditError::Mismatch { table: 1, seat: 0 };
     Some(round.receipts(1) == Some(0) && round.audited(alloc) == Some(Err(fault)))
+}
+
+/// Lets the history of `t1` begin anew from the seat, which comes back. Returns how many events it dropped, or why it is
+/// refused.
+fn begun_anew<R: Wait>(
+    rt: &R,
+    round: &mut Round,
+) -> Option<Result<u64, ShardError<CheckpointError>>> {
+    let lock = round.shards.cell(1)?;
+    let seat = round.seat.take()?;
+    let (seat, dropped) = held::begin_anew(&mut lock.lock(rt), seat, 1);
+    round.seat = Some(seat);
+    Some(dropped.map(|dropped| dropped.count()))
+}
+
+/// Lets `t1` slide from the seat, which comes back. Returns how many events it dropped, or why it is refused.
+fn slid_away<R: Wait>(rt: &R, round: &mut Round) -> Option<Result<u64, ShardError<Infallible>>> {
+    let lock = round.shards.cell(1)?;
+    let seat = round.seat.take()?;
+    let (seat, dropped) = held::slide(&mut lock.lock(rt), seat, 1);
+    round.seat = Some(seat);
+    Some(dropped.map(|dropped| dropped.count()))
+}
+
+/// Returns whether `t1` begins anew from a seat, but not while a batch is out, and slides also then; and whether the seat keeps its
+/// receipts, and an audit notices.
+pub fn comes_back<R: Wait>(rt: &R, alloc: Global) -> Option<bool> {
+    let mut round = tracked(rt, alloc)?;
+    let begun = begun_anew(rt, &mut round)? == Ok(3);
+    let copied = copies(rt, &mut round)?;
+    let refused = begun_anew(rt, &mut round)? == Err(ShardError::Cell(CheckpointError::BatchOut));
+    let slid = slid_away(rt, &mut round)? == Ok(2);
+    let kept = round.receipts(1) == Some(5);
+    let fault = AuditError::Mismatch { table: 1, seat: 0 };
+    Some(begun && copied && refused && slid && kept && round.audited(alloc) == Some(Err(fault)))
 }

@@ -3,7 +3,9 @@
 use tests_play_tables::answers::keeps_answers;
 use tests_play_tables::audits::{misses_one_of_two, wants_its_own_seats};
 use tests_play_tables::locks::are_apart;
-use tests_play_tables::next_rounds::{begins_another, is_missed, is_noticed, waits_for_a_batch};
+use tests_play_tables::next_rounds::{
+    begins_another, comes_back, is_missed, is_noticed, waits_for_a_batch,
+};
 use tests_play_tables::seats::{
     compares_receipts, is_ahead_of_others, leaves_receipts, looks_ahead, refuses_a_text,
 };
@@ -71,4 +73,9 @@ fn a_slide_in_a_round_is_noticed(rt: HostRuntime) {
 #[test]
 fn forgotten_receipts_are_missed(rt: HostRuntime) {
     assert!(rt; is_missed(&rt, rt.alloc()) == Some(true));
+}
+
+#[test]
+fn a_seat_comes_back_from_calls_that_drop_events(rt: HostRuntime) {
+    assert!(rt; comes_back(&rt, rt.alloc()) == Some(true));
 }

@@ -1,9 +1,6 @@
-use Rattle.std.proofs.Common.{rules, ◌≡◌, ◌∙◌, List, [], ap, sym, subst}
-use Rattle.table_cell.specs.declared.events.CellEvent.{CellEvent}
-use Rattle.table_cell.specs.declared.events.CellReply.{CellReply}
-use Rattle.table_cell.specs.Cells.{IsCell, OriginState, cell_of}
-use Rattle.table_cell.specs.Histories.{Slides}
-use Rattle.table_cell.proofs.SlideLaws.{Copies, Entries, slid_cell, slid_origin, slid_so}
+use Rattle.std.proofs.Common.{rules, ◌≡◌, ◌∙◌, [], ap, sym, subst}
+use Rattle.table_cell.specs.Cells.{IsCell, OriginState}
+use Rattle.table_cell.proofs.SlideLaws.{Copies, Entries, slid_cell, slid_origin, slid_to}
 use Rattle.table_cell.proofs.cell.TableCell.slide.Goals as goal
 
 pub invariant_of-self : goal.invariant_of-self
@@ -18,16 +15,32 @@ invariant_of-self c =
     (subst (λ (cs : Copies). IsCell (slid_origin a.origin a.history.items cs) [] a.table cs) (sym c.retain_open.ensures)
     (slid_cell a.origin a.history.items a.table a.latest_copies.entries c.self.invariant)))
 
-pub returns : goal.returns
-returns c =
+pub returns-clause-slides : goal.returns-clause-slides
+returns-clause-slides c =
     let a = c.self.inside in
     let copies : Copies = c.retain_open.new.copies.entries in
     let items : c.replace-history.result.items ≡ a.history.items = search rules in
     let none : c.replace-history.new.dest.items ≡ [] = search rules in
     let handed : c.slide.result.items ≡ a.history.items = search rules in
     let origin : c.slide.new.self ≡ slid_origin a.origin a.history.items copies = c.slide.ensures.origin ∙ ap (λ (hs : Entries). slid_origin a.origin hs copies) items in
-    subst (λ (hs : Entries). Slides c.args.self.now hs (cell_of c.slide.new.self c.replace-history.new.dest.items a.table)) (sym handed)
-    (subst (λ (o : OriginState). Slides c.args.self.now a.history.items (cell_of o c.replace-history.new.dest.items a.table)) (sym origin)
-    (subst (λ (hs : Entries). Slides c.args.self.now a.history.items (cell_of (slid_origin a.origin a.history.items copies) hs a.table)) (sym none)
-    (subst (λ (cs : Copies). Slides c.args.self.now a.history.items (cell_of (slid_origin a.origin a.history.items cs) [] a.table)) (sym c.retain_open.ensures)
-    (slid_so a.origin a.history.items a.table a.latest_copies.entries c.args.self.now c.self.view_is c.self.invariant))))
+    (slid_to a.origin c.slide.new.self a.history.items c.slide.result.items c.replace-history.new.dest.items a.table a.latest_copies.entries copies c.args.self.now c.self.view_is c.self.invariant handed none c.retain_open.ensures origin).0
+
+pub returns-clause-replayed : goal.returns-clause-replayed
+returns-clause-replayed c =
+    let a = c.self.inside in
+    let copies : Copies = c.retain_open.new.copies.entries in
+    let items : c.replace-history.result.items ≡ a.history.items = search rules in
+    let none : c.replace-history.new.dest.items ≡ [] = search rules in
+    let handed : c.slide.result.items ≡ a.history.items = search rules in
+    let origin : c.slide.new.self ≡ slid_origin a.origin a.history.items copies = c.slide.ensures.origin ∙ ap (λ (hs : Entries). slid_origin a.origin hs copies) items in
+    (slid_to a.origin c.slide.new.self a.history.items c.slide.result.items c.replace-history.new.dest.items a.table a.latest_copies.entries copies c.args.self.now c.self.view_is c.self.invariant handed none c.retain_open.ensures origin).1
+
+pub returns-clause-kept : goal.returns-clause-kept
+returns-clause-kept c =
+    let a = c.self.inside in
+    let copies : Copies = c.retain_open.new.copies.entries in
+    let items : c.replace-history.result.items ≡ a.history.items = search rules in
+    let none : c.replace-history.new.dest.items ≡ [] = search rules in
+    let handed : c.slide.result.items ≡ a.history.items = search rules in
+    let origin : c.slide.new.self ≡ slid_origin a.origin a.history.items copies = c.slide.ensures.origin ∙ ap (λ (hs : Entries). slid_origin a.origin hs copies) items in
+    (slid_to a.origin c.slide.new.self a.history.items c.slide.result.items c.replace-history.new.dest.items a.table a.latest_copies.entries copies c.args.self.now c.self.view_is c.self.invariant handed none c.retain_open.ensures origin).2
