@@ -460,6 +460,124 @@ two_nodes() {
     done
 }
 
+# --- Several sessions at once
+
+# serve_several PORT SESSIONS: starts a node that serves $scratch/served in so many sessions.
+serve_several() {
+    timeout 60 "$program" serve --turns 1000 --sessions "$2" --port "$1" --name b --peer a \
+        <"$scratch/served" >"$scratch/serve.output" 2>"$scratch/serve.errors" &
+    server=$!
+    listens "$1" || fail "nobody listens at port $1"
+}
+
+# join_one PORT NODE: starts a node that joins with the tables of $scratch/joined.
+join_one() {
+    timeout 60 "$program" join --turns 1000 --port "$1" --name a --peer b \
+        <"$scratch/joined" >"$scratch/$2.output" 2>"$scratch/$2.errors" &
+}
+
+# joined_one WHAT NODE PID: waits for a node that joined, which ends well and has the rows that the server has.
+joined_one() {
+    wait "$3"; status=$?
+    slurp "$scratch/$2.errors"
+    if [ "$status" -eq 0 ] && [ -z "$text" ] && head -n 1 "$scratch/$2.output" | grep -qx 'turns [1-9][0-9]*' &&
+        cmp -s <(sed 1d "$scratch/$2.output" | without_moments -) <(without_moments "$scratch/wanted"); then pass; else
+        fail "$1: $2: status $status, $text"
+        cat "$scratch/$2.output"
+    fi
+}
+
+# served_several WHAT STATUS LINE: waits for the server, which ends so, and prints its turns, that the audit found nothing, and its rows.
+served_several() {
+    wait "$server"; status=$?
+    slurp "$scratch/serve.errors"
+    if [ "$status" -eq "$2" ] && [ "$text" = "$3" ] && head -n 1 "$scratch/serve.output" | grep -qx 'turns [1-9][0-9]*' &&
+        cmp -s <(sed 1d "$scratch/serve.output") <(echo 'audit ok'; cat "$scratch/wanted"); then pass; else
+        fail "$1: status $status, $text"
+        cat "$scratch/serve.output"
+    fi
+}
+
+# reset PORT: connects there and resets the connection.
+reset() {
+    python3 -c 'import socket, struct, sys
+peer = socket.create_connection(("127.0.0.1", int(sys.argv[1])))
+peer.setsockopt(socket.SOL_SOCKET, socket.SO_LINGER, struct.pack("ii", 1, 0))
+peer.close()' "$1"
+}
+
+# beside WHAT STATUS LINE COMMAND..: one of two sessions is with the far side that the command plays, to which it gives the port; the other one is
+# with a node that joins. Either may come first. The server ends so.
+beside() {
+    local what=$1 ending=$2 line=$3 port
+    shift 3
+    port=$(free_port)
+    serve_several "$port" 2
+    "$@" "$port"
+    join_one "$port" first
+    joined_one "$what, first" first $!
+    served_several "$what, first" "$ending" "$line"
+    port=$(free_port)
+    serve_several "$port" 2
+    join_one "$port" first
+    joined_one "$what, second" first $!
+    "$@" "$port"
+    served_several "$what, second" "$ending" "$line"
+}
+
+# told BYTES WANTED PORT: sends bytes, and checks what comes back.
+told() {
+    local answer
+    answer_to "$1" "$3"
+    if [ "$answer" = "$2." ]; then pass; else fail "a session beside another: answer $answer"; fi
+}
+
+several_sessions() {
+    local port server first second hello='HAProxyS 2.1\nb\na 1 1\n'
+    cp examples/two-updates.scene "$scratch/served"
+    grep '^table ' "$scratch/served" >"$scratch/joined"
+    printf 'row 1 4294997296 7 5\nrow 1 4294997296 8 240\n' >"$scratch/wanted"
+    port=$(free_port)
+    serve_several "$port" 2
+    join_one "$port" first; first=$!
+    join_one "$port" second; second=$!
+    joined_one 'two joiners' first "$first"
+    joined_one 'two joiners' second "$second"
+    served_several 'two joiners' 0 ''
+    # One session waits for its hello while another one begins and ends.
+    port=$(free_port)
+    serve_several "$port" 3
+    exec 4<>"/dev/tcp/127.0.0.1/$port"
+    join_one "$port" first
+    joined_one 'beside a silent connection' first $!
+    join_one "$port" second
+    joined_one 'beside a silent connection' second $!
+    exec 4>&-
+    served_several 'beside a silent connection' 0 ''
+    beside 'garbage' 1 $'fault NoTable\n' told "$hello"'\x0A\x83\x01\x09' $'200\n10'
+    beside 'a refused hello' 0 '' told 'HAProxyS 2.1\nc\na 1 1\n' $'503\n'
+    beside 'a broken connection' 4 $'device\n' reset
+    # The first session that doesn't end well decides.
+    port=$(free_port)
+    serve_several "$port" 3
+    told "$hello"'\x0A\x82\xF1\xF1\x06' $'200\n11' "$port"
+    reset "$port"
+    told "$hello"'\x0A\x83\x01\x09' $'200\n10' "$port"
+    served_several 'three that end badly' 1 $'fault SizeLimit\n'
+    # One session is as without the option.
+    port=$(free_port)
+    serve_several "$port" 1
+    join_one "$port" first
+    joined_one 'one session' first $!
+    wait "$server"; status=$?
+    if [ "$status" -eq 0 ] && cmp -s <(sed 1d "$scratch/serve.output") "$scratch/wanted"; then pass; else fail "one session: status $status"; fi
+    refuses '*--sessions*' : serve --turns 1 --port 1 --name b --peer a --sessions 0
+    refuses '*--sessions*' : serve --turns 1 --port 1 --name b --peer a --sessions 17
+    refuses '*--sessions*' : serve --turns 1 --port 1 --name b --peer a --sessions two
+    refuses '*--sessions*' : serve --turns 1 --port 1 --name b --peer a --sessions 2 --sessions 2
+    refuses '*--sessions*' : join --turns 1 --port 1 --name a --peer b --sessions 1
+}
+
 # joins_nobody WORD..: a command line of join, at whose port nobody listens.
 joins_nobody() {
     run join "$@" <examples/two-updates.scene

@@ -1,5 +1,5 @@
 -- Endings after which the rows are printed.
-use Rattle.std.proofs.Common.{◌≡◌, ◌≢◌, ◌⊎◌, ◌<◌, ℕ, List, Option, true, arith, inl, inr, length, subst, sym, take}
+use Rattle.std.proofs.Common.{◌≡◌, ◌≢◌, ◌⊎◌, ◌<◌, ℕ, List, Option, true, arith, inl, inr, length, refl, subst, sym, take}
 use Rattle.std.proofs.Math.Seq.{take-length}
 use Rattle.std.proofs.lemmas.Bool.{false≢true}
 use Rattle.std.specs.Prelude.{Err, IfOk, Ok, Result}
@@ -7,7 +7,7 @@ use Rattle.std.specs.Io.KnownBytes.{Appends}
 use Rattle.text_commands.specs.Endings.{IsEarly}
 use Rattle.text_commands.specs.declared.endings.Ending.{Ending}
 use Rattle.text_commands.specs.declared.endings.Ending.TheVariants as endings
-use Rattle.node_commands.specs.Nodes.{AppendsSome, HasRows, has_rows}
+use Rattle.node_commands.specs.Nodes.{AppendsSome, HasRows, has_rows, is_told}
 
 -- not after a device failed
 pub rows_no_device : (e : Ending) → HasRows e → e ≢ endings.Device
@@ -45,8 +45,22 @@ rows_of endings.Scene rows = absurd (false≢true rows)
 rows_of endings.Configuration rows = absurd (false≢true rows)
 rows_of endings.Memory rows = absurd (false≢true rows)
 
-pub rows_printed : (e after : Ending) → has_rows e ≡ true → after ≡ e → (HasRows after → ⊥) → ⊥
-rows_printed e after rows same none = none (subst HasRows (sym same) (rows_of e rows))
+-- and what is printed and said is of such an ending
+told_rows : (e : Ending) → is_told e ≡ true → e ≢ endings.Device → has_rows e ≡ true
+told_rows endings.Device told other = absurd (other refl)
+told_rows endings.Done told other = told
+told_rows (endings.Stream fault) told other = told
+told_rows endings.Strange told other = told
+told_rows endings.Unasked told other = told
+told_rows endings.NotShortest told other = told
+told_rows (endings.Line n) told other = told
+told_rows endings.Scene told other = told
+told_rows endings.Configuration told other = told
+told_rows endings.Memory told other = told
+
+pub rows_printed : (e after : Ending) → is_told e ≡ true → after ≡ e → after ≢ endings.Device → (HasRows after → ⊥) → ⊥
+rows_printed e after told same other none =
+    none (subst HasRows (sym same) (rows_of e (told_rows e told (subst (λ (x : Ending). x ≢ endings.Device) same other))))
 
 -- ---- how much is written
 

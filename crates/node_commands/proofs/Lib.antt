@@ -6,5 +6,7 @@ mod Lists
 mod LoadingLaws
 mod NodeLaws
 mod PrintingLaws
+mod SessionCrosses
+mod SharingLaws
 pub mod TrackLaws
 mod TurningLaws

@@ -3,5 +3,7 @@ pub mod Loading
 pub mod Nodes
 pub mod Printing
 pub mod Rounds
+pub mod Serving
+pub mod Sharing
 pub mod Tracks
 pub mod Turning

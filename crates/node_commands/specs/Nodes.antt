@@ -1,5 +1,5 @@
 -- Nodes that meet, and what they print (profile).
-use Rattle.std.specs.Prelude.{◌≡◌, ◌≤◌, ℕ, Bool, true, false, List, [], ◌∷◌, length, take, Option}
+use Rattle.std.specs.Prelude.{◌≡◌, ◌≢◌, ◌≤◌, ℕ, Bool, true, false, List, [], ◌∷◌, length, take, Option}
 use Rattle.std.specs.Io.KnownBytes.{Appends}
 use Rattle.table_types.specs.Tables.{Definition}
 use Rattle.table_shards.specs.Receipts.{fresh_seat}
@@ -12,9 +12,11 @@ use Rattle.text_commands.specs.declared.endings.Ending.{Ending}
 use Rattle.text_commands.specs.declared.endings.Ending.TheVariants as endings
 use Rattle.node_commands.specs.declared.link.Link.{Link}
 use Rattle.node_commands.specs.declared.node.Node.{Node}
+use Rattle.node_commands.specs.declared.node.server.Server.{Server}
 use Rattle.node_commands.specs.Auditing.{IsAuditOf}
 use Rattle.node_commands.specs.Loading.{AreOpened}
 use Rattle.node_commands.specs.Printing.{IsText}
+use Rattle.node_commands.specs.Sharing.{IsServer, IsShared}
 use Rattle.node_commands.specs.Turning.{Plays}
 
 -- A node that waits for the peer to connect. It has the scene's tables in ascending order of their ids, loaded with the scene's
@@ -49,11 +51,18 @@ IsPrinted n turns ending received sent text =
     × IsAuditOf n.tables (e.seat ∷ []) a
     × IsText made a.unlocked.tables text
 
--- what a node prints that serves the scene, and what one prints that joins with it
-abbrev pub IsServed : Scene → Link → Ending → List ℕ → Type 0
-IsServed scene link ending text =
+-- What a node prints that serves the scene in one session; in several; and in as many as the link has.
+abbrev pub IsServedAlone : Scene → Link → Ending → List ℕ → Type 0
+IsServedAlone scene link ending text =
     (n : Node) × (received sent : List ℕ) × IsServing scene link.name link.peer n × IsPrinted n link.turns ending received sent text
 
+abbrev pub IsServedShared : Scene → Link → Ending → List ℕ → Type 0
+IsServedShared scene link ending text = (n : Server) × IsServer scene link.name link.peer link.sessions n × IsShared n link.turns ending text
+
+abbrev pub IsServed : Scene → Link → Ending → List ℕ → Type 0
+IsServed scene link ending text = (link.sessions ≡ 1 → IsServedAlone scene link ending text) × (link.sessions ≢ 1 → IsServedShared scene link ending text)
+
+-- what a node prints that joins with the scene
 abbrev pub IsJoined : Scene → Link → Ending → List ℕ → Type 0
 IsJoined scene link ending text =
     (n : Node) × (received sent : List ℕ) × IsJoining scene link.name link.peer n × IsPrinted n link.turns ending received sent text
@@ -76,3 +85,8 @@ has_rows (endings.Stream fault) = true
 has_rows endings.Strange = true
 has_rows endings.Unasked = true
 has_rows ending = false
+
+-- and so they are after several sessions, or if one of these lost its connection
+abbrev pub is_told : Ending → Bool
+is_told endings.Device = true
+is_told ending = has_rows ending

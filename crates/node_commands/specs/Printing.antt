@@ -24,3 +24,7 @@ AreRowsOfAll (t ∷ ts) text = (one : List ℕ) × (rest : List ℕ) × AreRowsO
 -- what a node prints after a session of `turns` turns
 abbrev pub IsText : ℕ → List UnlockedTable → List ℕ → Type 0
 IsText turns tables text = (rows : List ℕ) × AreRowsOfAll tables rows × (text ≡ turns_line turns ++ rows)
+
+-- what a node prints after several sessions, which made `turns` turns together
+abbrev pub IsSharedText : ℕ → List UnlockedTable → List ℕ → Type 0
+IsSharedText turns tables text = (rows : List ℕ) × AreRowsOfAll tables rows × (text ≡ turns_line turns ++ (codes "audit ok\n" ++ rows))

@@ -2,6 +2,9 @@
 
 mod auditing;
 mod loading;
+mod server;
+mod sharing;
+mod totals;
 mod turns;
 
 ghost use Rattle.std.specs.Prelude.{◌≡◌, ◌≢◌, ◌⊎◌, ◌∷◌, [], ℕ, List, true, false, IfErr, IfOk, string_bytes};
@@ -12,7 +15,7 @@ ghost use Rattle.text_commands.specs.declared.endings.Ending.TheVariants as endi
 ghost use Rattle.session_core.specs.Sessions.{connecting};
 ghost use Rattle.table_shards.specs.Audits.{AuditState};
 ghost use Rattle.node_commands.specs.Auditing.{IsAuditOf};
-ghost use Rattle.node_commands.specs.Nodes.{AppendsSome, IsJoining, IsPrinted, IsServing, has_rows};
+ghost use Rattle.node_commands.specs.Nodes.{AppendsSome, IsJoining, IsPrinted, IsServing, has_rows, is_told};
 ghost use Rattle.node_commands.specs.Printing.{IsText};
 
 use crate::node::auditing::audited;
@@ -23,13 +26,16 @@ use node_text::{Scene, read_scene};
 use peers_devices::{Faults, read_to_end, write_all};
 use peers_engine::Worker;
 use peers_hello::Hello;
+pub(crate) use server::Server;
 use session_core::Session;
+pub(crate) use sharing::serve_all;
 use std::alloc::Global;
 use std::io::{Read, Write};
 use std::sync::Wait;
 use table_shards::Seat;
 use table_types::{Memory, Name, Roster};
 use text_commands::{Ending, rising_roster};
+pub(crate) use totals::total_of;
 
 /// A node that is about to meet another: its tables, which are loaded, and its session, ready to work.
 #[derive(Drop)]
@@ -47,11 +53,11 @@ pub struct Report {
     pub(crate) ending: Ending,
     pub(crate) line: String,
     ghost says: { string_bytes line ≡ line_of ending },
-    ghost reported: { has_rows ending ≡ true },
+    ghost told: { is_told ending ≡ true },
 }
 
 /// Reads a scene from `input`, up to its end.
-fn scene_of<I: Read + Faults>(alloc: Global, input: &mut I) -> Result<Scene, Ending>
+pub(crate) fn scene_of<I: Read + Faults>(alloc: Global, input: &mut I) -> Result<Scene, Ending>
     ensures early { IfErr result IsEarly }
 {
     let text = read_to_end(alloc, input)?;
@@ -159,8 +165,15 @@ fn has_rows(ending: Ending) -> bool
     }
 }
 
+/// Returns whether the rows are printed after several sessions of which the first one that didn't end well ended with `ending`.
+pub(crate) fn is_told(ending: Ending) -> bool
+    ensures { result ≡ is_told ending }
+{
+    has_rows(ending) || matches!(ending, Ending::Device)
+}
+
 /// Returns the ending of a session whose rows aren't printed: `Device` if a device failed, `Memory` otherwise.
-fn early(ending: Ending) -> Ending
+pub(crate) fn early(ending: Ending) -> Ending
     ensures { (result ≡ Ending.Memory) ⊎ (result ≡ Ending.Device) }
 {
     match ending {

@@ -3,7 +3,7 @@
 ghost use Rattle.std.specs.Prelude.{◌≡◌, ◌++◌, ℕ, List, IfOk, OnOk, codes, flat_map};
 ghost use Rattle.std.specs.List.{repeat};
 ghost use Rattle.node_text.specs.Rows.{row_line};
-ghost use Rattle.node_commands.specs.Printing.{AreRowsOf, IsText, turns_line};
+ghost use Rattle.node_commands.specs.Printing.{AreRowsOf, AreRowsOfAll, IsSharedText, IsText, turns_line};
 ghost use Rattle.node_commands.specs.Rounds.{IsPrinted};
 
 use node_text::push_row;
@@ -13,8 +13,8 @@ use table_shards::{Audit, UnlockedTable};
 use table_types::{Key, Memory, Row, TableDef};
 use text_commands::Ending;
 
-/// Returns the line that says how many turns a session made.
-fn turns_line(alloc: Global, turns: u32) -> Result<Vec<u8>, AllocError>
+/// Returns the line that says how many turns were made.
+fn turns_line(alloc: Global, turns: u64) -> Result<Vec<u8>, AllocError>
     ensures { IfOk result (λ line. line.items ≡ turns_line turns) }
 {
     Vec::from_slice(alloc, format!(in alloc; "turns {turns}\n")?.as_bytes())
@@ -39,6 +39,16 @@ fn push_table(text: &mut Vec<u8>, cell: &TableCell) -> Result<(), Memory>
     Ok(())
 }
 
+/// Appends the lines of the rows of each table, in order.
+fn push_tables(text: &mut Vec<u8>, tables: &[UnlockedTable]) -> Result<(), Memory>
+    ensures { OnOk result ((rows : List ℕ) × AreRowsOfAll tables.now rows × (text.new.items ≡ text.old.items ++ rows)) }
+{
+    for table in tables {
+        push_table(text, &table.cell)?;
+    }
+    Ok(())
+}
+
 /// Returns the text of a session: the line that says how many turns it made, then the rows of `tables` in this order, each
 /// table's in ascending order of the keys.
 pub(crate) fn session_text(
@@ -48,10 +58,23 @@ pub(crate) fn session_text(
 ) -> Result<Vec<u8>, Memory>
     ensures { IfOk result (λ text. IsText turns tables.now text.items) }
 {
+    let mut text = turns_line(alloc, u64::from(turns))?;
+    push_tables(&mut text, tables)?;
+    Ok(text)
+}
+
+/// Returns the text of several sessions: the line that says how many turns they made together, the line `audit ok`, and then the
+/// rows of `tables` as `session_text` has them.
+pub(crate) fn shared_text(
+    alloc: Global,
+    turns: u64,
+    tables: &[UnlockedTable],
+) -> Result<Vec<u8>, Memory>
+    ensures { IfOk result (λ text. IsSharedText turns tables.now text.items) }
+{
     let mut text = turns_line(alloc, turns)?;
-    for table in tables {
-        push_table(&mut text, &table.cell)?;
-    }
+    text.extend_from_slice(b"audit ok\n")?;
+    push_tables(&mut text, tables)?;
     Ok(text)
 }
 

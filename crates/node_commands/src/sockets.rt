@@ -5,28 +5,44 @@ ghost use Rattle.std.specs.Io.KnownBytes.{Appends};
 ghost use Rattle.node_text.specs.declared.scenes.Scene.{Scene};
 ghost use Rattle.text_commands.specs.Endings.{IsEarly, line_of};
 ghost use Rattle.text_commands.specs.declared.endings.Ending.{Ending};
+ghost use Rattle.text_commands.specs.declared.endings.Ending.TheVariants as endings;
 ghost use Rattle.node_commands.specs.declared.node.Report.{Report};
-ghost use Rattle.node_commands.specs.Nodes.{AppendsSome, HasRows, IsJoined, IsPrinted, IsServed};
+ghost use Rattle.node_commands.specs.Nodes.{AppendsSome, HasRows, IsJoined, IsPrinted, IsServed, IsServedAlone, IsServedShared};
+ghost use Rattle.node_commands.specs.Sharing.{IsShared};
 
 use crate::link::Link;
-use crate::node::{Node, Report};
+use crate::node::{Node, Report, Server, serve_all, total_of};
 use peers_devices::{Counting, Faults};
 use std::alloc::Global;
 use std::io;
 use std::io::{Read, Write};
 use std::net::{Ipv4Addr, Net, TcpListener, TcpStream};
 use std::sync::Wait;
+use std::thread::Threads;
 use text_commands::Ending;
+
+/// Listens on `port` of 127.0.0.1.
+fn listening<N: Net<Listener = TcpListener, Stream = TcpStream>>(
+    net: &N,
+    port: u16,
+) -> io::Result<TcpListener> {
+    TcpListener::bind(net, (Ipv4Addr::LOCALHOST, port))
+}
+
+/// Accepts a connection.
+pub(crate) fn taken(listener: &TcpListener) -> io::Result<TcpStream> {
+    let (stream, _) = listener.accept()?;
+    stream.set_nodelay(true)?;
+    Ok(stream)
+}
 
 /// Listens on `port` of 127.0.0.1, and accepts one connection.
 fn accepted<N: Net<Listener = TcpListener, Stream = TcpStream>>(
     net: &N,
     port: u16,
 ) -> io::Result<TcpStream> {
-    let listener = TcpListener::bind(net, (Ipv4Addr::LOCALHOST, port))?;
-    let (stream, _) = listener.accept()?;
-    stream.set_nodelay(true)?;
-    Ok(stream)
+    let listener = listening(net, port)?;
+    taken(&listener)
 }
 
 /// Connects to `port` of 127.0.0.1.
@@ -62,14 +78,14 @@ fn met<H: Wait>(
     }
 }
 
-/// Runs the session of a node that serves.
-fn served<N: Net<Listener = TcpListener, Stream = TcpStream> + Wait, I: Read + Faults>(
+/// Runs the only session of a node that serves.
+fn served_alone<N: Net<Listener = TcpListener, Stream = TcpStream> + Wait, I: Read + Faults>(
     rt: &N,
     alloc: Global,
     link: Link,
     input: &mut I,
 ) -> Result<Report, Ending>
-    ensures printed { IfOk result (λ report. (scene : Scene) × IsServed scene link report.ending report.text.items) }
+    ensures printed { IfOk result (λ report. (scene : Scene) × IsServedAlone scene link report.ending report.text.items) }
     ensures early { IfErr result IsEarly }
 {
     let Link {
@@ -77,9 +93,58 @@ fn served<N: Net<Listener = TcpListener, Stream = TcpStream> + Wait, I: Read + F
         port,
         name,
         peer,
+        ..
     } = link;
     let node = Node::serving(rt, alloc, name, peer, input)?;
     met(rt, alloc, node, turns, accepted(rt, port))
+}
+
+/// Runs the sessions of a node side by side.
+#[tactic(auto, using(crate::proofs::SharingLaws::shared_with))]
+fn met_by_all<H: Threads + Wait + Sync>(
+    rt: &H,
+    alloc: Global,
+    server: Server,
+    turns: u32,
+    listener: io::Result<TcpListener>,
+) -> Result<Report, Ending>
+    ensures printed { IfOk result (λ report. IsShared server turns report.ending report.text.items) }
+    ensures early { IfErr result (λ ending. (ending ≡ endings.Memory) ⊎ (ending ≡ endings.Device)) }
+{
+    let Ok(listener) = listener else {
+        return Err(Ending::Device);
+    };
+    let Server { tables, workers } = server;
+    let all = serve_all(rt, alloc, &tables.shards, listener, turns, workers)?;
+    total_of(alloc, tables, all)
+}
+
+/// Runs the sessions of a node that serves several.
+fn served_shared<
+    N: Net<Listener = TcpListener, Stream = TcpStream> + Threads + Wait + Sync,
+    I: Read + Faults,
+>(rt: &N, alloc: Global, link: Link, input: &mut I) -> Result<Report, Ending>
+    ensures printed { IfOk result (λ report. (scene : Scene) × IsServedShared scene link report.ending report.text.items) }
+    ensures early { IfErr result IsEarly }
+{
+    let server = Server::new(rt, alloc, &link.name, &link.peer, link.sessions, input)?;
+    let report = met_by_all(rt, alloc, server, link.turns, listening(rt, link.port))?;
+    Ok(report)
+}
+
+/// Runs the sessions of a node that serves.
+fn served<
+    N: Net<Listener = TcpListener, Stream = TcpStream> + Threads + Wait + Sync,
+    I: Read + Faults,
+>(rt: &N, alloc: Global, link: Link, input: &mut I) -> Result<Report, Ending>
+    ensures printed { IfOk result (λ report. (scene : Scene) × IsServed scene link report.ending report.text.items) }
+    ensures early { IfErr result IsEarly }
+{
+    if link.sessions == 1 {
+        served_alone(rt, alloc, link, input)
+    } else {
+        served_shared(rt, alloc, link, input)
+    }
 }
 
 /// Runs the session of a node that joins.
@@ -97,6 +162,7 @@ fn joined<N: Net<Listener = TcpListener, Stream = TcpStream> + Wait, I: Read + F
         port,
         name,
         peer,
+        ..
     } = link;
     let node = Node::joining(rt, alloc, name, peer, input)?;
     met(rt, alloc, node, turns, connected(rt, port))
@@ -127,10 +193,16 @@ fn reported<O: Write + Faults, E: Write + Faults>(
 /// the tables now have.
 ///
 /// The session ends after the link's turns, when the other node closes the connection, or when it has a fault. If the scene is
-/// refused, memory runs out, the connection fails or the audit finds anything wrong, `serve` writes nothing on `output`. Unless a
-/// device fails, it writes the line of the ending on `errors`. `serve` waits for the other node.
+/// refused, memory runs out, the connection fails or the audit finds a fault, `serve` writes nothing on `output`. Unless a device
+/// fails, it writes the line of the ending on `errors`. `serve` waits for the other node.
+///
+/// If the link has several sessions, accepts as many connections, and runs the session of each in a thread of its own, with its own
+/// number and seat, over the same tables and all at one moment. Writes how many turns they made together, the line `audit ok`, and the
+/// rows. A session that has a fault or loses its connection ends alone; the first one that didn't end well decides how `serve` ends.
+/// If a connection can't be accepted or a thread can't be started, `serve` waits for the sessions that run, and writes nothing on
+/// `output`.
 pub fn serve<
-    N: Net<Listener = TcpListener, Stream = TcpStream> + Wait,
+    N: Net<Listener = TcpListener, Stream = TcpStream> + Threads + Wait + Sync,
     I: Read + Faults,
     O: Write + Faults,
     E: Write + Faults,

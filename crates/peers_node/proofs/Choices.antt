@@ -1,11 +1,12 @@
 -- What clap meets of the program.
 use Rattle.std.proofs.Common.{◌≡◌, ◌≤◌, ◌∙◌, ℕ, List, arith, codes, refl, rules, subst, sym, true}
-use Rattle.std.specs.Prelude.{IfSome, Option, None, Some, option_map}
+use Rattle.std.specs.Prelude.{Err, IfOk, IfSome, Ok, Option, None, Result, Some, option_map}
 use Rattle.clap.specs.Words.{Row, is_simple, is_simple_and_free, subcommand_name_of, subcommand_rows_of}
 use Rattle.clap.specs.declared.parser.matches.ArgMatches.{ArgMatches}
+use Rattle.node_commands.specs.declared.link.Link.{Link}
 use Rattle.clap.proofs.OnLiterals.{clap_on_literals}
 use Rattle.peers_node.specs.Choices.{TakesNone, name_of}
-use Rattle.peers_node.specs.CommandLine.{HasOptions, Meets, program}
+use Rattle.peers_node.specs.CommandLine.{HasLink, HasNumberOr, HasOptions, Meets, program}
 use Rattle.peers_node.proofs.Numbers.{number_or_least, number_within}
 use Rattle.peers_node.specs.declared.choice.Options.{Options}
 use Rattle.peers_node.specs.declared.choice.Options.TheVariants.{Lesson, Check, Learn, Table, World, CheckConfiguration, Round, Serve, Join}
@@ -41,6 +42,13 @@ few_threads (Some met) threads tracks rounds (same, has) = (number_within met.1 
 pub some_rounds : (met : Option (List ℕ × List Row)) (threads tracks rounds : ℕ) → Meets met (Round threads tracks rounds) → 1 ≤ rounds
 some_rounds None threads tracks rounds meets = elim meets [ ]
 some_rounds (Some met) threads tracks rounds (same, has) = number_or_least met.1 (codes "rounds") 100 1 rounds (omega arith) has.2
+
+-- the link of a node that serves, and the number of its sessions
+pub served_so : {E : Type 0} (rows : List Row) (n : ℕ) (r : Result (Option Link) E) → HasNumberOr rows (codes "sessions") 16 1 n
+    → IfOk r (λ found. IfSome found (λ link. HasLink rows link × (link.sessions ≡ n))) → IfOk r (λ found. IfSome found (λ link. HasOptions rows (Serve link)))
+served_so rows n (Err e) number has = tt
+served_so rows n (Ok None) number has = tt
+served_so rows n (Ok (Some link)) number (has, same) = (has, subst (HasNumberOr rows (codes "sessions") 16 1) (sym same) number)
 
 -- what has no options is met without any
 pub has_none : (rows : List Row) (chosen : Options) → TakesNone chosen → HasOptions rows chosen

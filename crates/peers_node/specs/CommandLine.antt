@@ -51,8 +51,8 @@ HasLink rows link =
 abbrev pub HasOptions : List Row → Options → Type 0
 HasOptions rows (Round threads tracks rounds) =
     HasNumber rows (codes "threads") 8 threads × HasNumber rows (codes "tracks") 1000 tracks × HasNumberOr rows (codes "rounds") 100 1 rounds
-HasOptions rows (Serve link) = HasLink rows link
-HasOptions rows (Join link) = HasLink rows link
+HasOptions rows (Serve link) = HasLink rows link × HasNumberOr rows (codes "sessions") 16 1 link.sessions
+HasOptions rows (Join link) = HasLink rows link × (link.sessions ≡ 1)
 HasOptions rows chosen = Unit {0}
 
 -- clap met this choice's subcommand, with its options
@@ -110,6 +110,10 @@ numbered name = with_rule (with_rule (new_app name) (number_option (codes "turns
 abbrev pub meeting : List ℕ → App
 meeting name = with_rule (with_rule (numbered name) (name_option (codes "name"))) (name_option (codes "peer"))
 
+-- the subcommand that waits for other nodes
+abbrev pub serving : App
+serving = with_rule (meeting (codes "serve")) (optional_number (codes "sessions") 16)
+
 -- the subcommand that checks a configuration, with its one option, which is required and has no value
 abbrev pub running : App
 running =
@@ -122,7 +126,7 @@ alone = with_subcommand (with_subcommand scripts rounds.top) running.top
 
 -- and with those that meet one
 abbrev pub program : App
-program = with_subcommand (with_subcommand alone (meeting (codes "serve")).top) (meeting (codes "join")).top
+program = with_subcommand (with_subcommand alone serving.top) (meeting (codes "join")).top
 
 -- ---- what words choose
 

@@ -14,6 +14,9 @@ pub(crate) const MOST_ROUNDS: u32 = 100;
 /// The most turns of a session.
 pub(crate) const MOST_TURNS: u32 = 1_000_000;
 
+/// The most sessions of a node that serves.
+pub(crate) const MOST_SESSIONS: u32 = 16;
+
 /// The last port.
 pub(crate) const LAST_PORT: u32 = 65_535;
 
@@ -41,7 +44,7 @@ pub enum Options {
         /// The number of rounds: 1 to 100.
         rounds: u32,
     },
-    /// Read a scene, wait for another node to connect, and teach it the rows.
+    /// Read a scene, wait for another node to connect, as often as there are sessions, and teach it the rows.
     Serve(Link),
     /// Read a scene, connect to a node that serves, and take its rows.
     Join(Link),

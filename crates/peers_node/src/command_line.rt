@@ -9,7 +9,9 @@ ghost use Rattle.peers_node.specs.declared.options_error.OptionsError.TheVariant
 ghost use Rattle.peers_node.specs.Choices.{TakesNone, name_of};
 ghost use Rattle.peers_node.specs.CommandLine.{Chooses, HasLink, HasName, HasNumber, HasNumberOr, HasOptions, Meets, Refuses, cause_of, faults_of, program, texts};
 
-use crate::choice::{LAST_PORT, MOST_ROUNDS, MOST_THREADS, MOST_TRACKS, MOST_TURNS, Options};
+use crate::choice::{
+    LAST_PORT, MOST_ROUNDS, MOST_SESSIONS, MOST_THREADS, MOST_TRACKS, MOST_TURNS, Options,
+};
 use crate::options_error::OptionsError;
 use crate::program::command;
 use clap::error::ErrorKind;
@@ -106,11 +108,11 @@ fn chosen(alloc: Global, matches: &ArgMatches<'_>) -> Result<Option<Options>, Al
 {
     match matches.subcommand() {
         Some(("round", options)) => Ok(round_met(options)),
-        Some(("serve", options)) => match link_met(alloc, options)? {
+        Some(("serve", options)) => match serve_met(alloc, options)? {
             Some(link) => Ok(Some(Options::Serve(link))),
             None => Ok(None),
         },
-        Some(("join", options)) => match link_met(alloc, options)? {
+        Some(("join", options)) => match link_met(alloc, options, 1)? {
             Some(link) => Ok(Some(Options::Join(link))),
             None => Ok(None),
         },
@@ -156,9 +158,24 @@ fn round_met(options: &ArgMatches<'_>) -> Option<Options>
     })
 }
 
-/// Returns the link that the options give, with copies of its names.
-fn link_met(alloc: Global, options: &ArgMatches<'_>) -> Result<Option<Link>, AllocError>
-    ensures some { IfOk result (λ found. IfSome found (HasLink (rows_of (found_of options.now)))) }
+/// Returns the link that the options give to a node that serves.
+fn serve_met(alloc: Global, options: &ArgMatches<'_>) -> Result<Option<Link>, AllocError>
+    ensures some { IfOk result (λ found. IfSome found (λ link. HasOptions (rows_of (found_of options.now)) (choices.Serve link))) }
+    ensures none { result ≡ Ok None → (link : Link) → HasOptions (rows_of (found_of options.now)) (choices.Serve link) → ⊥ }
+{
+    let Some(sessions) = number_or(options, "sessions", MOST_SESSIONS, 1) else {
+        return Ok(None);
+    };
+    link_met(alloc, options, sessions)
+}
+
+/// Returns the link of this number of sessions that the options give, with copies of its names.
+fn link_met(
+    alloc: Global,
+    options: &ArgMatches<'_>,
+    sessions: u32,
+) -> Result<Option<Link>, AllocError>
+    ensures some { IfOk result (λ found. IfSome found (λ link. HasLink (rows_of (found_of options.now)) link × (link.sessions ≡ sessions))) }
     ensures none { result ≡ Ok None → (link : Link) → HasLink (rows_of (found_of options.now)) link → ⊥ }
 {
     let Some(turns) = number_met(options, "turns", MOST_TURNS) else {
@@ -175,6 +192,7 @@ fn link_met(alloc: Global, options: &ArgMatches<'_>) -> Result<Option<Link>, All
     };
     Ok(Some(Link {
         turns,
+        sessions,
         port: port as u16,
         name: owned_name(alloc, name)?,
         peer: owned_name(alloc, peer)?,

@@ -2,9 +2,9 @@
 ghost use Rattle.std.specs.Prelude.{◌≡◌, IfOk, false};
 ghost use Rattle.clap.specs.Words.{app_of, new_app, rule_of};
 ghost use Rattle.clap.specs.declared.builder.command.Command.TheViews.{out-Command as fields_of};
-ghost use Rattle.peers_node.specs.CommandLine.{alone, meeting, name_option, number_option, numbered, optional_number, program, round, rounds, running, scenes, scripts, tables, teaching, top};
+ghost use Rattle.peers_node.specs.CommandLine.{alone, meeting, name_option, number_option, numbered, optional_number, program, round, rounds, running, scenes, scripts, serving, tables, teaching, top};
 
-use crate::choice::{LAST_PORT, MOST_ROUNDS, MOST_THREADS, MOST_TRACKS, MOST_TURNS};
+use crate::choice::{LAST_PORT, MOST_ROUNDS, MOST_SESSIONS, MOST_THREADS, MOST_TRACKS, MOST_TURNS};
 use crate::settings::{
     flag, required, requiring_subcommand, up_to, with_about, with_after_help, with_help,
     with_help_by_default, with_long, with_option, with_parser, with_value_name, with_version,
@@ -188,6 +188,26 @@ fn meeting<'a>(alloc: Global, name: &'a str, about: &'a str) -> Result<Command<'
     with_option(command, with_help(peer, "The name of the other node"))
 }
 
+/// Makes the subcommand that waits for other nodes.
+fn serving<'a>(alloc: Global) -> Result<Command<'a>, AllocError>
+    ensures app { IfOk result (λ command. app_of command ≡ serving) }
+    ensures local { IfOk result (λ command. (fields_of command).has_globals ≡ false) }
+{
+    let serve = meeting(
+        alloc,
+        "serve",
+        "Reads a scene, waits for a node to connect, and teaches it the scene's rows",
+    )?;
+    let sessions = optional_number(alloc, "sessions", "S", MOST_SESSIONS);
+    with_option(
+        serve,
+        with_help(
+            sessions,
+            "How many connections it takes, each in a session of its own (1 if not given)",
+        ),
+    )
+}
+
 /// Makes the program with all subcommands that need no other node.
 fn alone<'a>(alloc: Global) -> Result<Command<'a>, AllocError>
     ensures { IfOk result (λ command. app_of command ≡ alone) }
@@ -201,15 +221,10 @@ fn alone<'a>(alloc: Global) -> Result<Command<'a>, AllocError>
 pub fn command<'a>(alloc: Global) -> Result<Command<'a>, AllocError>
     ensures { IfOk result (λ command. app_of command ≡ program) }
 {
-    let serve = meeting(
-        alloc,
-        "serve",
-        "Reads a scene, waits for a node to connect, and teaches it the scene's rows",
-    )?;
     let join = meeting(
         alloc,
         "join",
         "Reads a scene, connects to a node that serves, and takes all its rows",
     )?;
-    alone(alloc)?.subcommand(serve)?.subcommand(join)
+    alone(alloc)?.subcommand(serving(alloc)?)?.subcommand(join)
 }

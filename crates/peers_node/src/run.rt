@@ -161,7 +161,7 @@ fn run_round<R: Threads + Wait + Sync, O: Write + Faults, E: Write + Faults>(
 
 #[inline(never)]
 fn run_serve<
-    R: Wait + Net<Listener = TcpListener, Stream = TcpStream>,
+    R: Threads + Wait + Sync + Net<Listener = TcpListener, Stream = TcpStream>,
     I: Read + Faults,
     O: Write + Faults,
     E: Write + Faults,

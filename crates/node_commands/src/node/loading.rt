@@ -1,6 +1,6 @@
 //! The tables of a node, and how they are loaded before its sessions begin.
 
-ghost use Rattle.std.specs.Prelude.{◌≡◌, ◌<◌, ◌+◌, ◌^◌, ◌∷◌, [], IfErr, IfOk, OnOk, flat_map, map};
+ghost use Rattle.std.specs.Prelude.{◌≡◌, ◌+◌, ◌∷◌, [], IfErr, IfOk, OnOk, flat_map, map};
 ghost use Rattle.table_cell.specs.declared.events.CellEvent.TheVariants as events;
 ghost use Rattle.table_shards.specs.Receipts.{fresh_seat};
 ghost use Rattle.table_shards.specs.Rounds.{begun, fresh_from};
@@ -50,19 +50,22 @@ fn new_tables(alloc: Global, definitions: &[TableDef]) -> Result<Vec<TableCell>,
     Ok(cells)
 }
 
-/// Puts the tables under their locks. Makes the seat from which they are loaded, and one for each session.
+/// Puts the tables under their locks. Makes the seat from which they are loaded, and one for each session. Fails with `Memory` if there
+/// are more seats than numbers for them.
 #[tactic(auto, using(crate::proofs::LoadingLaws::first_seat))]
 fn locked(
     alloc: Global,
     cells: Vec<TableCell>,
     sessions: u32,
 ) -> Result<(Shards, Seat, Vec<Seat>), Ending>
-    requires { sessions + 1 < 2 ^ 32 }
     ensures shards { IfOk result (λ made. made.0 ≡ record { seats = sessions + 1; tables = map begun cells.items }) }
     ensures first { IfOk result (λ made. made.1 ≡ fresh_seat 1) }
     ensures others { IfOk result (λ made. made.2.items ≡ fresh_from 2 sessions) }
     ensures early { IfErr result IsEarly }
 {
+    if sessions == u32::MAX {
+        return Err(Ending::Memory);
+    }
     let (shards, mut seats) = Shards::new(alloc, cells, sessions + 1)?;
     if seats.is_empty() {
         return Err(Ending::Device);
@@ -212,7 +215,6 @@ pub(crate) fn opened<H: Wait>(
     updates: &[Update],
     sessions: u32,
 ) -> Result<(NodeTables, Vec<Seat>), Ending>
-    requires { sessions + 1 < 2 ^ 32 }
     ensures tables { IfOk result (λ made. AreOpened sessions roster updates.now made.0) }
     ensures seats { IfOk result (λ made. made.1.items ≡ fresh_from 2 sessions) }
     ensures early { IfErr result IsEarly }

@@ -9,7 +9,7 @@ returns-in-Ok-clause-printed g c = λ rows.
 
 pub returns-in-Ok-clause-silent : goal.returns-in-Ok-clause-silent
 returns-in-Ok-clause-silent g c = λ none other.
-    absurd (rows_printed c.in-Ok.report.ending c.print.result c.in-Ok.report.reported (c.print.ensures.ends other) none)
+    absurd (rows_printed c.in-Ok.report.ending c.print.result c.in-Ok.report.told (c.print.ensures.ends other) other none)
 
 pub returns-in-Ok-clause-device : goal.returns-in-Ok-clause-device
 returns-in-Ok-clause-device g c = λ device. inr (c.in-Ok.report, c.in-Ok.is, c.print.ensures.device device)
