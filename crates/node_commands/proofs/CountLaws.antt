@@ -37,7 +37,7 @@ use Rattle.table_shards.proofs.AllLaws.{all_both, all_so}
 use Rattle.table_shards.proofs.MatchLaws.{each_event, summed}
 use Rattle.table_shards.proofs.RollLaws.{seats_each}
 use Rattle.node_commands.specs.Rounds.{AreRounds, GoesOn, HasCount, HasCountAmong, IsAudited, IsCountingTable, IsCutShort, IsFirst, IsRoundTable, IsTextOf, round_table}
-use Rattle.node_commands.specs.Tracks.{HasDoneItsPart, IsTrack, keeps_rows}
+use Rattle.node_commands.specs.Tracks.{HasDoneItsPart, IsTrack, is_work}
 use Rattle.node_commands.proofs.Lists.{next_left}
 
 abbrev up : Change
@@ -56,15 +56,15 @@ tracked_by key rs = sum_by (λ (r : ReceiptState). tracks_of key r.event) rs
 
 -- the event is one of a round
 abbrev IsPart : CellEvent → Type 0
-IsPart event = (keeps_rows event ≡ true) ⊎ ((seat : ℕ) × (k : ℕ) × (event ≡ events.Track seat (keys.Int k) up 4294967296))
+IsPart event = (is_work event ≡ true) ⊎ ((seat : ℕ) × (k : ℕ) × (event ≡ events.Track seat (keys.Int k) up 4294967296))
 
-none_of : (key : ℕ) (event : CellEvent) → keeps_rows event ≡ true → tracks_of key event ≡ 0
+none_of : (key : ℕ) (event : CellEvent) → is_work event ≡ true → tracks_of key event ≡ 0
 none_of key (events.Track seat k change now) keeps = absurd (true≢false (sym keeps))
 none_of key (events.Learn session u now) keeps = absurd (true≢false (sym keeps))
 none_of key (events.Copy session kind limit now) keeps = refl
 none_of key (events.Ack session number) keeps = refl
 none_of key (events.Open session) keeps = refl
-none_of key (events.Close session) keeps = refl
+none_of key (events.Close session) keeps = absurd (true≢false (sym keeps))
 none_of key (events.Purge now) keeps = absurd (true≢false (sym keeps))
 
 one_of : (key k : ℕ) → k ≡ key → ◌≡◌ {A = ℕ} (cond (k == key) 1 0) 1
@@ -118,13 +118,13 @@ pub record IsOnCount (s : TableState) (key n count : ℕ) : Type 0 where
   pub below : count ≤ n
   pub counts : Counts count (row_at (keys.Int key) s.rows)
 
-quiet : (s e : TableState) (event : CellEvent) (reply : CellReply) → keeps_rows event ≡ true → Step s event reply e → (e.definition ≡ s.definition) × (e.size ≡ s.size) × (e.rows ≡ s.rows)
+quiet : (s e : TableState) (event : CellEvent) (reply : CellReply) → is_work event ≡ true → Step s event reply e → (e.definition ≡ s.definition) × (e.size ≡ s.size) × (e.rows ≡ s.rows)
 quiet s e (events.Track seat k change now) reply keeps step = absurd (true≢false (sym keeps))
 quiet s e (events.Learn session u now) reply keeps step = absurd (true≢false (sym keeps))
 quiet s e (events.Copy session kind limit now) reply keeps (granted, answer, is) = (ap (λ (x : TableState). x.definition) is, ap (λ (x : TableState). x.size) is, ap (λ (x : TableState). x.rows) is)
 quiet s e (events.Ack session number) reply keeps (granted, answer, is) = (ap (λ (x : TableState). x.definition) is, ap (λ (x : TableState). x.size) is, ap (λ (x : TableState). x.rows) is)
 quiet s e (events.Open session) reply keeps (granted, answer, is) = (ap (λ (x : TableState). x.definition) is, ap (λ (x : TableState). x.size) is, ap (λ (x : TableState). x.rows) is)
-quiet s e (events.Close session) reply keeps (granted, answer, is) = (ap (λ (x : TableState). x.definition) is, ap (λ (x : TableState). x.size) is, ap (λ (x : TableState). x.rows) is)
+quiet s e (events.Close session) reply keeps step = absurd (true≢false (sym keeps))
 quiet s e (events.Purge now) reply keeps step = absurd (true≢false (sym keeps))
 
 rows_stay : (s e : TableState) (key n count more : ℕ) → e.definition ≡ s.definition → e.size ≡ s.size → e.rows ≡ s.rows → more ≡ 0 → IsOnCount s key n count → IsOnCount e key (n + 1) (count + more)
@@ -222,7 +222,7 @@ counted key (h ∷ hs) s e n count (first, rest) (mid, step, run) within on =
 
 seat_parts : (threads tracks : ℕ) (s : SeatState) → HasDoneItsPart threads tracks s → AllByRecursion (λ (r : ReceiptState). IsPart r.event) (receipts_of 1 s)
 seat_parts threads tracks s (tracked, kept) = elim (cases_lt threads s.number) [
-  | inl above ↦ all_so (λ (r : ReceiptState). keeps_rows r.event ≡ true) (λ (r : ReceiptState). IsPart r.event) (λ r keeps. inl keeps) (receipts_of 1 s) (kept above)
+  | inl above ↦ all_so (λ (r : ReceiptState). is_work r.event ≡ true) (λ (r : ReceiptState). IsPart r.event) (λ r keeps. inl keeps) (receipts_of 1 s) (kept above)
   | inr within ↦ all_so (IsTrack s.number s.number) (λ (r : ReceiptState). IsPart r.event) (λ r is. inr (s.number, s.number, is)) (receipts_of 1 s) (tracked within).1
 ]
 
@@ -233,7 +233,7 @@ all_parts threads tracks (s ∷ ss) (first, rest) = all_both (λ (r : ReceiptSta
 by_cons : (key : ℕ) (r : ReceiptState) (rs : List ReceiptState) → tracked_by key (r ∷ rs) ≡ tracks_of key r.event + tracked_by key rs
 by_cons key r rs = sum_by-cons (λ (x : ReceiptState). tracks_of key x.event) r rs
 
-of_kept : (key : ℕ) (rs : List ReceiptState) → AllByRecursion (λ (r : ReceiptState). keeps_rows r.event ≡ true) rs → tracked_by key rs ≡ 0
+of_kept : (key : ℕ) (rs : List ReceiptState) → AllByRecursion (λ (r : ReceiptState). is_work r.event ≡ true) rs → tracked_by key rs ≡ 0
 of_kept key [] all = refl
 of_kept key (r ∷ rs) (first, rest) = omega (arith, by_cons key r rs, none_of key r.event first, of_kept key rs rest)
 

@@ -1,9 +1,9 @@
 -- What the worker of a round takes with it may go to another thread.
-use mathlib.Core.List.{[], ◌∷◌}
+use mathlib.Core.List.{List, [], ◌∷◌}
 use mir.Syntax.{Sym}
 use denote.RattleType.{RattleType}
-use denote.Param.Send.{IsSend, sendable}
-use denote.Param.SendFields.{as_row_send, declared_send}
+use denote.Param.Send.{AllSend, IsSend, sendable}
+use denote.Param.SendFields.{FieldsHave, as_row_send, declared_send}
 use denote.Struct.Field.{row_field}
 use denote.Struct.Tuple.{TupleAt, type_at}
 use Rattle.std.proofs.Crossing.{crosses}
@@ -17,3 +17,17 @@ pub six_send : (name : Sym) (A B C D E F : RattleType) → IsSend A → IsSend B
 six_send name A B C D E F a b c d e f =
     declared_send (type_at name (A ∷ B ∷ C ∷ D ∷ E ∷ F ∷ []))
     (as_row_send (row_field A) a, (as_row_send (row_field B) b, (as_row_send (row_field C) c, (as_row_send (row_field D) d, (as_row_send (row_field E) e, (as_row_send (row_field F) f, tt))))))
+
+parts_send : (name : Sym) (As : List RattleType) → AllSend As → FieldsHave IsSend (type_at name As).parts
+parts_send name [] all = tt
+parts_send name (A ∷ As) (first, rest) = (as_row_send (row_field A) first, parts_send name As rest)
+
+captures_send : (name : Sym) (As : List RattleType) → AllSend As → IsSend (TupleAt name As)
+captures_send name As all = declared_send (type_at name As) (parts_send name As all)
+
+-- the same of five, and of seven
+pub five_send : (name : Sym) (A B C D E : RattleType) → IsSend A → IsSend B → IsSend C → IsSend D → IsSend E → IsSend (TupleAt name (A ∷ B ∷ C ∷ D ∷ E ∷ []))
+five_send name A B C D E a b c d e = captures_send name (A ∷ B ∷ C ∷ D ∷ E ∷ []) (a, (b, (c, (d, (e, tt)))))
+
+pub seven_send : (name : Sym) (A B C D E F G : RattleType) → IsSend A → IsSend B → IsSend C → IsSend D → IsSend E → IsSend F → IsSend G → IsSend (TupleAt name (A ∷ B ∷ C ∷ D ∷ E ∷ F ∷ G ∷ []))
+seven_send name A B C D E F G a b c d e f g = captures_send name (A ∷ B ∷ C ∷ D ∷ E ∷ F ∷ G ∷ []) (a, (b, (c, (d, (e, (f, (g, tt)))))))

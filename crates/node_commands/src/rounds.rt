@@ -7,19 +7,20 @@ mod table;
 mod tracking;
 mod worker;
 
-ghost use Rattle.std.specs.Prelude.{◌≡◌, ◌≢◌, ◌≤◌, ◌⊎◌, ◌+◌, ◌*◌, ◌∷◌, [], ℕ, List, IfOk, IsTrue, length};
+ghost use Rattle.std.specs.Prelude.{◌≡◌, ◌≢◌, ◌≤◌, ◌⊎◌, ◌+◌, ◌*◌, ◌∷◌, ◌++◌, [], ℕ, List, None, IfOk, IsTrue, OnOk, length};
 ghost use Rattle.std.specs.List.{AllByRecursion};
 ghost use Rattle.std.specs.Io.KnownBytes.{Appends};
 ghost use Rattle.text_commands.specs.Endings.{line_of};
-ghost use Rattle.table_shards.specs.Audits.{AuditState, rounds_of};
+ghost use Rattle.table_shards.specs.Audits.{AuditState, Audits, rounds_of};
+ghost use Rattle.table_shards.specs.Receipts.{SeatState};
+ghost use Rattle.node_commands.specs.Tracks.{GainsWork, HasDoneItsPart};
 ghost use Rattle.node_commands.specs.Rounds.{AreRounds, GoesOn, IsAudited, IsCountingTable, IsCutShort, IsRoundTable, IsTextOf};
 
 use crate::printing::round_text;
-use crate::rounds::starting::{track_from_gate, work_from_gate};
+use crate::rounds::starting::{last_seat, track_from_gate, work_from_gate};
 use crate::rounds::table::{
     SESSION, TABLE, is_counting_table, is_round_table, lock, new_table, refused, roster,
 };
-use crate::rounds::tracking::have_done_their_parts;
 use known_state::Known;
 pub use laws::a_round_counts_its_tracks;
 use peers_devices::{Faults, write_all};
@@ -29,7 +30,7 @@ use std::alloc::Global;
 use std::io::Write;
 use std::sync::Wait;
 use std::thread;
-use std::thread::{JoinHandle, Threads};
+use std::thread::{Promise, PromisedHandle, Threads};
 use table_cell::OpenError;
 use table_shards::held::lent;
 use table_shards::{Audit, RoundError, Seat, Shards};
@@ -47,6 +48,11 @@ pub struct RoundSize {
     pub tracks: u32,
     /// The number of rounds, at least 1.
     pub rounds: u32,
+}
+
+/// What each thread of a round promises: it returns its seat, which has then done its part.
+impl Promise<Result<Seat, Ending>> for RoundSize {
+    ghost kept_by = { λ asked result. IfOk result (HasDoneItsPart asked.threads asked.tracks) };
 }
 
 /// Runs rounds one after another over one table, and writes the line `audit ok` for each and the rows of the table on `output`.
@@ -166,6 +172,7 @@ fn has_counting_table(
 
 /// Runs the first round over a new table, whose session it opens, and audits it. Fails with `Device` unless the audited table is the
 /// round's: no contract of a lock says which cell it holds.
+#[tactic(auto, using(crate::proofs::TrackLaws::parts_done, crate::proofs::TrackLaws::more_worked))]
 fn first_round<R: Threads + Wait + Sync, G: StartGate + Sync>(
     rt: &R,
     alloc: Global,
@@ -179,8 +186,10 @@ fn first_round<R: Threads + Wait + Sync, G: StartGate + Sync>(
     let mut cells = Vec::new(alloc);
     cells.push(new_table(alloc)?).map_err(Memory::from)?;
     let (shards, mut seats) = Shards::new(alloc, cells, asked.threads + 2)?;
-    open(rt, &shards, seats.as_mut_slice())?;
-    let audit = audited_round(rt, alloc, gate, asked, shards, seats, known)?;
+    let mut own = last_seat(&mut seats, asked)?;
+    open(rt, &shards, &mut own)?;
+    let done = run_threads(rt, alloc, gate, asked, &shards, seats, known)?;
+    let audit = audited(rt, alloc, shards, done, own, known)?;
     if has_round_table(alloc, &audit)? {
         Ok(audit)
     } else {
@@ -198,6 +207,7 @@ fn no_next(error: RoundError) -> Ending {
 
 /// Runs a round over the table that `before` rounds left, and audits it. Fails with `Device` unless the threads' keys count as many
 /// tracks as all rounds made: no contract of a lock says which cell it holds.
+#[tactic(auto, using(crate::proofs::TrackLaws::parts_done))]
 fn later_round<R: Threads + Wait + Sync, G: StartGate + Sync>(
     rt: &R,
     alloc: Global,
@@ -211,11 +221,13 @@ fn later_round<R: Threads + Wait + Sync, G: StartGate + Sync>(
     ensures audited { IfOk result (λ audit. IsAudited asked.threads asked.tracks audit) }
     ensures goes_on { IfOk result (λ audit. GoesOn asked.threads ((before + 1) * asked.tracks) last audit) }
 {
-    let (shards, seats) = match last.next_round(alloc) {
+    let (shards, mut seats) = match last.next_round(alloc) {
         Ok(next) => next,
         Err((error, _)) => return Err(no_next(error)),
     };
-    let audit = audited_round(rt, alloc, gate, asked, shards, seats, known)?;
+    let own = last_seat(&mut seats, asked)?;
+    let done = run_threads(rt, alloc, gate, asked, &shards, seats, known)?;
+    let audit = audited(rt, alloc, shards, done, own, known)?;
     let count = (u64::from(before) + 1) * u64::from(asked.tracks);
     if has_counting_table(alloc, &audit, asked.threads, count)? {
         Ok(audit)
@@ -224,109 +236,100 @@ fn later_round<R: Threads + Wait + Sync, G: StartGate + Sync>(
     }
 }
 
-/// Runs a round with these seats, and audits it. Fails with `Device` unless each seat has done its part.
-fn audited_round<R: Threads + Wait + Sync, G: StartGate + Sync>(
-    rt: &R,
-    alloc: Global,
-    gate: &G,
-    asked: RoundSize,
-    shards: Shards,
-    mut seats: Vec<Seat>,
-    known: &mut Known,
-) -> Result<Audit, Ending>
-    ensures audited { IfOk result (λ audit. IsAudited asked.threads asked.tracks audit) }
-    ensures same { IfOk result (λ audit. rounds_of audit.unlocked ≡ shards) }
+/// Opens the session, while it holds the lock.
+fn open<R: Wait>(rt: &R, shards: &Shards, seat: &mut Seat) -> Result<(), Ending>
+    ensures { OnOk result (GainsWork seat.old seat.new) }
 {
-    run_all(
-        rt,
-        alloc,
-        gate,
-        &shards,
-        asked.tracks,
-        seats.as_mut_slice(),
-        known,
-    )?;
-    let Ok(unlocked) = shards.unlock(alloc) else {
-        return Err(Ending::Memory);
-    };
-    let Ok(audit) = unlocked.audit(seats) else {
-        return Err(Ending::Device);
-    };
-    if have_done_their_parts(asked.threads, asked.tracks, audit.seats()) {
-        Ok(audit)
-    } else {
-        Err(Ending::Device)
-    }
-}
-
-/// Runs the threads with all of `seats` but the last, and continues with that one as the worker until there is nothing to copy.
-fn run_all<R: Threads + Wait + Sync, G: StartGate + Sync>(
-    rt: &R,
-    alloc: Global,
-    gate: &G,
-    shards: &Shards,
-    tracks: u32,
-    seats: &mut [Seat],
-    known: &mut Known,
-) -> Result<(), Ending> {
-    let Some((own, others)) = seats.split_last_mut() else {
-        return Err(Ending::Device);
-    };
-    run_threads(rt, alloc, gate, shards, tracks, others, known)?;
-    work(rt, alloc, &AlwaysOpen, shards, own, known)
-}
-
-/// Opens the session from the last of `seats`, while it holds the lock.
-fn open<R: Wait>(rt: &R, shards: &Shards, seats: &mut [Seat]) -> Result<(), Ending> {
-    let Some(own) = seats.last_mut() else {
-        return Err(Ending::Device);
-    };
     let mut locked = lock(rt, shards)?;
-    match lent::open_session(&mut locked, own, TABLE, SESSION) {
+    match lent::open_session(&mut locked, seat, TABLE, SESSION) {
         Ok(()) => Ok(()),
         Err(error) => Err(refused(error, OpenError::Memory)),
     }
 }
 
-/// Joins the threads that change the table. Stops at the first one that failed: the scope then joins the others.
-fn join_all<R: Threads + Wait>(
+/// Continues as the worker with the seat `own` until there is nothing to copy, and audits the table. `done` are the seats of the
+/// threads, which have ended.
+fn audited<R: Wait>(
     rt: &R,
-    trackers: Vec<JoinHandle<Result<(), Ending>>>,
-) -> Result<(), Ending> {
-    for tracker in trackers {
-        tracker.join(rt)?;
+    alloc: Global,
+    shards: Shards,
+    mut done: Vec<Seat>,
+    mut own: Seat,
+    known: &mut Known,
+) -> Result<Audit, Ending>
+    ensures audited { IfOk result (λ audit. Audits audit.unlocked audit.seats None) }
+    ensures seats { IfOk result (λ audit. (last : SeatState) × GainsWork own last × (audit.seats ≡ done.items ++ last ∷ [])) }
+    ensures same { IfOk result (λ audit. rounds_of audit.unlocked ≡ shards) }
+{
+    work(rt, alloc, &AlwaysOpen, &shards, &mut own, known)?;
+    done.push(own).map_err(Memory::from)?;
+    let Ok(unlocked) = shards.unlock(alloc) else {
+        return Err(Ending::Memory);
+    };
+    match unlocked.audit(done) {
+        Ok(audit) => Ok(audit),
+        Err(_) => Err(Ending::Device),
     }
-    Ok(())
+}
+
+/// Joins threads, and returns their seats. Stops at the first one that failed: the scope then joins the others.
+fn join_all<R: Threads>(
+    rt: &R,
+    alloc: Global,
+    asked: RoundSize,
+    handles: Vec<PromisedHandle<Result<Seat, Ending>, RoundSize>>,
+) -> Result<Vec<Seat>, Ending>
+    requires { AllByRecursion (λ handle. handle.promise ≡ asked) handles.items }
+    ensures { IfOk result (λ seats. AllByRecursion (HasDoneItsPart asked.threads asked.tracks) seats.items) }
+{
+    let mut seats = Vec::new(alloc);
+    for handle in handles {
+        seats.push(handle.join(rt)?).map_err(Memory::from)?;
+    }
+    Ok(seats)
 }
 
 /// Starts a thread for each of `seats` but the last, which changes the key that is the seat's number, and one for the worker, which
-/// has the last. Each stops at the gate first. Once all have started, joins them. If a thread can't be started, returns `Device` once
-/// those that run have ended.
+/// has the last. Each stops at the gate first. Once all have started, joins them, and returns their seats. If a thread can't be
+/// started, returns `Device` once those that run have ended.
 fn run_threads<R: Threads + Wait + Sync, G: StartGate + Sync>(
     rt: &R,
     alloc: Global,
     gate: &G,
+    asked: RoundSize,
     shards: &Shards,
-    tracks: u32,
-    seats: &mut [Seat],
+    mut seats: Vec<Seat>,
     known: &mut Known,
-) -> Result<(), Ending> {
-    let Some((own, others)) = seats.split_last_mut() else {
+) -> Result<Vec<Seat>, Ending>
+    ensures { IfOk result (λ done. AllByRecursion (HasDoneItsPart asked.threads asked.tracks) done.items) }
+{
+    let Some(last) = seats.pop() else {
         return Err(Ending::Device);
     };
-    thread::scope(thread::scope_env(), rt, move |scope| {
-        let mut trackers = Vec::new(alloc);
-        for seat in others {
-            match scope.spawn(move || track_from_gate(rt, gate, shards, seat, tracks)) {
-                Ok(tracker) => trackers.push(tracker).map_err(Memory::from)?,
-                Err(_) => return Err(Ending::Device),
+    thread::scope(
+        thread::scope_env(),
+        rt,
+        move |scope| -> Result<Vec<Seat>, Ending>
+            ensures { IfOk result (λ done. AllByRecursion (HasDoneItsPart asked.threads asked.tracks) done.items) }
+        {
+            let mut handles = Vec::new(alloc);
+            for seat in seats {
+                let started = scope.spawn_with(asked, move || {
+                    track_from_gate(rt, gate, shards, seat, asked)
+                });
+                let Some(tracker) = started.ok() else {
+                    return Err(Ending::Device);
+                };
+                handles.push(tracker).map_err(Memory::from)?;
             }
-        }
-        let Ok(worker) = scope.spawn(move || work_from_gate(rt, alloc, gate, shards, own, known))
-        else {
-            return Err(Ending::Device);
-        };
-        join_all(rt, trackers)?;
-        worker.join(rt)
-    })
+            let started = scope.spawn_with(asked, move || {
+                work_from_gate(rt, alloc, gate, shards, last, known, asked)
+            });
+            let Some(worker) = started.ok() else {
+                return Err(Ending::Device);
+            };
+            handles.push(worker).map_err(Memory::from)?;
+            join_all(rt, alloc, asked, handles)
+        },
+    )
 }

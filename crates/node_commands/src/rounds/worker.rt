@@ -1,7 +1,8 @@
 //! The worker of a round's session. It plans a lesson for each change, but writes none: the round has no other node.
 
-ghost use Rattle.std.specs.Prelude.{ℕ, IfOk, List};
+ghost use Rattle.std.specs.Prelude.{◌≡◌, ℕ, IfOk, List, OnOk};
 ghost use Rattle.known_state.specs.Lessons.{IsLessonFor};
+ghost use Rattle.node_commands.specs.Tracks.{GainsWork};
 
 use crate::rounds::table::{SESSION, TABLE, lock, refused};
 use known_state::Known;
@@ -16,7 +17,9 @@ use teach_writer::teach;
 use text_commands::Ending;
 
 /// Copies the updates that the session hasn't been taught yet, while it holds the lock. Returns `None` if there are none.
-fn copy<R: Wait>(rt: &R, shards: &Shards, seat: &mut Seat) -> Result<Option<Batch>, Ending> {
+fn copy<R: Wait>(rt: &R, shards: &Shards, seat: &mut Seat) -> Result<Option<Batch>, Ending>
+    ensures { OnOk result (GainsWork seat.old seat.new) }
+{
     let mut locked = lock(rt, shards)?;
     match lent::copy(
         &mut locked,
@@ -45,10 +48,15 @@ fn planned(alloc: Global, known: &Known, batch: &Batch) -> Result<Known, Ending>
     Ok(lesson.known)
 }
 
-/// Settles the batch, while it holds the lock.
-fn settle<R: Wait>(rt: &R, shards: &Shards, seat: &mut Seat, batch: &Batch) -> Result<(), Ending> {
+/// Settles the batch, while it holds the lock. The seat stays as it was.
+fn settle<R: Wait>(rt: &R, shards: &Shards, seat: &mut Seat, batch: &Batch) -> Result<(), Ending>
+    ensures { OnOk result (seat.new ≡ seat.old) }
+{
     let mut locked = lock(rt, shards)?;
-    lent::settle(&mut locked, seat, TABLE, SESSION, batch).map_err(|_| Ending::Device)
+    match lent::settle(&mut locked, seat, TABLE, SESSION, batch) {
+        Ok(()) => Ok(()),
+        Err(_) => Err(Ending::Device),
+    }
 }
 
 /// Acknowledges the last number of the batch, while it holds the lock.
@@ -57,7 +65,9 @@ fn acknowledge<R: Wait>(
     shards: &Shards,
     seat: &mut Seat,
     batch: &Batch,
-) -> Result<(), Ending> {
+) -> Result<(), Ending>
+    ensures { OnOk result (GainsWork seat.old seat.new) }
+{
     let Some(last) = batch.updates().last() else {
         return Err(Ending::Device);
     };
@@ -77,7 +87,9 @@ fn teach_batch<R: Wait, G: Gate>(
     seat: &mut Seat,
     known: &mut Known,
     batch: &Batch,
-) -> Result<(), Ending> {
+) -> Result<(), Ending>
+    ensures { OnOk result (GainsWork seat.old seat.new) }
+{
     gate.at(rt, Stage::Copied);
     *known = planned(alloc, known, batch)?;
     gate.at(rt, Stage::Planned);
@@ -91,6 +103,7 @@ fn teach_batch<R: Wait, G: Gate>(
 /// ran out, and with `Device` otherwise.
 ///
 /// Each copy is an event of the table, so `work` makes at most as many as a history holds.
+#[tactic(auto, using(crate::proofs::TrackLaws::none_worked, crate::proofs::TrackLaws::more_worked))]
 pub fn work<R: Wait, G: Gate>(
     rt: &R,
     alloc: Global,
@@ -98,7 +111,9 @@ pub fn work<R: Wait, G: Gate>(
     shards: &Shards,
     seat: &mut Seat,
     known: &mut Known,
-) -> Result<(), Ending> {
+) -> Result<(), Ending>
+    ensures { OnOk result (GainsWork seat.old seat.new) }
+{
     for _ in 0..TableCell::MOST_EVENTS {
         let Some(batch) = copy(rt, shards, seat)? else {
             return Ok(());

@@ -1,5 +1,4 @@
-use Rattle.std.proofs.Common.{inr, subst, sym}
-use Rattle.node_commands.specs.Rounds.{IsTextOf}
+use Rattle.std.proofs.Common.{inr}
 use Rattle.node_commands.proofs.CountLaws.{cut_short}
 use Rattle.node_commands.proofs.rounds.gated_round.Goals as goal
 
