@@ -12,12 +12,6 @@ use Rattle.known_state.specs.contracts.known.Known as Known
 pub known_send : IsSend (Known.the_field).row
 known_send = search (sendable, crosses) depth 80 fits 20000
 
--- A closure of six captures. A search through all of them gives up.
-pub six_send : (name : Sym) (A B C D E F : RattleType) → IsSend A → IsSend B → IsSend C → IsSend D → IsSend E → IsSend F → IsSend (TupleAt name (A ∷ B ∷ C ∷ D ∷ E ∷ F ∷ []))
-six_send name A B C D E F a b c d e f =
-    declared_send (type_at name (A ∷ B ∷ C ∷ D ∷ E ∷ F ∷ []))
-    (as_row_send (row_field A) a, (as_row_send (row_field B) b, (as_row_send (row_field C) c, (as_row_send (row_field D) d, (as_row_send (row_field E) e, (as_row_send (row_field F) f, tt))))))
-
 parts_send : (name : Sym) (As : List RattleType) → AllSend As → FieldsHave IsSend (type_at name As).parts
 parts_send name [] all = tt
 parts_send name (A ∷ As) (first, rest) = (as_row_send (row_field A) first, parts_send name As rest)
@@ -25,7 +19,7 @@ parts_send name (A ∷ As) (first, rest) = (as_row_send (row_field A) first, par
 captures_send : (name : Sym) (As : List RattleType) → AllSend As → IsSend (TupleAt name As)
 captures_send name As all = declared_send (type_at name As) (parts_send name As all)
 
--- the same of five, and of seven
+-- A closure of five captures, and of seven. A search through all of them gives up.
 pub five_send : (name : Sym) (A B C D E : RattleType) → IsSend A → IsSend B → IsSend C → IsSend D → IsSend E → IsSend (TupleAt name (A ∷ B ∷ C ∷ D ∷ E ∷ []))
 five_send name A B C D E a b c d e = captures_send name (A ∷ B ∷ C ∷ D ∷ E ∷ []) (a, (b, (c, (d, (e, tt)))))
 
