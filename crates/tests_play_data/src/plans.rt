@@ -38,9 +38,9 @@ pub struct InTurn {
 
 /// The names and the requests of a case.
 #[derive(Drop)]
-struct Requested {
-    held: Vec<Name>,
-    requests: Vec<Request>,
+pub(crate) struct Requested {
+    pub(crate) held: Vec<Name>,
+    pub(crate) requests: Vec<Request>,
 }
 
 fn names(alloc: Global, letters: &[u8]) -> Option<Vec<Name>> {
@@ -79,14 +79,14 @@ fn keeps(plan: &Plan, kept: &[usize]) -> bool {
     true
 }
 
-fn asked(alloc: Global, case: &Case) -> Option<Requested> {
+pub(crate) fn asked(alloc: Global, case: &Case) -> Option<Requested> {
     let held = names(alloc, case.held)?;
     let requests = requests(alloc, case.asked)?;
     Some(Requested { held, requests })
 }
 
 /// Returns whether the checker accepts `plan`.
-fn is_accepted(slots: usize, asked: &Requested, plan: &Plan) -> Option<bool> {
+pub(crate) fn is_accepted(slots: usize, asked: &Requested, plan: &Plan) -> Option<bool> {
     let (held, requests) = (asked.held.as_slice(), asked.requests.as_slice());
     if slots < 1 || slots > 128 || held.len() > slots || requests.len() > Batch::MOST {
         return None;
@@ -95,7 +95,7 @@ fn is_accepted(slots: usize, asked: &Requested, plan: &Plan) -> Option<bool> {
 }
 
 /// Returns the plan that the planner makes.
-fn planned(alloc: Global, slots: usize, asked: &Requested) -> Result<Plan, PlanError> {
+pub(crate) fn planned(alloc: Global, slots: usize, asked: &Requested) -> Result<Plan, PlanError> {
     let (held, requests) = (asked.held.as_slice(), asked.requests.as_slice());
     if slots < 1 || slots > 128 || held.len() > slots || requests.len() > Batch::MOST {
         return Err(PlanError::Memory);
@@ -195,7 +195,7 @@ fn asked_in_turn(alloc: Global, turn: &InTurn) -> Option<Requested> {
 }
 
 /// Returns how many requests the plan keeps.
-fn count_of(plan: &Plan) -> usize {
+pub(crate) fn count_of(plan: &Plan) -> usize {
     let mut count: usize = 0;
     for keep in plan.keep() {
         if *keep {

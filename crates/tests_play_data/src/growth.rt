@@ -1,0 +1,237 @@
+//! Calls for which memory may run out: a plan and a lesson for 129 names in turn, twice, and a learner. Each function may be run with
+//! any one allocation failing, or with none.
+
+ghost use Rattle.table_types.specs.Batches.{IsBatchFor};
+ghost use Rattle.std.specs.Prelude.{IfSome};
+
+use crate::learners::has_rows;
+use crate::outcomes::{Outcome, is_out};
+use crate::parts::{ST, alone, named, text_key};
+use crate::plans::{Case, Requested, asked, count_of, is_accepted, planned};
+use known_state::{Known, Plan};
+use learner::{Fault, Learner};
+use retention_flow::PlanError;
+use std::alloc::Global;
+use table_types::{Batch, Key, Moment, Name, ShortList, Update};
+use teach_writer::{TeachError, teach};
+
+/// How many names there are, and how many updates.
+const NAMES: u32 = 129;
+
+const UPDATES: u32 = 258;
+
+/// Returns the last decimal digit of a number.
+fn digit(number: u32) -> u8 {
+    b'0' + (number % 10) as u8
+}
+
+/// Makes the name `n000` for 0, and so on.
+fn name(alloc: Global, number: u32) -> Option<Name> {
+    let digits = [digit(number / 100), digit(number / 10), digit(number)];
+    named(alloc, &[b'n', digits[0], digits[1], digits[2]])
+}
+
+/// Makes the update of key `k` of `st` at a place from 0.
+fn update(alloc: Global, place: u32) -> Option<Update> {
+    Some(Update {
+        table: 3,
+        number: place.saturating_add(1),
+        life: Some(30_000),
+        key: text_key(alloc, b"k")?,
+        values: ShortList::from_slice(alloc, &[]).ok()?,
+        name: Some(name(alloc, place % NAMES)?),
+    })
+}
+
+fn updates(alloc: Global) -> Option<Vec<Update>> {
+    let mut updates = Vec::new(alloc);
+    for place in 0..UPDATES {
+        updates.push(update(alloc, place)?).ok()?;
+    }
+    Some(updates)
+}
+
+fn known(alloc: Global) -> Option<Known> {
+    Some(Known::fresh(alloc, alone(alloc, &ST)?))
+}
+
+fn batch(alloc: Global, known: &Known) -> Option<Batch>
+    ensures { IfSome result (λ batch. IsBatchFor known.now.roster batch) }
+{
+    Batch::new(alloc, known.roster(), updates(alloc)?).ok()
+}
+
+/// Teaches the batch, and returns whether the lesson has 3,508 bytes; `None` if memory runs out.
+fn is_taught(alloc: Global, known: &Known, batch: &Batch) -> Option<bool>
+    requires { IsBatchFor known.now.roster batch.now }
+{
+    match teach(alloc, known, batch) {
+        Ok(lesson) => Some(lesson.bytes.len() == 3_508),
+        Err(TeachError::Memory) => None,
+    }
+}
+
+fn teaches(alloc: Global) -> Option<Outcome> {
+    let known = known(alloc)?;
+    let batch = batch(alloc, &known)?;
+    Some(match is_taught(alloc, &known, &batch) {
+        Some(right) => Outcome::of(right),
+        None => Outcome::refused(is_taught(alloc, &known, &batch) == Some(true)),
+    })
+}
+
+/// Makes the requests of the batch, with no name held.
+fn requested(alloc: Global) -> Option<Requested> {
+    let known = known(alloc)?;
+    let batch = batch(alloc, &known)?;
+    Some(Requested {
+        held: Vec::new(alloc),
+        requests: known.costs(alloc, &batch).ok()?,
+    })
+}
+
+/// Plans, and returns whether the plan keeps 128 requests; `None` if memory runs out.
+fn is_planned(alloc: Global, requested: &Requested) -> Option<bool> {
+    match planned(alloc, 128, requested) {
+        Ok(plan) => Some(count_of(&plan) == 128),
+        Err(PlanError::Memory) => None,
+    }
+}
+
+fn plans(alloc: Global) -> Option<Outcome> {
+    let requested = requested(alloc)?;
+    Some(match is_planned(alloc, &requested) {
+        Some(right) => Outcome::of(right),
+        None => Outcome::refused(is_planned(alloc, &requested) == Some(true)),
+    })
+}
+
+/// `st`'s definition, a row `a` that writes `s1` to slot 1, and a row `b` that reads it.
+const ONE_NAME_TWICE: &[u8] =
+    b"\x0A\x82\x0D\x03\x02st\x06\x21\xF0\xF1\xFE\x00\xF0\xC4\x0D\x0A\x85\x0F\x00\x00\x00\x01\x00\x00\x75\x30\x01a\x04\x01\x02s1\x0A\x86\x08\x00\x00\x75\x30\x01b\x01\x01";
+
+/// Its rows: their keys and numbers.
+const ROWS: &[(u8, u32)] = &[(b'a', 1), (b'b', 2)];
+
+/// Returns whether the learner has the first `count` of the rows and no other. It asks a second time if memory runs out for the answer.
+fn has_first(learner: &Learner, count: usize) -> bool {
+    let rows = &ROWS[..count.min(ROWS.len())];
+    match has_rows(learner, 3, rows) {
+        Some(has) => has,
+        None => has_rows(learner, 3, rows) == Some(true),
+    }
+}
+
+/// Returns whether the learner is closed, and has the rows of the first whole messages, none in part.
+fn is_closed(learner: &mut Learner) -> bool {
+    learner.feed(b"\x00\x04", Moment::least()) == Err(Fault::Closed)
+        && (has_first(learner, 0) || has_first(learner, 1) || has_first(learner, 2))
+}
+
+fn fresh(alloc: Global) -> Option<Learner> {
+    Learner::new(alloc, alone(alloc, &ST)?).ok()
+}
+
+fn feeds(alloc: Global) -> Option<Outcome> {
+    let mut learner = fresh(alloc)?;
+    Some(match learner.feed(ONE_NAME_TWICE, Moment::least()) {
+        Ok(count) => Outcome::of(count == 2 && has_first(&learner, 2)),
+        Err(Fault::Memory) => Outcome::refused(is_closed(&mut learner)),
+        Err(_) => Outcome::Wrong,
+    })
+}
+
+/// A call of this module.
+#[derive(Clone, Copy, Debug, PartialEq, Eq)]
+pub enum Call {
+    /// Teaches 258 updates that name 129 servers in turn, twice.
+    Teach,
+    /// Plans for them.
+    Plan,
+    /// Feeds a learner two updates that name one server.
+    Feed,
+}
+
+fn made(alloc: Global, call: Call) -> Option<Outcome> {
+    match call {
+        Call::Teach => teaches(alloc),
+        Call::Plan => plans(alloc),
+        Call::Feed => feeds(alloc),
+    }
+}
+
+/// Returns how the call went, prepared a second time if memory ran out before it.
+pub fn outcome(alloc: Global, call: Call) -> Outcome {
+    match made(alloc, call) {
+        Some(outcome) => outcome,
+        None => made(alloc, call).unwrap_or(Outcome::Unready),
+    }
+}
+
+/// What calls that don't allocate need: a learner with both rows, the key of the first, and two requests for a name with a plan.
+#[derive(Drop)]
+struct Ready {
+    learner: Learner,
+    key: Key,
+    requested: Requested,
+    plan: Plan,
+}
+
+/// Two requests for `A`, with one slot.
+static TWICE: Case = Case {
+    slots: 1,
+    held: b"",
+    asked: &[(b'A', 30), (b'A', 30)],
+};
+
+fn fed(alloc: Global) -> Option<Learner> {
+    let mut learner = fresh(alloc)?;
+    match learner.feed(ONE_NAME_TWICE, Moment::least()) {
+        Ok(_) => Some(learner),
+        Err(_) => None,
+    }
+}
+
+fn make_ready(alloc: Global) -> Option<Ready> {
+    let (learner, key) = fed(alloc).zip(text_key(alloc, b"a"))?;
+    let requested = asked(alloc, &TWICE)?;
+    let plan = planned(alloc, TWICE.slots, &requested).ok()?;
+    Some(Ready {
+        learner,
+        key,
+        requested,
+        plan,
+    })
+}
+
+/// Returns whether `Learner::row` and `check_plan` return what they should.
+fn answers(ready: &Ready) -> bool {
+    ready.learner.row(3, &ready.key).is_some()
+        && is_accepted(TWICE.slots, &ready.requested, &ready.plan) == Some(true)
+}
+
+fn needs_none(alloc: Global) -> Option<Outcome> {
+    let ready = make_ready(alloc)?;
+    let is_out = is_out(alloc);
+    let right = answers(&ready);
+    Some(if is_out {
+        Outcome::refused(right)
+    } else {
+        Outcome::of(right)
+    })
+}
+
+/// Returns how calls went that don't allocate; `Refused` if there was no memory meanwhile, and they returned what they should. They
+/// count as made if there is no memory to prepare them.
+pub fn outcome_without_memory(alloc: Global) -> Outcome {
+    match needs_none(alloc) {
+        Some(outcome) => outcome,
+        None => {
+            if is_out(alloc) {
+                Outcome::Made
+            } else {
+                needs_none(alloc).unwrap_or(Outcome::Unready)
+            }
+        }
+    }
+}
