@@ -464,7 +464,7 @@ two_nodes() {
 
 # serve_several PORT SESSIONS: starts a node that serves $scratch/served in so many sessions.
 serve_several() {
-    timeout 60 "$program" serve --turns 1000 --sessions "$2" --port "$1" --name b --peer a \
+    timeout 60 "${within[@]}" "$program" serve --turns 1000 --sessions "$2" --port "$1" --name b --peer a \
         <"$scratch/served" >"$scratch/serve.output" 2>"$scratch/serve.errors" &
     server=$!
     listens "$1" || fail "nobody listens at port $1"
@@ -532,6 +532,30 @@ told() {
     if [ "$answer" = "$2." ]; then pass; else fail "a session beside another: answer $answer"; fi
 }
 
+# Three sessions in less and less address space. If the second or third thread can't be started, the node waits until the sessions that run
+# are over, and then prints nothing. The first one waits for its hello.
+few_threads() {
+    local kilobytes port answer within whole=0 threadless=0 hello='HAProxyS 2.1\nc\na 1 1\n'
+    for ((kilobytes = 49152; kilobytes >= 16384; kilobytes -= 8192)); do
+        port=$(free_port)
+        within=(prlimit --as=$((kilobytes * 1024)))
+        serve_several "$port" 3
+        exec 4<>"/dev/tcp/127.0.0.1/$port"
+        answer_to "$hello" "$port"
+        answer_to "$hello" "$port"
+        kill -0 "$server" 2>/dev/null || fail "three sessions in $kilobytes KB: the node doesn't wait for the first one"
+        exec 4>&-
+        wait "$server"; status=$?
+        slurp "$scratch/serve.errors"
+        case $status in
+            0) whole=$((whole + 1)) ;;
+            4) threadless=$((threadless + 1)); [ ! -s "$scratch/serve.output" ] && [ "$text" = $'device\n' ] || fail "three sessions in $kilobytes KB: $text" ;;
+            *) fail "three sessions in $kilobytes KB: status $status, $text" ;;
+        esac
+    done
+    if [ "$whole" -gt 0 ] && [ "$threadless" -gt 0 ]; then pass; else fail "three sessions in less and less memory: $whole whole, $threadless without a thread"; fi
+}
+
 several_sessions() {
     local port server first second hello='HAProxyS 2.1\nb\na 1 1\n'
     cp examples/two-updates.scene "$scratch/served"
@@ -564,6 +588,7 @@ several_sessions() {
     reset "$port"
     told "$hello"'\x0A\x83\x01\x09' $'200\n10' "$port"
     served_several 'three that end badly' 1 $'fault SizeLimit\n'
+    few_threads
     # One session is as without the option.
     port=$(free_port)
     serve_several "$port" 1
