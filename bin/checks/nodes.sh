@@ -506,8 +506,8 @@ peer.setsockopt(socket.SOL_SOCKET, socket.SO_LINGER, struct.pack("ii", 1, 0))
 peer.close()' "$1"
 }
 
-# beside WHAT STATUS LINE COMMAND..: one of two sessions is with the far side that the command plays, to which it gives the port; the other one is
-# with a node that joins. Either may come first. The server ends so.
+# beside WHAT STATUS LINE COMMAND..: COMMAND gets the port as its last word, and plays the far side of one of two sessions; a node joins in
+# the other. Either may come first. The server ends with STATUS and LINE.
 beside() {
     local what=$1 ending=$2 line=$3 port
     shift 3

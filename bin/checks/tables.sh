@@ -81,7 +81,7 @@ million_tracks_and_a_batch() {
     { printf '%s\n' 'table 1 t1 integer 4 30000 gpc0' 'size 10' 'open 1'
         repeat_lines 999998 'track 0 4294967296 1 add gpc0 1'
         printf '%s\n' 'copy 1 push 512 4294967296' 'track 0 4294967296 1 add gpc0 1' checkpoint slide 'settle 1 1' \
-            'track 0 4294967296 1 add gpc0 1' 'ack 1 999998' events 'event 1000000' 'event 1000001' checkpoint events; } >"$scene"
+            'track 0 4294967296 1 add gpc0 1' events 'ack 1 999998' 'event 1000000' 'event 1000001' checkpoint events; } >"$scene"
     keep last_of_a_million 14 <"$scene"
     ends 'table of a script of 999,998 changes and a copy' 0 "1000012
 reply 999998 4294997296 1 999998 local
@@ -92,8 +92,8 @@ BatchOut
 dropped 1000000
 ok
 reply 999999 4294997296 1 999999 local
+events 1000001 room 999999
 all
-events 1000002 room 999998
 none
 track 0 4294967296 1 add gpc0 1 = reply 999999 4294997296 1 999999 local
 ok

@@ -50,9 +50,9 @@ abbrev pub IsFirst : ℕ → AuditState → Type 0
 IsFirst threads a =
     (rounds_of a.unlocked ≡ record { seats = threads + 2; tables = (1, 0) ∷ [] }) × AllByRecursion (λ t. IsRoundTable t.cell) a.unlocked.tables
 
--- The round comes after the one with the audit `last`, in which no batch was out. It has as many seats and the same tables, as
--- a checkpoint leaves them: it made all events of each table but those that the table had by then. After it, the key of each
--- thread counts `count`.
+-- The round comes after the one with the audit `last`, in which no batch was out. It has as many seats, and tables with the
+-- ids and numbers of events that a checkpoint leaves: it made all events of each table but those that the table had by then.
+-- After it, the key of each thread counts `count`.
 abbrev pub GoesOn : ℕ → ℕ → AuditState → AuditState → Type 0
 GoesOn threads count last a =
     (has_batch_out last.unlocked.tables ≡ false)

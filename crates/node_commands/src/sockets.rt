@@ -193,8 +193,8 @@ fn reported<O: Write + Faults, E: Write + Faults>(
 /// the tables now have.
 ///
 /// The session ends after the link's turns, when the other node closes the connection, or when it has a fault. If the scene is
-/// refused, memory runs out, the connection fails or the audit finds a fault, `serve` writes nothing on `output`. Unless a device
-/// fails, it writes the line of the ending on `errors`. `serve` waits for the other node.
+/// refused, memory runs out, the audit finds a fault or the connection of the only session fails, `serve` writes nothing on
+/// `output`. Unless a device fails, it writes the line of the ending on `errors`. `serve` waits for the other node.
 ///
 /// If the link has several sessions, accepts as many connections, and runs the session of each in a thread of its own, with its own
 /// number and seat, over the same tables and all at one moment. Writes how many turns they made together, the line `audit ok`, and the

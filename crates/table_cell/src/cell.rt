@@ -105,7 +105,7 @@ impl TableCell {
         self.origin.before() + self.history.len() as u64
     }
 
-    /// Returns how many of these events were dropped, by `checkpoint`, `begin_anew` or `slide`.
+    /// Returns how many of the events so far were dropped, by `checkpoint`, `begin_anew` or `slide`.
     pub fn dropped(&self) -> u64
         ensures dropped { result ≡ self.now.dropped + self.now.slid }
         ensures sound { IsSoundCell self.now }

@@ -14,7 +14,8 @@ use std::collections::BTreeMap;
 use std::marker::Model;
 use std::mem;
 
-/// The events that a table has dropped. Dropping it frees them, for which no lock on the table is needed.
+/// The events that a table has dropped. Dropping it frees those that no receipt shares, for which no lock on the table is
+/// needed.
 #[derive(Drop)]
 pub struct Dropped {
     history: Vec<Entry>,
@@ -86,8 +87,8 @@ impl TableCell {
 
     /// Drops the events that the table has, also while batches are out, and returns them. The rows, their numbers, the
     /// sessions and the number of events so far stay; the state is the replay of all events, dropped ones included. Of the
-    /// batches, the latest one of each open session stays kept. Takes time in the number of sessions alone, and doesn't
-    /// allocate.
+    /// batches, the latest one of each open session stays kept. Takes time linear in the number of sessions that copied
+    /// since the last slide or were open then, and doesn't allocate.
     pub fn slide(&mut self) -> Dropped
         ensures slides { Slides self.old result self.new }
         ensures replayed { IsReplayed self.new }

@@ -4,7 +4,7 @@ use Rattle.table_cell.specs.Histories.{events_of}
 use Rattle.table_shards.specs.declared.unlocked.UnlockedTable.{UnlockedTable}
 use Rattle.table_shards.specs.Receipts.{PageState, SeatState, page_at}
 
--- a page without receipts, up to whose `seen` the table's events are seen
+-- a page without receipts, on which the table's events are seen up to place `seen`
 abbrev pub page_seeing : ℕ → ℕ → PageState
 page_seeing table seen = record { table = table; seen = seen; receipts = [] }
 

@@ -31,7 +31,7 @@ AreSeatsAnew ts [] [] = Unit {0}
 AreSeatsAnew ts (old ∷ olds) (new ∷ news) = IsSeatAnew ts old new × AreSeatsAnew ts olds news
 AreSeatsAnew ts olds news = ⊥
 
--- as many seats, and each table as a checkpoint leaves it
+-- as many seats, and of each table its id and number of events, as a checkpoint leaves them
 abbrev pub round_anew : UnlockedState → ShardsState
 round_anew u = record { seats = u.seats; tables = map (λ t. begun (begun_anew t.cell)) u.tables }
 

@@ -88,7 +88,7 @@ fn are_one_for_one(cell: &TableCell, from: u64, seats: &[Seat]) -> bool
 /// Compares the seats' receipts of the table with its events after the first `from`. Returns `None` if each of these
 /// events is the receipt of exactly one seat, exactly once, and the seats have no other receipts of the table.
 /// Otherwise returns the least seat with a receipt that isn't the table's event at its place, or 0 if there is none.
-/// Doesn't allocate. Takes time in the number of events and receipts.
+/// Doesn't allocate. Takes time linear in the number of events and receipts.
 pub fn compare(cell: &TableCell, from: u64, seats: &[Seat]) -> Option<u32>
     ensures { Compares cell.now from seats.now result }
 {
