@@ -5,7 +5,7 @@ ghost use Rattle.std.specs.Prelude.{◌≤◌};
 use crate::ends::moment;
 use std::alloc::Global;
 use table_cell::{Reply, TableCell, TrackError};
-use table_types::{Batch, Cell, Change, CopyKind, DataType, Key, Row, Update, Value};
+use table_types::{Batch, Cell, Change, DataType, Key, Row, Update, Value};
 use tests_play_data::parts::{KeyParts, TableParts, UpdateParts, definition, update};
 
 /// Makes a new table with room for `size` rows.
@@ -80,9 +80,4 @@ pub(crate) fn received(alloc: Global, life: u32) -> Option<Update> {
     )?;
     received.life = Some(life);
     Some(received)
-}
-
-/// Returns the number, the life and the count of the only row of a copy for session 1.
-pub(crate) fn copied(cell: &mut TableCell, kind: CopyKind, later: u32) -> Option<(u32, u32, u64)> {
-    only(&cell.copy(1, kind, 512, moment(later)?).ok()?)
 }
