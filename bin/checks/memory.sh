@@ -252,7 +252,41 @@ refused_node() {
     done
 }
 
+# meets CRATE TEST OPTION CALL..: a test of a crate of tests, as the gate built it, once for each of its allocations, which is refused; with
+# the option --all, so are all that come after it. It passes each time, and memory runs out for each of the calls, which are in order by name.
+meets() {
+    local tests=crates/$1/out/$1_tests name="$1, $2" met wanted
+    if ! { [ -x "$tests" ] && "$tests" --list | grep -qx "growth::$2: test"; }; then
+        if [ "$scenes_only" = true ]; then echo "$name: not tried, since it is not built"; else fail "$name: $tests has no such test"; fi
+        return
+    fi
+    wanted=$(printf '%s\n' "${@:4}")
+    keep bin/checks/refusing.py $3 tests "$tests" "growth::$2"
+    met=$(sed -n 's/^memory ran out for \(.*\): [1-9][0-9]*$/\1/p' "$scratch/output")
+    if [ "$status" -eq 0 ] && [ "$met" = "$wanted" ]; then pass; else fail "$name: memory ran out for other calls"; fi
+    printf '%s' "$output$errors"
+}
+
+refused_calls() {
+    meets tests_tables calls_again '' ack close copy learn open purge track 'track in a full table' 'track of a row that is there'
+    meets tests_tables tracks_from_a_seat_again '' held::track
+    meets tests_tables copies_from_a_seat_again '' held::copy
+    meets tests_tables unlocks_again '' unlock
+    meets tests_tables begins_another_round_again '' next_round
+    meets tests_tables answers_without_memory --all 'settle, track, slide, checkpoint and take all the same'
+    meets tests_tables tracks_wide_rows_again ''
+    meets tests_tables learns_a_wide_row_again ''
+    meets tests_tables copies_wide_rows_again ''
+    meets tests_tables acknowledges_wide_rows_again ''
+    meets tests_tables opens_a_fifth_session_again ''
+    meets tests_data plans_again '' plan
+    meets tests_data teaches_again '' teach
+    meets tests_data closes_a_learner '' feed
+    meets tests_data answers_without_memory --all 'row and check_plan all the same'
+}
+
 refused_growth() {
+    refused_calls
     refuses_each examples/two-updates.scene lesson
     refuses_each examples/one-name-twice.scene lesson
     refuses_each examples/verdicts/one-name-twice.scene check

@@ -1,30 +1,116 @@
-//! Calls of a table for which memory runs out: such a call changes nothing, and returns what it should when it is made again. Each
-//! test may be run with any one allocation failing, or with none.
+//! Calls for which memory may run out: such a call changes nothing, and returns what it should when it is made again. Each test may
+//! be run with any one allocation failing, and the last with all failing from any one on; most print for which call memory ran out.
 
-use tests_play_tables::counts;
+use tests_play_tables::growth::{
+    Call, Shared, Story, first_failing, outcome, outcome_without_memory,
+};
 use tests_play_tables::wide::{
     Before, Tracking, acknowledges_again, copies_again, first_failing_track, learns_again,
     opens_again,
 };
 
+const OPEN: Call = Call::Open(1);
+
+const TRACK: Call = Call::Track(7, 5, 1, 5);
+
+static STORIES: [Story; 9] = [
+    Story {
+        name: "track",
+        is_narrow: false,
+        before: &[OPEN],
+        rows: &[],
+        call: TRACK,
+        rows_after: &[(7, 5)],
+    },
+    Story {
+        name: "track of a row that is there",
+        is_narrow: false,
+        before: &[OPEN, TRACK],
+        rows: &[(7, 5)],
+        call: Call::Track(7, 2, 2, 7),
+        rows_after: &[(7, 7)],
+    },
+    Story {
+        name: "track in a full table",
+        is_narrow: true,
+        before: &[OPEN, TRACK],
+        rows: &[(7, 5)],
+        call: Call::Track(8, 2, 2, 2),
+        rows_after: &[(8, 2)],
+    },
+    Story {
+        name: "learn",
+        is_narrow: false,
+        before: &[OPEN, Call::Track(7, 4, 1, 4)],
+        rows: &[(7, 4)],
+        call: Call::Learn(2),
+        rows_after: &[(7, 5)],
+    },
+    Story {
+        name: "copy",
+        is_narrow: false,
+        before: &[OPEN, TRACK],
+        rows: &[(7, 5)],
+        call: Call::Copy(1, 5),
+        rows_after: &[(7, 5)],
+    },
+    Story {
+        name: "ack",
+        is_narrow: false,
+        before: &[OPEN, TRACK, Call::Copy(1, 5)],
+        rows: &[(7, 5)],
+        call: Call::Ack(1),
+        rows_after: &[(7, 5)],
+    },
+    Story {
+        name: "open",
+        is_narrow: false,
+        before: &[OPEN, TRACK],
+        rows: &[(7, 5)],
+        call: Call::Open(2),
+        rows_after: &[(7, 5)],
+    },
+    Story {
+        name: "close",
+        is_narrow: false,
+        before: &[OPEN, TRACK],
+        rows: &[(7, 5)],
+        call: Call::Close(1),
+        rows_after: &[(7, 5)],
+    },
+    Story {
+        name: "purge",
+        is_narrow: false,
+        before: &[OPEN, TRACK],
+        rows: &[(7, 5)],
+        call: Call::Purge(1),
+        rows_after: &[],
+    },
+];
+
 #[test]
-fn tracks_again(rt: HostRuntime) {
-    assert!(rt; counts::tracks_again(rt.alloc()) == Some(true));
+fn calls_again(rt: HostRuntime) {
+    assert_eq!(rt; first_failing(&rt, rt.alloc(), &STORIES), None);
 }
 
 #[test]
-fn tracks_again_in_a_full_table(rt: HostRuntime) {
-    assert!(rt; counts::tracks_again_in_full(rt.alloc()) == Some(true));
+fn tracks_from_a_seat_again(rt: HostRuntime) {
+    assert!(rt; outcome(&rt, rt.alloc(), Shared::Track).is_right(&rt, "held::track"));
 }
 
 #[test]
-fn learns_counts_again(rt: HostRuntime) {
-    assert!(rt; counts::learns_again(rt.alloc()) == Some(true));
+fn copies_from_a_seat_again(rt: HostRuntime) {
+    assert!(rt; outcome(&rt, rt.alloc(), Shared::Copy).is_right(&rt, "held::copy"));
 }
 
 #[test]
-fn copies_acknowledges_and_opens_again(rt: HostRuntime) {
-    assert!(rt; counts::goes_on_again(rt.alloc()) == Some(true));
+fn unlocks_again(rt: HostRuntime) {
+    assert!(rt; outcome(&rt, rt.alloc(), Shared::Unlock).is_right(&rt, "unlock"));
+}
+
+#[test]
+fn begins_another_round_again(rt: HostRuntime) {
+    assert!(rt; outcome(&rt, rt.alloc(), Shared::NextRound).is_right(&rt, "next_round"));
 }
 
 /// Changes of the first row of a table, of a row that is there, and of a row that replaces the only one.
@@ -109,4 +195,14 @@ fn acknowledges_wide_rows_again(rt: HostRuntime) {
 #[test]
 fn opens_a_fifth_session_again(rt: HostRuntime) {
     assert!(rt; opens_again(rt.alloc(), &FOUR_SESSIONS) == Some(true));
+}
+
+#[test]
+fn answers_without_memory(rt: HostRuntime) {
+    assert!(rt;
+        outcome_without_memory(rt.alloc()).is_right(
+            &rt,
+            "settle, track, slide, checkpoint and take all the same"
+        )
+    );
 }
