@@ -1,10 +1,10 @@
 //! Streams of messages, cut anywhere, and how a decoder reads them.
 
-use crate::bytes::{READS_SLOT_5, ST_DEFINED, T1_DEFINED, TWO_UPDATES};
+use crate::bytes::{READS, READS_SLOT_5, ST_DEFINED, T1_DEFINED, TWO_UPDATES, WRITES};
 use peers_msg::{Breach, Fault};
 use tests_play_data::decoders::{Stream, first_failing};
 
-static STREAMS: [Stream; 8] = [
+static STREAMS: [Stream; 15] = [
     // Two rows of `t1`, message by message.
     Stream {
         resumed: false,
@@ -42,6 +42,12 @@ static STREAMS: [Stream; 8] = [
         )],
         waiting: 12,
     },
+    // Two rows of `st`, of which the second reads the name that the first writes.
+    Stream {
+        resumed: false,
+        parts: &[(ST_DEFINED, Ok(1)), (WRITES, Ok(1)), (READS, Ok(1))],
+        waiting: 0,
+    },
     // The decoder doesn't look whether a name was written to the slot.
     Stream {
         resumed: false,
@@ -76,6 +82,69 @@ static STREAMS: [Stream; 8] = [
             ],
             Err(Fault::Breach(Breach::Trailing)),
         )],
+        waiting: 0,
+    },
+    // A length of 2^64 or more.
+    Stream {
+        resumed: true,
+        parts: &[(
+            &[
+                0x0A, 0x85, 0xFF, 0xF0, 0xFE, 0xFE, 0xFE, 0xFE, 0xFE, 0xFE, 0xFE, 0x0F,
+            ],
+            Err(Fault::Breach(Breach::BadInteger)),
+        )],
+        waiting: 0,
+    },
+    // Integer keys of 5 bytes.
+    Stream {
+        resumed: true,
+        parts: &[(
+            &[
+                0x0A, 0x82, 0x0A, 1, 2, 0x74, 0x31, 2, 5, 4, 0xF0, 0xC4, 0x0D,
+            ],
+            Err(Fault::Breach(Breach::BadDefinition)),
+        )],
+        waiting: 0,
+    },
+    // A switch to a table that wasn't defined.
+    Stream {
+        resumed: true,
+        parts: &[(&[0x0A, 0x83, 1, 9], Err(Fault::Breach(Breach::NoTable)))],
+        waiting: 0,
+    },
+    // One byte of a key.
+    Stream {
+        resumed: true,
+        parts: &[(
+            &[0x0A, 0x85, 9, 0, 0, 0, 1, 0, 0, 0x75, 0x30, 0],
+            Err(Fault::Breach(Breach::BadKey)),
+        )],
+        waiting: 0,
+    },
+    // A value of 2^32.
+    Stream {
+        resumed: true,
+        parts: &[(
+            &[
+                0x0A, 0x85, 0x11, 0, 0, 0, 1, 0, 0, 0x75, 0x30, 0, 0, 0, 7, 0xF0, 0xF1, 0xFE, 0xFE,
+                0x7E,
+            ],
+            Err(Fault::Breach(Breach::BadValue)),
+        )],
+        waiting: 0,
+    },
+    // Slot 129.
+    Stream {
+        resumed: false,
+        parts: &[
+            (ST_DEFINED, Ok(1)),
+            (
+                &[
+                    0x0A, 0x85, 0x0C, 0, 0, 0, 1, 0, 0, 0x75, 0x30, 1, 0x61, 1, 0x81,
+                ],
+                Err(Fault::Breach(Breach::BadValue)),
+            ),
+        ],
         waiting: 0,
     },
 ];

@@ -1,6 +1,6 @@
 //! Learners: the rows, the acknowledgement and the known state that a stream leaves.
 
-use crate::bytes::{READS, READS_SLOT_5, ST_DEFINED, TWO_UPDATES, WRITES};
+use crate::bytes::{READS, READS_SLOT_5, ST_DEFINED, T1_DEFINED, TWO_UPDATES, WRITES};
 use learner::Fault;
 use tests_play_data::learners::{Stream, first_failing};
 use tests_play_data::parts::{ST, T1};
@@ -10,7 +10,7 @@ const UNDER_9: &[u8] = &[
     0x0A, 0x82, 0x0D, 9, 2, 0x73, 0x74, 6, 0x21, 0xF0, 0xF1, 0xFE, 0, 0xF0, 0xC4, 0x0D,
 ];
 
-static STREAMS: [Stream; 4] = [
+static STREAMS: [Stream; 5] = [
     Stream {
         table: T1,
         parts: &[(TWO_UPDATES, Ok(2))],
@@ -59,6 +59,22 @@ static STREAMS: [Stream; 4] = [
         waiting: 0,
         ack: Some((3, 1)),
         known: (Some(3), Some(1)),
+    },
+    // An update has no number, and none came before.
+    Stream {
+        table: T1,
+        parts: &[
+            (T1_DEFINED, Ok(0)),
+            (
+                &[0x0A, 0x86, 9, 0, 0, 0x75, 0x30, 0, 0, 0, 7, 5],
+                Err(Fault::NoNumber),
+            ),
+            (TWO_UPDATES, Err(Fault::Closed)),
+        ],
+        rows: &[],
+        waiting: 0,
+        ack: None,
+        known: (Some(1), None),
     },
 ];
 

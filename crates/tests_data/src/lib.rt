@@ -11,6 +11,8 @@ mod decoders;
 #[cfg(test)]
 mod exchanges;
 #[cfg(test)]
+mod growth;
+#[cfg(test)]
 mod intakes;
 #[cfg(test)]
 mod known_states;
