@@ -1,11 +1,23 @@
-//! Turns over a device that fails.
+//! Turns over a device that fails, and streams that break the rules.
 
-use crate::turns::{EMPTY, IS_ASKED, LESSON, OPENING, OVER};
+use crate::turns::{EMPTY, IS_ASKED, LESSON, OPENING, OVER, SENDS_HELLO};
 use peers_engine::{EngineError, Turned};
 use session_core::State;
-use tests_play_nodes::failures::{Fails, Failure, first_failing};
+use tests_play_nodes::failures::{
+    Attack, Failure, Hostile, Lesson, first_answered_otherwise, first_cut_otherwise, first_failing,
+};
 use tests_play_nodes::tables::Role;
 use tests_play_nodes::turns::{Exchange, Story};
+
+/// `a` has connected, and sent its hello.
+const HAS_CONNECTED: Story = Story {
+    tables: EMPTY,
+    role: Role::Connects,
+    opening: &[SENDS_HELLO],
+    turns: &[],
+    state: State::Hello,
+    rows: &[],
+};
 
 /// `a` has connected, and asked for all rows.
 const HAS_ASKED: Story = Story {
@@ -17,20 +29,28 @@ const HAS_ASKED: Story = Story {
     rows: &[],
 };
 
-static FAILURES: [Failure; 2] = [
-    // The writer takes the first 20 bytes of the lesson.
+/// A turn whose read fails.
+const FAILED_READ: Exchange = Exchange {
+    comes: LESSON,
+    sends: b"",
+    ends: Err(EngineError::Read),
+};
+
+static FAILURES: [Failure; 3] = [
+    // The first read fails, and the second.
     Failure {
-        story: IS_ASKED,
+        story: HAS_CONNECTED,
         before: &[],
-        device: Fails::Writer(20),
-        turn: Exchange {
-            comes: b"",
-            sends: b"\x0A\x82\x0A\x01\x02t1\x02\x04\x04\xF0\xC4\x0D\x0A\x85\x0D\x00\x00\x00\x01",
-            ends: Err(EngineError::Write { sent: 20 }),
-        },
+        turn: FAILED_READ,
         after: OVER,
     },
-    // A read that fails and isn't counted doesn't end the session.
+    Failure {
+        story: HAS_ASKED,
+        before: &[],
+        turn: FAILED_READ,
+        after: OVER,
+    },
+    // A read that fails and isn't counted doesn't end the session. The third fails.
     Failure {
         story: HAS_ASKED,
         before: &[Exchange {
@@ -38,17 +58,88 @@ static FAILURES: [Failure; 2] = [
             sends: b"",
             ends: Ok(Turned::Going),
         }],
-        device: Fails::Reader(0),
-        turn: Exchange {
-            comes: LESSON,
-            sends: b"",
-            ends: Err(EngineError::Read),
-        },
+        turn: FAILED_READ,
         after: OVER,
     },
 ];
 
 #[test]
-fn devices_that_fail(rt: HostRuntime) {
+fn readers_that_fail(rt: HostRuntime) {
     assert_eq!(rt; first_failing(&rt, rt.alloc(), &FAILURES), None);
+}
+
+static CUT_OFF: Lesson = Lesson {
+    story: IS_ASKED,
+    bytes: LESSON,
+    over: OVER,
+};
+
+#[test]
+fn writers_that_fail(rt: HostRuntime) {
+    assert_eq!(rt; first_cut_otherwise(&rt, rt.alloc(), &CUT_OFF), None);
+}
+
+/// Each begins with the definition of `t1`, or of `st`.
+const STREAMS: &[Hostile] = &[
+    // 16,384 bytes of data, of which none came.
+    (
+        b"\x0A\x82\x0A\x01\x02t1\x02\x04\x04\xF0\xC4\x0D\x0A\x85\xF0\xF1\x06",
+        b"",
+    ),
+    // 16,385 bytes of data.
+    (
+        b"\x0A\x82\x0A\x01\x02t1\x02\x04\x04\xF0\xC4\x0D\x0A\x85\xF1\xF1\x06",
+        b"\x01\x01",
+    ),
+    // A length of 2^64 or more.
+    (
+        b"\x0A\x82\x0A\x01\x02t1\x02\x04\x04\xF0\xC4\x0D\x0A\x85\xFF\xF0\xFE\xFE\xFE\xFE\xFE\xFE\xFE\x0F",
+        b"\x01\x00",
+    ),
+    // Integer keys of 5 bytes.
+    (
+        b"\x0A\x82\x0A\x01\x02t1\x02\x04\x04\xF0\xC4\x0D\x0A\x82\x0A\x01\x02t1\x02\x05\x04\xF0\xC4\x0D",
+        b"\x01\x00",
+    ),
+    // A switch to another table.
+    (
+        b"\x0A\x82\x0A\x01\x02t1\x02\x04\x04\xF0\xC4\x0D\x0A\x83\x01\x09",
+        b"\x01\x00",
+    ),
+    // One byte of a key.
+    (
+        b"\x0A\x82\x0A\x01\x02t1\x02\x04\x04\xF0\xC4\x0D\x0A\x85\x09\x00\x00\x00\x01\x00\x00\x75\x30\x00",
+        b"\x01\x00",
+    ),
+    // A value of 2^32.
+    (
+        b"\x0A\x82\x0A\x01\x02t1\x02\x04\x04\xF0\xC4\x0D\x0A\x85\x11\x00\x00\x00\x01\x00\x00\x75\x30\x00\x00\x00\x07\xF0\xF1\xFE\xFE\x7E",
+        b"\x01\x00",
+    ),
+    // Slot 129.
+    (
+        b"\x0A\x82\x0D\x03\x02st\x06\x21\xF0\xF1\xFE\x00\xF0\xC4\x0D\x0A\x85\x0C\x00\x00\x00\x01\x00\x00\x75\x30\x01a\x01\x81",
+        b"\x01\x00",
+    ),
+    // A byte after the value.
+    (
+        b"\x0A\x82\x0A\x01\x02t1\x02\x04\x04\xF0\xC4\x0D\x0A\x85\x0E\x00\x00\x00\x01\x00\x00\x75\x30\x00\x00\x00\x07\x05\x00",
+        b"\x01\x00",
+    ),
+    // No number, and none was sent before.
+    (
+        b"\x0A\x82\x0A\x01\x02t1\x02\x04\x04\xF0\xC4\x0D\x0A\x86\x09\x00\x00\x75\x30\x00\x00\x00\x07\x05",
+        b"\x01\x00",
+    ),
+];
+
+static ATTACK: Attack = Attack {
+    story: HAS_ASKED,
+    streams: STREAMS,
+    over: OVER,
+};
+
+#[test]
+fn streams_that_break_the_rules(rt: HostRuntime) {
+    assert_eq!(rt; first_answered_otherwise(&rt, rt.alloc(), &ATTACK), None);
 }

@@ -135,13 +135,16 @@ const TOO_WIDE: Tables = Tables {
     are_open: true,
 };
 
+/// `a` connects.
+pub const SENDS_HELLO: Exchange = Exchange {
+    comes: b"",
+    sends: HELLO,
+    ends: Ok(Turned::Going),
+};
+
 /// `a` connects, and asks for all rows.
 pub const OPENING: &[Exchange] = &[
-    Exchange {
-        comes: b"",
-        sends: HELLO,
-        ends: Ok(Turned::Going),
-    },
+    SENDS_HELLO,
     Exchange {
         comes: b"200\n",
         sends: b"\x00\x00",

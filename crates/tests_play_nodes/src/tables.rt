@@ -71,7 +71,8 @@ impl Tables {
         Shards::new(alloc, cells, 2).ok()
     }
 
-    fn session(&self, alloc: Global, role: Role) -> Option<Session> {
+    /// Makes the session of a side with these tables.
+    pub(crate) fn session(&self, alloc: Global, role: Role) -> Option<Session> {
         let roster = roster(alloc, self.roster)?;
         match role {
             Role::Connects => connecting(alloc, roster, false),
