@@ -173,7 +173,7 @@ fn answers<H: Wait>(rt: &H, alloc: Global, attack: &Attack, stream: &Hostile) ->
     is_answered(rt, alloc, &mut side, attack, stream)
 }
 
-/// Returns the index of the first stream that is answered otherwise.
+/// Returns the index of the first stream to which the side doesn't send what it should.
 pub fn first_answered_otherwise<H: Wait>(rt: &H, alloc: Global, attack: &Attack) -> Option<usize> {
     for (place, stream) in attack.streams.iter().enumerate() {
         if answers(rt, alloc, attack, stream) != Some(true) {

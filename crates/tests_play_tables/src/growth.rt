@@ -133,7 +133,7 @@ fn prepared(alloc: Global, is_narrow: bool, before: &[Call]) -> Option<TableCell
     }
 }
 
-/// Returns whether a table has so many events and these rows; it asks a second time if memory runs out for the rows.
+/// Returns whether the table has `events` events and these rows. Asks a second time if memory runs out for the rows.
 fn stands(cell: &TableCell, events: u64, rows: &[(u32, u64)]) -> bool {
     let has_rows = match has(cell, rows) {
         Some(has) => has,
@@ -241,7 +241,7 @@ fn events<R: Wait>(rt: &R, shards: &Shards) -> Option<(u64, u64)> {
     Some((locked.cell().events(), locked.cell().dropped()))
 }
 
-/// Returns whether `t1` has so many events, and the seat so many receipts.
+/// Returns whether `t1` has `events_of` events, and the seat `receipts` receipts.
 fn has_receipts<R: Wait>(rt: &R, round: &Round, events_of: u64, receipts: usize) -> bool {
     events(rt, &round.shards) == Some((events_of, 0)) && round.receipts(1) == Some(receipts)
 }
