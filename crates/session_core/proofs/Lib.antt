@@ -13,3 +13,10 @@ mod ReceivingGoesOn
 mod BytesStay
 mod SomeStep
 mod SameHoweverFed
+mod StandingTicks
+mod StandingAcks
+mod StandingWork
+mod SilentTicks
+mod StandingEnds
+mod StandingFinish
+mod TickGives

@@ -6,3 +6,6 @@ pub mod Phases
 pub mod Sessions
 pub mod Runs
 pub mod Cutting
+pub mod Paces
+pub mod Standing
+pub mod StandingRuns

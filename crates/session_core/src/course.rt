@@ -55,7 +55,7 @@ fn push_reopens(actions: &mut Vec<Action>, shares: &[Share]) -> Result<(), Memor
 }
 
 /// Returns whether `first` is the first answer due.
-fn is_due(due: &[Due], first: Due) -> bool
+pub(crate) fn is_due(due: &[Due], first: Due) -> bool
     ensures { result ≡ is_due first due.now }
 {
     match due.first() {

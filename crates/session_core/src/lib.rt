@@ -11,13 +11,20 @@ mod event;
 mod halt;
 mod handshake;
 mod laws;
+mod leaving;
 mod machine;
 mod open;
+mod pace;
 mod phase;
+mod progress;
 mod receiving;
 mod session;
 mod share;
+mod standing;
+mod standing_laws;
 mod state;
+mod stay;
+mod times;
 
 pub use acks::ack_of;
 pub use action::Action;
@@ -28,4 +35,10 @@ pub use laws::{
     resyncs_end_taught, unasked_is_no_step,
 };
 pub use session::Session;
+pub use standing::Standing;
+pub use standing_laws::{
+    a_resync_has_work_left, acknowledgements_were_received, standing_resyncs_end_taught,
+    ticks_change_nothing_else, what_a_tick_gives,
+};
 pub use state::State;
+pub use stay::Ticked;

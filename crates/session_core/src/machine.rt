@@ -10,7 +10,7 @@ ghost use Rattle.session_core.specs.declared.phase.Greeter.TheVariants as greete
 ghost use Rattle.session_core.specs.Phases as phases;
 ghost use Rattle.session_core.specs.declared.phase.Stage.TheVariants as stages;
 ghost use Rattle.session_core.specs.Courses.{course_fed, none_due, acks_sent, acks_given};
-ghost use Rattle.session_core.specs.Sessions.{Goes, GoesOpen, Keeps, Concludes, Refuses, IsWhy, is_asked_open, phase_of, seen, going, kind_of_breach, kind_of_fault};
+ghost use Rattle.session_core.specs.Sessions.{Goes, GoesOpen, Keeps, Concludes, Refuses, IsWhy, is_asked_open, phase_of, seen, going, kind_of_breach, kind_of_fault, state_of};
 
 use crate::action::{Action, confirms, only, push};
 use crate::course::Course;
@@ -20,6 +20,7 @@ use crate::event::Event;
 use crate::halt::Halt;
 use crate::handshake::{Handshake, after, greeting};
 use crate::phase::{Greeter, Stage};
+use crate::state::State;
 use known_state::Known;
 use learner::Fault;
 use peers_msg::{Breach, ErrorKind};
@@ -61,6 +62,18 @@ fn kind_of(fault: Fault) -> ErrorKind
 }
 
 impl Machine {
+    /// Returns the state of the session.
+    pub(crate) fn state(&self) -> State
+        ensures { result ≡ state_of (phase_of self.now.stage self.now.course) }
+    {
+        match &self.stage {
+            Stage::New(_) => State::New,
+            Stage::Hello(_, _) => State::Hello,
+            Stage::Open => self.course.state(),
+            Stage::Ended => State::Ended,
+        }
+    }
+
     /// Makes the step at `event`, and returns the actions to perform, in order. After an error the stage and the course
     /// may be anything, and the caller must end the session.
     pub(crate) fn step(&mut self, alloc: Global, event: Event) -> Result<Vec<Action>, SessionError>
@@ -183,7 +196,7 @@ impl Machine {
     }
 
     /// Ends the session, and returns the action that closes the connection.
-    fn close(&mut self, alloc: Global) -> Result<Vec<Action>, SessionError>
+    pub(crate) fn close(&mut self, alloc: Global) -> Result<Vec<Action>, SessionError>
         ensures actions { IfOk result (λ acts. acts.items ≡ actions.Close ∷ []) }
         ensures session { OnOk result (self.new ≡ record self.old { stage = stages.Ended }) }
         ensures memory { IfErr result (λ e. e ≡ errors.Memory) }

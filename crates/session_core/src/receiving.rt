@@ -32,7 +32,11 @@ fn control_text(alloc: Global, control: Control) -> Result<Items<u8>, Memory>
 }
 
 /// Appends the action that sends a control message.
-fn push_control(alloc: Global, actions: &mut Vec<Action>, control: Control) -> Result<(), Memory>
+pub(crate) fn push_control(
+    alloc: Global,
+    actions: &mut Vec<Action>,
+    control: Control,
+) -> Result<(), Memory>
     ensures { OnOk result (actions.new.items ≡ actions.old.items ++ (sends_control control ∷ [])) }
 {
     push(actions, Action::Send(control_text(alloc, control)?))
@@ -81,7 +85,7 @@ impl Course {
     }
 
     /// Receives an acknowledgement of a table of the roster.
-    fn acknowledge(
+    pub(crate) fn acknowledge(
         &mut self,
         table: u64,
         number: u32,

@@ -3,7 +3,7 @@
 ghost use Rattle.std.specs.Prelude.{◌≡◌, ◌≢◌, Err, IfOk, IfErr, OnErr};
 ghost use Rattle.session_core.specs.declared.error.SessionError.{SessionError};
 ghost use Rattle.session_core.specs.declared.error.SessionError.TheVariants as errors;
-ghost use Rattle.session_core.specs.Sessions.{Goes, Refuses, connecting, accepting, ended, state_of};
+ghost use Rattle.session_core.specs.Sessions.{Goes, Refuses, connecting, accepting, ended, seen, state_of};
 
 use crate::action::Action;
 use crate::course::Course;
@@ -100,12 +100,15 @@ impl Session {
     pub fn state(&self) -> State
         ensures { result ≡ state_of self.now.phase }
     {
-        match &self.machine.stage {
-            Stage::New(_) => State::New,
-            Stage::Hello(_, _) => State::Hello,
-            Stage::Open => self.machine.course.state(),
-            Stage::Ended => State::Ended,
-        }
+        self.machine.state()
+    }
+
+    /// Returns the machine of the session.
+    pub(crate) fn into_machine(self) -> Machine
+        ensures { seen result ≡ self }
+    {
+        let Session { machine, .. } = self;
+        machine
     }
 
     /// Returns what is known of the remote peer as a learner, as the lessons written so far leave it.

@@ -1,0 +1,135 @@
+-- The times of a session that stays, and how far the remote peer has acknowledged what it was taught (HAProxy,
+-- doc/peers-v2.0.txt, "Acknowledgement Messages" and "Control Messages"; the times are this node's own).
+use Rattle.std.specs.Prelude.{ℕ, ◌-◌, Bool, true, false, ◌==◌, ◌&&◌, nat_le, nat_lt, List, [], ◌∷◌, length, map, slice_get, Option, Some, None, is_none, if◌then◌else◌}
+use Rattle.std.specs.List.{list_any}
+use Rattle.table_types.specs.Tables.{Definition}
+use Rattle.table_types.specs.declared.update.Update.{Update}
+use Rattle.session_core.specs.declared.action.Action.{Action}
+use Rattle.session_core.specs.declared.action.Action.TheVariants as actions
+use Rattle.session_core.specs.declared.progress.Progress.{Progress}
+use Rattle.session_core.specs.declared.share.Share.{Share}
+
+-- ---- times, in milliseconds
+
+-- from the last byte sent to a heartbeat
+abbrev pub heartbeat_time : ℕ
+heartbeat_time = 3000
+
+-- from the last byte received to the end of the session
+abbrev pub silence_time : ℕ
+silence_time = 10000
+
+-- from the copy of a batch to the end of the wait for its acknowledgement, if the remote peer has never acknowledged its
+-- table: the table is left then
+abbrev pub leaving_time : ℕ
+leaving_time = 2000
+
+-- from the opening of the session to its first push
+abbrev pub push_time : ℕ
+push_time = 300
+
+-- from the beginning of one resync to that of the next
+abbrev pub resync_time : ℕ
+resync_time = 1000
+
+-- at the moment `now`, `time` has passed since the moment `since`
+abbrev pub has_passed : ℕ → ℕ → ℕ → Bool
+has_passed time since now = nat_le time (now - since)
+
+-- ---- progress
+
+-- nothing is taught yet
+abbrev pub progress_of : ℕ → List Definition → List Progress
+progress_of now roster = map (λ d. record { table = d.id; last = 0; since = now; greatest = 0; acknowledged = None; ahead = false }) roster
+
+-- the number of a batch: that of its last update
+abbrev pub number_of : Option Update → ℕ
+number_of None = 0
+number_of (Some u) = u.number
+
+abbrev pub last_number : List Update → ℕ
+last_number batch = number_of (slice_get batch (length batch - 1))
+
+abbrev pub larger : ℕ → ℕ → ℕ
+larger a b = if nat_lt a b then b else a
+
+-- a batch with this number was copied from `table`
+abbrev pub with_copy : ℕ → ℕ → Progress → Progress
+with_copy number now p = record { table = p.table; last = number; since = now; greatest = larger p.greatest number; acknowledged = p.acknowledged; ahead = p.ahead }
+
+abbrev pub copied_in : ℕ → ℕ → ℕ → List Progress → List Progress
+copied_in table number now ps = map (λ p. if p.table == table then with_copy number now p else p) ps
+
+-- The remote peer acknowledged `number`. A number above every one that it was taught on this connection is ahead.
+abbrev pub with_ack : ℕ → Progress → Progress
+with_ack number p =
+    if nat_le number p.greatest
+    then record { table = p.table; last = p.last; since = p.since; greatest = p.greatest; acknowledged = Some number; ahead = p.ahead }
+    else record { table = p.table; last = p.last; since = p.since; greatest = p.greatest; acknowledged = p.acknowledged; ahead = true }
+
+abbrev pub acknowledged_in : ℕ → ℕ → List Progress → List Progress
+acknowledged_in table number ps = map (λ p. if p.table == table then with_ack number p else p) ps
+
+-- the table and the number of an acknowledgement that is passed on
+abbrev pub ack_in : Action → Option (ℕ × ℕ)
+ack_in (actions.Ack table number) = Some (table, number)
+ack_in action = None
+
+abbrev pub noted_one : Option (ℕ × ℕ) → List Progress → List Progress
+noted_one (Some (table, number)) ps = acknowledged_in table number ps
+noted_one None ps = ps
+
+-- the acknowledgements that these actions pass on are noted, in order
+abbrev pub noted : List Action → List Progress → List Progress
+noted [] ps = ps
+noted (action ∷ acts) ps = noted acts (noted_one (ack_in action) ps)
+
+-- the remote peer acknowledged a number of `table` above every one that it was taught
+abbrev pub is_ahead : ℕ → List Progress → Bool
+is_ahead table ps = list_any (λ p. p.table == table && p.ahead) ps
+
+abbrev pub is_number : Option ℕ → ℕ → Bool
+is_number None number = false
+is_number (Some acknowledged) number = acknowledged == number
+
+-- The latest batch of the table asked last, if its number is the one that the remote peer acknowledged last. The remote
+-- peer doesn't acknowledge the same number twice in a row, so the batch counts as acknowledged.
+abbrev pub inferred : Option ℕ → List Progress → Option (ℕ × ℕ)
+inferred None ps = None
+inferred (Some table) [] = None
+inferred (Some table) (p ∷ ps) = if p.table == table && is_number p.acknowledged p.last then Some (table, p.last) else inferred (Some table) ps
+
+-- ---- tables that the remote peer lacks
+
+-- a batch of the table was copied long ago and is still outstanding, and the remote peer has never acknowledged the table
+abbrev pub is_overdue : ℕ → List Progress → Share → Bool
+is_overdue now ps s = s.out && list_any (λ p. p.table == s.table && is_none p.acknowledged && has_passed leaving_time p.since now) ps
+
+abbrev pub tables_to_leave : ℕ → List Progress → List Share → List ℕ
+tables_to_leave now ps [] = []
+tables_to_leave now ps (s ∷ ss) = if is_overdue now ps s then s.table ∷ tables_to_leave now ps ss else tables_to_leave now ps ss
+
+-- ---- the pace
+
+-- When this node last sent bytes, when it last received some, when the session opened, and when it last began a resync;
+-- whether a resync request waits; and what was taught and acknowledged of each table. A session that begins to stay counts
+-- from that moment.
+pub record Pace : Type 0 where
+  pub sent : ℕ
+  pub heard : ℕ
+  pub opened : ℕ
+  pub reopened : Option ℕ
+  pub requested : Bool
+  pub progress : List Progress
+
+abbrev pub pace_at : ℕ → List Definition → Pace
+pace_at now roster = record { sent = now; heard = now; opened = now; reopened = None; requested = false; progress = progress_of now roster }
+
+-- `now`, if so; otherwise the moment before
+abbrev pub renewed : Bool → ℕ → ℕ → ℕ
+renewed so now before = if so then now else before
+
+-- a resync may begin
+abbrev pub is_rested : Option ℕ → ℕ → Bool
+is_rested None now = true
+is_rested (Some reopened) now = has_passed resync_time reopened now

@@ -1,0 +1,95 @@
+//! How a session that stays changes its course.
+
+ghost use Rattle.std.specs.Prelude.{◌≡◌, ◌==◌, ◌++◌, not, filter, OnOk};
+ghost use Rattle.std.specs.List.{list_any};
+ghost use Rattle.session_core.specs.Courses.{ack_received};
+ghost use Rattle.session_core.specs.Standing.{begun_resync, finishing, leaving, put_off, without_tables};
+
+use crate::action::Action;
+use crate::course::Course;
+use crate::receiving::push_control;
+use crate::share::{Share, all_quiet};
+use std::alloc::Global;
+use table_types::Memory;
+
+/// Removes the tables with these ids.
+fn remove(shares: &mut Vec<Share>, tables: &[u64])
+    ensures { shares.new.items ≡ filter (λ s. not (list_any (λ table. table == s.table) tables.now)) shares.old.items }
+{
+    shares.retain(|share| !tables.contains(&share.table));
+}
+
+impl Course {
+    /// Ends a resync that has no table left to teach, and appends what says so.
+    pub(crate) fn finish(&mut self, alloc: Global, actions: &mut Vec<Action>) -> Result<(), Memory>
+        ensures actions { OnOk result (actions.new.items ≡ actions.old.items ++ (finishing self.old).0) }
+        ensures course { OnOk result (self.new ≡ (finishing self.old).1) }
+    {
+        if self.teaching && all_quiet(self.shares.as_slice()) {
+            push_control(alloc, actions, self.finished())?;
+            self.teaching = false;
+        }
+        Ok(())
+    }
+
+    /// Begins a resync, which ends at once if there is no table to teach.
+    pub(crate) fn begin_resync(
+        &mut self,
+        alloc: Global,
+        actions: &mut Vec<Action>,
+    ) -> Result<(), Memory>
+        ensures actions { OnOk result (actions.new.items ≡ actions.old.items ++ (begun_resync self.old).0) }
+        ensures course { OnOk result (self.new ≡ (begun_resync self.old).1) }
+    {
+        self.begin_teaching(actions)?;
+        self.finish(alloc, actions)
+    }
+
+    /// Passes on the acknowledgement, if there is one.
+    pub(crate) fn pass_on(
+        &mut self,
+        ack: Option<(u64, u32)>,
+        actions: &mut Vec<Action>,
+    ) -> Result<(), Memory>
+        ensures actions { OnOk result (actions.new.items ≡ actions.old.items ++ (ack_received self.old ack).0) }
+        ensures course { OnOk result (self.new ≡ (ack_received self.old ack).1) }
+    {
+        match ack {
+            Some((table, number)) => self.acknowledge(table, number, actions),
+            None => Ok(()),
+        }
+    }
+
+    /// Leaves the tables with these ids. All resyncs end as partial from then on.
+    fn leave(&mut self, tables: &[u64])
+        ensures { self.new ≡ without_tables tables.now self.old }
+    {
+        remove(&mut self.shares, tables);
+        self.up_to_date = false;
+    }
+
+    /// Leaves the tables with these ids, if there are any, and ends a resync if only they held it up.
+    pub(crate) fn leave_all(
+        &mut self,
+        alloc: Global,
+        tables: &[u64],
+        actions: &mut Vec<Action>,
+    ) -> Result<(), Memory>
+        ensures actions { OnOk result (actions.new.items ≡ actions.old.items ++ (leaving tables.now self.old).0) }
+        ensures course { OnOk result (self.new ≡ (leaving tables.now self.old).1) }
+    {
+        if tables.is_empty() {
+            return Ok(());
+        }
+        self.leave(tables);
+        self.finish(alloc, actions)
+    }
+
+    /// Takes back the beginning or the deferral of a resync. `teaching` says whether one was under way.
+    pub(crate) fn put_off(&mut self, teaching: bool)
+        ensures { self.new ≡ put_off teaching self.old }
+    {
+        self.teaching = teaching;
+        self.waits = false;
+    }
+}

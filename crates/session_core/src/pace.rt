@@ -1,0 +1,142 @@
+//! The times of a session that stays.
+
+ghost use Rattle.std.specs.Prelude.{◌≡◌, ◌||◌, Some, true, false, not, IfOk};
+ghost use Rattle.session_core.specs.Shares.{any_out};
+ghost use Rattle.session_core.specs.Paces.{pace_at, renewed, is_rested, has_passed, silence_time, heartbeat_time, push_time};
+ghost use Rattle.session_core.specs.Standing.{task_at};
+
+use crate::course::Course;
+use crate::progress::{Progress, progress_of};
+use crate::share::any_out;
+use crate::times;
+use crate::times::has_passed;
+use std::alloc::Global;
+use std::marker::Model;
+use table_types::{Memory, Roster};
+
+/// What a turn of an open session does.
+#[derive(Clone, Copy, Debug, PartialEq, Eq)]
+pub(crate) enum Task {
+    /// Begins a resync.
+    Begin,
+    /// Asks a table for a batch, if one may be copied.
+    Copy,
+    /// Does nothing.
+    Rest,
+}
+
+/// The times of a session that stays, each a moment in milliseconds, and its progress. Until something happens, each is the
+/// moment at which the session began to stay.
+#[derive(Drop)]
+pub(crate) struct Pace {
+    /// When this node last sent bytes.
+    pub(crate) sent: u64,
+    /// When this node last received bytes.
+    pub(crate) heard: u64,
+    /// When the session opened.
+    pub(crate) opened: u64,
+    /// When this node last began a resync.
+    pub(crate) reopened: Option<u64>,
+    /// Whether a resync request of the remote peer waits.
+    pub(crate) requested: bool,
+    /// The progress in each table, in roster order.
+    pub(crate) progress: Vec<Progress>,
+}
+
+impl Model for Pace {
+    ghost use Rattle.session_core.specs.Paces.{Pace};
+
+    ghost Value = { Pace };
+
+    ghost view = { λ p. record { sent = p.sent; heard = p.heard; opened = p.opened; reopened = p.reopened; requested = p.requested; progress = p.progress.items } };
+}
+
+impl Pace {
+    /// Returns the pace of a session that begins to stay.
+    pub(crate) fn new(alloc: Global, roster: &Roster, now: u64) -> Result<Pace, Memory>
+        ensures { IfOk result (λ pace. pace ≡ pace_at now roster.now) }
+    {
+        Ok(Pace {
+            sent: now,
+            heard: now,
+            opened: now,
+            reopened: None,
+            requested: false,
+            progress: progress_of(alloc, roster.tables(), now)?,
+        })
+    }
+
+    /// Notes what an event did: whether bytes were sent, whether some were received, and whether the session was open.
+    pub(crate) fn note(&mut self, sends: bool, hears: bool, is_open: bool, now: u64)
+        ensures { self.new ≡ record self.old { sent = renewed sends now self.old.sent; heard = renewed hears now self.old.heard; opened = renewed (not is_open) now self.old.opened } }
+    {
+        if sends {
+            self.sent = now;
+        }
+        if hears {
+            self.heard = now;
+        }
+        if !is_open {
+            self.opened = now;
+        }
+    }
+
+    /// Notes whether a resync was requested.
+    pub(crate) fn request(&mut self, requested: bool)
+        ensures { self.new ≡ record self.old { requested = self.old.requested || requested } }
+    {
+        self.requested = self.requested || requested;
+    }
+
+    /// Notes that a resync begins, and whether bytes were sent.
+    pub(crate) fn begin(&mut self, sends: bool, now: u64)
+        ensures { self.new ≡ record self.old { sent = renewed sends now self.old.sent; reopened = Some now; requested = false } }
+    {
+        if sends {
+            self.sent = now;
+        }
+        self.reopened = Some(now);
+        self.requested = false;
+    }
+
+    /// Returns whether the session is silent: it has received nothing for `times::SILENCE`.
+    pub(crate) fn is_silent(&self, now: u64) -> bool
+        ensures { result ≡ has_passed silence_time self.now.heard now }
+    {
+        has_passed(times::SILENCE, self.heard, now)
+    }
+
+    /// Returns whether a heartbeat is owed: nothing has been sent for `times::HEARTBEAT`.
+    pub(crate) fn owes_heartbeat(&self, now: u64) -> bool
+        ensures { result ≡ has_passed heartbeat_time self.now.sent now }
+    {
+        has_passed(times::HEARTBEAT, self.sent, now)
+    }
+
+    /// Returns whether the last resync, if there was one, began long enough ago.
+    fn is_rested(&self, now: u64) -> bool
+        ensures { result ≡ is_rested self.now.reopened now }
+    {
+        match self.reopened {
+            Some(reopened) => has_passed(times::RESYNC, reopened, now),
+            None => true,
+        }
+    }
+
+    /// Returns what a turn does.
+    pub(crate) fn task(&self, course: &Course, now: u64) -> Task
+        ensures { result ≡ task_at now self.now course.now }
+    {
+        if self.requested && self.is_rested(now) {
+            if any_out(course.shares.as_slice()) {
+                Task::Rest
+            } else {
+                Task::Begin
+            }
+        } else if course.teaching || has_passed(times::PUSH, self.opened, now) {
+            Task::Copy
+        } else {
+            Task::Rest
+        }
+    }
+}

@@ -1,0 +1,184 @@
+//! How far the remote peer has acknowledged what it was taught.
+
+ghost use Rattle.std.specs.Prelude.{◌≡◌, IfOk};
+ghost use Rattle.session_core.specs.Paces.{progress_of, last_number, copied_in, acknowledged_in, ack_in, noted, is_ahead, is_number, inferred, is_overdue, tables_to_leave};
+
+use crate::action::Action;
+use crate::share::Share;
+use crate::times;
+use crate::times::has_passed;
+use std::alloc::Global;
+use table_types::{Batch, Memory, TableDef};
+
+/// What was taught of a table on this connection, and what the remote peer acknowledged of it.
+#[derive(Clone, Copy, Debug)]
+pub(crate) struct Progress {
+    /// The table's id.
+    pub(crate) table: u64,
+    /// The number of the latest batch: that of its last update.
+    pub(crate) last: u32,
+    /// The moment at which that batch was copied.
+    pub(crate) since: u64,
+    /// The greatest number of a batch.
+    pub(crate) greatest: u32,
+    /// The number that the remote peer acknowledged last, of those up to the greatest.
+    pub(crate) acknowledged: Option<u32>,
+    /// Whether the remote peer acknowledged a number above the greatest.
+    pub(crate) ahead: bool,
+}
+
+/// Returns the progress in tables of which nothing is taught yet.
+pub(crate) fn progress_of(
+    alloc: Global,
+    tables: &[TableDef],
+    now: u64,
+) -> Result<Vec<Progress>, Memory>
+    ensures { IfOk result (λ progress. progress.items ≡ progress_of now tables.now) }
+{
+    let mut progress = Vec::with_capacity(alloc, tables.len())?;
+    for table in tables {
+        progress.push(Progress {
+            table: table.id(),
+            last: 0,
+            since: now,
+            greatest: 0,
+            acknowledged: None,
+            ahead: false,
+        })?;
+    }
+    Ok(progress)
+}
+
+/// Returns the number of a batch, that of its last update.
+pub(crate) fn last_number(batch: &Batch) -> u32
+    ensures { result ≡ last_number batch.now }
+{
+    match batch.updates().last() {
+        Some(update) => update.number,
+        None => 0,
+    }
+}
+
+/// Notes that a batch with this number was copied from `table`.
+pub(crate) fn note_copy(progress: &mut [Progress], table: u64, number: u32, now: u64)
+    ensures { progress.new ≡ copied_in table number now progress.old }
+{
+    for entry in progress.iter_mut() {
+        if entry.table == table {
+            entry.last = number;
+            entry.since = now;
+            if entry.greatest < number {
+                entry.greatest = number;
+            }
+        }
+    }
+}
+
+/// Notes that the remote peer acknowledged `number` of `table`.
+fn note_ack(progress: &mut [Progress], table: u64, number: u32)
+    ensures { progress.new ≡ acknowledged_in table number progress.old }
+{
+    for entry in progress.iter_mut() {
+        if entry.table == table {
+            if number <= entry.greatest {
+                entry.acknowledged = Some(number);
+            } else {
+                entry.ahead = true;
+            }
+        }
+    }
+}
+
+/// Returns the table and the number of an acknowledgement that is passed on.
+fn ack_in(action: &Action) -> Option<(u64, u32)>
+    ensures { result ≡ ack_in action.now }
+{
+    match action {
+        Action::Ack { table, number } => Some((*table, *number)),
+        _ => None,
+    }
+}
+
+/// Notes the acknowledgements that the actions pass on.
+pub(crate) fn note_acks(progress: &mut Vec<Progress>, actions: &[Action])
+    ensures { progress.new.items ≡ noted actions.now progress.old.items }
+{
+    for action in actions {
+        if let Some((table, number)) = ack_in(action) {
+            note_ack(progress.as_mut_slice(), table, number);
+        }
+    }
+}
+
+/// Returns whether the remote peer acknowledged a number of `table` above every one that it was taught.
+pub(crate) fn is_ahead(progress: &[Progress], table: u64) -> bool
+    ensures { result ≡ is_ahead table progress.now }
+{
+    for entry in progress {
+        if entry.table == table && entry.ahead {
+            return true;
+        }
+    }
+    false
+}
+
+/// Returns whether the remote peer acknowledged the number of the latest batch last.
+fn is_repeated(entry: &Progress) -> bool
+    ensures { result ≡ is_number entry.now.acknowledged entry.now.last }
+{
+    match entry.acknowledged {
+        Some(number) => number == entry.last,
+        None => false,
+    }
+}
+
+/// Returns the table asked last and the number of its latest batch, if the remote peer acknowledged that number last. It
+/// doesn't acknowledge a number twice in a row.
+pub(crate) fn inferred(progress: &[Progress], asked: Option<u64>) -> Option<(u64, u32)>
+    ensures { result ≡ inferred asked progress.now }
+{
+    let table = asked?;
+    for entry in progress {
+        if entry.table == table && is_repeated(entry) {
+            return Some((table, entry.last));
+        }
+    }
+    None
+}
+
+/// Returns whether the table is overdue: a batch of it was copied long ago and is still outstanding, and the remote peer has
+/// never acknowledged the table.
+fn is_overdue(progress: &[Progress], share: &Share, now: u64) -> bool
+    ensures { result ≡ is_overdue now progress.now share.now }
+{
+    if !share.out {
+        return false;
+    }
+    for entry in progress {
+        if entry.table == share.table
+            && entry.acknowledged.is_none()
+            && has_passed(times::LEAVING, entry.since, now)
+        {
+            return true;
+        }
+    }
+    false
+}
+
+/// Returns the ids of the tables that are overdue.
+pub(crate) fn tables_to_leave(
+    alloc: Global,
+    progress: &[Progress],
+    shares: &[Share],
+    now: u64,
+) -> Result<Vec<u64>, Memory>
+    ensures { IfOk result (λ tables. tables.items ≡ tables_to_leave now progress.now shares.now) }
+{
+    let mut tables = Vec::new(alloc);
+    for share in shares {
+        if is_overdue(progress, share, now) {
+            tables.push(share.table)?;
+        }
+    }
+    Ok(tables)
+}
