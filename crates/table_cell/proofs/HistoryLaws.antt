@@ -1,5 +1,5 @@
 -- An event extends a table with its history.
-use Rattle.std.proofs.Common.{◌≡◌, ℕ, suc, ◌+◌, ◌-◌, ◌^◌, true, false, List, [], ◌∷◌, ◌++◌, length, Option, Some, None, refl, sym, ap, subst, ◌∙◌, arith, inl, inr, true≢false, ltb-true}
+use Rattle.std.proofs.Common.{◌≡◌, ℕ, ◌+◌, ◌-◌, ◌^◌, true, false, List, [], ◌∷◌, ◌++◌, length, Option, Some, None, refl, sym, ap, subst, ◌∙◌, arith, inl, inr, true≢false, ltb-true}
 use Rattle.std.specs.Prelude.{Err, slice_get, option_and_then, cond, nat_eq, nat_lt, min, if◌then◌else◌}
 use Rattle.std.proofs.Math.Seq.{drop-append_seam}
 use Rattle.std.proofs.lemmas.List.{append_assoc, length-append}
@@ -23,6 +23,7 @@ use Rattle.table_cell.specs.Machine.{TableState, Step, learn_refusal}
 use Rattle.table_cell.specs.Histories.{CellState, Learns, Made, batch_in, batch_of, event_in, events_of, held_batch, is_history_full, kept_batch, kept_events, latest_batch, or_former, room_of}
 use Rattle.table_cell.specs.Soundness.{IsTimely}
 use Rattle.table_cell.specs.Cells.{AreLatestCopies, IsCell, IsLatestCopy, OriginState, cell_of, latest_of}
+use Rattle.table_cell.proofs.BlockLaws.{get_after}
 use Rattle.table_cell.proofs.RefusalLaws.{memory_is_no_learn_refusal}
 use Rattle.table_cell.proofs.RowsLaws.{some_none}
 use Rattle.table_cell.proofs.RunLaws.{made_sound}
@@ -157,10 +158,6 @@ room_is o hs s =
     let left : 1000000 + length o.past - length (o.past ++ hs) ≡ 1000000 - length hs = omega (arith, length-append o.past hs) in
     let ever : 2 ^ 63 - (o.dropped + length (o.past ++ hs)) ≡ 2 ^ 63 - (o.dropped + length o.past + length hs) = ap (λ (n : ℕ). 2 ^ 63 - n) (events_are o hs s) in
     ap (λ (n : ℕ). min n (2 ^ 63 - (o.dropped + length (o.past ++ hs)))) left ∙ ap (min (1000000 - length hs)) ever
-
-get_after : {A : Type 0} (xs ys : List A) (i : ℕ) → slice_get (xs ++ ys) (length xs + i) ≡ slice_get ys i
-get_after {A} [] ys i = let same : 0 + i ≡ i = omega arith in ap (slice_get ys) same
-get_after (x ∷ xs) ys i = let step : length (x ∷ xs) + i ≡ suc (length xs + i) = omega arith in ap (slice_get (x ∷ xs ++ ys)) step ∙ get_after xs ys i
 
 pub event_is : (o : OriginState) (hs : List (CellEvent × CellReply)) (s : TableState) (place : ℕ)
     → event_in (cell_of o hs s) place ≡ (if nat_lt (o.dropped + length o.past) place then slice_get hs (place - (o.dropped + length o.past + 1)) else None)

@@ -1,3 +1,4 @@
+pub mod BlockLaws
 pub mod RowsLaws
 pub mod OneStep
 pub mod SessionLaws

@@ -1,3 +1,4 @@
+pub mod Blocks
 pub mod Copying
 pub mod Machine
 pub mod Soundness

@@ -11,6 +11,7 @@ ghost use Rattle.table_cell.specs.Machine.{Step, copy_refusal};
 ghost use Rattle.table_cell.specs.Soundness.{IsSound};
 ghost use Rattle.table_types.specs.Batches.{IsBatchFor};
 
+use crate::blocks::Blocks;
 use crate::cell::TableCell;
 use crate::copying::last_number;
 use crate::entry::{Entry, prepare};
@@ -24,7 +25,7 @@ use table_types::{Batch, CopyKind, Memory, Moment};
 /// event's entry. If memory runs out, nothing has changed.
 fn copy(
     table: &mut Table,
-    history: &mut Vec<Entry>,
+    history: &mut Blocks<Entry>,
     latest_copies: &mut BTreeMap<u32, Entry>,
     session: u32,
     kind: CopyKind,

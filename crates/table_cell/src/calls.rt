@@ -8,6 +8,7 @@ ghost use Rattle.table_cell.specs.declared.events.CellReply.TheVariants as repli
 ghost use Rattle.table_cell.specs.Histories.{Acknowledges, Closes, Opens, Purges, Shares, SharesWith};
 ghost use Rattle.table_cell.specs.Machine.{Step, ack_refusal, close_refusal, open_refusal, purge_refusal};
 
+use crate::blocks::Blocks;
 use crate::cell::TableCell;
 use crate::entry::{Entry, prepare};
 use crate::errors::{AckError, CloseError, OpenError, PurgeError};
@@ -19,7 +20,7 @@ use table_types::{Memory, Moment, Settled};
 /// runs out, nothing has changed.
 fn acknowledge(
     table: &mut Table,
-    history: &mut Vec<Entry>,
+    history: &mut Blocks<Entry>,
     session: u32,
     number: u32,
 ) -> Result<(Settled, Entry), Memory>
@@ -39,7 +40,7 @@ fn acknowledge(
 }
 
 /// Opens `session`, and adds the event to the history. Returns its entry. If memory runs out, nothing has changed.
-fn open(table: &mut Table, history: &mut Vec<Entry>, session: u32) -> Result<Entry, Memory>
+fn open(table: &mut Table, history: &mut Blocks<Entry>, session: u32) -> Result<Entry, Memory>
     requires granted { open_refusal false table.old session ≡ None }
     ensures step { OnOk result (Step table.old (events.Open session) replies.Open table.new) }
     ensures entry { IfOk result (λ entry. entry ≡ (events.Open session, replies.Open)) }
@@ -55,7 +56,7 @@ fn open(table: &mut Table, history: &mut Vec<Entry>, session: u32) -> Result<Ent
 }
 
 /// Closes `session`, and adds the event to the history. Returns its entry. If memory runs out, nothing has changed.
-fn close(table: &mut Table, history: &mut Vec<Entry>, session: u32) -> Result<Entry, Memory>
+fn close(table: &mut Table, history: &mut Blocks<Entry>, session: u32) -> Result<Entry, Memory>
     requires granted { close_refusal false table.old session ≡ None }
     ensures step { OnOk result (Step table.old (events.Close session) replies.Close table.new) }
     ensures entry { IfOk result (λ entry. entry ≡ (events.Close session, replies.Close)) }
@@ -72,7 +73,11 @@ fn close(table: &mut Table, history: &mut Vec<Entry>, session: u32) -> Result<En
 
 /// Removes the rows that aren't live at `now`, and adds the event to the history. Returns their number, and the event's
 /// entry. If memory runs out, nothing has changed.
-fn purge(table: &mut Table, history: &mut Vec<Entry>, now: Moment) -> Result<(usize, Entry), Memory>
+fn purge(
+    table: &mut Table,
+    history: &mut Blocks<Entry>,
+    now: Moment,
+) -> Result<(usize, Entry), Memory>
     requires granted { purge_refusal false table.old now ≡ None }
     ensures step { IfOk result (λ pair. Step table.old (events.Purge now) (replies.Purge pair.0) table.new) }
     ensures entry { IfOk result (λ pair. pair.1 ≡ (events.Purge now, replies.Purge pair.0)) }

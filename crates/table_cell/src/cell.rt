@@ -5,6 +5,7 @@ ghost use Rattle.table_cell.specs.Machine.{ack_refusal, has_out, new_table, prog
 ghost use Rattle.table_cell.specs.Stock.{AreInRisingKey};
 ghost use Rattle.table_cell.specs.Histories.{IsSoundCell, Kept, events_of, event_in, is_history_full, new_cell, room_of};
 
+use crate::blocks::Blocks;
 use crate::entry::Entry;
 use crate::events::{CellEvent, CellReply};
 use crate::origin::Origin;
@@ -25,7 +26,7 @@ pub struct TableCell {
     pub(crate) origin: Origin,
     pub(crate) table: Table,
     /// The events that the table has, with their replies.
-    pub(crate) history: Vec<Entry>,
+    pub(crate) history: Blocks<Entry>,
     /// Each session's latest copy. Closing a session keeps it until the next `slide`.
     pub(crate) latest_copies: BTreeMap<u32, Entry>,
 }
@@ -71,7 +72,7 @@ impl TableCell {
         Ok(TableCell {
             origin: Origin::at(&table, 0, &latest_copies),
             table,
-            history: Vec::new(alloc),
+            history: Blocks::new(alloc),
             latest_copies,
         })
     }

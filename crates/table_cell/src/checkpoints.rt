@@ -5,6 +5,7 @@ ghost use Rattle.std.specs.List.{filter};
 ghost use Rattle.table_cell.specs.Histories.{BeginsAnew, Checkpoints, IsReplayed, Kept, Slides};
 ghost use Rattle.table_cell.specs.Machine.{is_any_out, is_open};
 
+use crate::blocks::Blocks;
 use crate::cell::TableCell;
 use crate::entry::Entry;
 use crate::errors::CheckpointError;
@@ -18,7 +19,7 @@ use std::mem;
 /// needed.
 #[derive(Drop)]
 pub struct Dropped {
-    history: Vec<Entry>,
+    history: Blocks<Entry>,
     /// The copies among them that the table had kept by session.
     copies: BTreeMap<u32, Entry>,
 }
@@ -72,7 +73,7 @@ impl TableCell {
         let copies = mem::replace(&mut self.latest_copies, BTreeMap::new(alloc));
         self.origin = Origin::at(&self.table, events, &self.latest_copies);
         Ok(Dropped {
-            history: mem::replace(&mut self.history, Vec::new(alloc)),
+            history: mem::replace(&mut self.history, Blocks::new(alloc)),
             copies,
         })
     }
@@ -96,7 +97,7 @@ impl TableCell {
     {
         let alloc = self.table.alloc();
         retain_open(&mut self.latest_copies, &self.table);
-        let history = mem::replace(&mut self.history, Vec::new(alloc));
+        let history = mem::replace(&mut self.history, Blocks::new(alloc));
         Dropped {
             history: self.origin.slide(history, &self.latest_copies),
             copies: BTreeMap::new(alloc),

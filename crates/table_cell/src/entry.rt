@@ -1,9 +1,9 @@
 //! Events with their replies, which a table's history shares with its callers.
 
-ghost use Rattle.std.specs.Prelude.{◌≡◌, ◌++◌, ◌∷◌, ◌<◌, [], IfOk, OnOk, option_copied};
-ghost use Rattle.std.specs.Vec.{vec_capacity, vec_len};
+ghost use Rattle.std.specs.Prelude.{◌≡◌, ◌++◌, ◌∷◌, [], IfOk, OnOk, option_copied, true};
 ghost use Rattle.table_cell.specs.Histories.{batch_in};
 
+use crate::blocks::Blocks;
 use crate::events::{CellEvent, CellReply};
 use std::alloc::Global;
 use std::marker::Model;
@@ -79,16 +79,16 @@ impl Entry {
 /// one for the caller.
 pub(crate) fn prepare(
     alloc: Global,
-    history: &mut Vec<Entry>,
+    history: &mut Blocks<Entry>,
     event: CellEvent,
     reply: CellReply,
 ) -> Result<(Entry, Entry), Memory>
     ensures kept { IfOk result (λ pair. pair.0 ≡ (event, reply)) }
     ensures given { IfOk result (λ pair. pair.1 ≡ (event, reply)) }
-    ensures room { OnOk result (vec_len history.new < vec_capacity history.new) }
+    ensures room { OnOk result (history.new.has_room ≡ true) }
     ensures stays { history.new.items ≡ history.old.items }
 {
-    history.reserve(1)?;
+    history.reserve_one()?;
     let entry = Entry::new(alloc, event, reply)?;
     Ok((entry.copy()?, entry))
 }

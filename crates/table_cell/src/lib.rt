@@ -5,6 +5,7 @@
 mod above;
 mod batch;
 mod batches;
+mod blocks;
 mod calls;
 mod cell;
 mod checkpoints;

@@ -3,6 +3,7 @@
 ghost use Rattle.std.specs.Prelude.{◌≡◌, ◌+◌, ◌++◌, ◌≤◌, ◌^◌, [], length};
 ghost use Rattle.table_cell.specs.Cells.{IsNewFrom};
 
+use crate::blocks::Blocks;
 use crate::entry::Entry;
 use crate::past::{Past, no_past, with_events};
 use crate::table::Table;
@@ -70,7 +71,11 @@ impl Origin {
 
     /// Drops the events that the table has, but for the latest copies, which stay kept, and returns the events. Takes
     /// constant time, and doesn't allocate.
-    pub(crate) fn slide(&mut self, events: Vec<Entry>, copies: &BTreeMap<u32, Entry>) -> Vec<Entry>
+    pub(crate) fn slide(
+        &mut self,
+        events: Blocks<Entry>,
+        copies: &BTreeMap<u32, Entry>,
+    ) -> Blocks<Entry>
         requires { self.old.dropped + length self.old.past + length events.items ≤ 2 ^ 63 }
         ensures origin { self.new ≡ record self.old { past = self.old.past ++ events.items; held = copies.now.entries } }
         ensures events { result ≡ events }

@@ -3,6 +3,7 @@
 ghost use Rattle.std.specs.Prelude.{◌≡◌, ◌++◌, []};
 ghost use Rattle.table_cell.specs.Pasts.{all_of};
 
+use crate::blocks::Blocks;
 use crate::entry::Entry;
 use std::snapshot::Snapshot;
 
@@ -11,7 +12,7 @@ use std::snapshot::Snapshot;
 #[derive(Drop)]
 pub(crate) enum Past {
     Nothing,
-    After(Snapshot<Past>, Vec<Entry>),
+    After(Snapshot<Past>, Blocks<Entry>),
 }
 
 /// Returns the past without events.
@@ -24,8 +25,8 @@ pub(crate) fn no_past() -> Snapshot<Past>
 /// Returns the past with these events after it, and the events. Takes constant time, and doesn't allocate.
 pub(crate) fn with_events(
     before: Snapshot<Past>,
-    events: Vec<Entry>,
-) -> (Snapshot<Past>, Vec<Entry>)
+    events: Blocks<Entry>,
+) -> (Snapshot<Past>, Blocks<Entry>)
     ensures past { all_of result.0.value ≡ all_of before.value ++ events.items }
     ensures events { result.1 ≡ events }
 {

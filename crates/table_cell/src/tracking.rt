@@ -11,6 +11,7 @@ ghost use Rattle.table_cell.specs.Histories.{Learns, Shares, SharesWith, Tracks,
 ghost use Rattle.table_cell.specs.Machine.{Leaves, Step, learn_refusal, learned, stored, track_refusal, tracked};
 ghost use Rattle.table_cell.specs.Parts.{reply_of};
 
+use crate::blocks::Blocks;
 use crate::cell::TableCell;
 use crate::entry::{Entry, prepare};
 use crate::errors::{LearnError, TrackError};
@@ -22,7 +23,7 @@ use table_types::{Change, Key, Memory, Moment, Row, Update};
 /// entry of both. If memory runs out, nothing has changed.
 fn store_row(
     table: &mut Table,
-    history: &mut Vec<Entry>,
+    history: &mut Blocks<Entry>,
     key: Key,
     row: Row,
     now: Moment,
@@ -49,7 +50,7 @@ fn store_row(
 /// memory runs out, nothing has changed.
 fn track_row(
     table: &mut Table,
-    history: &mut Vec<Entry>,
+    history: &mut Blocks<Entry>,
     seat: u32,
     key: Key,
     change: Change,
@@ -88,7 +89,7 @@ fn track_row(
 /// memory runs out, nothing has changed.
 fn learn_row(
     table: &mut Table,
-    history: &mut Vec<Entry>,
+    history: &mut Blocks<Entry>,
     session: u32,
     update: Update,
     now: Moment,

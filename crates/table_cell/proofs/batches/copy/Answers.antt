@@ -1,10 +1,5 @@
-use Rattle.std.proofs.Common.{◌≡◌, ◌∷◌, ◌++◌, [], ℕ, false, List, Some, cond, length, ap, ◌∙◌, arith, rules}
-use Rattle.std.specs.Ordering.{is_eq, nat_cmp}
-use Rattle.std.specs.Map.{lookup}
-use Rattle.std.specs.BTreeMap.{is_at}
-use Rattle.table_cell.specs.declared.events.CellEvent.{CellEvent}
+use Rattle.std.proofs.Common.{◌≡◌, ◌∷◌, ◌++◌, [], false, ap, ◌∙◌, rules}
 use Rattle.table_cell.specs.declared.events.CellEvent.TheVariants as events
-use Rattle.table_cell.specs.declared.events.CellReply.{CellReply}
 use Rattle.table_cell.specs.declared.events.CellReply.TheVariants as replies
 use Rattle.table_cell.specs.Machine.{last_number, unacked}
 use Rattle.table_cell.proofs.StepLaws.{copy_granted}
