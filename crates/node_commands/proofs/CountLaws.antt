@@ -32,7 +32,7 @@ use Rattle.table_shards.specs.Agreement.{Agree, id_of}
 use Rattle.table_shards.specs.Audits.{AuditState, IsRight, table_rounds}
 use Rattle.table_shards.specs.Receipts.{ReceiptState, SeatState, all_receipts, receipts_of}
 use Rattle.table_shards.specs.Roll.{has_number}
-use Rattle.table_shards.specs.Rounds.{ShardsState}
+use Rattle.table_shards.specs.Rounds.{RoundState}
 use Rattle.table_shards.proofs.AllLaws.{all_both, all_so}
 use Rattle.table_shards.proofs.MatchLaws.{each_event, summed}
 use Rattle.table_shards.proofs.RollLaws.{seats_each}
@@ -326,9 +326,9 @@ tables_count threads tracks key seats (t ∷ u ∷ us) low some once done rounds
 
 first_counts : (a : AuditState) (threads tracks key : ℕ) → IsAudited threads tracks a → IsFirst threads a → 1 ≤ key → key ≤ threads → 1 ≤ tracks → AllByRecursion (λ (t : UnlockedTable). HasCount key tracks t.cell) a.unlocked.tables
 first_counts a threads tracks key (audited, done) (rounds, new) least low some =
-    let seats : a.unlocked.seats ≡ threads + 2 = ap (λ (s : ShardsState). s.seats) rounds in
+    let seats : a.unlocked.seats ≡ threads + 2 = ap (λ (s : RoundState). s.seats) rounds in
     let once = seats_each a.unlocked.seats a.seats audited.0 key least (omega (arith, seats, low)) in
-    tables_count threads tracks key a.seats a.unlocked.tables low some once done (ap (λ (s : ShardsState). s.tables) rounds) audited.1 new
+    tables_count threads tracks key a.seats a.unlocked.tables low some once done (ap (λ (s : RoundState). s.tables) rounds) audited.1 new
 
 -- ---- rounds
 

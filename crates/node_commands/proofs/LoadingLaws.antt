@@ -9,11 +9,11 @@ use Rattle.table_cell.specs.declared.events.CellEvent.{CellEvent}
 use Rattle.table_cell.specs.declared.events.CellEvent.TheVariants as events
 use Rattle.table_cell.specs.declared.events.CellReply.{CellReply}
 use Rattle.table_shards.specs.Receipts.{SeatState, fresh_seat, with_receipt}
-use Rattle.table_shards.specs.Rounds.{begun, fresh_from, fresh_seats}
+use Rattle.table_shards.specs.Rounds.{fresh_from, fresh_seats}
 use Rattle.table_shards.specs.Holding.{Leaves, receipted}
 use Rattle.table_shards.specs.declared.errors.ShardError.{ShardError}
 use Rattle.node_commands.specs.declared.node.loading.NodeTables.{NodeTables}
-use Rattle.node_commands.specs.Loading.{AreOpened, Gains, loaded_at, loads_of, opens_of, untouched}
+use Rattle.node_commands.specs.Loading.{AreOpened, Gains, loaded_at, loads_of, new_of, opens_of}
 use Rattle.node_commands.proofs.Lists.{next_left}
 
 -- ---- one receipt
@@ -87,10 +87,10 @@ first_seat sessions =
     ap (λ (n : ℕ). fresh_from 1 n) same
 
 pub opened_with : (sessions : ℕ) (ds : List Definition) (us : List Update) (t : NodeTables) (cells : List CellState) (first : SeatState) → t.roster ≡ ds
-    → t.shards ≡ record { seats = sessions + 1; tables = map begun cells } → map begun cells ≡ map untouched ds → first ≡ fresh_seat 1
+    → t.shards ≡ record { seats = sessions + 1; cells = cells } → cells ≡ map new_of ds → first ≡ fresh_seat 1
     → Gains (loads_of sessions ds us) first t.loader → AreOpened sessions ds us t
 opened_with sessions ds us t cells first same locked new fresh gains = (
   same,
-  locked ∙ ap (λ (ts : List (ℕ × ℕ)). record { seats = sessions + 1; tables = ts }) new,
+  locked ∙ ap (λ (cs : List CellState). record { seats = sessions + 1; cells = cs }) new,
   subst (λ (s : SeatState). Gains (loads_of sessions ds us) s t.loader) fresh gains,
 )

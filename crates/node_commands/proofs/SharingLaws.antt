@@ -3,7 +3,7 @@ use Rattle.std.proofs.Common.{◌≡◌, ◌∙◌, ◌++◌, ℕ, true, List, [
 use Rattle.table_types.specs.Tables.{Definition}
 use Rattle.table_shards.specs.Receipts.{SeatState}
 use Rattle.table_shards.specs.Rounds.{fresh_from}
-use Rattle.table_shards.proofs.RoundLaws.{rounds_append}
+use Rattle.table_shards.proofs.RoundLaws.{map_append}
 use Rattle.session_core.specs.Sessions.{SessionState, accepting}
 use Rattle.peers_engine.specs.declared.worker.Worker.{Worker}
 use Rattle.node_text.specs.declared.scenes.Scene.{Scene}
@@ -21,7 +21,7 @@ use Rattle.node_commands.specs.Sharing.{AllServed, AreKept, AreStarted, IsServer
 pub one_worker : (s : SessionState) (ws : List Worker) (w : Worker) (seat : SeatState) (taken : List SeatState) → ws ≡ map (worker_at s) taken → w ≡ worker_at s seat
     → ws ++ w ∷ [] ≡ map (worker_at s) (taken ++ seat ∷ [])
 one_worker s ws w seat taken so is =
-    ap (λ (xs : List Worker). xs ++ w ∷ []) so ∙ ap (λ (x : Worker). map (worker_at s) taken ++ x ∷ []) is ∙ sym (rounds_append (worker_at s) taken (seat ∷ []))
+    ap (λ (xs : List Worker). xs ++ w ∷ []) so ∙ ap (λ (x : Worker). map (worker_at s) taken ++ x ∷ []) is ∙ sym (map_append (worker_at s) taken (seat ∷ []))
 
 pub server_with : (scene : Scene) (name peer : List ℕ) (sessions : ℕ) (n : Server) (roster : List Definition) (seats : List SeatState) → AreInRisingId scene.tables.items roster
     → AreOpened sessions roster scene.updates.items n.tables → n.workers.items ≡ map (worker_at (accepting name (peer ∷ []) roster true)) seats → seats ≡ fresh_from 2 sessions
@@ -73,7 +73,7 @@ pub one_seat : (seats : List SeatState) (seat : SeatState) (s : Served) (taken :
 one_seat seats seat s taken so is =
     ap (λ (xs : List SeatState). xs ++ seat ∷ []) so
     ∙ ap (λ (x : SeatState). map (λ (y : Served). y.worker.seat) taken ++ x ∷ []) is
-    ∙ sym (rounds_append (λ (y : Served). y.worker.seat) taken (s ∷ []))
+    ∙ sym (map_append (λ (y : Served). y.worker.seat) taken (s ∷ []))
 
 pub shared_with : (n : Server) (turns : ℕ) (ss : List Served) (ending : Ending) (text : List ℕ) → AllServed turns n.workers.items ss → IsTotal n.tables ss ending text
     → IsShared n turns ending text

@@ -5,7 +5,8 @@ use Rattle.table_cell.specs.Machine.{new_table}
 use Rattle.table_cell.specs.Histories.{CellState}
 use Rattle.table_shards.specs.Receipts.{SeatState}
 use Rattle.table_shards.specs.declared.unlocked.UnlockedTable.{UnlockedTable}
-use Rattle.table_shards.specs.Audits.{AuditState, Audits, rounds_of}
+use Rattle.table_shards.specs.Audits.{AuditState, Audits, round_of_unlocked}
+use Rattle.table_shards.specs.Rounds.{round_of_shards}
 use Rattle.node_commands.specs.declared.node.loading.NodeTables.{NodeTables}
 
 -- The table has the definition. Its history begins with the new table, which keeps at most a million rows, makes room by purging
@@ -23,4 +24,4 @@ AreTablesOf ds ts = ⊥
 -- and of the sessions' seats, one for one, and its rows are the replay of these events on the new table of its definition.
 abbrev pub IsAuditOf : NodeTables → List SeatState → AuditState → Type 0
 IsAuditOf t seats a =
-    Audits a.unlocked a.seats None × (a.seats ≡ t.loader ∷ seats) × (rounds_of a.unlocked ≡ t.shards) × AreTablesOf t.roster a.unlocked.tables
+    Audits a.unlocked a.seats None × (a.seats ≡ t.loader ∷ seats) × (round_of_unlocked a.unlocked ≡ round_of_shards t.shards) × AreTablesOf t.roster a.unlocked.tables

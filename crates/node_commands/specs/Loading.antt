@@ -1,7 +1,8 @@
 -- How the tables of a node are loaded before its sessions begin (profile).
-use Rattle.std.specs.Prelude.{◌≡◌, ◌^◌, ◌+◌, ℕ, zero, suc, ◌==◌, List, [], ◌∷◌, ◌++◌, flat_map, if◌then◌else◌, map}
+use Rattle.std.specs.Prelude.{◌≡◌, ◌^◌, ◌+◌, ℕ, zero, suc, ◌==◌, false, List, [], ◌∷◌, ◌++◌, flat_map, if◌then◌else◌, map}
 use Rattle.table_types.specs.Tables.{Definition}
 use Rattle.table_types.specs.declared.update.Update.{Update}
+use Rattle.table_cell.specs.Histories.{CellState, new_cell}
 use Rattle.table_cell.specs.declared.events.CellEvent.{CellEvent}
 use Rattle.table_cell.specs.declared.events.CellEvent.TheVariants as events
 use Rattle.table_cell.specs.declared.events.CellReply.{CellReply}
@@ -36,14 +37,15 @@ load_of sessions us d = opens_of d.id 1 sessions ++ flat_map (learn_of d.id) us
 abbrev pub loads_of : ℕ → List Definition → List Update → List (ℕ × CellEvent)
 loads_of sessions ds us = flat_map (load_of sessions us) ds
 
--- a table that had no event when the round began: its id, and how many events it had then
-abbrev pub untouched : Definition → ℕ × ℕ
-untouched d = (d.id, 0)
+-- A new table of the definition. It keeps at most a million rows, makes room by purging the row that expires first, and numbers its
+-- updates from 1.
+abbrev pub new_of : Definition → CellState
+new_of d = new_cell d 1000000 false 1
 
--- The tables of the definitions under their locks, made with a seat for each session and one more, which had no event yet. The
+-- The new tables of the definitions were put under locks, and a seat made for each session and one more. The
 -- first seat opened the sessions in each and made it learn its updates, and has made no other event.
 abbrev pub AreOpened : ℕ → List Definition → List Update → NodeTables → Type 0
 AreOpened sessions ds us t =
     (t.roster ≡ ds)
-    × (t.shards ≡ record { seats = sessions + 1; tables = map untouched ds })
+    × (t.shards ≡ record { seats = sessions + 1; cells = map new_of ds })
     × Gains (loads_of sessions ds us) (fresh_seat 1) t.loader

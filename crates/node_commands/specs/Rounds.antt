@@ -13,8 +13,9 @@ use Rattle.table_rows.specs.Rows.{row_at}
 use Rattle.table_cell.specs.Machine.{new_table}
 use Rattle.table_cell.specs.Histories.{CellState}
 use Rattle.table_shards.specs.declared.unlocked.UnlockedTable.{UnlockedTable}
-use Rattle.table_shards.specs.Audits.{AuditState, Audits, rounds_of}
+use Rattle.table_shards.specs.Audits.{AuditState, Audits, round_of_unlocked}
 use Rattle.table_shards.specs.NextRounds.{has_batch_out, round_anew}
+use Rattle.table_shards.specs.Rounds.{round_of_shards}
 use Rattle.node_commands.specs.Tracks.{HasDoneItsPart}
 use Rattle.node_commands.specs.Printing.{AreRowsOf}
 
@@ -48,7 +49,7 @@ IsAudited threads tracks a = Audits a.unlocked a.seats None × AllByRecursion (H
 -- the new table of a round, and the round made all events of the table.
 abbrev pub IsFirst : ℕ → AuditState → Type 0
 IsFirst threads a =
-    (rounds_of a.unlocked ≡ record { seats = threads + 2; tables = (1, 0) ∷ [] }) × AllByRecursion (λ t. IsRoundTable t.cell) a.unlocked.tables
+    (round_of_unlocked a.unlocked ≡ record { seats = threads + 2; tables = (1, 0) ∷ [] }) × AllByRecursion (λ t. IsRoundTable t.cell) a.unlocked.tables
 
 -- The round comes after the one with the audit `last`, in which no batch was out. It has as many seats, and tables with the
 -- ids and numbers of events that a checkpoint leaves: it made all events of each table but those that the table had by then.
@@ -56,7 +57,7 @@ IsFirst threads a =
 abbrev pub GoesOn : ℕ → ℕ → AuditState → AuditState → Type 0
 GoesOn threads count last a =
     (has_batch_out last.unlocked.tables ≡ false)
-    × (rounds_of a.unlocked ≡ round_anew last.unlocked)
+    × (round_of_unlocked a.unlocked ≡ round_of_shards (round_anew last.unlocked))
     × AllByRecursion (λ t. IsCountingTable threads count t.cell) a.unlocked.tables
 
 -- the audits of rounds, one after another, with the latest first

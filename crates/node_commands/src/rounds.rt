@@ -11,8 +11,9 @@ ghost use Rattle.std.specs.Prelude.{◌≡◌, ◌≢◌, ◌≤◌, ◌⊎◌, 
 ghost use Rattle.std.specs.List.{AllByRecursion};
 ghost use Rattle.std.specs.Io.KnownBytes.{Appends};
 ghost use Rattle.text_commands.specs.Endings.{line_of};
-ghost use Rattle.table_shards.specs.Audits.{AuditState, Audits, rounds_of};
+ghost use Rattle.table_shards.specs.Audits.{AuditState, Audits, round_of_unlocked};
 ghost use Rattle.table_shards.specs.Receipts.{SeatState};
+ghost use Rattle.table_shards.specs.Rounds.{round_of_shards};
 ghost use Rattle.node_commands.specs.Tracks.{GainsWork, HasDoneItsPart};
 ghost use Rattle.node_commands.specs.Rounds.{AreRounds, GoesOn, IsAudited, IsCountingTable, IsCutShort, IsRoundTable, IsTextOf};
 
@@ -259,7 +260,7 @@ fn audited<R: Wait>(
 ) -> Result<Audit, Ending>
     ensures audited { IfOk result (λ audit. Audits audit.unlocked audit.seats None) }
     ensures seats { IfOk result (λ audit. (last : SeatState) × GainsWork own last × (audit.seats ≡ done.items ++ last ∷ [])) }
-    ensures same { IfOk result (λ audit. rounds_of audit.unlocked ≡ shards) }
+    ensures same { IfOk result (λ audit. round_of_unlocked audit.unlocked ≡ round_of_shards shards) }
 {
     work(rt, alloc, &AlwaysOpen, &shards, &mut own, known)?;
     done.push(own).map_err(Memory::from)?;

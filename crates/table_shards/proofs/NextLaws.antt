@@ -2,18 +2,15 @@
 use Rattle.std.proofs.Common.{◌≡◌, ℕ, ◌==◌, true, false, List, [], ◌∷◌, ◌++◌, fold, map, Option, Some, None, is_some, refl, sym, ap, ◌∙◌, subst, arith, inl, inr, eq-eqb, true≢false}
 use Rattle.std.specs.Prelude.{if◌then◌else◌}
 use Rattle.std.proofs.lemmas.Bool.{cases_Bool, cond-true, cond-false, false≢true}
-use Rattle.table_cell.specs.Histories.{begun_anew, events_of}
-use Rattle.table_shards.specs.declared.shards.Shard.{Shard}
+use Rattle.table_cell.specs.Histories.{CellState, begun_anew, events_of}
 use Rattle.table_shards.specs.declared.unlocked.UnlockedTable.{UnlockedTable}
 use Rattle.table_shards.specs.Anew.{page_seeing, pages_anew, pages_seeing, seat_anew}
 use Rattle.table_shards.specs.NextRounds.{AreSeatsAnew, IsSeatAnew, events_among}
-use Rattle.table_shards.specs.Locks.{shard_rounds}
 use Rattle.table_shards.specs.Pages.{ArePages, TablesDiffer}
 use Rattle.table_shards.specs.Receipts.{PageState, SeatState, page_at, receipts_on, seen_on, PlacesRise}
-use Rattle.table_shards.specs.Rounds.{begun}
 use Rattle.table_shards.proofs.AllLaws.{all_end}
 use Rattle.table_shards.proofs.PageLaws.{eqb_is, some_none}
-use Rattle.table_shards.proofs.RoundLaws.{rounds_append}
+use Rattle.table_shards.proofs.RoundLaws.{map_append}
 
 -- ---- the page of a table
 
@@ -111,6 +108,7 @@ is_anew ts s = record {
   number = refl;
   receipts = λ n. ap receipts_on (all_seen n [] ts) ∙ none_so n ts;
   seen = λ n. ap seen_on (all_seen n [] ts) ∙ seen_so n ts;
+  answers = (refl, refl);
 }
 
 pub are_anew : (ts : List UnlockedTable) (ss : List SeatState) → AreSeatsAnew ts ss (map (λ s. seat_anew ts s.number) ss)
@@ -166,10 +164,9 @@ fold_end f a (y ∷ xs) x = fold_end f (f a y) xs x
 pub one_page_more : (ts : List UnlockedTable) (t : UnlockedTable) → pages_anew (ts ++ t ∷ []) ≡ pages_seeing t.table (events_of t.cell) (pages_anew ts)
 one_page_more ts t = fold_end add [] ts t
 
-pub one_locked_anew : (shards : List Shard) (s : Shard) (t : UnlockedTable) (taken : List UnlockedTable) → shard_rounds shards ≡ map (λ (x : UnlockedTable). begun (begun_anew x.cell)) taken → (s.table, s.began) ≡ begun (begun_anew t.cell)
-    → shard_rounds (shards ++ s ∷ []) ≡ map (λ (x : UnlockedTable). begun (begun_anew x.cell)) (taken ++ t ∷ [])
+pub one_locked_anew : (shards : List CellState) (s : CellState) (t : UnlockedTable) (taken : List UnlockedTable) → shards ≡ map (λ (x : UnlockedTable). begun_anew x.cell) taken → s ≡ begun_anew t.cell
+    → shards ++ s ∷ [] ≡ map (λ (x : UnlockedTable). begun_anew x.cell) (taken ++ t ∷ [])
 one_locked_anew shards s t taken so same =
-    rounds_append (λ (x : Shard). (x.table, x.began)) shards (s ∷ [])
-    ∙ ap (λ (xs : List (ℕ × ℕ)). xs ++ (s.table, s.began) ∷ []) so
-    ∙ ap (λ (x : ℕ × ℕ). map (λ (y : UnlockedTable). begun (begun_anew y.cell)) taken ++ x ∷ []) same
-    ∙ sym (rounds_append (λ (x : UnlockedTable). begun (begun_anew x.cell)) taken (t ∷ []))
+    ap (λ (xs : List CellState). xs ++ s ∷ []) so
+    ∙ ap (λ (x : CellState). map (λ (y : UnlockedTable). begun_anew y.cell) taken ++ x ∷ []) same
+    ∙ sym (map_append (λ (x : UnlockedTable). begun_anew x.cell) taken (t ∷ []))

@@ -2,10 +2,8 @@
 use Rattle.std.proofs.Common.{◌≡◌, ℕ, zero, suc, ◌+◌, List, [], ◌∷◌, ◌++◌, map, refl, sym, ap, ◌∙◌, arith}
 use Rattle.table_cell.specs.Histories.{CellState}
 use Rattle.table_shards.specs.Receipts.{SeatState, fresh_seat}
-use Rattle.table_shards.specs.declared.shards.Shard.{Shard}
 use Rattle.table_shards.specs.declared.unlocked.UnlockedTable.{UnlockedTable}
 use Rattle.table_shards.specs.Rounds.{begun, fresh_from, fresh_seats}
-use Rattle.table_shards.specs.Locks.{shard_rounds}
 use Rattle.table_shards.specs.Audits.{table_rounds}
 
 fresh_more : (first count : ℕ) → fresh_from first (count + 1) ≡ fresh_from first count ++ fresh_seat (first + count) ∷ []
@@ -26,23 +24,14 @@ one_seat_more count =
 
 -- ---- tables moved one by one
 
-pub rounds_append : {A B : Type 0} (f : A → B) (xs ys : List A) → map f (xs ++ ys) ≡ map f xs ++ map f ys
-rounds_append f [] ys = refl
-rounds_append f (x ∷ xs) ys = ap (λ zs. f x ∷ zs) (rounds_append f xs ys)
+pub map_append : {A B : Type 0} (f : A → B) (xs ys : List A) → map f (xs ++ ys) ≡ map f xs ++ map f ys
+map_append f [] ys = refl
+map_append f (x ∷ xs) ys = ap (λ zs. f x ∷ zs) (map_append f xs ys)
 
-pub one_locked : (shards : List Shard) (s : Shard) (c : CellState) (taken : List CellState) → shard_rounds shards ≡ map begun taken → (s.table, s.began) ≡ begun c
-    → shard_rounds (shards ++ s ∷ []) ≡ map begun (taken ++ c ∷ [])
-one_locked shards s c taken so same =
-    rounds_append (λ (x : Shard). (x.table, x.began)) shards (s ∷ [])
-    ∙ ap (λ (xs : List (ℕ × ℕ)). xs ++ (s.table, s.began) ∷ []) so
-    ∙ ap (λ (x : ℕ × ℕ). map begun taken ++ x ∷ []) same
-    ∙ sym (rounds_append begun taken (c ∷ []))
-
-pub one_unlocked : (ts : List UnlockedTable) (t : UnlockedTable) (s : Shard) (taken : List Shard) → table_rounds ts ≡ shard_rounds taken → t.table ≡ s.table → t.began ≡ s.began
-    → table_rounds (ts ++ t ∷ []) ≡ shard_rounds (taken ++ s ∷ [])
-one_unlocked ts t s taken so table began =
-    rounds_append (λ (x : UnlockedTable). (x.table, x.began)) ts (t ∷ [])
+pub one_unlocked : (ts : List UnlockedTable) (t : UnlockedTable) (c : CellState) (taken : List CellState) → table_rounds ts ≡ map begun taken → (t.table, t.began) ≡ begun c
+    → table_rounds (ts ++ t ∷ []) ≡ map begun (taken ++ c ∷ [])
+one_unlocked ts t c taken so same =
+    map_append (λ (x : UnlockedTable). (x.table, x.began)) ts (t ∷ [])
     ∙ ap (λ (xs : List (ℕ × ℕ)). xs ++ (t.table, t.began) ∷ []) so
-    ∙ ap (λ (n : ℕ). shard_rounds taken ++ (n, t.began) ∷ []) table
-    ∙ ap (λ (n : ℕ). shard_rounds taken ++ (s.table, n) ∷ []) began
-    ∙ sym (rounds_append (λ (x : Shard). (x.table, x.began)) taken (s ∷ []))
+    ∙ ap (λ (x : ℕ × ℕ). map begun taken ++ x ∷ []) same
+    ∙ sym (map_append begun taken (c ∷ []))

@@ -7,7 +7,7 @@ use Rattle.table_shards.specs.declared.errors.AuditError.{AuditError}
 use Rattle.table_shards.specs.declared.errors.AuditError.TheVariants as errors
 use Rattle.table_shards.specs.Receipts.{SeatState}
 use Rattle.table_shards.specs.Roll.{AreSeats}
-use Rattle.table_shards.specs.Rounds.{ShardsState}
+use Rattle.table_shards.specs.Rounds.{RoundState}
 use Rattle.table_shards.specs.Agreement.{Agree, Compares, OneOf, id_of}
 
 -- tables taken out of their locks: how many seats were made with them, and for each table its id, how many events it
@@ -58,9 +58,9 @@ Faults seats ts (Some fault) =
 abbrev pub table_rounds : List UnlockedTable → List (ℕ × ℕ)
 table_rounds ts = map (λ t. (t.table, t.began)) ts
 
--- the tables and seats of the round
-abbrev pub rounds_of : UnlockedState → ShardsState
-rounds_of u = record { seats = u.seats; tables = table_rounds u.tables }
+-- the round of these tables
+abbrev pub round_of_unlocked : UnlockedState → RoundState
+round_of_unlocked u = record { seats = u.seats; tables = table_rounds u.tables }
 
 -- of two faults, the one with the lesser table id, or the former if the ids are equal
 abbrev pub lesser_fault : Option (ℕ × ℕ) → ℕ × ℕ → Option (ℕ × ℕ)

@@ -7,6 +7,5 @@ pub mod Holding
 pub mod Noting
 pub mod Audits
 pub mod Rounds
-pub mod Locks
 pub mod NextRounds
 pub mod Anew

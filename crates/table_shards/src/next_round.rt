@@ -5,10 +5,8 @@ ghost use Rattle.std.specs.Vec.{vec_capacity};
 ghost use Rattle.table_cell.specs.Histories.{begun_anew};
 ghost use Rattle.table_cell.specs.Machine.{is_any_out};
 ghost use Rattle.table_shards.specs.Anew.{pages_anew, pages_seeing, seat_anew};
-ghost use Rattle.table_shards.specs.Locks.{shard_rounds};
 ghost use Rattle.table_shards.specs.NextRounds.{AreSeatsAnew, HasNoRound, has_batch_out, round_anew};
 ghost use Rattle.table_shards.specs.Pages.{page_states};
-ghost use Rattle.table_shards.specs.Rounds.{begun};
 
 use crate::errors::RoundError;
 use crate::pages::{Page, page_of};
@@ -89,7 +87,7 @@ fn lock_anew(tables: Vec<UnlockedTable>, shards: Vec<Shard>) -> Vec<Shard>
     requires rest { has_batch_out tables.items ≡ false }
     requires none { shards.items ≡ [] }
     requires room { length tables.items ≤ vec_capacity shards }
-    ensures { shard_rounds result.items ≡ map (λ t. begun (begun_anew t.cell)) tables.items }
+    ensures { result.items ≡ map (λ t. begun_anew t.cell) tables.items }
 {
     let mut done = shards;
     for table in tables {

@@ -3,25 +3,40 @@
 ghost use Rattle.std.specs.Prelude.{◌≡◌, ◌≤◌, ◌==◌, [], IfErr, IfOk, is_some, length, map};
 ghost use Rattle.std.specs.Vec.{vec_capacity};
 ghost use Rattle.std.specs.List.{list_any};
-ghost use Rattle.table_shards.specs.Rounds.{begun, fresh_seats};
-ghost use Rattle.table_shards.specs.Locks.{shard_rounds};
-ghost use Rattle.table_shards.specs.Audits.{rounds_of, table_rounds};
+ghost use Rattle.table_shards.specs.Agreement.{id_of};
+ghost use Rattle.table_shards.specs.Audits.{round_of_unlocked, table_rounds};
+ghost use Rattle.table_shards.specs.Rounds.{begun, fresh_seats, round_of_shards};
 
 use crate::locked::Locked;
 use crate::seat::Seat;
 use crate::unlocked::{Unlocked, UnlockedTable};
 use std::alloc::Global;
 use std::marker::Model;
+use std::snapshot::Snapshot;
 use std::sync::Mutex;
 use table_cell::TableCell;
 use table_types::Memory;
 
-/// A table under its lock, with its id and how many events it had when the round began.
+/// A table under its lock, with its id and how many events it had when the round began. Contracts see the table as it was when it was
+/// put under the lock, since no contract of a lock says what it holds.
 #[derive(Drop)]
 pub(crate) struct Shard {
-    pub(crate) table: u64,
-    pub(crate) began: u64,
-    pub(crate) cell: Mutex<Locked>,
+    table: u64,
+    began: u64,
+    given: Snapshot<TableCell>,
+    cell: Mutex<Locked>,
+}
+
+impl Model for Shard {
+    ghost use Rattle.std.specs.Prelude.{◌≡◌};
+    ghost use Rattle.table_cell.specs.Histories.{CellState, events_of};
+    ghost use Rattle.table_shards.specs.Agreement.{id_of};
+
+    ghost Value = { CellState };
+
+    ghost view = { λ s. s.given.value };
+
+    ghost invariant = { λ s. (s.table ≡ id_of s.given.value) × (s.began ≡ events_of s.given.value) };
 }
 
 /// Tables, each under its own lock, which many threads change from their seats.
@@ -36,16 +51,15 @@ unsafe impl Sync for Shards {}
 
 impl Model for Shards {
     ghost use Rattle.table_shards.specs.Rounds.{ShardsState};
-    ghost use Rattle.table_shards.specs.Locks.{shard_rounds};
 
     ghost Value = { ShardsState };
 
-    ghost view = { λ a. record { seats = a.seats; tables = shard_rounds a.shards.items } };
+    ghost view = { λ a. record { seats = a.seats; cells = a.shards.items } };
 }
 
 /// Returns the lock of `table`.
 fn lock_of(shards: &[Shard], table: u64) -> Option<&Mutex<Locked>>
-    ensures { is_some result ≡ list_any (λ t. t.0 == table) (shard_rounds shards.now) }
+    ensures { is_some result ≡ list_any (λ c. id_of c == table) shards.now }
 {
     for shard in shards {
         if shard.table == table {
@@ -57,19 +71,19 @@ fn lock_of(shards: &[Shard], table: u64) -> Option<&Mutex<Locked>>
 
 /// Puts a table under a lock.
 pub(crate) fn put_under_lock(cell: TableCell) -> Shard
-    ensures { (result.table, result.began) ≡ begun cell }
+    ensures { result ≡ cell }
 {
     Shard {
         table: cell.definition().id(),
         began: cell.events(),
+        given: Snapshot::of(&cell),
         cell: Mutex::new(Locked { cell }),
     }
 }
 
 /// Puts each table under a lock.
-#[tactic(auto, using(crate::proofs::RoundLaws::one_locked))]
 fn lock_all(alloc: Global, cells: Vec<TableCell>) -> Result<Vec<Shard>, Memory>
-    ensures { IfOk result (λ shards. shard_rounds shards.items ≡ map begun cells.items) }
+    ensures { IfOk result (λ shards. shards.items ≡ cells.items) }
 {
     let mut shards = Vec::new(alloc);
     for cell in cells {
@@ -92,7 +106,7 @@ fn seat_all(alloc: Global, seats: u32) -> Result<Vec<Seat>, Memory>
 
 /// Takes a table out of its lock.
 fn take_from_lock(shard: Shard) -> UnlockedTable
-    ensures { (result.table ≡ shard.table) × (result.began ≡ shard.began) }
+    ensures { (result.table, result.began) ≡ begun shard }
 {
     UnlockedTable {
         table: shard.table,
@@ -106,7 +120,7 @@ fn take_from_lock(shard: Shard) -> UnlockedTable
 fn unlock_all(shards: Vec<Shard>, tables: Vec<UnlockedTable>) -> Vec<UnlockedTable>
     requires none { tables.items ≡ [] }
     requires room { length shards.items ≤ vec_capacity tables }
-    ensures { table_rounds result.items ≡ shard_rounds shards.items }
+    ensures { table_rounds result.items ≡ map begun shards.items }
 {
     let mut done = tables;
     for shard in shards {
@@ -123,7 +137,7 @@ impl Shards {
         cells: Vec<TableCell>,
         seats: u32,
     ) -> Result<(Shards, Vec<Seat>), Memory>
-        ensures shards { IfOk result (λ made. made.0 ≡ record { seats = seats; tables = map begun cells.items }) }
+        ensures shards { IfOk result (λ made. made.0 ≡ record { seats = seats; cells = cells.items }) }
         ensures seats { IfOk result (λ made. made.1.items ≡ fresh_seats seats) }
     {
         let shards = lock_all(alloc, cells)?;
@@ -133,21 +147,21 @@ impl Shards {
 
     /// Joins `shards` with the number of seats that are made with them.
     pub(crate) fn of(seats: u32, shards: Vec<Shard>) -> Shards
-        ensures { result ≡ record { seats = seats; tables = shard_rounds shards.items } }
+        ensures { result ≡ record { seats = seats; cells = shards.items } }
     {
         Shards { seats, shards }
     }
 
     /// Returns the lock of `table`, or `None` if there is no such table. Doesn't allocate or wait.
     pub fn cell(&self, table: u64) -> Option<&Mutex<Locked>>
-        ensures { is_some result ≡ list_any (λ t. t.0 == table) self.now.tables }
+        ensures { is_some result ≡ list_any (λ c. id_of c == table) self.now.cells }
     {
         lock_of(self.shards.as_slice(), table)
     }
 
     /// Takes the tables out of their locks. If memory runs out, returns them as they were.
     pub fn unlock(self, alloc: Global) -> Result<Unlocked, (Memory, Shards)>
-        ensures unlocked { IfOk result (λ unlocked. rounds_of unlocked ≡ self) }
+        ensures unlocked { IfOk result (λ unlocked. round_of_unlocked unlocked ≡ round_of_shards self) }
         ensures refused { IfErr result (λ back. back.1 ≡ self) }
     {
         let Ok(tables) = Vec::with_capacity(alloc, self.shards.len()) else {

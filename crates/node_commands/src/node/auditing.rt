@@ -1,7 +1,8 @@
 //! The audit of a node's tables, once its sessions are over.
 
 ghost use Rattle.std.specs.Prelude.{◌≡◌, ◌⊎◌, ◌∷◌, None, IfErr, IfOk, IsTrue};
-ghost use Rattle.table_shards.specs.Audits.{Audits, rounds_of};
+ghost use Rattle.table_shards.specs.Audits.{Audits, round_of_unlocked};
+ghost use Rattle.table_shards.specs.Rounds.{round_of_shards};
 ghost use Rattle.text_commands.specs.declared.endings.Ending.TheVariants as endings;
 ghost use Rattle.node_commands.specs.Auditing.{AreTablesOf, IsAuditOf, IsTableOf};
 
@@ -13,18 +14,16 @@ use table_types::{Memory, TableDef};
 use text_commands::Ending;
 
 /// Joins a seat and the seats after it.
-fn joined(alloc: Global, first: Seat, mut others: Vec<Seat>) -> Result<Vec<Seat>, Memory>
+fn joined(first: Seat, mut others: Vec<Seat>) -> Result<Vec<Seat>, Memory>
     ensures { IfOk result (λ seats. seats.items ≡ first ∷ others.items) }
 {
-    let mut seats = Vec::with_capacity(alloc, 1)?;
-    seats.push(first)?;
-    seats.append(&mut others)?;
-    Ok(seats)
+    others.insert(0, first).map_err(Memory::from)?;
+    Ok(others)
 }
 
 /// Takes the tables out of their locks and audits them with these seats.
 fn audit_of(alloc: Global, shards: Shards, seats: Vec<Seat>) -> Result<Audit, Ending>
-    ensures audit { IfOk result (λ a. Audits a.unlocked a.seats None × (a.seats ≡ seats.items) × (rounds_of a.unlocked ≡ shards)) }
+    ensures audit { IfOk result (λ a. Audits a.unlocked a.seats None × (a.seats ≡ seats.items) × (round_of_unlocked a.unlocked ≡ round_of_shards shards)) }
     ensures early { IfErr result (λ ending. (ending ≡ endings.Memory) ⊎ (ending ≡ endings.Device)) }
 {
     let Ok(unlocked) = shards.unlock(alloc) else {
@@ -72,7 +71,7 @@ pub(crate) fn audited(alloc: Global, tables: NodeTables, seats: Vec<Seat>) -> Re
         shards,
         loader,
     } = tables;
-    let all = joined(alloc, loader, seats)?;
+    let all = joined(loader, seats)?;
     let audit = audit_of(alloc, shards, all)?;
     if are_tables_of(roster.tables(), audit.tables()) {
         Ok(audit)

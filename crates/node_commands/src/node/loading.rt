@@ -3,9 +3,9 @@
 ghost use Rattle.std.specs.Prelude.{◌≡◌, ◌+◌, ◌∷◌, [], IfErr, IfOk, OnOk, flat_map, map};
 ghost use Rattle.table_cell.specs.declared.events.CellEvent.TheVariants as events;
 ghost use Rattle.table_shards.specs.Receipts.{fresh_seat};
-ghost use Rattle.table_shards.specs.Rounds.{begun, fresh_from};
+ghost use Rattle.table_shards.specs.Rounds.{fresh_from};
 ghost use Rattle.text_commands.specs.Endings.{IsEarly};
-ghost use Rattle.node_commands.specs.Loading.{AreOpened, Gains, learn_of, load_of, loaded_at, loads_of, opens_of, untouched};
+ghost use Rattle.node_commands.specs.Loading.{AreOpened, Gains, learn_of, load_of, loaded_at, loads_of, new_of, opens_of};
 
 use crate::locks::{lock, refused};
 use std::alloc::Global;
@@ -32,7 +32,7 @@ pub struct NodeTables {
 
 /// Makes a new table.
 fn new_table(alloc: Global, definition: TableDef) -> Result<TableCell, Memory>
-    ensures { IfOk result (λ cell. begun cell ≡ untouched definition) }
+    ensures { IfOk result (λ cell. cell ≡ new_of definition) }
 {
     let most = TableCell::MOST_ROWS;
     TableCell::new(alloc, definition, most, false, FIRST)
@@ -40,7 +40,7 @@ fn new_table(alloc: Global, definition: TableDef) -> Result<TableCell, Memory>
 
 /// Makes a new table of each definition, in order.
 fn new_tables(alloc: Global, definitions: &[TableDef]) -> Result<Vec<TableCell>, Memory>
-    ensures { IfOk result (λ cells. map begun cells.items ≡ map untouched definitions.now) }
+    ensures { IfOk result (λ cells. cells.items ≡ map new_of definitions.now) }
 {
     let mut cells = Vec::with_capacity(alloc, definitions.len())?;
     for definition in definitions {
@@ -58,7 +58,7 @@ fn locked(
     cells: Vec<TableCell>,
     sessions: u32,
 ) -> Result<(Shards, Seat, Vec<Seat>), Ending>
-    ensures shards { IfOk result (λ made. made.0 ≡ record { seats = sessions + 1; tables = map begun cells.items }) }
+    ensures shards { IfOk result (λ made. made.0 ≡ record { seats = sessions + 1; cells = cells.items }) }
     ensures first { IfOk result (λ made. made.1 ≡ fresh_seat 1) }
     ensures others { IfOk result (λ made. made.2.items ≡ fresh_from 2 sessions) }
     ensures early { IfErr result IsEarly }
