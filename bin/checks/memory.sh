@@ -273,7 +273,7 @@ refused_calls() {
     meets tests_tables copies_from_a_seat_again '' held::copy
     meets tests_tables unlocks_again '' unlock
     meets tests_tables begins_another_round_again '' next_round
-    meets tests_tables answers_without_memory --all 'settle, track, slide, checkpoint and take all the same'
+    meets tests_tables answers_without_memory --all 'settle, track, slide, checkpoint, held::begin_anew and take all the same'
     meets tests_tables tracks_wide_rows_again ''
     meets tests_tables learns_a_wide_row_again ''
     meets tests_tables copies_wide_rows_again ''

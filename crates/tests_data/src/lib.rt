@@ -27,6 +27,8 @@ mod messages;
 #[cfg(test)]
 mod plans;
 #[cfg(test)]
+mod prices;
+#[cfg(test)]
 mod rates;
 #[cfg(test)]
 mod rows;

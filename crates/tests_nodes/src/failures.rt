@@ -1,23 +1,14 @@
 //! Turns over a device that fails, and streams that break the rules.
 
-use crate::turns::{EMPTY, IS_ASKED, LESSON, OPENING, OVER, SENDS_HELLO};
-use peers_engine::{EngineError, Turned};
+use crate::turns::{ASKS, EMPTY, FILLED, IS_ASKED, LESSON, OPENING, OVER, SENDS_HELLO, TAKEN};
+use peers_engine::Turned;
 use session_core::State;
 use tests_play_nodes::failures::{
-    Attack, Failure, Hostile, Lesson, first_answered_otherwise, first_cut_otherwise, first_failing,
+    Attack, Hostile, Leg, Lesson, Passage, first_answered_otherwise, first_cut_otherwise,
+    first_failing,
 };
 use tests_play_nodes::tables::Role;
 use tests_play_nodes::turns::{Exchange, Story};
-
-/// `a` has connected, and sent its hello.
-const HAS_CONNECTED: Story = Story {
-    tables: EMPTY,
-    role: Role::Connects,
-    opening: &[SENDS_HELLO],
-    turns: &[],
-    state: State::Hello,
-    rows: &[],
-};
 
 /// `a` has connected, and asked for all rows.
 const HAS_ASKED: Story = Story {
@@ -29,43 +20,127 @@ const HAS_ASKED: Story = Story {
     rows: &[],
 };
 
-/// A turn whose read fails.
-const FAILED_READ: Exchange = Exchange {
-    comes: LESSON,
-    sends: b"",
-    ends: Err(EngineError::Read),
-};
-
-static FAILURES: [Failure; 3] = [
-    // The first read fails, and the second.
-    Failure {
-        story: HAS_CONNECTED,
-        before: &[],
-        turn: FAILED_READ,
-        after: OVER,
+/// The turn of `a` that opens its session doesn't read. Then it learns two rows, and confirms that it has all.
+const LEARNS: &[Leg] = &[
+    Leg {
+        reads: false,
+        turn: SENDS_HELLO,
     },
-    Failure {
-        story: HAS_ASKED,
-        before: &[],
-        turn: FAILED_READ,
-        after: OVER,
+    Leg {
+        reads: true,
+        turn: Exchange {
+            comes: b"200\n",
+            sends: b"\x00\x00",
+            ends: Ok(Turned::Going),
+        },
     },
-    // A read that fails and isn't counted doesn't end the session. The third fails.
-    Failure {
-        story: HAS_ASKED,
-        before: &[Exchange {
+    Leg {
+        reads: true,
+        turn: Exchange {
+            comes: LESSON,
+            sends: TAKEN,
+            ends: Ok(Turned::Going),
+        },
+    },
+    // This read finds nothing.
+    Leg {
+        reads: true,
+        turn: Exchange {
             comes: b"",
             sends: b"",
             ends: Ok(Turned::Going),
-        }],
-        turn: FAILED_READ,
-        after: OVER,
+        },
+    },
+    Leg {
+        reads: true,
+        turn: Exchange {
+            comes: b"\x00\x01",
+            sends: b"\x00\x03",
+            ends: Ok(Turned::Going),
+        },
+    },
+    // A heartbeat.
+    Leg {
+        reads: true,
+        turn: Exchange {
+            comes: b"\x00\x04",
+            sends: b"",
+            ends: Ok(Turned::Going),
+        },
+    },
+];
+
+/// `b` is asked for its rows. It doesn't read in the turn that teaches them, nor in the one that finds no more.
+const TEACHES: &[Leg] = &[
+    Leg {
+        reads: true,
+        turn: ASKS,
+    },
+    Leg {
+        reads: false,
+        turn: Exchange {
+            comes: b"",
+            sends: LESSON,
+            ends: Ok(Turned::Going),
+        },
+    },
+    Leg {
+        reads: true,
+        turn: Exchange {
+            comes: TAKEN,
+            sends: b"",
+            ends: Ok(Turned::Going),
+        },
+    },
+    Leg {
+        reads: false,
+        turn: Exchange {
+            comes: b"",
+            sends: b"\x00\x01",
+            ends: Ok(Turned::Going),
+        },
+    },
+    Leg {
+        reads: true,
+        turn: Exchange {
+            comes: b"\x00\x03",
+            sends: b"",
+            ends: Ok(Turned::Going),
+        },
+    },
+    // This read finds nothing.
+    Leg {
+        reads: true,
+        turn: Exchange {
+            comes: b"",
+            sends: b"",
+            ends: Ok(Turned::Going),
+        },
+    },
+];
+
+static PASSAGES: [Passage; 2] = [
+    Passage {
+        tables: EMPTY,
+        role: Role::Connects,
+        legs: LEARNS,
+        state: State::Ready,
+        rows: &[(7, 5), (8, 240)],
+        over: OVER,
+    },
+    Passage {
+        tables: FILLED,
+        role: Role::Accepts,
+        legs: TEACHES,
+        state: State::Ready,
+        rows: &[(7, 5), (8, 240)],
+        over: OVER,
     },
 ];
 
 #[test]
 fn readers_that_fail(rt: HostRuntime) {
-    assert_eq!(rt; first_failing(&rt, rt.alloc(), &FAILURES), None);
+    assert_eq!(rt; first_failing(&rt, rt.alloc(), &PASSAGES), None);
 }
 
 static CUT_OFF: Lesson = Lesson {

@@ -17,6 +17,8 @@ mod machine;
 #[cfg(test)]
 mod rounds;
 #[cfg(test)]
+mod standing;
+#[cfg(test)]
 mod turns;
 #[cfg(test)]
 mod workers;

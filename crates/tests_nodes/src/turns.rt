@@ -18,7 +18,7 @@ pub const LESSON: &[u8] =
     b"\x0A\x82\x0A\x01\x02t1\x02\x04\x04\xF0\xC4\x0D\x0A\x85\x0D\x00\x00\x00\x01\x00\x00\x75\x30\x00\x00\x00\x07\x05\x0A\x86\x0A\x00\x00\x75\x30\x00\x00\x00\x08\xF0\x00";
 
 /// An acknowledgement of its second update.
-const TAKEN: &[u8] = b"\x0A\x84\x05\x01\x00\x00\x00\x02";
+pub const TAKEN: &[u8] = b"\x0A\x84\x05\x01\x00\x00\x00\x02";
 
 /// The rows that it teaches.
 const ROWS: &[UpdateParts] = &[
@@ -160,11 +160,14 @@ const LEARNING: &[Exchange] = &[Exchange {
 }];
 
 /// `b` accepts the hello, and is asked for its rows.
-pub const ASKING: &[Exchange] = &[Exchange {
+pub const ASKS: Exchange = Exchange {
     comes: HELLO_AND_REQUEST,
     sends: b"200\n",
     ends: Ok(Turned::Going),
-}];
+};
+
+/// The same turn, alone.
+pub const ASKING: &[Exchange] = &[ASKS];
 
 /// A turn of a session that is over.
 pub const OVER: Exchange = Exchange {

@@ -5,6 +5,7 @@
 
 pub mod batches;
 pub mod changes;
+mod cyclic_names;
 pub mod decoders;
 pub mod definitions;
 pub mod exchanges;
@@ -18,6 +19,7 @@ pub mod messages;
 pub mod outcomes;
 pub mod parts;
 pub mod plans;
+pub mod prices;
 pub mod rates;
 pub mod rosters;
 pub mod rows;

@@ -1,7 +1,9 @@
 //! Turns of one side over a device that fails, and over streams that break the rules.
 
+use crate::lasting::Lasting;
 use crate::sides::Side;
-use crate::turns::{Exchange, Story, are_so, goes_so, is_lived, is_so};
+use crate::tables::{Role, Tables};
+use crate::turns::{Exchange, Story, are_so, goes_so, has_rows, is_lived, is_so};
 use crate::waiting::Waiting;
 use peers_devices::Counting;
 use peers_engine::{AlwaysOpen, EngineError, Fused, Turned};
@@ -9,15 +11,21 @@ use session_core::State;
 use std::alloc::Global;
 use std::sync::Wait;
 
-/// A reader that fails in a turn of a side, and so ends the session. The failure is counted.
-pub struct Failure {
-    pub story: Story,
-    /// The turns after the story and before the one over the reader that fails.
-    pub before: &'static [Exchange],
-    /// The turn over that reader.
+/// A turn of a session, and whether it reads.
+pub struct Leg {
+    pub reads: bool,
     pub turn: Exchange,
-    /// The turn after it.
-    pub after: Exchange,
+}
+
+/// A side, the turns of its session over one reader that lasts, and the session's state and the rows of `t1` after them; and a turn of the
+/// session once it is over.
+pub struct Passage {
+    pub tables: Tables,
+    pub role: Role,
+    pub legs: &'static [Leg],
+    pub state: State,
+    pub rows: &'static [(u32, u64)],
+    pub over: Exchange,
 }
 
 /// Returns whether the turn goes as it says over a writer that takes `room` bytes and then fails.
@@ -35,48 +43,109 @@ fn writes_so<H: Wait>(
     turned == turn.ends && written.as_slice() == turn.sends
 }
 
-/// Returns whether the turn goes as it says over a reader that fails at once.
-fn reads_so<H: Wait>(rt: &H, alloc: Global, side: &mut Side, turn: &Exchange) -> bool {
-    let mut input = Counting::new(Fused::new(turn.comes, 0));
-    goes_so(rt, alloc, side, &mut input, turn)
-}
-
-/// Returns whether the story and the turns after it go as they say.
-fn is_begun<H: Wait>(rt: &H, alloc: Global, side: &mut Side, failure: &Failure) -> Option<bool> {
-    let was_lived = is_lived(rt, alloc, side, &failure.story)?;
-    Some(was_lived && are_so(rt, alloc, side, failure.before))
-}
-
 /// Returns whether the session has ended, and the turn after that says so.
 fn is_over<H: Wait>(rt: &H, alloc: Global, side: &mut Side, after: &Exchange) -> bool {
     side.worker.session.state() == State::Ended && is_so(rt, alloc, side, after)
 }
 
-fn ends_session<H: Wait>(
+/// Returns whether the turn goes as it says over the reader, which has then been called `calls` times.
+fn reads_so<H: Wait>(
     rt: &H,
     alloc: Global,
     side: &mut Side,
-    failure: &Failure,
+    input: &mut Lasting,
+    turn: &Exchange,
+    calls: usize,
+) -> bool {
+    input.comes(turn.comes);
+    goes_so(rt, alloc, side, input, turn) && input.calls == calls
+}
+
+/// Returns whether the session ends in this turn, whose read is call number `calls` and fails, and whether `over`, the turn after it,
+/// doesn't read.
+fn breaks<H: Wait>(
+    rt: &H,
+    alloc: Global,
+    side: &mut Side,
+    input: &mut Lasting,
+    turn: &Exchange,
+    over: &Exchange,
+    calls: usize,
+) -> bool {
+    let failed = Exchange {
+        comes: turn.comes,
+        sends: b"",
+        ends: Err(EngineError::Read),
+    };
+    reads_so(rt, alloc, side, input, &failed, calls)
+        && side.worker.session.state() == State::Ended
+        && reads_so(rt, alloc, side, input, over, calls)
+}
+
+/// Returns whether the session goes as it says over a reader that fails after `reads` calls: up to the turn in which the reader fails, which
+/// ends it, or up to the last turn if the reader doesn't fail before.
+fn goes_on<H: Wait>(
+    rt: &H,
+    alloc: Global,
+    side: &mut Side,
+    passage: &Passage,
+    reads: usize,
 ) -> Option<bool> {
-    let was_begun = is_begun(rt, alloc, side, failure)?;
-    Some(
-        was_begun
-            && reads_so(rt, alloc, side, &failure.turn)
-            && is_over(rt, alloc, side, &failure.after),
-    )
+    let mut input = Lasting::new(reads);
+    let mut calls: usize = 0;
+    for leg in passage.legs {
+        if leg.reads {
+            calls = calls.saturating_add(1);
+            if calls > reads {
+                let over = &passage.over;
+                return Some(breaks(rt, alloc, side, &mut input, &leg.turn, over, calls));
+            }
+        }
+        if !reads_so(rt, alloc, side, &mut input, &leg.turn, calls) {
+            return Some(false);
+        }
+    }
+    let has_rows = has_rows(rt, &side.shards, passage.rows)?;
+    Some(has_rows && side.worker.session.state() == passage.state)
 }
 
-/// Plays the failure with a new side.
-fn comes_true<H: Wait>(rt: &H, alloc: Global, failure: &Failure) -> Option<bool> {
-    let mut side = failure.story.tables.side(alloc, failure.story.role)?;
-    ends_session(rt, alloc, &mut side, failure)
+/// Plays the session with a new side.
+fn comes_true<H: Wait>(rt: &H, alloc: Global, passage: &Passage, reads: usize) -> Option<bool> {
+    let mut side = passage.tables.side(alloc, passage.role)?;
+    goes_on(rt, alloc, &mut side, passage, reads)
 }
 
-/// Plays the failures. Returns the index of the first that fails.
-pub fn first_failing<H: Wait>(rt: &H, alloc: Global, failures: &[Failure]) -> Option<usize> {
-    for (place, failure) in failures.iter().enumerate() {
-        if comes_true(rt, alloc, failure) != Some(true) {
-            return Some(place);
+/// Returns how many turns read.
+fn count_reads(legs: &[Leg]) -> usize {
+    let mut count: usize = 0;
+    for leg in legs {
+        if leg.reads {
+            count = count.saturating_add(1);
+        }
+    }
+    count
+}
+
+/// Plays the session over readers that fail at one of its reads, at each in turn, and over one that lasts. Returns the number of calls after
+/// which the reader fails with which the session goes otherwise.
+fn first_broken_otherwise<H: Wait>(rt: &H, alloc: Global, passage: &Passage) -> Option<usize> {
+    for reads in 0..=count_reads(passage.legs) {
+        if comes_true(rt, alloc, passage, reads) != Some(true) {
+            return Some(reads);
+        }
+    }
+    None
+}
+
+/// Plays the sessions. Returns the index of the first that goes otherwise, and the number of calls after which its reader fails.
+pub fn first_failing<H: Wait>(
+    rt: &H,
+    alloc: Global,
+    passages: &[Passage],
+) -> Option<(usize, usize)> {
+    for (place, passage) in passages.iter().enumerate() {
+        if let Some(reads) = first_broken_otherwise(rt, alloc, passage) {
+            return Some((place, reads));
         }
     }
     None

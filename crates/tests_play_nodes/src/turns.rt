@@ -83,7 +83,7 @@ fn are_rows(rows: &[(Key, Row)], expected: &[(u32, u64)]) -> bool {
 }
 
 /// Returns whether `t1` has such rows. It has none if there is no lock for it.
-fn has_rows<H: Wait>(rt: &H, shards: &Shards, expected: &[(u32, u64)]) -> Option<bool> {
+pub(crate) fn has_rows<H: Wait>(rt: &H, shards: &Shards, expected: &[(u32, u64)]) -> Option<bool> {
     if shards.cell(1).is_none() {
         return Some(expected.is_empty());
     }

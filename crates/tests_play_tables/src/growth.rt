@@ -3,6 +3,7 @@
 
 use crate::cells::{cell, count, has, only, received};
 use crate::ends::{moment, row};
+use crate::next_rounds::begun_anew;
 use crate::round::Round;
 use std::alloc::Global;
 use std::sync::Wait;
@@ -356,13 +357,14 @@ pub fn outcome<R: Wait>(rt: &R, alloc: Global, call: Shared) -> Outcome {
     }
 }
 
-/// What calls that don't allocate need: `t1` with a batch out, and `t1` whose batch was acknowledged; a string key; and the row of key
-/// 7 in both types that hold rows.
+/// What calls that don't allocate need: `t1` with a batch out, and `t1` whose batch was acknowledged; `t1` under its lock, and its seat; a
+/// string key; and the row of key 7 in both types that hold rows.
 #[derive(Drop)]
 struct Ready {
     cell: TableCell,
     batch: Batch,
     quiet: TableCell,
+    round: Round,
     text: Key,
     map: MapRows,
     list: ListRows,
@@ -399,11 +401,13 @@ const BEFORE_CHECKPOINT: &[Call] = &[
 
 fn make_ready(alloc: Global) -> Option<Ready> {
     let ((cell, batch), (map, list)) = handed_out(alloc).zip(filled(alloc))?;
-    let (quiet, text) = prepared(alloc, false, BEFORE_CHECKPOINT).zip(text_key(alloc, b"a"))?;
+    let (quiet, round) = prepared(alloc, false, BEFORE_CHECKPOINT).zip(begun(alloc))?;
+    let text = text_key(alloc, b"a")?;
     Some(Ready {
         cell,
         batch,
         quiet,
+        round,
         text,
         map,
         list,
@@ -425,24 +429,34 @@ fn begins_anew(cell: &mut TableCell) -> bool {
     cell.checkpoint() == Ok(()) && cell.events() == 4 && cell.dropped() == 4
 }
 
-/// Returns whether `settle`, a track with a key of another kind, `slide`, `checkpoint` and `Rows::take` return what they should.
-fn answers(ready: Ready) -> bool {
+/// Returns whether `held::begin_anew` drops the two events of `t1`, and none once they are dropped, and the seat comes back each time,
+/// without a receipt.
+fn begins_anew_from_a_seat<R: Wait>(rt: &R, round: &mut Round) -> bool {
+    let begun = begun_anew(rt, round) == Some(Ok(2)) && begun_anew(rt, round) == Some(Ok(0));
+    begun && events(rt, &round.shards) == Some((2, 2)) && round.receipts(1) == Some(0)
+}
+
+/// Returns whether `settle`, a track with a key of another kind, `slide`, `checkpoint`, `held::begin_anew` and `Rows::take` return what
+/// they should.
+fn answers<R: Wait>(rt: &R, ready: Ready) -> bool {
     let Ready {
         mut cell,
         batch,
         mut quiet,
+        mut round,
         text,
         mut map,
         mut list,
     } = ready;
     let answered = slides(&mut cell, &batch, text) && begins_anew(&mut quiet);
-    answered && map.take(&Key::Int(7)).is_some() && list.take(&Key::Int(7)).is_some()
+    let begun = begins_anew_from_a_seat(rt, &mut round);
+    answered && begun && map.take(&Key::Int(7)).is_some() && list.take(&Key::Int(7)).is_some()
 }
 
-fn needs_none(alloc: Global) -> Option<Outcome> {
+fn needs_none<R: Wait>(rt: &R, alloc: Global) -> Option<Outcome> {
     let ready = make_ready(alloc)?;
     let is_out = is_out(alloc);
-    let right = answers(ready);
+    let right = answers(rt, ready);
     Some(if is_out {
         Outcome::refused(right)
     } else {
@@ -452,14 +466,14 @@ fn needs_none(alloc: Global) -> Option<Outcome> {
 
 /// Returns how calls went that don't allocate; `Refused` if there was no memory meanwhile, and they returned what they should. They
 /// count as made if there is no memory to prepare them.
-pub fn outcome_without_memory(alloc: Global) -> Outcome {
-    match needs_none(alloc) {
+pub fn outcome_without_memory<R: Wait>(rt: &R, alloc: Global) -> Outcome {
+    match needs_none(rt, alloc) {
         Some(outcome) => outcome,
         None => {
             if is_out(alloc) {
                 Outcome::Made
             } else {
-                needs_none(alloc).unwrap_or(Outcome::Unready)
+                needs_none(rt, alloc).unwrap_or(Outcome::Unready)
             }
         }
     }

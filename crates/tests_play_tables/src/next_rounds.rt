@@ -106,7 +106,7 @@ pub fn is_missed<R: Wait>(rt: &R, alloc: Global) -> Option<bool> {
 
 /// Lets the history of `t1` begin anew from the seat, which comes back. Returns how many events it dropped, or why it is
 /// refused.
-fn begun_anew<R: Wait>(
+pub(crate) fn begun_anew<R: Wait>(
     rt: &R,
     round: &mut Round,
 ) -> Option<Result<u64, ShardError<CheckpointError>>> {

@@ -200,9 +200,9 @@ fn opens_a_fifth_session_again(rt: HostRuntime) {
 #[test]
 fn answers_without_memory(rt: HostRuntime) {
     assert!(rt;
-        outcome_without_memory(rt.alloc()).is_right(
+        outcome_without_memory(&rt, rt.alloc()).is_right(
             &rt,
-            "settle, track, slide, checkpoint and take all the same"
+            "settle, track, slide, checkpoint, held::begin_anew and take all the same"
         )
     );
 }

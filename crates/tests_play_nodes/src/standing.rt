@@ -1,0 +1,49 @@
+//! Ticks of a session that stays. Its peer accepts it as soon as it opens, and then says nothing.
+
+use crate::sessions::connecting;
+use session_core::{Action, Event, Standing};
+use std::alloc::Global;
+use table_types::{Items, Moment};
+use tests_play_data::parts::{T1, alone};
+
+/// What a tick asks for.
+pub enum Beat {
+    Nothing,
+    Heartbeat,
+    Close,
+}
+
+/// Opens the session of `a` at the least moment.
+fn opened(alloc: Global) -> Option<Standing> {
+    let session = connecting(alloc, alone(alloc, &T1)?, true)?;
+    let accepted = Items::new(Vec::from_slice(alloc, b"200\n").ok()?);
+    let mut standing = Standing::new(alloc, session, Moment::least()).ok()?;
+    standing.on(Event::Opened, Moment::least()).ok()?;
+    standing.on(Event::Bytes(accepted), Moment::least()).ok()?;
+    Some(standing)
+}
+
+fn is_asked(actions: &[Action], expected: &Beat) -> bool {
+    match (actions, expected) {
+        ([], Beat::Nothing) => true,
+        ([Action::Send(bytes)], Beat::Heartbeat) => bytes.as_slice() == [0, 4].as_slice(),
+        ([Action::Close], Beat::Close) => true,
+        _ => false,
+    }
+}
+
+/// Ticks at these times after the session opened, in milliseconds. Returns the index of the first tick that asks for anything else.
+pub fn first_other_tick(alloc: Global, ticks: &[(u32, Beat)]) -> Option<usize> {
+    let Some(mut standing) = opened(alloc) else {
+        return Some(0);
+    };
+    for (place, (after, beat)) in ticks.iter().enumerate() {
+        let Ok(ticked) = standing.tick(Moment::least().later_by(*after)) else {
+            return Some(place);
+        };
+        if !ticked.left.is_empty() || !is_asked(ticked.actions.as_slice(), beat) {
+            return Some(place);
+        }
+    }
+    None
+}
