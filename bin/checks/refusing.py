@@ -202,11 +202,23 @@ def connects(port, is_over):
         return
 
 
+def bind_apart(listener, first):
+    """Binds the listener to a port for the run `first`. No two runs share one, and the kernel gives none of them to a client: so nobody but
+    the run's far side connects there, and the far side to nobody else."""
+    for port in range(20_000 + first, 32_000, 2_000):
+        try:
+            listener.bind(("127.0.0.1", port))
+            return port
+        except OSError:
+            continue
+    raise SystemExit(f"no port is free for run {first}")
+
+
 def meets(kind, program, given, first, others):
     """Runs a node that meets the far side."""
     with socket.socket() as listener:
-        listener.bind(("127.0.0.1", 0))
-        port = listener.getsockname()[1]
+        listener.setsockopt(socket.SOL_SOCKET, socket.SO_REUSEADDR, 1)
+        port = bind_apart(listener, first)
         is_over = threading.Event()
         if kind == "join":
             listener.listen()
