@@ -103,7 +103,8 @@ impl Standing {
     }
 
     /// Returns what to do at a tick: the tables in which the session is to be closed, and then the actions to perform, in
-    /// order. None of them is answered. A tick may come whenever `Turn` may, and is refused as `Turn` is.
+    /// order. The caller answers none of them. A tick may come whenever `Turn` may; if neither may, the session refuses the
+    /// tick for the cause for which it would refuse `Turn`.
     pub fn tick(&mut self, now: Moment) -> Result<Ticked, SessionError>
         ensures ticks { IfOk result (λ t. Ticks self.old now t.left.items t.actions.items self.new) }
         ensures refused { IfErr result (λ e. Refuses self.old.session.phase events.Turn e) }
