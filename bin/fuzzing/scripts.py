@@ -17,9 +17,10 @@ REFUSALS = {
     'close': 'NoSession HistoryFull',
     'purge': 'MomentBack HistoryFull',
     'checkpoint': 'BatchOut',
+    'renumber': 'SessionOpen',
 }
 # The calls that are events of the table if they aren't refused.
-EVENTS = frozenset(REFUSALS) - {'settle', 'checkpoint'}
+EVENTS = frozenset(REFUSALS) - {'settle', 'checkpoint', 'renumber'}
 OPTIONS = (b'size', b'nopurge', b'first')
 HISTORY = 1000000
 MOST_SESSIONS = 16
@@ -80,13 +81,16 @@ def random_script(random, length):
         elif chance < 0.55:
             line = [b'open' if random.random() < 0.6 else b'close', session if random.random() < 0.9 else b'%d' % random.randrange(40)]
         elif chance < 0.72:
-            line = [b'copy', session, random.choice((b'push', b'push', b'resync')), b'%d' % random.choice((1, 2, 512, 512)), at]
+            line = [b'copy', session, random.choice((b'push', b'push', b'resync', b'standing')), b'%d' % random.choice((1, 2, 512, 512)), at]
         elif chance < 0.88:
             line = [b'ack', session, b'%d' % random.choice((number, number, max(0, number - random.randrange(5)), min(GREATEST, number + 1), 0))]
         elif chance < 0.9:
             line = [b'purge', at]
         elif chance < 0.92:
-            line = [random.choice((b'slide', b'slide', b'checkpoint'))]
+            line = [random.choice((b'slide', b'slide', b'checkpoint', b'renumber'))]
+            if line == [b'renumber'] and random.random() < 0.8:
+                lines += [b'close ' + open_one for open_one in sessions]
+                number = random.randrange(len(keys) + 1)
         elif chance < 0.95:
             line = [b'event', b'%d' % random.randrange(length)]
         else:
@@ -100,8 +104,9 @@ def random_script(random, length):
 class Session:
     """What the answers say of an open session."""
 
-    def __init__(self):
+    def __init__(self, bound):
         self.acknowledged = self.taught = 0
+        self.bound = bound
         self.out = False
 
 
@@ -148,6 +153,8 @@ class Audit:
         """Whether the calls before leave room for a refusal."""
         if what == 'checkpoint':
             return any(session.out for session in self.sessions.values())
+        if what == 'renumber':
+            return bool(self.sessions)
         session = self.sessions.get(words[1])
         if refusal == 'NoSession':
             return session is None
@@ -177,11 +184,13 @@ class Audit:
 
     def is_due(self, row, session, words):
         """Whether a copy gives a row, were there no limit."""
-        return int(row[0]) > session.acknowledged and self.lives(row, int(words[4])) and (words[2] == b'resync' or row[-1] == b'local')
+        number = int(row[0])
+        wanted = {b'push': row[-1] == b'local', b'resync': True, b'standing': number <= session.bound}
+        return number > session.acknowledged and self.lives(row, int(words[4])) and wanted[words[2]]
 
     def open(self, words, said, _):
         require(said == b'ok' and words[1] not in self.sessions and len(self.sessions) < MOST_SESSIONS, 'open', '', said)
-        self.sessions[words[1]] = Session()
+        self.sessions[words[1]] = Session(self.number)
 
     def close(self, words, said, _):
         require(said == b'ok' and words[1] in self.sessions, 'close', '', said)
@@ -256,6 +265,14 @@ class Audit:
         require(said == wanted, 'slide', 'is not %s but' % short(wanted), said)
         self.dropped = len(self.history)
         self.latest = {name: batch for name, batch in self.latest.items() if name in self.sessions}
+
+    def renumber(self, _, said, __):
+        require(said == b'ok' and not self.sessions, 'renumber', 'with a session open', said)
+        for number, row in enumerate(sorted(self.stored.values(), key=lambda row: int(row[0])), 1):
+            row[0] = b'%d' % number
+        self.number = len(self.stored)
+        self.dropped = len(self.history)
+        self.latest = {}
 
     def event(self, words, said, _):
         place = int(words[1])

@@ -26,8 +26,8 @@ plus_one n = omega arith
 many_open : (count : ℕ) (c : CellState) → length c.state.sessions ≡ 0 → length (with_sessions count c).state.sessions ≡ count
 many_open zero c none = none
 many_open (suc before) c none =
-    let one_more : length ((with_sessions before c).state.sessions ++ (suc before, no_progress) ∷ []) ≡ length (with_sessions before c).state.sessions + 1 =
-    length_push (with_sessions before c).state.sessions (suc before, no_progress) in
+    let one_more : length ((with_sessions before c).state.sessions ++ (suc before, no_progress (with_sessions before c).state.next) ∷ []) ≡ length (with_sessions before c).state.sessions + 1 =
+    length_push (with_sessions before c).state.sessions (suc before, no_progress (with_sessions before c).state.next) in
     omega (arith, one_more, many_open before c none)
 
 nothing_open : (n : ℕ) (es : List (ℕ × Progress)) → length es ≡ 0 → is_some (lookup (λ id. id == n) es) ≡ false
@@ -38,15 +38,15 @@ nothing_open n (e ∷ es) none = absurd (omega arith)
 later_closed : (count n : ℕ) (c : CellState) → length c.state.sessions ≡ 0 → count < n → is_some (progress_of n (with_sessions count c).state) ≡ false
 later_closed zero n c none later = nothing_open n c.state.sessions none
 later_closed (suc before) n c none later =
-    ap (λ (o : Option Progress). is_some o) (other_end n (suc before) no_progress (with_sessions before c).state.sessions (ne_eqb (suc before) n (λ same. omega arith)))
+    ap (λ (o : Option Progress). is_some o) (other_end n (suc before) (no_progress (with_sessions before c).state.next) (with_sessions before c).state.sessions (ne_eqb (suc before) n (λ same. omega arith)))
     ∙ later_closed before n c none (omega arith)
 
 each_open : (count n : ℕ) (c : CellState) → 1 ≤ n → n ≤ count → is_some (progress_of n (with_sessions count c).state) ≡ true
 each_open zero n c least most = absurd (omega arith)
 each_open (suc before) n c least most = elim (cases_eq n (suc before)) [
   | inl same ↦
-      subst (λ (m : ℕ). is_some (progress_of m (with_sessions (suc before) c).state) ≡ true) (sym same) (some_opened (suc before) no_progress (with_sessions before c).state.sessions)
-  | inr other ↦ some_more n (suc before) no_progress (with_sessions before c).state.sessions (each_open before n c least (omega arith))
+      subst (λ (m : ℕ). is_some (progress_of m (with_sessions (suc before) c).state) ≡ true) (sym same) (some_opened (suc before) (no_progress (with_sessions before c).state.next) (with_sessions before c).state.sessions)
+  | inr other ↦ some_more n (suc before) (no_progress (with_sessions before c).state.next) (with_sessions before c).state.sessions (each_open before n c least (omega arith))
 ]
 
 room_then : (count : ℕ) (c : CellState) → count ≤ room_of c → room_of (with_sessions count c) + count ≡ room_of c

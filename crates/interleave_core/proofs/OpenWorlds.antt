@@ -1,5 +1,5 @@
 -- After each step the sessions are open in each table.
-use Rattle.std.proofs.Common.{◌≡◌, ◌≤◌, ℕ, zero, suc, Bool, true, false, not, ◌&&◌, cond, List, [], ◌∷◌, ◌++◌, length, drop, take, filter, filter_map, Option, Some, None, is_some, is_none, nat_eq, nat_le, ◌==◌, option_map, option_and_then, Result, Ok, Err, MatchBool, refl, sym, ap, subst, ◌∙◌, arith, inl, inr, true≢false}
+use Rattle.std.proofs.Common.{◌≡◌, ◌≤◌, ℕ, zero, suc, Bool, true, false, not, cond, List, [], ◌∷◌, ◌++◌, length, drop, take, filter, filter_map, Option, Some, None, is_some, is_none, nat_eq, nat_le, ◌==◌, option_map, option_and_then, Result, Ok, Err, MatchBool, refl, sym, ap, subst, ◌∙◌, arith, inl, inr, true≢false}
 use Rattle.std.specs.List.{AllByRecursion, list_any}
 use Rattle.std.specs.Map.{lookup}
 use Rattle.std.proofs.lemmas.Bool.{cases_Bool, cases_eq, eq-eqb, ne_eqb, cond-true, cond_both}
@@ -25,7 +25,7 @@ use Rattle.table_cell.proofs.HandingSessions.{other_end, other_with, other_witho
 use Rattle.interleave_core.specs.declared.step.Step.{Step}
 use Rattle.interleave_core.specs.declared.step.Step.TheVariants as steps
 use Rattle.interleave_core.specs.declared.way.Way.TheVariants as ways
-use Rattle.interleave_core.specs.Moves.{ArrivesAtLearner, ArrivesAtTeacher, AtConnection, AtTable, Breaks, Calls, CopiesFor, InConnection, InTable, IsArrived, IsReadBy, IsReopened, LearnsFor, Moves, Reopens, RunsTo, TeachesOldest, ack_in, acked, acked_all, acknowledges, closed, opened, reopened_all, with_batch}
+use Rattle.interleave_core.specs.Moves.{ArrivesAtLearner, ArrivesAtTeacher, AtConnection, AtTable, Breaks, Calls, CopiesFor, InConnection, InTable, IsArrived, IsReadBy, IsReopened, LearnsFor, Moves, Reopens, RunsTo, TeachesOldest, ack_in, acked, acked_all, acknowledges, closed, is_made, opened, reopened_all, with_batch}
 use Rattle.interleave_core.specs.Opened.{HasOpen, IsOpenWorld}
 use Rattle.interleave_core.specs.Worlds.{ConnectionState, WorldState, cell_at, connection_at, is_table, new_connection, roster_of, with_cell, with_connection, with_session, with_session_anew, without_session}
 use Rattle.interleave_core.proofs.Reopening.{others_fewer, two_passed}
@@ -162,14 +162,14 @@ anew_stays : (c : CellState) (session : ℕ) → is_some (progress_of session c.
 anew_stays c session is_open =
     record {
       opened = still;
-      few = omega (arith, others_fewer session c.state.sessions is_open, length_push (filter (λ (entry : ℕ × Progress). not (entry.0 == session)) c.state.sessions) (session, no_progress));
+      few = omega (arith, others_fewer session c.state.sessions is_open, length_push (filter (λ (entry : ℕ × Progress). not (entry.0 == session)) c.state.sessions) (session, no_progress c.state.next));
     }
   where
     still : (n : ℕ) → is_some (progress_of n c.state) ≡ true → is_some (progress_of n (with_session_anew session c).state) ≡ true
     still n some = elim (cases_eq session n) [
-      | inl same ↦ some_end n session no_progress (filter (λ (entry : ℕ × Progress). not (entry.0 == session)) c.state.sessions) same
+      | inl same ↦ some_end n session (no_progress c.state.next) (filter (λ (entry : ℕ × Progress). not (entry.0 == session)) c.state.sessions) same
       | inr other ↦
-          some_more n session no_progress (filter (λ (entry : ℕ × Progress). not (entry.0 == session)) c.state.sessions)
+          some_more n session (no_progress c.state.next) (filter (λ (entry : ℕ × Progress). not (entry.0 == session)) c.state.sessions)
           (ap (λ (o : Option Progress). is_some o) (other_without n session c.state.sessions (ne_eqb session n other)) ∙ some)
     ]
 
@@ -345,7 +345,7 @@ a_step_keeps_open w e (steps.Learn session u now) moves all = learns_open sessio
 a_step_keeps_open w e (steps.Purge table now) moves all =
     at_table table (Calls (λ c r x. Purges c now r x) unpurged.Memory) w e (λ c x did. purges_stay c x now did.0 did.2) moves all
 a_step_keeps_open w e (steps.Copy session table kind limit now) moves all =
-    either (nat_le 1 limit && nat_le limit 512) moves
+    either (is_made kind limit) moves
     (λ copies. copied_open session table kind limit now w e (cell_at table w.cells) (connection_at session w.connections) refl copies all)
     (λ is. stays w e all is)
 a_step_keeps_open w e (steps.Teach session) moves all = at_connection (λ s x. TeachesOldest s.copied s x) session w e moves all

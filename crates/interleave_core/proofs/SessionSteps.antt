@@ -3,6 +3,7 @@ use Rattle.std.proofs.Common.{◌≡◌, ◌≢◌, ◌≤◌, ℕ, false, List,
 use Rattle.std.proofs.lemmas.Bool.{cond-true, eqb-false}
 use Rattle.peers_msg.specs.Integers.{IsBytes}
 use Rattle.table_types.specs.declared.copies.CopyKind.{CopyKind}
+use Rattle.table_types.specs.declared.copies.CopyKind.TheVariants as kinds
 use Rattle.table_types.specs.declared.copies.Settled.{Settled}
 use Rattle.table_types.specs.declared.update.Update.{Update}
 use Rattle.known_state.specs.Known.{KnownState}
@@ -22,7 +23,7 @@ use Rattle.interleave_core.specs.declared.step.Step.TheVariants as steps
 use Rattle.interleave_core.specs.Moves.{AtTable, Calls, LearnsFor, Moves, TeachesOldest, acked, closed, opened, with_batch}
 use Rattle.interleave_core.specs.Worlds.{ConnectionState, WorldState, cell_at, connection_at, with_cell, with_connection, with_session, without_session}
 use Rattle.interleave_core.proofs.Acknowledged.{made, takes_it}
-use Rattle.interleave_core.proofs.Copying.{in_range}
+use Rattle.interleave_core.proofs.Copying.{made_within}
 
 pub learned_for : (session now : ℕ) (u : Update) (o : Option ConnectionState) (w e : WorldState) → (o ≡ None → ⊥)
     → AtTable (Calls (λ c r x. Learns c session u now r x) unlearned.Memory) u.table w e → LearnsFor session u now o w e
@@ -36,12 +37,12 @@ learned_as w c e s session now u answer at connected some call =
     rw connected (with_cell u.table e w.cells, rw at (e, (answer, some, call), refl), refl)
 
 pub copied_as : (w : WorldState) (c e : CellState) (s : ConnectionState) (session table limit now : ℕ) (kind : CopyKind) (answer : Result (List Update) CopyError)
-    → cell_at table w.cells ≡ Some c → connection_at session w.connections ≡ Some s → 1 ≤ limit → limit ≤ 512
+    → cell_at table w.cells ≡ Some c → connection_at session w.connections ≡ Some s → kind ≢ kinds.Standing → 1 ≤ limit → limit ≤ 512
     → answer ≢ Err uncopied.Memory → Copies c session kind limit now answer e
     → Moves w (steps.Copy session table kind limit now)
     (record { cells = with_cell table e w.cells; connections = with_connection session (record s { copied = with_batch s.copied answer }) w.connections })
-copied_as w c e s session table limit now kind answer at connected least most some call =
-    rw (in_range limit least most, at, connected) (answer, e, some, call, refl)
+copied_as w c e s session table limit now kind answer at connected other least most some call =
+    rw (made_within kind limit other least most, at, connected) (answer, e, some, call, refl)
 
 pub taught_as : (w : WorldState) (s : ConnectionState) (session : ℕ) (batch : List Update) (rest : List (List Update)) (bytes : List ℕ) (after : KnownState)
     → connection_at session w.connections ≡ Some s → s.copied ≡ batch ∷ rest → IsBytes bytes → IsShortestLesson s.known batch bytes after

@@ -15,7 +15,7 @@ use Rattle.table_cell.specs.Histories.{CellState, Made}
 use Rattle.table_cell.specs.Handing.{handed_since, numbers}
 use Rattle.interleave_core.specs.Moves.{closed, opened, reopened_all}
 use Rattle.interleave_core.specs.Sound.{acked_numbers}
-use Rattle.interleave_core.specs.Ties.{AreTied, IsTiedTo, Share, joined, of_table, opened_share, share_of}
+use Rattle.interleave_core.specs.Ties.{AreTied, IsJustOpened, IsTiedTo, Share, joined, of_table, opened_share, share_of}
 use Rattle.interleave_core.specs.Worlds.{ConnectionState, cell_at, is_table, new_connection, roster_of}
 use Rattle.interleave_core.proofs.TieCells.{at_here, at_there, none_there, same_one}
 use Rattle.interleave_core.proofs.TieNumbers.{is_quiet, none_tied}
@@ -97,11 +97,11 @@ others_reopened n m before s acks cells after other all ties = record { within =
 -- ---- a new connection
 
 pub fresh_ties : (n : ℕ) (roster : List Definition) (cells : List CellState)
-    → ((t : ℕ) (c : CellState) → cell_at t cells ≡ Some c → (progress_of n c.state ≡ Some no_progress) × (handed_since n c.history ≡ []))
+    → ((t : ℕ) (c : CellState) → cell_at t cells ≡ Some c → IsJustOpened n c)
     → AreTied n 0 (new_connection roster) [] cells
 fresh_ties n roster cells just = record {
   within = omega arith;
-  each = λ t c at. (no_progress, record { progress = (just t c at).0; same = sym (just t c at).1; tied = none_tied; from = tt });
+  each = λ t c at. (no_progress (just t c at).0, record { progress = (just t c at).1; same = sym (just t c at).2; tied = none_tied; from = tt });
 }
 
 pub new_ties : (n : ℕ) (roster : List Definition) (cells after : List CellState) → reopened_all n cells ≡ Some after → AreTied n 0 (new_connection roster) [] after
@@ -110,7 +110,7 @@ new_ties n roster cells after all = record { within = omega arith; each = each }
     each : (t : ℕ) (e : CellState) → cell_at t after ≡ Some e → HasTie n 0 (new_connection roster) [] t e
     each t e at =
         let (c, found, (mid, closing, opening)) = each_reopened n cells after all t e at in
-        (no_progress, open_tied n [] mid e replies.Open opening tt)
+        (no_progress mid.state.next, open_tied n [] mid e replies.Open opening tt)
 
 -- ---- the same connection
 
@@ -204,4 +204,4 @@ still_ties n before s acks to_come cells after split known quiet all ties =
         (ap (λ (l : List Update). of_table t (l ++ joined s.copied)) (drop_all (length s.taught) s.taught (omega arith)) ∙ rest.taught)
         (ap (of_table t) (drop_all (length s.taught) s.applied (subst (λ (l : List Update). length s.applied ≤ length l) (sym all_applied) (omega arith))))
         rest.answered rest.due) in
-        (no_progress, subst (λ (x : Share). IsTiedTo n x e no_progress) is (open_tied n all_of mid e replies.Open opening copied))
+        (no_progress mid.state.next, subst (λ (x : Share). IsTiedTo n x e (no_progress mid.state.next)) is (open_tied n all_of mid e replies.Open opening copied))

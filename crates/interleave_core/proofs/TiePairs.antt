@@ -159,9 +159,9 @@ is_absent None none = refl
 is_absent (Some p) none = absurd (true≢false none)
 
 pub open_tied : (n : ℕ) (all : List Update) (c e : CellState) (reply : CellReply) → Made c (events.Open n) reply e → AllByRecursion (WasCopied n c.history) all
-    → IsTiedTo n (opened_share all) e no_progress
+    → IsTiedTo n (opened_share all) e (no_progress c.state.next)
 open_tied n all c e reply made copied = record {
-  progress = ap (progress_of n) made.0.2 ∙ own_end n no_progress c.state.sessions (is_absent (progress_of n c.state) (passes (is_some (progress_of n c.state)) _ _ made.0.0).0);
+  progress = ap (progress_of n) made.0.2 ∙ own_end n (no_progress c.state.next) c.state.sessions (is_absent (progress_of n c.state) (passes (is_some (progress_of n c.state)) _ _ made.0.0).0);
   same = sym (handed_made n c e (events.Open n) reply made ∙ handed_open n (handed_since n c.history) reply);
   tied = none_tied;
   from = all_still n c e (events.Open n) reply all made copied;

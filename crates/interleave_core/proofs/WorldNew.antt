@@ -9,16 +9,16 @@ use Rattle.table_types.specs.Tables.{Definition}
 use Rattle.table_cell.specs.declared.events.CellEvent.TheVariants as events
 use Rattle.table_cell.specs.declared.events.CellReply.TheVariants as replies
 use Rattle.table_cell.specs.declared.progress.Progress.{Progress}
-use Rattle.table_cell.specs.Machine.{no_progress, progress_of}
+use Rattle.table_cell.specs.Machine.{progress_of}
 use Rattle.table_cell.specs.Histories.{CellState, IsSoundCell, Made, is_history_full}
-use Rattle.table_cell.specs.Handing.{KeepsUp, handed_since}
+use Rattle.table_cell.specs.Handing.{KeepsUp}
 use Rattle.table_cell.proofs.HandingSessions.{others_stay}
 use Rattle.table_cell.proofs.HandingSteps.{closed_keeps, made_keeps}
 use Rattle.table_cell.proofs.RefusalLaws.{open_granted}
 use Rattle.table_cell.proofs.RunLaws.{made_sound}
 use Rattle.interleave_core.specs.Opened.{CanBegin, CanOpen}
 use Rattle.interleave_core.specs.SoundWorlds.{IsSoundWorld}
-use Rattle.interleave_core.specs.Ties.{AreSoundTables}
+use Rattle.interleave_core.specs.Ties.{AreSoundTables, IsJustOpened}
 use Rattle.interleave_core.specs.Worlds.{ConnectionState, cell_at, connection_at, new_connection, new_world, roster_of, with_session, with_sessions}
 use Rattle.interleave_core.proofs.Beginning.{can_open_more}
 use Rattle.interleave_core.proofs.TieCells.{none_there, same_one}
@@ -31,7 +31,7 @@ use Rattle.interleave_core.proofs.WorldTold.{new_sound}
 record IsBegun (last : ℕ) (c : CellState) : Type 0 where
   pub sound : IsSoundCell c
   pub keep : (n : ℕ) → KeepsUp n c
-  pub just : (n : ℕ) → 1 ≤ n → n ≤ last → (progress_of n c.state ≡ Some no_progress) × (handed_since n c.history ≡ [])
+  pub just : (n : ℕ) → 1 ≤ n → n ≤ last → IsJustOpened n c
 
 open_made : (n : ℕ) (c : CellState) → CanOpen n c → Made c (events.Open n) replies.Open (with_session n c)
 open_made n c can = (((open_granted (is_history_full c) c.state n can).1, refl, refl), refl)
@@ -46,15 +46,15 @@ begun_more last c can begun = record {
     made : Made c (events.Open (suc last)) replies.Open (with_session (suc last) c)
     made = open_made (suc last) c can
 
-    just : (n : ℕ) → 1 ≤ n → n ≤ suc last → (progress_of n (with_session (suc last) c).state ≡ Some no_progress) × (handed_since n (with_session (suc last) c).history ≡ [])
+    just : (n : ℕ) → 1 ≤ n → n ≤ suc last → IsJustOpened n (with_session (suc last) c)
     just n some most = elim (cases_eq (suc last) n) [
       | inl same ↦
           let tie = open_tied (suc last) [] c (with_session (suc last) c) replies.Open made tt in
-          subst (λ (k : ℕ). (progress_of k (with_session (suc last) c).state ≡ Some no_progress) × (handed_since k (with_session (suc last) c).history ≡ [])) same (tie.progress, sym tie.same)
+          subst (λ (k : ℕ). IsJustOpened k (with_session (suc last) c)) same (c.state.next, tie.progress, sym tie.same)
       | inr other ↦
           let stay = others_stay c (with_session (suc last) c) (events.Open (suc last)) replies.Open n (ne_eqb (suc last) n other) made in
           let old = begun.just n some (below n last most other) in
-          (stay.0 ∙ old.0, stay.1 ∙ old.1)
+          (old.0, stay.0 ∙ old.1, stay.1 ∙ old.2)
     ]
       where
         below : (n last : ℕ) → n ≤ suc last → (suc last ≡ n → ⊥) → n ≤ last

@@ -1,8 +1,8 @@
 -- A world stays sound at each step, and over each run.
-use Rattle.std.proofs.Common.{◌≡◌, ◌≢◌, ◌≤◌, ◌<◌, ◌^◌, ℕ, true, false, ◌&&◌, List, [], ◌∷◌, ◌++◌, length, drop, take, Option, Some, None, Result, Ok, Err, refl, sym, ap, subst, ◌∙◌, inl, inr, ◌⊎◌}
+use Rattle.std.proofs.Common.{◌≡◌, ◌≢◌, ◌≤◌, ◌<◌, ◌^◌, ℕ, true, false, List, [], ◌∷◌, ◌++◌, length, drop, take, Option, Some, None, Result, Ok, Err, refl, sym, ap, subst, ◌∙◌, inl, inr, ◌⊎◌}
 use Rattle.std.specs.Prelude.{filter_map, is_some, nat_le}
 use Rattle.std.specs.List.{AllByRecursion, list_any}
-use Rattle.std.proofs.lemmas.Bool.{and_parts, leb-true, ne_eqb}
+use Rattle.std.proofs.lemmas.Bool.{ne_eqb}
 use Rattle.std.proofs.lemmas.List.{append_cancel_left}
 use Rattle.table_types.specs.declared.change.Change.{Change}
 use Rattle.table_types.specs.declared.copies.CopyKind.{CopyKind}
@@ -38,11 +38,12 @@ use Rattle.table_cell.proofs.StepLaws.{copy_granted}
 use Rattle.interleave_core.specs.declared.step.Step.{Step}
 use Rattle.interleave_core.specs.declared.step.Step.TheVariants as steps
 use Rattle.interleave_core.specs.declared.way.Way.TheVariants as ways
-use Rattle.interleave_core.specs.Moves.{AtConnection, AtTable, CopiesFor, InConnection, InTable, IsArrived, IsFed, IsReadBy, IsReopened, LearnsFor, Moves, RunsTo, TeachesOldest, ack_in, acked_all, acknowledges, reopened_all}
+use Rattle.interleave_core.specs.Moves.{AtConnection, AtTable, CopiesFor, InConnection, InTable, IsArrived, IsFed, IsReadBy, IsReopened, LearnsFor, Moves, RunsTo, TeachesOldest, ack_in, acked_all, acknowledges, is_made, reopened_all}
 use Rattle.interleave_core.specs.Sound.{IsSoundConnection, last_number_of}
 use Rattle.interleave_core.specs.SoundWorlds.{IsSoundSession, IsSoundWorld, IsTimelyStep}
 use Rattle.interleave_core.specs.Ties.{AreSoundTables, AreTied}
 use Rattle.interleave_core.specs.Worlds.{ConnectionState, WorldState, cell_at, connection_at, new_connection, roster_of, with_cell, with_connection}
+use Rattle.interleave_core.proofs.Copying.{made_most}
 use Rattle.interleave_core.proofs.SoundConnections as connections
 use Rattle.interleave_core.proofs.TieAnswers.{all_taken, due_sent, others_taken}
 use Rattle.interleave_core.proofs.TieCells.{found_id}
@@ -354,8 +355,8 @@ step_sound w e (steps.Learn session u now) timely sound moves = learns w e sessi
 step_sound w e (steps.Purge table now) timely sound moves =
     at_table _ table w e sound (λ c x (answer, ok, does). purged now c x answer timely does) moves
 step_sound w e (steps.Copy session table kind limit now) timely sound moves =
-    each_side (nat_le 1 limit && nat_le limit 512) _ (e ≡ w) (IsSoundWorld e) moves
-    (λ within. copied w e session table limit now kind sound timely (leb-true limit 512 (and_parts (nat_le 1 limit) (nat_le limit 512) within).1)) (λ out. unchanged w e sound)
+    each_side (is_made kind limit) _ (e ≡ w) (IsSoundWorld e) moves
+    (λ made. copied w e session table limit now kind sound timely (made_most kind limit made)) (λ out. unchanged w e sound)
 step_sound w e (steps.Teach session) timely sound moves =
     at_connection _ session w e sound (λ s x found does. taught w session s x sound found does) moves
 step_sound w e (steps.Deliver session ways.ToLearner count now) timely sound moves =

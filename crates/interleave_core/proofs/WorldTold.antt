@@ -21,7 +21,7 @@ use Rattle.learner.specs.Rows.{AreOfOthers, put_all, row_at, rows_at}
 use Rattle.table_cell.specs.declared.errors.CopyError.{CopyError}
 use Rattle.table_cell.specs.declared.errors.CopyError.TheVariants as uncopied
 use Rattle.table_cell.specs.declared.progress.Progress.{Progress}
-use Rattle.table_cell.specs.Machine.{TableState, copy_refusal, has_out, if_live, is_out, live_row, no_progress, progress_of, unacked, settled_by}
+use Rattle.table_cell.specs.Machine.{TableState, copy_refusal, has_out, if_live, is_out, live_row, progress_of, unacked, settled_by}
 use Rattle.table_cell.specs.Histories.{CellState, IsSoundCell, is_history_full}
 use Rattle.table_cell.specs.Handing.{IsLastOfItsKey, IsReached, KeepsUp, handed_since, is_of_each_kind, numbers, resyncs_since}
 use Rattle.table_cell.proofs.HandingTaken.{front_taken, nothing_left}
@@ -36,7 +36,7 @@ use Rattle.table_cell.specs.declared.events.CellReply.TheVariants as replies
 use Rattle.interleave_core.specs.Core.{AreRefusedIfFull, IsCore, IsOfCopied, StandsAtLearner}
 use Rattle.interleave_core.specs.Sound.{IsSoundConnection, IsAckFor}
 use Rattle.interleave_core.specs.SoundWorlds.{IsSoundSession, IsSoundWorld}
-use Rattle.interleave_core.specs.Ties.{AreSoundTables, AreTied, IsAmong, WasCopied, joined, of_table}
+use Rattle.interleave_core.specs.Ties.{AreSoundTables, AreTied, IsAmong, IsJustOpened, WasCopied, joined, of_table}
 use Rattle.interleave_core.specs.Worlds.{ConnectionState, WorldState, cell_at, connection_at, new_connection, roster_of, with_cell}
 use Rattle.interleave_core.proofs.RowsLeft.{each_row, last_row}
 use Rattle.interleave_core.proofs.SoundConnections.{arrived, begun, ended}
@@ -308,7 +308,7 @@ arrived_if_full w session count s ms received left sound found read =
 
 pub new_sound : (w : WorldState) → roster_fault (roster_of w.cells) ≡ None → AreSoundTables w.cells
     → ((session : ℕ) (s : ConnectionState) → connection_at session w.connections ≡ Some s → s ≡ new_connection (roster_of w.cells))
-    → ((session t : ℕ) (s : ConnectionState) (c : CellState) → connection_at session w.connections ≡ Some s → cell_at t w.cells ≡ Some c → (progress_of session c.state ≡ Some no_progress) × (handed_since session c.history ≡ []))
+    → ((session t : ℕ) (s : ConnectionState) (c : CellState) → connection_at session w.connections ≡ Some s → cell_at t w.cells ≡ Some c → IsJustOpened session c)
     → IsSoundWorld w
 new_sound w fault tables new just = record {
   roster = fault;

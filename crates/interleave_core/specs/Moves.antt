@@ -1,7 +1,8 @@
 -- What each step does to the world (profile). A step that can't be made changes nothing.
-use Rattle.std.specs.Prelude.{◌≡◌, ◌≢◌, ℕ, ◌&&◌, nat_le, MatchBool, is_none, List, [], ◌∷◌, ◌++◌, drop, filter_map, length, take, Option, Some, None, option_and_then, option_map, Result, Ok, Err, if◌then◌else◌}
+use Rattle.std.specs.Prelude.{◌≡◌, ◌≢◌, ℕ, Bool, false, ◌&&◌, nat_le, MatchBool, is_none, List, [], ◌∷◌, ◌++◌, drop, filter_map, length, take, Option, Some, None, option_and_then, option_map, Result, Ok, Err, if◌then◌else◌}
 use Rattle.std.specs.List.{list_any}
 use Rattle.table_types.specs.declared.copies.CopyKind.{CopyKind}
+use Rattle.table_types.specs.declared.copies.CopyKind.TheVariants as kinds
 use Rattle.table_types.specs.declared.update.Update.{Update}
 use Rattle.table_types.specs.Tables.{Definition}
 use Rattle.peers_msg.specs.Integers.{IsBytes}
@@ -68,6 +69,12 @@ LearnsFor session u now (Some s) w e = AtTable (Calls (λ c r x. Learns c sessio
 abbrev pub with_batch : List (List Update) → Result (List Update) CopyError → List (List Update)
 with_batch copied (Ok batch) = copied ++ batch ∷ []
 with_batch copied (Err error) = copied
+
+-- whether a world makes this copy: one of 1 to 512 rows, and no standing resync
+abbrev pub is_made : CopyKind → ℕ → Bool
+is_made kinds.Push limit = nat_le 1 limit && nat_le limit 512
+is_made kinds.Resync limit = nat_le 1 limit && nat_le limit 512
+is_made kinds.Standing limit = false
 
 abbrev pub CopiesFor : ℕ → ℕ → CopyKind → ℕ → ℕ → Option CellState → Option ConnectionState → WorldState → WorldState → Type 0
 CopiesFor session table kind limit now (Some c) (Some s) w e =
@@ -181,7 +188,7 @@ abbrev pub Moves : WorldState → Step → WorldState → Type 0
 Moves w (steps.Track table key change now) e = AtTable (Calls (λ c r x. Tracks c 0 key change now r x) untracked.Memory) table w e
 Moves w (steps.Learn session u now) e = LearnsFor session u now (connection_at session w.connections) w e
 Moves w (steps.Copy session table kind limit now) e =
-    MatchBool (nat_le 1 limit && nat_le limit 512)
+    MatchBool (is_made kind limit)
     (CopiesFor session table kind limit now (cell_at table w.cells) (connection_at session w.connections) w e)
     (e ≡ w)
 Moves w (steps.Teach session) e = AtConnection (λ s x. TeachesOldest s.copied s x) session w e

@@ -6,7 +6,7 @@ use Rattle.known_state.specs.Known.{is_in}
 use Rattle.table_cell.specs.declared.events.CellEvent.{CellEvent}
 use Rattle.table_cell.specs.declared.events.CellReply.{CellReply}
 use Rattle.table_cell.specs.declared.progress.Progress.{Progress}
-use Rattle.table_cell.specs.Machine.{progress_of}
+use Rattle.table_cell.specs.Machine.{no_progress, progress_of}
 use Rattle.table_cell.specs.Histories.{CellState, IsSoundCell, batch_of}
 use Rattle.table_cell.specs.Handing.{Ascend, KeepsUp, handed_since, numbers, updates_in}
 use Rattle.interleave_core.specs.Sound.{acked_numbers}
@@ -83,6 +83,11 @@ pub record IsTiedTo (session : ℕ) (share : Share) (c : CellState) (p : Progres
 pub record AreTied (session before : ℕ) (s : ConnectionState) (acks : List (ℕ × ℕ)) (cells : List CellState) : Type 0 where
   pub within : before ≤ length s.applied
   pub each : (table : ℕ) (c : CellState) → cell_at table cells ≡ Some c → (p : Progress) × IsTiedTo session (share_of table before s acks) c p
+
+-- the session was opened in the table, and nothing was handed out, taught or acknowledged in it since then
+abbrev pub IsJustOpened : ℕ → CellState → Type 0
+IsJustOpened session c =
+    (next : ℕ) × (progress_of session c.state ≡ Some (no_progress next)) × (handed_since session c.history ≡ [])
 
 -- ---- the tables
 

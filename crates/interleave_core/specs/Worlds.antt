@@ -75,7 +75,7 @@ pipe_of ways.ToTeacher s = s.to_teacher
 -- the table after the session is opened in it
 abbrev pub with_session : ℕ → CellState → CellState
 with_session session c =
-    record c { history = c.history ++ (events.Open session, replies.Open) ∷ []; state = record c.state { sessions = c.state.sessions ++ (session, no_progress) ∷ [] } }
+    record c { history = c.history ++ (events.Open session, replies.Open) ∷ []; state = record c.state { sessions = c.state.sessions ++ (session, no_progress c.state.next) ∷ [] } }
 
 -- the table after the session is closed in it
 abbrev pub without_session : ℕ → CellState → CellState

@@ -1,10 +1,11 @@
 //! The steps of a world, one function each.
 
-ghost use Rattle.std.specs.Prelude.{◌<◌, ◌^◌, ℕ, OnOk};
+ghost use Rattle.std.specs.Prelude.{◌≡◌, ◌≤◌, ◌<◌, ◌^◌, ℕ, OnOk};
+ghost use Rattle.std.specs.Bool.{OnTrue};
 ghost use Rattle.interleave_core.specs.declared.step.Step.TheVariants as steps;
 ghost use Rattle.interleave_core.specs.declared.way.Way.TheVariants as ways;
 ghost use Rattle.interleave_core.specs.Kept.{AreOnTrack};
-ghost use Rattle.interleave_core.specs.Moves.{Moves};
+ghost use Rattle.interleave_core.specs.Moves.{Moves, is_made};
 ghost use Rattle.interleave_core.specs.Parts.{world_of};
 ghost use Rattle.interleave_core.specs.Opened.{IsInOrder, IsOpenWorld};
 ghost use Rattle.interleave_core.specs.SoundWorlds.{IsTimelyStep};
@@ -27,6 +28,17 @@ pub(crate) struct Parts {
     pub(crate) cells: Vec<TableCell>,
     /// The connections of the sessions 1, 2 and so on.
     pub(crate) connections: Vec<Connection>,
+}
+
+/// Returns whether a world makes this copy: one of 1 to 512 rows, and no standing resync.
+fn is_made(kind: CopyKind, limit: usize) -> bool
+    ensures exactly { result ≡ is_made kind limit }
+    ensures limits { OnTrue result ((1 ≤ limit) × (limit ≤ 512)) }
+{
+    match kind {
+        CopyKind::Push | CopyKind::Resync => 1 <= limit && limit <= Batch::MOST,
+        CopyKind::Standing => false,
+    }
 }
 
 impl Parts {
@@ -107,7 +119,7 @@ impl Parts {
         ensures moves { OnOk result (Moves (world_of self.old) (steps.Copy session table kind limit now) (world_of self.new)) }
         ensures timely { now < 2 ^ 63 }
     {
-        if limit == 0 || limit > Batch::MOST {
+        if !is_made(kind, limit) {
             return Ok(());
         }
         let Some(place) = connection_index(self.connections.as_slice(), session) else {

@@ -3,6 +3,7 @@
 ghost use Rattle.std.specs.Prelude.{◌≡◌, ◌≢◌, ◌≤◌, ◌∷◌, ◌++◌, ℕ, List, Result, Ok, Err, Some, option_and_then};
 ghost use Rattle.peers_msg.specs.Integers.{IsBytes};
 ghost use Rattle.table_types.specs.declared.copies.CopyKind.{CopyKind};
+ghost use Rattle.table_types.specs.declared.copies.CopyKind.TheVariants as kinds;
 ghost use Rattle.table_types.specs.declared.copies.Settled.{Settled};
 ghost use Rattle.table_types.specs.declared.update.Update.{Update};
 ghost use Rattle.known_state.specs.Known.{KnownState};
@@ -17,15 +18,15 @@ ghost use Rattle.interleave_core.specs.declared.step.Step.TheVariants as steps;
 ghost use Rattle.interleave_core.specs.Moves.{Moves, acked, closed, opened, with_batch};
 ghost use Rattle.interleave_core.specs.Worlds.{ConnectionState, WorldState, cell_at, connection_at, with_cell, with_connection};
 
-/// What a session that runs does to its tables are steps of a world: learning a row is Learn, copying a batch is Copy, and
-/// the lesson of the oldest batch is Teach. What an acknowledgement does to its table is what it does in a delivery, and what
+/// What a session that runs does to its tables are steps of a world: learning a row is Learn, copying a batch is Copy, unless it is
+/// a standing resync, and the lesson of the oldest batch is Teach. What an acknowledgement does to its table is what it does in a delivery, and what
 /// closing and opening the session do to a table is what Reopen and Break do to each.
 pub fn what_a_session_does_are_steps()
     ensures learns { (w : WorldState) (c e : CellState) (s : ConnectionState) (session now : ℕ) (u : Update) (answer : Result Reply LearnError) →
         cell_at u.table w.cells ≡ Some c → connection_at session w.connections ≡ Some s → answer ≢ Err unlearned.Memory → Learns c session u now answer e →
         Moves w (steps.Learn session u now) (record w { cells = with_cell u.table e w.cells }) }
     ensures copies { (w : WorldState) (c e : CellState) (s : ConnectionState) (session table limit now : ℕ) (kind : CopyKind) (answer : Result (List Update) CopyError) →
-        cell_at table w.cells ≡ Some c → connection_at session w.connections ≡ Some s → 1 ≤ limit → limit ≤ 512 →
+        cell_at table w.cells ≡ Some c → connection_at session w.connections ≡ Some s → kind ≢ kinds.Standing → 1 ≤ limit → limit ≤ 512 →
         answer ≢ Err uncopied.Memory → Copies c session kind limit now answer e →
         Moves w (steps.Copy session table kind limit now)
         (record { cells = with_cell table e w.cells; connections = with_connection session (record s { copied = with_batch s.copied answer }) w.connections }) }

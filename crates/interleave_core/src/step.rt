@@ -4,7 +4,7 @@ use crate::way::Way;
 use table_types::{Change, CopyKind, Key, Moment, Update};
 
 /// A step of a world. A step that can't be made changes nothing: it names a table or a session that isn't there, lacks its
-/// batch or its bytes, or a table refuses one of its events.
+/// batch or its bytes, asks for a standing resync, or a table refuses one of its events.
 #[derive(Debug, Drop)]
 pub enum Step {
     /// The teacher changes a row of a table.
@@ -33,7 +33,7 @@ pub enum Step {
         session: u32,
         /// The table's id.
         table: u64,
-        /// Which rows are copied.
+        /// Which rows are copied: those of a push or a resync.
         kind: CopyKind,
         /// The most rows that are copied, 1 to 512.
         limit: usize,

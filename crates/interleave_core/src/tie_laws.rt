@@ -19,7 +19,7 @@ ghost use Rattle.table_cell.specs.Histories.{CellState, IsSoundCell, Made, is_hi
 ghost use Rattle.table_cell.specs.Handing.{Ascend, KeepsUp, handed_since, is_about, numbers};
 ghost use Rattle.interleave_core.specs.Moves.{acked_all, acknowledges, reopened_all};
 ghost use Rattle.interleave_core.specs.Sound.{acked_numbers, last_number_of};
-ghost use Rattle.interleave_core.specs.Ties.{AreSoundTables, AreTied, IsAmong, IsTied, IsTiedTo, Share, WasCopied, end_of, of_table, opened_share};
+ghost use Rattle.interleave_core.specs.Ties.{AreSoundTables, AreTied, IsAmong, IsJustOpened, IsTied, IsTiedTo, Share, WasCopied, end_of, of_table, opened_share};
 ghost use Rattle.interleave_core.specs.Worlds.{ConnectionState, cell_at, new_connection, roster_of, with_cell};
 
 /// A session stays tied to a table, by numbers: when more is handed out, when more is done, whether that makes an
@@ -58,7 +58,7 @@ pub fn a_session_stays_tied_to_a_table()
         share.acks ≡ number ∷ rest → Made c (events.Ack session number) reply e → IsTiedTo session share c p →
         IsTiedTo session (record share { acks = rest }) e (record p { acknowledged = number }) }
     ensures opened { (session : ℕ) (all : List Update) (c e : CellState) (reply : CellReply) →
-        Made c (events.Open session) reply e → AllByRecursion (WasCopied session c.history) all → IsTiedTo session (opened_share all) e no_progress }
+        Made c (events.Open session) reply e → AllByRecursion (WasCopied session c.history) all → IsTiedTo session (opened_share all) e (no_progress c.state.next) }
 {}
 
 /// A session stays tied to all tables at each step. An event that isn't about the session leaves all ties as they are. A copy
@@ -93,7 +93,7 @@ pub fn a_session_stays_tied()
 /// tied. Other sessions stay tied.
 pub fn a_new_session_is_tied()
     ensures opened { (session : ℕ) (roster : List Definition) (cells : List CellState) →
-        ((table : ℕ) (c : CellState) → cell_at table cells ≡ Some c → (progress_of session c.state ≡ Some no_progress) × (handed_since session c.history ≡ [])) →
+        ((table : ℕ) (c : CellState) → cell_at table cells ≡ Some c → IsJustOpened session c) →
         AreTied session 0 (new_connection roster) [] cells }
     ensures begun { (session : ℕ) (roster : List Definition) (cells after : List CellState) →
         reopened_all session cells ≡ Some after → AreTied session 0 (new_connection roster) [] after }

@@ -12,7 +12,7 @@ ghost use Rattle.interleave_core.specs.declared.step.Step.{Step};
 ghost use Rattle.interleave_core.specs.Core.{IsCore};
 ghost use Rattle.interleave_core.specs.Moves.{Moves, RunsTo};
 ghost use Rattle.interleave_core.specs.SoundWorlds.{IsSoundWorld, IsTimelyStep};
-ghost use Rattle.interleave_core.specs.Ties.{AreSoundTables};
+ghost use Rattle.interleave_core.specs.Ties.{AreSoundTables, IsJustOpened};
 ghost use Rattle.interleave_core.specs.Worlds.{ConnectionState, WorldState, cell_at, connection_at, new_connection, roster_of};
 
 /// A world is sound if its tables make a roster, are sound and keep up, and if every connection is new and its session was just
@@ -23,14 +23,14 @@ pub fn a_world_stays_sound()
     ensures new { (w : WorldState) → roster_fault (roster_of w.cells) ≡ None → AreSoundTables w.cells →
         ((session : ℕ) (s : ConnectionState) → connection_at session w.connections ≡ Some s → s ≡ new_connection (roster_of w.cells)) →
         ((session table : ℕ) (s : ConnectionState) (c : CellState) → connection_at session w.connections ≡ Some s → cell_at table w.cells ≡ Some c →
-        (progress_of session c.state ≡ Some no_progress) × (handed_since session c.history ≡ [])) →
+        IsJustOpened session c) →
         IsSoundWorld w }
     ensures step { (w e : WorldState) (step : Step) → IsTimelyStep step → IsSoundWorld w → Moves w step e → IsSoundWorld e }
     ensures run { (w e : WorldState) (steps : List Step) → AllByRecursion IsTimelyStep steps → IsSoundWorld w → RunsTo w steps e → IsSoundWorld e }
     ensures between { (w e : WorldState) (before after : List Step) → AllByRecursion IsTimelyStep before → IsSoundWorld w → RunsTo w (before ++ after) e →
         (mid : WorldState) × RunsTo w before mid × RunsTo mid after e × IsSoundWorld mid }
     ensures opened { (session : ℕ) (c e : CellState) (reply : CellReply) → Made c (events.Open session) reply e →
-        (progress_of session e.state ≡ Some no_progress) × (handed_since session e.history ≡ []) }
+        (progress_of session e.state ≡ Some (no_progress c.state.next)) × (handed_since session e.history ≡ []) }
 {}
 
 /// A sound world keeps what is promised of its sessions: a learner that is fed all that is on its way ends as its teacher knows

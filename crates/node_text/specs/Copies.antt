@@ -9,6 +9,7 @@ use Rattle.node_text.specs.Numbers.{spaced}
 abbrev pub copy_kind_name : CopyKind → List ℕ
 copy_kind_name kinds.Push = codes "push"
 copy_kind_name kinds.Resync = codes "resync"
+copy_kind_name kinds.Standing = codes "standing"
 
 -- the call of a copy
 abbrev pub copy_text : ℕ → CopyKind → ℕ → ℕ → List ℕ

@@ -16,6 +16,8 @@ use Rattle.table_cell.specs.declared.errors.PurgeError.{PurgeError}
 use Rattle.table_cell.specs.declared.errors.PurgeError.TheVariants as unpurged
 use Rattle.table_cell.specs.declared.errors.CheckpointError.{CheckpointError}
 use Rattle.table_cell.specs.declared.errors.CheckpointError.TheVariants as unbegun
+use Rattle.table_cell.specs.declared.errors.RenumberError.{RenumberError}
+use Rattle.table_cell.specs.declared.errors.RenumberError.TheVariants as unrenumbered
 
 -- Each refusal has its name. Out of memory has none, since it ends the program.
 
@@ -70,3 +72,7 @@ purge_refusal unpurged.Memory = None
 abbrev pub checkpoint_refusal : CheckpointError → Option (List ℕ)
 checkpoint_refusal unbegun.BatchOut = Some (codes "BatchOut")
 checkpoint_refusal unbegun.Memory = None
+
+abbrev pub renumber_refusal : RenumberError → Option (List ℕ)
+renumber_refusal unrenumbered.SessionOpen = Some (codes "SessionOpen")
+renumber_refusal unrenumbered.Memory = None

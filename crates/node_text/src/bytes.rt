@@ -34,7 +34,7 @@ fn value_of(digit: u8) -> Option<u8>
 }
 
 /// Appends `bytes` in hexadecimal, two digits for each.
-pub(crate) fn push_hexadecimal(text: &mut Vec<u8>, bytes: &[u8]) -> Result<(), AllocError>
+pub fn push_hexadecimal(text: &mut Vec<u8>, bytes: &[u8]) -> Result<(), AllocError>
     ensures { OnOk result (text.new.items ≡ text.old.items ++ flat_map digits_of bytes.now) }
 {
     for byte in bytes {

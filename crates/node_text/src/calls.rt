@@ -69,6 +69,8 @@ pub enum Call {
     Checkpoint,
     /// Drops the history, and keeps the latest batch of each open session.
     Slide,
+    /// Gives the rows the numbers from 1 on, with which the history begins anew.
+    Renumber,
     /// Reads the number of events, and how many more may come.
     Events,
     /// Reads the event at a place below 2^63.
@@ -99,13 +101,14 @@ pub(crate) fn call_of(
     }
 }
 
-/// Reads a call `checkpoint`, `slide`, `events` or `rows`.
+/// Reads a call `checkpoint`, `slide`, `renumber`, `events` or `rows`.
 fn bare_call(kind: &[u8]) -> Option<Call>
     ensures { IfSome result IsCall }
 {
     match kind {
         b"checkpoint" => Some(Call::Checkpoint),
         b"slide" => Some(Call::Slide),
+        b"renumber" => Some(Call::Renumber),
         b"events" => Some(Call::Events),
         b"rows" => Some(Call::Rows),
         _ => None,
@@ -208,7 +211,7 @@ pub(crate) fn learned_of(
 }
 
 /// Reads a key of `kind`, or else a string or an integer, so that a script can use a key of another kind than its table's.
-fn any_key_of(alloc: Global, kind: KeyKind, word: &[u8]) -> Result<Key, LineError>
+pub fn any_key_of(alloc: Global, kind: KeyKind, word: &[u8]) -> Result<Key, LineError>
     ensures written { IfOk result (λ key. any_key_of kind word.now ≡ Some key) }
     ensures refused { result ≡ Err LineError.Refused → any_key_of kind word.now ≡ None }
 {

@@ -1,29 +1,42 @@
 //! Changes of rows.
-ghost use Rattle.std.specs.Prelude.{◌≡◌, ◌++◌, OnOk};
+ghost use Rattle.std.specs.Prelude.{◌≡◌, ◌++◌, ◌∷◌, [], IfOk, IfSome, OnOk, map};
 ghost use Rattle.table_types.specs.DataTypes.{name_of};
-ghost use Rattle.node_text.specs.Changes.{change_text};
+ghost use Rattle.node_text.specs.Changes.{IsChange, change_text};
 ghost use Rattle.node_text.specs.Numbers.{spaced};
 
 use crate::error::LineError;
-use crate::names::{name_or_none, push_stored_name};
+use crate::names::{name, push_stored_name};
 use crate::numbers::{number, number32, push_spaced};
 use crate::tables::type_named;
 use std::alloc::{AllocError, Global};
 use table_types::{Change, DataType};
 
 /// Reads a change: `add TYPE N`, `take TYPE N`, `put TYPE N`, `rate TYPE N` or `name NAME`.
-pub(crate) fn change_of(alloc: Global, words: &[&[u8]]) -> Result<Change, LineError> {
+pub fn change_of(alloc: Global, words: &[&[u8]]) -> Result<Change, LineError>
+    ensures { IfOk result (IsChange (map (λ word. word.now) words.now)) }
+{
     match words {
-        [kind, name] if *kind == b"name".as_slice() => {
-            Ok(Change::SetName(name_or_none(alloc, name)?))
-        }
+        [kind, word] => name_change(alloc, kind, word),
         [kind, data_type, word] => number_change(kind, data_type, word).ok_or(LineError::Refused),
         _ => Err(LineError::Refused),
     }
 }
 
+/// Reads a change of the name; `-` stands for none.
+fn name_change(alloc: Global, kind: &[u8], word: &[u8]) -> Result<Change, LineError>
+    ensures { IfOk result (IsChange (kind.now ∷ word.now ∷ [])) }
+{
+    match (kind, word) {
+        (b"name", b"-") => Ok(Change::SetName(None)),
+        (b"name", word) => Ok(Change::SetName(Some(name(alloc, word)?))),
+        _ => Err(LineError::Refused),
+    }
+}
+
 /// Reads a change of the value of a data type.
-fn number_change(kind: &[u8], data_type: &[u8], word: &[u8]) -> Option<Change> {
+fn number_change(kind: &[u8], data_type: &[u8], word: &[u8]) -> Option<Change>
+    ensures { IfSome result (IsChange (kind.now ∷ data_type.now ∷ word.now ∷ [])) }
+{
     let data_type = type_named(data_type)?;
     match kind {
         b"add" => Some(Change::Add(data_type, number(word, u64::MAX)?)),

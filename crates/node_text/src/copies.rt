@@ -11,7 +11,7 @@ use table_types::CopyKind;
 /// The greatest number of rows that a call copies.
 const MOST_COPIED: u32 = 512;
 
-/// Reads a call `copy SESSION push LIMIT MOMENT` or `copy SESSION resync LIMIT MOMENT`, from the words after the first.
+/// Reads a call `copy SESSION KIND LIMIT MOMENT`, where KIND is `push`, `resync` or `standing`, from the words after the first.
 pub(crate) fn copy_of(words: &[&[u8]]) -> Option<Call>
     ensures { IfSome result IsCall }
 {
@@ -31,6 +31,7 @@ pub(crate) fn copy_kind_of(word: &[u8]) -> Option<CopyKind> {
     match word {
         b"push" => Some(CopyKind::Push),
         b"resync" => Some(CopyKind::Resync),
+        b"standing" => Some(CopyKind::Standing),
         _ => None,
     }
 }
@@ -42,6 +43,7 @@ fn copy_kind_name(kind: CopyKind) -> &'static str
     match kind {
         CopyKind::Push => "push",
         CopyKind::Resync => "resync",
+        CopyKind::Standing => "standing",
     }
 }
 

@@ -32,7 +32,9 @@ mod world_lines;
 mod worlds;
 
 pub use acks::push_acks;
-pub use calls::Call;
+pub use bytes::push_hexadecimal;
+pub use calls::{Call, any_key_of};
+pub use changes::change_of;
 pub use error::{LineError, SceneError};
 pub use events::push_event;
 pub use keys::push_key;
@@ -44,7 +46,7 @@ pub use names::{name, push_stored_name};
 pub use numbers::{number, number_from_one, push_number, push_word_and_number};
 pub use refusals::{
     ack_refusal, checkpoint_refusal, close_refusal, copy_refusal, learn_refusal, open_refusal,
-    purge_refusal, track_refusal,
+    purge_refusal, renumber_refusal, track_refusal,
 };
 pub use replies::{push_event_reply, push_reply, settled_name};
 pub use rows::{push_row, push_stored_row};

@@ -1,9 +1,10 @@
 //! Names of a table's refusals. Out of memory has none, since it ends the program.
 ghost use Rattle.std.specs.Prelude.{◌≡◌, option_copied};
-ghost use Rattle.node_text.specs.Refusals.{ack_refusal, checkpoint_refusal, close_refusal, copy_refusal, learn_refusal, open_refusal, purge_refusal, track_refusal};
+ghost use Rattle.node_text.specs.Refusals.{ack_refusal, checkpoint_refusal, close_refusal, copy_refusal, learn_refusal, open_refusal, purge_refusal, renumber_refusal, track_refusal};
 
 use table_cell::{
-    AckError, CheckpointError, CloseError, CopyError, LearnError, OpenError, PurgeError, TrackError,
+    AckError, CheckpointError, CloseError, CopyError, LearnError, OpenError, PurgeError,
+    RenumberError, TrackError,
 };
 
 /// Returns the name of the refusal of a change.
@@ -103,5 +104,15 @@ pub fn checkpoint_refusal(error: CheckpointError) -> Option<&'static str>
     match error {
         CheckpointError::BatchOut => Some("BatchOut"),
         CheckpointError::Memory => None,
+    }
+}
+
+/// Returns the name of the refusal of new numbers.
+pub fn renumber_refusal(error: RenumberError) -> Option<&'static str>
+    ensures { option_copied result ≡ renumber_refusal error }
+{
+    match error {
+        RenumberError::SessionOpen => Some("SessionOpen"),
+        RenumberError::Memory => None,
     }
 }

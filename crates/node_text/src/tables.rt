@@ -1,5 +1,6 @@
 //! Definitions of tables.
-ghost use Rattle.std.specs.Prelude.{◌≡◌, IfOk, true};
+ghost use Rattle.std.specs.Prelude.{◌≡◌, IfOk, IfSome, true};
+ghost use Rattle.table_types.specs.DataTypes.{name_of};
 ghost use Rattle.node_text.specs.Names.{may_name};
 ghost use Rattle.node_text.specs.Worlds.{are_alike};
 
@@ -58,6 +59,8 @@ fn type_of(word: &[u8]) -> Option<(DataType, Option<u32>)> {
 }
 
 /// Returns the data type of this name.
-pub(crate) fn type_named(name: &[u8]) -> Option<DataType> {
+pub(crate) fn type_named(name: &[u8]) -> Option<DataType>
+    ensures { IfSome result (λ data_type. name_of data_type ≡ name.now) }
+{
     DataType::from_name(str::from_utf8(name).ok()?)
 }

@@ -239,10 +239,18 @@ fn copy_of(words: &[&[u8]]) -> Option<WorldStep> {
     Some(WorldStep::Copy {
         session: number32(session)?,
         table: number(table, u64::MAX)?,
-        kind: copy_kind_of(kind)?,
+        kind: step_kind_of(kind)?,
         limit: number32(limit)? as usize,
         moment: moment(word)?,
     })
+}
+
+/// Returns the kind of copies that `word` names. A standing resync isn't a step of a world.
+fn step_kind_of(word: &[u8]) -> Option<CopyKind> {
+    match copy_kind_of(word)? {
+        CopyKind::Standing => None,
+        kind => Some(kind),
+    }
 }
 
 /// Reads a step `deliver SESSION learner COUNT MOMENT` or `deliver SESSION teacher COUNT MOMENT`, from the words after the

@@ -184,6 +184,7 @@ halted {untouched} s e new seat received error out halts is = subst (λ (x : Ses
 push_silent : (n now : ℕ) (k : KnownState) (s t : SeatState) (act : Action) (out : List ℕ) (answer : Option Event) → is_push act ≡ true → Done n now k s act out answer t → out ≡ []
 push_silent n now k s t (actions.Copy table copies.Push) out answer is done = done.0
 push_silent n now k s t (actions.Copy table copies.Resync) out answer is done = done.0
+push_silent n now k s t (actions.Copy table copies.Standing) out answer is done = done.0
 push_silent n now k s t (actions.Send bytes) out answer is done = absurd (false≢true is)
 push_silent n now k s t (actions.Learn u) out answer is done = absurd (false≢true is)
 push_silent n now k s t (actions.Ack table number) out answer is done = absurd (false≢true is)

@@ -5,6 +5,8 @@ mod CalmLaws
 mod EndLaws
 mod HaltLaws
 mod OneActionLaws
+mod PiecesLaws
 mod RunLaws
+mod StayLaws
 mod TakenLaws
 mod TurnLaws

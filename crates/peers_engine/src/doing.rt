@@ -30,7 +30,7 @@ use table_types::{Batch, CopyKind};
 use teach_writer::{Lesson, teach};
 
 /// Writes all of the bytes.
-fn send<W: Write + Faults>(output: &mut W, bytes: &[u8]) -> Result<(), EngineError>
+pub(crate) fn send<W: Write + Faults>(output: &mut W, bytes: &[u8]) -> Result<(), EngineError>
     ensures ok { OnOk result (Appends (W.contents output.old) (W.contents output.new) bytes.now) }
     ensures failed { IfErr result (λ e. Falls bytes.now e (W.contents output.old) (W.contents output.new)) }
 {
@@ -41,7 +41,7 @@ fn send<W: Write + Faults>(output: &mut W, bytes: &[u8]) -> Result<(), EngineErr
 }
 
 /// Writes an error message.
-fn part<W: Write + Faults>(output: &mut W, kind: ErrorKind) -> Result<(), EngineError>
+pub(crate) fn part<W: Write + Faults>(output: &mut W, kind: ErrorKind) -> Result<(), EngineError>
     ensures ok { OnOk result (Appends (W.contents output.old) (W.contents output.new) (error_text kind)) }
     ensures failed { IfErr result (λ e. Falls (error_text kind) e (W.contents output.old) (W.contents output.new)) }
 {
@@ -86,7 +86,7 @@ fn plan<H, G>(context: &Context<H, G>, known: &Known, batch: &Batch) -> Result<L
 
 /// Writes the lesson of a batch, starting from `known`. The batch must be the session's latest one when the writing
 /// begins.
-fn teach_batch<H: Wait, G: Gate, W: Write + Faults>(
+pub(crate) fn teach_batch<H: Wait, G: Gate, W: Write + Faults>(
     context: &Context<H, G>,
     known: &Known,
     output: &mut W,

@@ -1,7 +1,7 @@
 //! The calls on tables that a session asks for. Each takes the table's lock for that call only. The seat keeps an
 //! answer that makes no event and lets the turn go on.
 
-ghost use Rattle.std.specs.Prelude.{◌≡◌, ◌⊎◌, IfErr, IfOk, OnErr, OnOk, Ok};
+ghost use Rattle.std.specs.Prelude.{◌≡◌, ◌⊎◌, ◌≤◌, ℕ, IfErr, IfOk, OnErr, OnOk, Ok};
 ghost use Rattle.peers_engine.specs.Calls.{CallsClose, CallsOpen, IsCopied, IsLearned, IsReopened, IsSettled, IsTaken};
 ghost use Rattle.peers_engine.specs.Doing.{IsRefusal};
 
@@ -12,7 +12,7 @@ use std::sync::{MutexGuard, Wait};
 use table_cell::{AckError, CloseError, CopyError, LearnError, OpenError};
 use table_shards::held::{lent, noted};
 use table_shards::{Locked, Seat, ShardError};
-use table_types::{Batch, CopyKind, Update};
+use table_types::{Batch, CopyKind, Moment, Update};
 
 /// Waits for the lock of `table` and takes it. Nothing else in this crate takes a lock, and no caller passes this one
 /// on, so each is held for one call on a table.
@@ -40,6 +40,40 @@ fn refused<E: Copy + PartialEq>(error: ShardError<E>, memory: E) -> EngineError
     }
 }
 
+/// Returns the turn's moment, or the table's latest one if that is later, so that the table doesn't refuse a call for its moment.
+fn late<H, G>(context: &Context<H, G>, locked: &Locked) -> Moment
+    ensures turn { context.now.moment ≤ result }
+    ensures table { locked.now.state.latest ≤ result }
+{
+    let latest = locked.cell().latest();
+    if latest.milliseconds() < context.moment.milliseconds() {
+        context.moment
+    } else {
+        latest
+    }
+}
+
+/// Learns an update at `now`. A full table skips it.
+fn learn_at(
+    locked: &mut Locked,
+    number: u32,
+    seat: &mut Seat,
+    update: Update,
+    now: Moment,
+) -> Result<(), EngineError>
+    ensures seat { seat.new.number ≡ seat.old.number }
+    ensures learned { OnOk result (IsLearned number now seat.old update seat.new) }
+    ensures refused { IfErr result IsRefusal }
+    ensures stays { OnErr result (seat.new ≡ seat.old) }
+{
+    let table = update.table;
+    match noted::learn(locked, seat, table, number, update, now) {
+        Ok(()) => Ok(()),
+        Err(ShardError::Cell(LearnError::TableFull)) => Ok(()),
+        Err(error) => Err(refused(error, LearnError::Memory)),
+    }
+}
+
 /// Learns an update. A full table skips it.
 pub(crate) fn learn<H: Wait, G>(
     context: &Context<H, G>,
@@ -51,20 +85,24 @@ pub(crate) fn learn<H: Wait, G>(
     ensures refused { IfErr result IsRefusal }
     ensures stays { OnErr result (seat.new ≡ seat.old) }
 {
-    let table = update.table;
-    let mut locked = lock(context, table)?;
-    match noted::learn(
-        &mut locked,
-        seat,
-        table,
-        context.number,
-        update,
-        context.moment,
-    ) {
-        Ok(()) => Ok(()),
-        Err(ShardError::Cell(LearnError::TableFull)) => Ok(()),
-        Err(error) => Err(refused(error, LearnError::Memory)),
-    }
+    let mut locked = lock(context, update.table)?;
+    learn_at(&mut locked, context.number, seat, update, context.moment)
+}
+
+/// Learns an update, at the turn's moment or the table's latest. A full table skips it.
+pub(crate) fn learn_late<H: Wait, G>(
+    context: &Context<H, G>,
+    seat: &mut Seat,
+    update: Update,
+) -> Result<(), EngineError>
+    ensures seat { seat.new.number ≡ seat.old.number }
+    ensures learned { OnOk result ((at : ℕ) × (context.now.moment ≤ at) × IsLearned context.now.number at seat.old update seat.new) }
+    ensures refused { IfErr result IsRefusal }
+    ensures stays { OnErr result (seat.new ≡ seat.old) }
+{
+    let mut locked = lock(context, update.table)?;
+    let now = late(context, &locked);
+    learn_at(&mut locked, context.number, seat, update, now)
 }
 
 /// Passes on an acknowledgement.
@@ -87,6 +125,27 @@ pub(crate) fn acknowledge<H: Wait, G>(
     }
 }
 
+/// Copies a batch at `now`.
+fn copy_at(
+    locked: &mut Locked,
+    number: u32,
+    seat: &mut Seat,
+    table: u64,
+    kind: CopyKind,
+    now: Moment,
+) -> Result<Event, EngineError>
+    ensures seat { seat.new.number ≡ seat.old.number }
+    ensures answer { IfOk result (IsCopied number now seat.old table kind seat.new) }
+    ensures refused { IfErr result IsRefusal }
+    ensures stays { OnErr result (seat.new ≡ seat.old) }
+{
+    match noted::copy(locked, seat, table, number, kind, Batch::MOST, now) {
+        Ok(batch) => Ok(Event::Copied(table, batch)),
+        Err(ShardError::Cell(CopyError::Nothing)) => Ok(Event::Nothing(table)),
+        Err(error) => Err(refused(error, CopyError::Memory)),
+    }
+}
+
 /// Copies a batch.
 pub(crate) fn copy<H: Wait, G>(
     context: &Context<H, G>,
@@ -100,19 +159,31 @@ pub(crate) fn copy<H: Wait, G>(
     ensures stays { OnErr result (seat.new ≡ seat.old) }
 {
     let mut locked = lock(context, table)?;
-    match noted::copy(
+    copy_at(
         &mut locked,
+        context.number,
         seat,
         table,
-        context.number,
         kind,
-        Batch::MOST,
         context.moment,
-    ) {
-        Ok(batch) => Ok(Event::Copied(table, batch)),
-        Err(ShardError::Cell(CopyError::Nothing)) => Ok(Event::Nothing(table)),
-        Err(error) => Err(refused(error, CopyError::Memory)),
-    }
+    )
+}
+
+/// Copies a batch, at the turn's moment or the table's latest.
+pub(crate) fn copy_late<H: Wait, G>(
+    context: &Context<H, G>,
+    seat: &mut Seat,
+    table: u64,
+    kind: CopyKind,
+) -> Result<Event, EngineError>
+    ensures seat { seat.new.number ≡ seat.old.number }
+    ensures answer { IfOk result (λ event. (at : ℕ) × (context.now.moment ≤ at) × IsCopied context.now.number at seat.old table kind seat.new event) }
+    ensures refused { IfErr result IsRefusal }
+    ensures stays { OnErr result (seat.new ≡ seat.old) }
+{
+    let mut locked = lock(context, table)?;
+    let now = late(context, &locked);
+    copy_at(&mut locked, context.number, seat, table, kind, now)
 }
 
 /// Tests that `batch`, which is of one table, is the session's latest one.

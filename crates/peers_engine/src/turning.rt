@@ -31,7 +31,7 @@ use table_shards::{Seat, Shards};
 use table_types::{CopyKind, Moment};
 
 /// Returns the event with which a turn begins.
-fn first_event(state: State) -> Event
+pub(crate) fn first_event(state: State) -> Event
     ensures { result ≡ first_event state }
 {
     match state {
@@ -65,7 +65,7 @@ fn do_all<H: Wait, G: Gate, W: Write + Faults>(
 }
 
 /// Returns whether the actions only copy this node's own rows.
-fn are_pushes(actions: &[Action]) -> bool
+pub(crate) fn are_pushes(actions: &[Action]) -> bool
     ensures { result ≡ list_all is_push actions.now }
 {
     actions.iter().all(|action| matches!(

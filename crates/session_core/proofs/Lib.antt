@@ -1,3 +1,4 @@
+mod BytesRefused
 mod ReceivingLemmas
 mod EndLemmas
 mod ShareLemmas

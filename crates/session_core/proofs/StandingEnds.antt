@@ -8,7 +8,6 @@ use Rattle.std.proofs.lemmas.List.Folds.{list_all-append, list_any-append}
 use Rattle.table_types.specs.Tables.{Definition}
 use Rattle.table_types.specs.declared.copies.Settled.{Settled}
 use Rattle.table_types.specs.declared.copies.Settled.TheVariants as settles
-use Rattle.peers_msg.specs.declared.control.Control.{Control}
 use Rattle.peers_msg.specs.declared.control.Control.TheVariants as controls
 use Rattle.peers_hello.specs.declared.hello.Hello.{Hello}
 use Rattle.peers_hello.specs.declared.hello.Answer.{Answer}
@@ -18,8 +17,6 @@ use Rattle.peers_hello.specs.declared.status.Status.TheVariants as statuses
 use Rattle.peers_hello.specs.Hellos.{answer_of}
 use Rattle.peers_hello.specs.Statuses.{status_of}
 use Rattle.known_state.specs.Known.{KnownState}
-use Rattle.learner.specs.declared.taken.Taken.{Taken}
-use Rattle.learner.specs.declared.taken.Taken.TheVariants as taken
 use Rattle.session_core.specs.declared.action.Action.{Action}
 use Rattle.session_core.specs.declared.action.Action.TheVariants as actions
 use Rattle.session_core.specs.declared.due.Due.{Due}
@@ -35,18 +32,17 @@ use Rattle.session_core.specs.declared.phase.Greeter.TheVariants as greeters
 use Rattle.session_core.specs.declared.share.Share.{Share}
 use Rattle.session_core.specs.Phases.{Phase}
 use Rattle.session_core.specs.Phases as phases
-use Rattle.session_core.specs.Acks.{ack_of}
 use Rattle.session_core.specs.Shares.{any_out, all_quiet, is_out, quiet_set, unquieted}
 use Rattle.session_core.specs.Actions.{sends_control, status_text, reopens}
-use Rattle.session_core.specs.Courses.{Course, course_fed, teaching_anew, requested, acknowledged, ack_received, said, message_received, AreReceived, ReceivesAll, acks_sent, acks_given, table_to_ask, none_due}
+use Rattle.session_core.specs.Courses.{Course, course_fed, teaching_anew, acknowledged, ack_received, ReceivesAll, acks_sent, acks_given, table_to_ask, none_due}
 use Rattle.session_core.specs.Sessions.{SessionState, is_asked, Concludes, ReceivesBytes, IsWelcomed, Connects, Accepts, Greets, GoesIn, GoesNew, GoesHello, GoesOpen, Turns, HasNothing, FinishesResync, StartsPendingResync, Settles}
 use Rattle.session_core.specs.Runs.{is_end, ends_resync, is_copy_of, copies, is_reopen_of, reopened, IsLeft, HasNothingLeft, HasNothingOut, IsBegun}
 use Rattle.session_core.specs.Paces.{inferred, is_ahead}
-use Rattle.session_core.specs.Standing.{StandingState, without_reopens, changed, teaches, put_off, finished_if, finishing, begun_resync, Does, task_at, TakesTurn, Writes, answer_of_refusal, Stands, without_tables, leaving, heartbeats, TicksIn, Ticks}
-use Rattle.session_core.specs.StandingRuns.{Happening, At, Tick, Happens, Lasts, BeginsToStay, acts_of, handed, leaves, was_left}
+use Rattle.session_core.specs.Standing.{StandingState, without_reopens, changed, teaches, shared, put_off, finished_if, finishing, begun_resync, Does, task_at, TakesTurn, Writes, answer_of_refusal, Stands, without_tables, leaving, heartbeats, TicksIn, Ticks, caught_up_in}
+use Rattle.session_core.specs.StandingRuns.{Happening, At, Tick, CatchUp, Happens, Lasts, BeginsToStay, acts_of, handed, leaves, was_left}
 use Rattle.session_core.proofs.ShareLemmas.{shares_in, ids_of, never, unquieted_in, none_out, each_quiet, shares_begin}
 use Rattle.session_core.proofs.EndLemmas.{is_plain, plain_append, plain_all, plain_acks, plain_status, plain_reopens}
-use Rattle.session_core.proofs.RunLemmas.{AreFlags, no_copies, IsDueSound, IsSound, IsCalm, IsFresh, IsKeptIn, due_sound, due_rest, calm_sound, fresh_calm, flags_more, calm_more, left_more, anew_flags, calm_all_received}
+use Rattle.session_core.proofs.RunLemmas.{AreFlags, no_copies, IsDueSound, IsSound, IsCalm, IsFresh, IsKeptIn, due_sound, due_rest, calm_sound, fresh_calm, flags_more, calm_more, anew_flags, calm_all_received}
 use Rattle.session_core.proofs.StepLemmas.{with_step, goes_kept, quieted}
 
 -- ---- actions without the reopenings
@@ -90,70 +86,32 @@ no_end acts given is plain ends = absurd (false≢true (sym plain ∙ (sym (ap e
 
 -- ---- bytes
 
--- a resync under way stays so, whatever is received
-taught_requested : (b : Bool) (c : Course) → c.teaching ≡ true → (requested b c).1.teaching ≡ true
-taught_requested true c so = so
-taught_requested false c so = refl
-
-taught_said : (c : Course) (control : Control) → c.teaching ≡ true → (said c control).1.teaching ≡ true
-taught_said c controls.ResyncRequest so = taught_requested (any_out c.shares) c so
-taught_said c controls.ResyncFinished so = so
-taught_said c controls.ResyncPartial so = so
-taught_said c controls.ResyncConfirmed so = so
-taught_said c controls.Heartbeat so = so
-
-taught_acknowledged : (b : Bool) (c : Course) (table number : ℕ) → c.teaching ≡ true → (acknowledged b c table number).1.teaching ≡ true
-taught_acknowledged true c table number so = so
-taught_acknowledged false c table number so = so
-
-taught_ack : (c : Course) (ack : Option (ℕ × ℕ)) → c.teaching ≡ true → (ack_received c ack).1.teaching ≡ true
-taught_ack c (Some (table, number)) so = taught_acknowledged (is_out table c.shares) c table number so
-taught_ack c None so = so
-
-taught_received : (c : Course) (t : Taken) → c.teaching ≡ true → (message_received c t).1.teaching ≡ true
-taught_received c (taken.Row u) so = so
-taught_received c taken.Passed so = so
-taught_received c (taken.Said control) so = taught_said c control so
-taught_received c (taken.Acked table number) so = taught_ack c (ack_of c.intake.roster (taken.Acked table number)) so
-taught_received c (taken.Failed kind) so = so
-
-taught_all : (c e : Course) (ts : List Taken) (acts : List Action) → AreReceived c ts acts e → c.teaching ≡ true → e.teaching ≡ true
-taught_all c e [] acts (none, here) so = subst (λ (x : Course). x.teaching ≡ true) (sym here) so
-taught_all c e (t ∷ ts) acts (mid, rest, receives, all, later) so =
-    let before : mid.teaching ≡ true = subst (λ (x : Course). x.teaching ≡ true) (sym receives.2) so in
-    taught_all (message_received mid t).1 e ts rest later (taught_received mid t before)
-
 -- the phase after the bytes, in which no resync begins
-abbrev pub AtRest : List ℕ → List (Event × List Action) → Bool → SessionState → Type 0
-AtRest ids steps teaching e = IsKeptIn ids steps (changed (put_off teaching) e.phase)
+abbrev pub AtRest : List ℕ → List (Event × List Action) → Bool → List Share → SessionState → Type 0
+AtRest ids steps teaching shares e = IsKeptIn ids steps (changed (put_off teaching shares) e.phase)
 
-rest_at : (ids : List ℕ) (steps : List (Event × List Action)) (teaching : Bool) (e x : SessionState) → e ≡ x → AtRest ids steps teaching x → AtRest ids steps teaching e
-rest_at ids steps teaching e x is kept = subst (AtRest ids steps teaching) (sym is) kept
+rest_at : (ids : List ℕ) (steps : List (Event × List Action)) (teaching : Bool) (shares : List Share) (e x : SessionState) → e ≡ x → AtRest ids steps teaching shares x → AtRest ids steps teaching shares e
+rest_at ids steps teaching shares e x is kept = subst (AtRest ids steps teaching shares) (sym is) kept
 
-rest_concluded : (ids : List ℕ) (steps : List (Event × List Action)) (s : SessionState) (c mid : Course) (result : Result (Unit {0}) Halt) (event : Event) (first gs given acts : List Action) (e : SessionState) → IsCalm ids steps c → ((id : ℕ) → is_plain id first) → acts ≡ without_reopens given → ReceivesAll c result gs mid → Concludes s mid result (first ++ gs) given e → AtRest ids (with_step steps event acts) c.teaching e
-rest_concluded ids steps s c mid (Ok u) event first gs given acts e calm plain is (ts, are, waits) (all, ends) =
-    let after = calm_all_received ids steps c mid ts gs are calm in
+rest_concluded : (ids : List ℕ) (steps : List (Event × List Action)) (s : SessionState) (c mid : Course) (result : Result (Unit {0}) Halt) (event : Event) (first gs given acts : List Action) (e : SessionState) → IsCalm ids steps c → ((id : ℕ) → is_plain id first) → acts ≡ without_reopens given → ReceivesAll c result gs mid → Concludes s mid result (first ++ gs) given e → AtRest ids (with_step steps event acts) c.teaching c.shares e
+rest_concluded ids steps s c mid (Ok u) event first gs given acts e (out, quiet, flags, none) plain is (ts, are, waits) (all, ends) =
+    let after = calm_all_received ids steps c mid ts gs are (out, quiet, flags, none) in
     let no_copy : (id : ℕ) → copies id acts ≡ false = λ id.
     ap (copies id) is ∙ (copies_without id given ∙ (ap (copies id) all ∙ (plain_append id (first ++ gs) (acks_given mid) (plain_append id first gs (plain id) (plain_all id c mid ts gs are)) (plain_acks id mid.intake)).1)) in
     let left : (id : ℕ) → IsLeft id acts = λ id. (no_copy id, ap (reopened id) is ∙ reopened_without id given) in
-    rest_at ids (with_step steps event acts) c.teaching e _ ends (
-      after.0,
-      after.1,
-      (
-        after.2.0,
-        λ so id quiets.
-            let were = after.2.1 (taught_all c mid ts gs are so) id quiets in
-            (were.0, left_more steps id event acts were.1 (left id)),
-      ),
-      due_sound (with_step steps event acts) c.teaching after.0 after.1 mid.due after.3,
+    rest_at ids (with_step steps event acts) c.teaching c.shares e _ ends (
+      out,
+      quiet,
+      flags_more ids steps c.teaching c.shares out quiet event acts (λ _ id _. left id) flags,
+      due_sound (with_step steps event acts) c.teaching out quiet mid.due after.3,
     )
-rest_concluded ids steps s c mid (Err halts.Failed) event first gs given acts e calm plain is receives (all, ends) = rest_at ids (with_step steps event acts) c.teaching e _ ends tt
-rest_concluded ids steps s c mid (Err (halts.Fault fault)) event first gs given acts e calm plain is receives (all, ends) = rest_at ids (with_step steps event acts) c.teaching e _ ends tt
+rest_concluded ids steps s c mid (Err halts.Failed) event first gs given acts e calm plain is receives (all, ends) = rest_at ids (with_step steps event acts) c.teaching c.shares e _ ends tt
+rest_concluded ids steps s c mid (Err (halts.Fault fault)) event first gs given acts e calm plain is receives (all, ends) = rest_at ids (with_step steps event acts) c.teaching c.shares e _ ends tt
 rest_concluded ids steps s c mid (Err halts.Memory) event first gs given acts e calm plain is receives concludes = absurd concludes
 
 -- the same, and no resync ends
-abbrev pub IsAttended : List ℕ → List (Event × List Action) → Bool → Event → List Action → List Action → SessionState → Type 0
-IsAttended ids steps teaching event given acts e = AtRest ids (with_step steps event acts) teaching e × (ends_resync given ≡ false)
+abbrev pub IsAttended : List ℕ → List (Event × List Action) → Bool → List Share → Event → List Action → List Action → SessionState → Type 0
+IsAttended ids steps teaching shares event given acts e = AtRest ids (with_step steps event acts) teaching shares e × (ends_resync given ≡ false)
 
 plain_concluded : (s : SessionState) (c mid : Course) (result : Result (Unit {0}) Halt) (first gs given : List Action) (e : SessionState) → is_plain 0 first → ReceivesAll c result gs mid → Concludes s mid result (first ++ gs) given e → ends_resync given ≡ false
 plain_concluded s c mid (Ok u) first gs given e plain (ts, are, waits) (all, ends) =
@@ -164,34 +122,34 @@ plain_concluded s c mid (Err (halts.Fault fault)) first gs given e plain (ts, at
     ap ends_resync all ∙ (plain_append 0 (first ++ gs) (actions.Part _ ∷ []) (plain_append 0 first gs plain (plain_all 0 c at_halt ts gs are)) (refl, refl)).0
 plain_concluded s c mid (Err halts.Memory) first gs given e plain receives concludes = absurd concludes
 
-attended : (ids : List ℕ) (steps : List (Event × List Action)) (s : SessionState) (c : Course) (event : Event) (first given acts : List Action) (e : SessionState) → IsCalm ids steps c → ((id : ℕ) → is_plain id first) → acts ≡ without_reopens given → ReceivesBytes s c first given e → IsAttended ids steps c.teaching event given acts e
+attended : (ids : List ℕ) (steps : List (Event × List Action)) (s : SessionState) (c : Course) (event : Event) (first given acts : List Action) (e : SessionState) → IsCalm ids steps c → ((id : ℕ) → is_plain id first) → acts ≡ without_reopens given → ReceivesBytes s c first given e → IsAttended ids steps c.teaching c.shares event given acts e
 attended ids steps s c event first given acts e calm plain is (result, gs, mid, receives, concludes) =
     (rest_concluded ids steps s c mid result event first gs given acts e calm plain is receives concludes, plain_concluded s c mid result first gs given e (plain 0) receives concludes)
 
-attended_welcomed : (ids : List ℕ) (steps : List (Event × List Action)) (b : Bool) (s : SessionState) (c : Course) (rest : List ℕ) (event : Event) (given acts : List Action) (e : SessionState) → IsFresh ids c → acts ≡ without_reopens given → IsWelcomed b s c rest given e → IsAttended ids steps c.teaching event given acts e
+attended_welcomed : (ids : List ℕ) (steps : List (Event × List Action)) (b : Bool) (s : SessionState) (c : Course) (rest : List ℕ) (event : Event) (given acts : List Action) (e : SessionState) → IsFresh ids c → acts ≡ without_reopens given → IsWelcomed b s c rest given e → IsAttended ids steps c.teaching c.shares event given acts e
 attended_welcomed ids steps true s c rest event given acts e fresh is receives = attended ids steps s (course_fed c rest) event (sends_control controls.ResyncRequest ∷ []) given acts e (fresh_calm ids steps c fresh) (λ id. (refl, refl)) is receives
-attended_welcomed ids steps false s c rest event given acts e fresh is (all, ends) = (rest_at ids (with_step steps event acts) c.teaching e _ ends tt, ap ends_resync all)
+attended_welcomed ids steps false s c rest event given acts e fresh is (all, ends) = (rest_at ids (with_step steps event acts) c.teaching c.shares e _ ends tt, ap ends_resync all)
 
 -- a course that begins is fresh also when put off
-fresh_off : (ids : List ℕ) (c : Course) → IsFresh ids c → IsFresh ids (put_off c.teaching c)
+fresh_off : (ids : List ℕ) (c : Course) → IsFresh ids c → IsFresh ids (put_off c.teaching c.shares c)
 fresh_off ids c fresh = fresh
 
-attended_connects : (ids : List ℕ) (steps : List (Event × List Action)) (status : Status) (s : SessionState) (bytes : List ℕ) (c : Course) (event : Event) (given acts : List Action) (e : SessionState) → IsFresh ids c → acts ≡ without_reopens given → Connects status s bytes c given e → IsAttended ids steps c.teaching event given acts e
-attended_connects ids steps statuses.More s bytes c event given acts e fresh is (all, ends) = (rest_at ids (with_step steps event acts) c.teaching e _ ends (fresh_off ids c fresh), ap ends_resync all)
+attended_connects : (ids : List ℕ) (steps : List (Event × List Action)) (status : Status) (s : SessionState) (bytes : List ℕ) (c : Course) (event : Event) (given acts : List Action) (e : SessionState) → IsFresh ids c → acts ≡ without_reopens given → Connects status s bytes c given e → IsAttended ids steps c.teaching c.shares event given acts e
+attended_connects ids steps statuses.More s bytes c event given acts e fresh is (all, ends) = (rest_at ids (with_step steps event acts) c.teaching c.shares e _ ends (fresh_off ids c fresh), ap ends_resync all)
 attended_connects ids steps (statuses.Code code used) s bytes c event given acts e fresh is goes = attended_welcomed ids steps _ s c _ event given acts e fresh is goes
-attended_connects ids steps (statuses.Other used) s bytes c event given acts e fresh is (all, ends) = (rest_at ids (with_step steps event acts) c.teaching e _ ends tt, ap ends_resync all)
+attended_connects ids steps (statuses.Other used) s bytes c event given acts e fresh is (all, ends) = (rest_at ids (with_step steps event acts) c.teaching c.shares e _ ends tt, ap ends_resync all)
 
-attended_accepts : (ids : List ℕ) (steps : List (Event × List Action)) (answer : Answer) (s : SessionState) (greeter : Greeter) (bytes : List ℕ) (c : Course) (event : Event) (given acts : List Action) (e : SessionState) → IsFresh ids c → acts ≡ without_reopens given → Accepts answer s greeter bytes c given e → IsAttended ids steps c.teaching event given acts e
-attended_accepts ids steps answers.More s greeter bytes c event given acts e fresh is (all, ends) = (rest_at ids (with_step steps event acts) c.teaching e _ ends (fresh_off ids c fresh), ap ends_resync all)
+attended_accepts : (ids : List ℕ) (steps : List (Event × List Action)) (answer : Answer) (s : SessionState) (greeter : Greeter) (bytes : List ℕ) (c : Course) (event : Event) (given acts : List Action) (e : SessionState) → IsFresh ids c → acts ≡ without_reopens given → Accepts answer s greeter bytes c given e → IsAttended ids steps c.teaching c.shares event given acts e
+attended_accepts ids steps answers.More s greeter bytes c event given acts e fresh is (all, ends) = (rest_at ids (with_step steps event acts) c.teaching c.shares e _ ends (fresh_off ids c fresh), ap ends_resync all)
 attended_accepts ids steps (answers.Accepted name used) s greeter bytes c event given acts e fresh is goes = attended ids steps s (course_fed c (drop used bytes)) event (actions.Send (status_text 200) ∷ []) given acts e (fresh_calm ids steps c fresh) (λ id. plain_status id 200) is goes
 attended_accepts ids steps (answers.Refused code used) s greeter bytes c event given acts e fresh is (all, ends) =
-    (rest_at ids (with_step steps event acts) c.teaching e _ ends tt, ap ends_resync all ∙ (plain_append 0 (actions.Send (status_text code) ∷ []) (actions.Close ∷ []) (plain_status 0 code) (refl, refl)).0)
+    (rest_at ids (with_step steps event acts) c.teaching c.shares e _ ends tt, ap ends_resync all ∙ (plain_append 0 (actions.Send (status_text code) ∷ []) (actions.Close ∷ []) (plain_status 0 code) (refl, refl)).0)
 
-attended_greets : (ids : List ℕ) (steps : List (Event × List Action)) (s : SessionState) (greeter : Greeter) (bytes : List ℕ) (c : Course) (event : Event) (given acts : List Action) (e : SessionState) → IsFresh ids c → acts ≡ without_reopens given → Greets s greeter bytes c given e → IsAttended ids steps c.teaching event given acts e
+attended_greets : (ids : List ℕ) (steps : List (Event × List Action)) (s : SessionState) (greeter : Greeter) (bytes : List ℕ) (c : Course) (event : Event) (given acts : List Action) (e : SessionState) → IsFresh ids c → acts ≡ without_reopens given → Greets s greeter bytes c given e → IsAttended ids steps c.teaching c.shares event given acts e
 attended_greets ids steps s greeters.Connects bytes c event given acts e fresh is goes = attended_connects ids steps (status_of bytes) s bytes c event given acts e fresh is goes
 attended_greets ids steps s (greeters.Accepts own peers) bytes c event given acts e fresh is goes = attended_accepts ids steps (answer_of own peers bytes) s (greeters.Accepts own peers) bytes c event given acts e fresh is goes
 
-pub attended_in : (ids : List ℕ) (steps : List (Event × List Action)) (phase : Phase) (s : SessionState) (bytes : List ℕ) (given acts : List Action) (e : SessionState) → IsKeptIn ids steps phase → acts ≡ without_reopens given → GoesIn phase s (events.Bytes bytes) given e → IsAttended ids steps (teaches phase) (events.Bytes bytes) given acts e
+pub attended_in : (ids : List ℕ) (steps : List (Event × List Action)) (phase : Phase) (s : SessionState) (bytes : List ℕ) (given acts : List Action) (e : SessionState) → IsKeptIn ids steps phase → acts ≡ without_reopens given → GoesIn phase s (events.Bytes bytes) given e → IsAttended ids steps (teaches phase) (shared phase) (events.Bytes bytes) given acts e
 attended_in ids steps (phases.New hello c) s bytes given acts e kept is goes = absurd goes
 attended_in ids steps (phases.Hello greeter before c) s bytes given acts e kept is goes = attended_greets ids steps s greeter (before ++ bytes) c (events.Bytes bytes) given acts e kept is goes
 attended_in ids steps (phases.Open c) s bytes given acts e (out, quiet, flags, sound) is (due, receives) =
@@ -300,7 +258,7 @@ kept_turn ids steps phases.Ended s e now acts stands kept (goes, paces) = goes_k
 
 kept_stands : (ids : List ℕ) (steps : List (Event × List Action)) (event : Event) (s e : StandingState) (now : ℕ) (acts : List Action) → IsKeptIn ids steps s.session.phase → Stands s now event acts e → IsKeptIn ids (with_step steps event acts) e.session.phase
 kept_stands ids steps (events.Bytes bytes) s e now acts kept (given, mid, goes, is, session, paces) =
-    kept_at ids (with_step steps (events.Bytes bytes) acts) e.session (changed (put_off (teaches s.session.phase)) mid.phase) (ap (λ (x : SessionState). x.phase) session)
+    kept_at ids (with_step steps (events.Bytes bytes) acts) e.session (changed (put_off (teaches s.session.phase) (shared s.session.phase)) mid.phase) (ap (λ (x : SessionState). x.phase) session)
     (attended_in ids steps s.session.phase s.session bytes given acts mid kept is goes).0
 kept_stands ids steps events.Turn s e now acts kept turns = kept_turn ids steps s.session.phase s e now acts refl kept turns
 kept_stands ids steps (events.Copied table batch) s e now acts kept (goes, paces) = goes_kept ids steps s.session.phase s.session (events.Copied table batch) acts e.session kept goes
@@ -547,6 +505,14 @@ end_ticks ds steps false (phases.New hello c) s e now left acts stands kept (lea
 end_ticks ds steps false (phases.Hello greeter bytes c) s e now left acts stands kept (leaves, is, same) comes = never_ends acts (ap ends_resync is) comes
 end_ticks ds steps false phases.Ended s e now left acts stands kept (leaves, is, same) comes = never_ends acts (ap ends_resync is) comes
 
+-- ---- a node that becomes up to date
+
+kept_caught : (ids : List ℕ) (steps : List (Event × List Action)) (left : Bool) (phase : Phase) → IsKeptIn ids steps phase → IsKeptIn ids steps (changed (caught_up_in left) phase)
+kept_caught ids steps left (phases.New hello c) kept = kept
+kept_caught ids steps left (phases.Hello greeter bytes c) kept = kept
+kept_caught ids steps left (phases.Open c) kept = kept
+kept_caught ids steps left phases.Ended kept = tt
+
 -- ---- runs
 
 -- the tables that no tick left
@@ -554,6 +520,7 @@ abbrev pub rest_after : List Definition → List Happening → List Definition
 rest_after ds [] = ds
 rest_after ds (At now event acts ∷ steps) = rest_after ds steps
 rest_after ds (Tick now left acts ∷ steps) = rest_after (staying left ds) steps
+rest_after ds (CatchUp ∷ steps) = rest_after ds steps
 
 pub lasts_kept : (steps : List Happening) (ds : List Definition) (before : List (Event × List Action)) (s e : StandingState) → IsKeptIn (ids_of ds) before s.session.phase → Lasts s steps e → IsKeptIn (ids_of (rest_after ds steps)) (before ++ handed steps) e.session.phase
 lasts_kept [] ds before s e kept here =
@@ -564,26 +531,32 @@ lasts_kept (At now event acts ∷ steps) ds before s e kept (mid, stands, lasts)
     (lasts_kept steps ds (with_step before event acts) mid e (kept_stands (ids_of ds) before event s mid now acts kept stands) lasts)
 lasts_kept (Tick now left acts ∷ steps) ds before s e kept (mid, (asked, ticks), lasts) =
     lasts_kept steps (staying left ds) before mid e (kept_ticks ds before _ s.session.phase s mid now left acts refl asked kept ticks) lasts
+lasts_kept (CatchUp ∷ steps) ds before s e kept (mid, caught, lasts) =
+    lasts_kept steps ds before mid e (subst (λ (x : StandingState). IsKeptIn (ids_of ds) before x.session.phase) (sym caught) (kept_caught (ids_of ds) before s.pace.left s.session.phase kept)) lasts
 
 rest_and_at : (steps : List Happening) (ds : List Definition) (now : ℕ) (event : Event) (acts : List Action) → rest_after ds (steps ++ (At now event acts ∷ [])) ≡ rest_after ds steps
 rest_and_at [] ds now event acts = refl
 rest_and_at (At n given done ∷ steps) ds now event acts = rest_and_at steps ds now event acts
 rest_and_at (Tick n left done ∷ steps) ds now event acts = rest_and_at steps (staying left ds) now event acts
+rest_and_at (CatchUp ∷ steps) ds now event acts = rest_and_at steps ds now event acts
 
 rest_and_tick : (steps : List Happening) (ds : List Definition) (now : ℕ) (left : List ℕ) (acts : List Action) → rest_after ds (steps ++ (Tick now left acts ∷ [])) ≡ staying left (rest_after ds steps)
 rest_and_tick [] ds now left acts = refl
 rest_and_tick (At n given done ∷ steps) ds now left acts = rest_and_tick steps ds now left acts
 rest_and_tick (Tick n others done ∷ steps) ds now left acts = rest_and_tick steps (staying others ds) now left acts
+rest_and_tick (CatchUp ∷ steps) ds now left acts = rest_and_tick steps ds now left acts
 
 handed_and_at : (steps : List Happening) (now : ℕ) (event : Event) (acts : List Action) → handed (steps ++ (At now event acts ∷ [])) ≡ with_step (handed steps) event acts
 handed_and_at [] now event acts = refl
 handed_and_at (At n given done ∷ steps) now event acts = ap (λ (xs : List (Event × List Action)). (given, done) ∷ xs) (handed_and_at steps now event acts)
 handed_and_at (Tick n left done ∷ steps) now event acts = handed_and_at steps now event acts
+handed_and_at (CatchUp ∷ steps) now event acts = handed_and_at steps now event acts
 
 handed_and_tick : (steps : List Happening) (now : ℕ) (left : List ℕ) (acts : List Action) → handed (steps ++ (Tick now left acts ∷ [])) ≡ handed steps
 handed_and_tick [] now left acts = refl
 handed_and_tick (At n given done ∷ steps) now left acts = ap (λ (xs : List (Event × List Action)). (given, done) ∷ xs) (handed_and_tick steps now left acts)
 handed_and_tick (Tick n others done ∷ steps) now left acts = handed_and_tick steps now left acts
+handed_and_tick (CatchUp ∷ steps) now left acts = handed_and_tick steps now left acts
 
 -- ---- each table is taught or was left
 
@@ -605,6 +578,10 @@ at_or : (P : ℕ → Type 0) (now : ℕ) (event : Event) (acts : List Action) (s
 at_or P now event acts steps [] all = tt
 at_or P now event acts steps (d ∷ ds) all = (all.0, at_or P now event acts steps ds all.1)
 
+catch_or : (P : ℕ → Type 0) (steps : List Happening) (ds : List Definition) → AllByRecursion (IsOr P steps) ds → AllByRecursion (IsOr P (CatchUp ∷ steps)) ds
+catch_or P steps [] all = tt
+catch_or P steps (d ∷ ds) all = (all.0, catch_or P steps ds all.1)
+
 none_or : (P : ℕ → Type 0) (ds : List Definition) → AllByRecursion (λ d. P d.id) ds → AllByRecursion (IsOr P []) ds
 none_or P [] all = tt
 none_or P (d ∷ ds) all = (inr all.0, none_or P ds all.1)
@@ -613,6 +590,7 @@ all_or : (P : ℕ → Type 0) (steps : List Happening) (ds : List Definition) �
 all_or P [] ds all = none_or P ds all
 all_or P (At now event acts ∷ steps) ds all = at_or P now event acts steps ds (all_or P steps ds all)
 all_or P (Tick now left acts ∷ steps) ds all = tick_or P now left acts steps ds (all_or P steps (staying left ds) all)
+all_or P (CatchUp ∷ steps) ds all = catch_or P steps ds (all_or P steps ds all)
 
 -- ---- the law
 
@@ -629,6 +607,7 @@ end_happens (Tick now left acts) ds steps s e kept (asked, ticks) comes =
     subst (λ (xs : List Definition). IsTaught xs (handed (steps ++ (Tick now left acts ∷ []))) e.session) (sym (rest_and_tick steps ds now left acts))
     (subst (λ (hs : List (Event × List Action)). IsTaught (staying left (rest_after ds steps)) hs e.session) (sym (handed_and_tick steps now left acts))
     (end_ticks (rest_after ds steps) (handed steps) _ s.session.phase s e now left acts refl kept ticks comes))
+end_happens CatchUp ds steps s e kept caught comes = absurd (false≢true comes)
 
 pub ends_taught_or_left : (roster : List Definition) (begun s e : StandingState) (steps : List Happening) (one : Happening) → BeginsToStay roster begun → Lasts begun steps s → Happens s one e → ends_resync (acts_of one) ≡ true → HasNothingOut e.session × AllByRecursion (λ d. (was_left d.id (steps ++ (one ∷ [])) ≡ true) ⊎ HasNothingLeft (handed (steps ++ (one ∷ []))) d.id) roster
 ends_taught_or_left roster begun s e steps one (first, now, begins, is) lasts happens comes =

@@ -39,9 +39,9 @@ use Rattle.session_core.specs.Actions.{control_text, sends_control, status_text,
 use Rattle.session_core.specs.Courses.{Course, course_fed, teaching_anew, requested, acknowledged, ack_received, said, message_received, AreReceived, ReceivesAll, table_to_ask, finished}
 use Rattle.session_core.specs.Sessions.{SessionState, going, Concludes, ReceivesBytes, IsWelcomed, Connects, Accepts, Greets, GoesIn, GoesNew, GoesHello, GoesOpen, Turns, HasNothing, FinishesResync, StartsPendingResync, Settles}
 use Rattle.session_core.specs.Runs.{is_end, ends_resync, IsBegun}
-use Rattle.session_core.specs.Paces.{inferred, is_ahead}
-use Rattle.session_core.specs.Standing.{StandingState, without_reopens, changed, teaches, put_off, finished_if, finishing, begun_resync, Does, task_at, TakesTurn, Writes, answer_of_refusal, Stands, without_tables, leaving, heartbeats, TicksIn}
-use Rattle.session_core.specs.StandingRuns.{Happening, At, Tick, Happens, Lasts, BeginsToStay, acts_of, handed, leaves_any, is_finish}
+use Rattle.session_core.specs.Paces.{Pace, inferred, is_ahead}
+use Rattle.session_core.specs.Standing.{StandingState, without_reopens, changed, teaches, shared, put_off, finished_if, finishing, begun_resync, Does, task_at, TakesTurn, Writes, answer_of_refusal, Stands, without_tables, leaving, any_left, heartbeats, TicksIn, caught_up_in, caught_up}
+use Rattle.session_core.specs.StandingRuns.{Happening, At, Tick, CatchUp, Happens, Lasts, BeginsToStay, acts_of, handed, leaves_any, is_finish}
 use Rattle.session_core.proofs.ShareLemmas.{ids_of}
 use Rattle.session_core.proofs.EndLemmas.{plain_append, plain_reopens}
 use Rattle.session_core.proofs.RunLemmas.{IsKeptIn}
@@ -196,11 +196,11 @@ up_finished b false c up = up
 up_finishing : (b : Bool) (c : Course) → c.up_to_date ≡ b → (finishing c).1.up_to_date ≡ b
 up_finishing b c up = up_finished b (c.teaching && all_quiet c.shares) c up
 
-up_off : (b teaching : Bool) (phase : Phase) → IsUp b phase → IsUp b (changed (put_off teaching) phase)
-up_off b teaching (phases.New hello c) up = up
-up_off b teaching (phases.Hello greeter bytes c) up = up
-up_off b teaching (phases.Open c) up = up
-up_off b teaching phases.Ended up = tt
+up_off : (b teaching : Bool) (shares : List Share) (phase : Phase) → IsUp b phase → IsUp b (changed (put_off teaching shares) phase)
+up_off b teaching shares (phases.New hello c) up = up
+up_off b teaching shares (phases.Hello greeter bytes c) up = up
+up_off b teaching shares (phases.Open c) up = up
+up_off b teaching shares phases.Ended up = tt
 
 up_does : (b : Bool) (task : Task) (s e : StandingState) (c : Course) (now : ℕ) (acts : List Action) → s.session.phase ≡ phases.Open c → IsUp b s.session.phase → Does task s c now acts e → IsUp b e.session.phase
 up_does b tasks.Copy s e c now acts stands up (goes, paces) = up_in b s.session.phase s.session events.Turn acts e.session up goes
@@ -222,7 +222,7 @@ up_writes b phases.Ended s e now known acts up writes = absurd writes
 
 up_stands : (b : Bool) (event : Event) (s e : StandingState) (now : ℕ) (acts : List Action) → IsUp b s.session.phase → Stands s now event acts e → IsUp b e.session.phase
 up_stands b (events.Bytes bytes) s e now acts up (given, mid, goes, is, session, paces) =
-    up_at b e.session _ session (up_off b (teaches s.session.phase) mid.phase (up_in b s.session.phase s.session (events.Bytes bytes) given mid up goes))
+    up_at b e.session _ session (up_off b (teaches s.session.phase) (shared s.session.phase) mid.phase (up_in b s.session.phase s.session (events.Bytes bytes) given mid up goes))
 up_stands b events.Turn s e now acts up turns = up_turn b s.session.phase s e now acts refl up turns
 up_stands b (events.Written known) s e now acts up writes = up_writes b s.session.phase s e now known acts up writes
 up_stands b (events.Copied table batch) s e now acts up (goes, paces) = up_in b s.session.phase s.session (events.Copied table batch) acts e.session up goes
@@ -234,25 +234,76 @@ up_stands b events.WriteFault s e now acts up (goes, paces) = up_in b s.session.
 up_stands b (events.Nothing table) s e now acts up (goes, paces) = up_in b s.session.phase s.session (events.Nothing table) acts e.session up goes
 up_stands b (events.Settled table settled) s e now acts up (goes, paces) = up_in b s.session.phase s.session (events.Settled table settled) acts e.session up goes
 
+-- ---- whether a table was left
+
+-- no event leaves a table
+left_does : (task : Task) (s e : StandingState) (c : Course) (now : ℕ) (acts : List Action) → Does task s c now acts e → e.pace.left ≡ s.pace.left
+left_does tasks.Copy s e c now acts (goes, paces) = ap (λ (p : Pace). p.left) paces
+left_does tasks.Rest s e c now acts (due, is, same) = ap (λ (x : StandingState). x.pace.left) same
+left_does tasks.Begin s e c now acts (due, is, session, paces) = ap (λ (p : Pace). p.left) paces
+
+left_turn : (phase : Phase) (s e : StandingState) (now : ℕ) (acts : List Action) → TakesTurn phase s now acts e → e.pace.left ≡ s.pace.left
+left_turn (phases.Open c) s e now acts does = left_does (task_at now s.pace c) s e c now acts does
+left_turn (phases.New hello c) s e now acts (goes, paces) = ap (λ (p : Pace). p.left) paces
+left_turn (phases.Hello greeter bytes c) s e now acts (goes, paces) = ap (λ (p : Pace). p.left) paces
+left_turn phases.Ended s e now acts (goes, paces) = ap (λ (p : Pace). p.left) paces
+
+left_writes : (phase : Phase) (s e : StandingState) (now : ℕ) (known : KnownState) (acts : List Action) → Writes phase s now known acts e → e.pace.left ≡ s.pace.left
+left_writes (phases.Open c) s e now known acts (goes, is, paces) = ap (λ (p : Pace). p.left) paces
+left_writes (phases.New hello c) s e now known acts writes = absurd writes
+left_writes (phases.Hello greeter bytes c) s e now known acts writes = absurd writes
+left_writes phases.Ended s e now known acts writes = absurd writes
+
+left_stands : (event : Event) (s e : StandingState) (now : ℕ) (acts : List Action) → Stands s now event acts e → e.pace.left ≡ s.pace.left
+left_stands (events.Bytes bytes) s e now acts (given, mid, goes, is, session, paces) = ap (λ (p : Pace). p.left) paces
+left_stands events.Turn s e now acts turns = left_turn s.session.phase s e now acts turns
+left_stands (events.Written known) s e now acts writes = left_writes s.session.phase s e now known acts writes
+left_stands (events.Copied table batch) s e now acts (goes, paces) = ap (λ (p : Pace). p.left) paces
+left_stands (events.Refused table) s e now acts (goes, paces) = ap (λ (p : Pace). p.left) paces
+left_stands events.Opened s e now acts (goes, paces) = ap (λ (p : Pace). p.left) paces
+left_stands events.End s e now acts (goes, paces) = ap (λ (p : Pace). p.left) paces
+left_stands events.ReadFault s e now acts (goes, paces) = ap (λ (p : Pace). p.left) paces
+left_stands events.WriteFault s e now acts (goes, paces) = ap (λ (p : Pace). p.left) paces
+left_stands (events.Nothing table) s e now acts (goes, paces) = ap (λ (p : Pace). p.left) paces
+left_stands (events.Settled table settled) s e now acts (goes, paces) = ap (λ (p : Pace). p.left) paces
+
 -- ---- ticks
 
--- if a table was left, this node doesn't count as up to date
-abbrev IsMarked : Bool → Phase → Type 0
-IsMarked left phase = left ≡ true → IsUp false phase
+-- a table was left, and this node doesn't count as up to date
+abbrev IsPartial : StandingState → Type 0
+IsPartial s = (s.pace.left ≡ true) × IsUp false s.session.phase
+
+-- if a table was left, this is known, and this node doesn't count as up to date
+abbrev IsMarked : Bool → StandingState → Type 0
+IsMarked left s = left ≡ true → IsPartial s
+
+-- if a tick left no table, one was left before
+left_before : (was : Bool) (now : ℕ) (left : List ℕ) (acts : List Action) → left ≡ [] → (was || leaves_any (Tick now left acts)) ≡ true → was ≡ true
+left_before true now left acts none so = refl
+left_before false now left acts none so = absurd (false≢true (sym (ap (λ (xs : List ℕ). leaves_any (Tick now xs acts)) none) ∙ so))
+
+left_leaving : (was before : Bool) (now : ℕ) (left : List ℕ) (acts : List Action) → (was ≡ true → before ≡ true) → (was || leaves_any (Tick now left acts)) ≡ true → (any_left left || before) ≡ true
+left_leaving true before now [] acts marked so = marked refl
+left_leaving false before now [] acts marked so = absurd (false≢true so)
+left_leaving was before now (table ∷ tables) acts marked so = refl
 
 marked_leaving : (was : Bool) (now : ℕ) (left : List ℕ) (acts : List Action) (c : Course) → (was ≡ true → c.up_to_date ≡ false) → (was || leaves_any (Tick now left acts)) ≡ true → (leaving left c).1.up_to_date ≡ false
 marked_leaving true now [] acts c marked so = marked refl
 marked_leaving false now [] acts c marked so = absurd (false≢true so)
 marked_leaving was now (table ∷ tables) acts c marked so = up_finishing false (without_tables (table ∷ tables) c) refl
 
-marked_still : (was : Bool) (now : ℕ) (left : List ℕ) (acts : List Action) (s e : StandingState) → left ≡ [] → e ≡ s → IsMarked was s.session.phase → IsMarked (was || leaves_any (Tick now left acts)) e.session.phase
-marked_still true now left acts s e none same marked = λ so. subst (λ (x : StandingState). IsUp false x.session.phase) (sym same) (marked refl)
-marked_still false now left acts s e none same marked = λ so. absurd (false≢true (sym (ap (λ (xs : List ℕ). leaves_any (Tick now xs acts)) none) ∙ so))
+marked_still : (was : Bool) (now : ℕ) (left : List ℕ) (acts : List Action) (s e : StandingState) → left ≡ [] → e ≡ s → IsMarked was s → IsMarked (was || leaves_any (Tick now left acts)) e
+marked_still was now left acts s e none same marked = λ so. subst IsPartial (sym same) (marked (left_before was now left acts none so))
 
-marked_ticks : (was silent : Bool) (phase : Phase) (s e : StandingState) (now : ℕ) (left : List ℕ) (acts : List Action) → s.session.phase ≡ phase → IsMarked was s.session.phase → TicksIn silent phase s now left acts e → IsMarked (was || leaves_any (Tick now left acts)) e.session.phase
-marked_ticks was true phase s e now left acts stands marked (leaves, is, session, paces) = λ so. up_at false e.session _ session tt
-marked_ticks was false (phases.Open c) s e now left acts stands marked (leaves, is, session, paces) =
-    λ so. up_at false e.session _ session (marked_leaving was now left acts c (λ was_so. subst (IsUp false) stands (marked was_so)) so)
+marked_ticks : (was silent : Bool) (phase : Phase) (s e : StandingState) (now : ℕ) (left : List ℕ) (acts : List Action) → s.session.phase ≡ phase → IsMarked was s → TicksIn silent phase s now left acts e → IsMarked (was || leaves_any (Tick now left acts)) e
+marked_ticks was true phase s e now left acts stands marked (leaves, is, session, paces) = λ so. (
+  ap (λ (p : Pace). p.left) paces ∙ (marked (left_before was now left acts leaves so)).0,
+  up_at false e.session _ session tt,
+)
+marked_ticks was false (phases.Open c) s e now left acts stands marked (leaves, is, session, paces) = λ so. (
+  ap (λ (p : Pace). p.left) paces ∙ left_leaving was s.pace.left now left acts (λ was_so. (marked was_so).0) so,
+  up_at false e.session _ session (marked_leaving was now left acts c (λ was_so. subst (IsUp false) stands (marked was_so).1) so),
+)
 marked_ticks was false (phases.New hello c) s e now left acts stands marked (leaves, is, same) = marked_still was now left acts s e leaves same marked
 marked_ticks was false (phases.Hello greeter bytes c) s e now left acts stands marked (leaves, is, same) = marked_still was now left acts s e leaves same marked
 marked_ticks was false phases.Ended s e now left acts stands marked (leaves, is, same) = marked_still was now left acts s e leaves same marked
@@ -261,22 +312,38 @@ or_false : (b : Bool) → (b || false) ≡ b
 or_false true = refl
 or_false false = refl
 
-marked_at : (was : Bool) (now : ℕ) (event : Event) (acts : List Action) (s e : StandingState) → IsMarked was s.session.phase → Stands s now event acts e → IsMarked (was || leaves_any (At now event acts)) e.session.phase
-marked_at was now event acts s e marked stands = λ so. up_stands false event s e now acts (marked (sym (or_false was) ∙ so)) stands
+marked_at : (was : Bool) (now : ℕ) (event : Event) (acts : List Action) (s e : StandingState) → IsMarked was s → Stands s now event acts e → IsMarked (was || leaves_any (At now event acts)) e
+marked_at was now event acts s e marked stands = λ so.
+    let before : IsPartial s = marked (sym (or_false was) ∙ so) in
+    (left_stands event s e now acts stands ∙ before.0, up_stands false event s e now acts before.1 stands)
 
-marked_happens : (was : Bool) (one : Happening) (s e : StandingState) → IsMarked was s.session.phase → Happens s one e → IsMarked (was || leaves_any one) e.session.phase
+-- if a table was left, this node can't become up to date
+up_caught : (left : Bool) (phase : Phase) → left ≡ true → IsUp false phase → IsUp false (changed (caught_up_in left) phase)
+up_caught false phase so up = absurd (false≢true so)
+up_caught true (phases.New hello c) so up = ap (λ (b : Bool). b || false) up
+up_caught true (phases.Hello greeter bytes c) so up = ap (λ (b : Bool). b || false) up
+up_caught true (phases.Open c) so up = ap (λ (b : Bool). b || false) up
+up_caught true phases.Ended so up = tt
+
+marked_caught : (was : Bool) (s e : StandingState) → IsMarked was s → e ≡ caught_up s → IsMarked (was || false) e
+marked_caught was s e marked caught = λ so.
+    let before : IsPartial s = marked (sym (or_false was) ∙ so) in
+    subst IsPartial (sym caught) (before.0, up_caught s.pace.left s.session.phase before.0 before.1)
+
+marked_happens : (was : Bool) (one : Happening) (s e : StandingState) → IsMarked was s → Happens s one e → IsMarked (was || leaves_any one) e
 marked_happens was (At now event acts) s e marked stands = marked_at was now event acts s e marked stands
 marked_happens was (Tick now left acts) s e marked (asked, ticks) = marked_ticks was _ s.session.phase s e now left acts refl marked ticks
+marked_happens was CatchUp s e marked caught = marked_caught was s e marked caught
 
 or_assoc : (a b c : Bool) → ((a || b) || c) ≡ (a || (b || c))
 or_assoc true b c = refl
 or_assoc false b c = refl
 
-marked_lasts : (steps : List Happening) (was : Bool) (s e : StandingState) → IsMarked was s.session.phase → Lasts s steps e → IsMarked (was || list_any leaves_any steps) e.session.phase
+marked_lasts : (steps : List Happening) (was : Bool) (s e : StandingState) → IsMarked was s → Lasts s steps e → IsMarked (was || list_any leaves_any steps) e
 marked_lasts [] was s e marked here =
-    subst (λ (b : Bool). IsMarked b e.session.phase) (sym (or_false was)) (subst (λ (x : StandingState). IsMarked was x.session.phase) (sym here) marked)
+    subst (λ (b : Bool). IsMarked b e) (sym (or_false was)) (subst (IsMarked was) (sym here) marked)
 marked_lasts (one ∷ steps) was s e marked (mid, happens, lasts) =
-    subst (λ (b : Bool). IsMarked b e.session.phase) (or_assoc was (leaves_any one) (list_any leaves_any steps))
+    subst (λ (b : Bool). IsMarked b e) (or_assoc was (leaves_any one) (list_any leaves_any steps))
     (marked_lasts steps (was || leaves_any one) mid e (marked_happens was one s mid marked happens) lasts)
 
 -- ---- who sends resync finished
@@ -387,16 +454,17 @@ partial_ticks false phases.Ended s e now left acts (leaves, is, same) = ap (list
 
 -- ---- the law
 
-none_left_by : (was : Bool) (one : Happening) (ds : List Definition) (steps : List (Event × List Action)) (s e : StandingState) → IsKeptIn (ids_of ds) steps s.session.phase → IsMarked was s.session.phase → Happens s one e → list_any is_finish (acts_of one) ≡ true → (was || (leaves_any one || false)) ≡ false
+none_left_by : (was : Bool) (one : Happening) (ds : List Definition) (steps : List (Event × List Action)) (s e : StandingState) → IsKeptIn (ids_of ds) steps s.session.phase → IsMarked was s → Happens s one e → list_any is_finish (acts_of one) ≡ true → (was || (leaves_any one || false)) ≡ false
 none_left_by was (Tick now left acts) ds steps s e kept marked (asked, ticks) finishes =
     absurd (false≢true (sym (partial_ticks _ s.session.phase s e now left acts ticks) ∙ finishes))
+none_left_by was CatchUp ds steps s e kept marked caught finishes = absurd (false≢true finishes)
 none_left_by false (At now event acts) ds steps s e kept marked stands finishes = refl
 none_left_by true (At now event acts) ds steps s e kept marked stands finishes =
-    absurd (false≢true (sym (partial_stands ds steps event s e now acts kept (marked refl) stands) ∙ finishes))
+    absurd (false≢true (sym (partial_stands ds steps event s e now acts kept (marked refl).1 stands) ∙ finishes))
 
 pub finished_leaves_none : (roster : List Definition) (begun s e : StandingState) (steps : List Happening) (one : Happening) → BeginsToStay roster begun → Lasts begun steps s → Happens s one e → list_any is_finish (acts_of one) ≡ true → list_any leaves_any (steps ++ (one ∷ [])) ≡ false
 finished_leaves_none roster begun s e steps one (first, now, begins, is) lasts happens finishes =
     let start : IsKeptIn (ids_of roster) [] begun.session.phase = subst (λ (x : StandingState). IsKeptIn (ids_of roster) [] x.session.phase) (sym is) (begun_kept roster first begins) in
-    let marked : IsMarked (false || list_any leaves_any steps) s.session.phase = marked_lasts steps false begun s (λ so. absurd (false≢true so)) lasts in
+    let marked : IsMarked (false || list_any leaves_any steps) s = marked_lasts steps false begun s (λ so. absurd (false≢true so)) lasts in
     list_any-append leaves_any steps (one ∷ [])
     ∙ none_left_by (list_any leaves_any steps) one (rest_after roster steps) (handed steps) s e (lasts_kept steps roster [] begun s start lasts) marked happens finishes

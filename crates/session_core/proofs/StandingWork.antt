@@ -4,12 +4,8 @@ use Rattle.std.proofs.lemmas.Bool.{false≢true}
 use Rattle.table_types.specs.Tables.{Definition}
 use Rattle.table_types.specs.declared.copies.Settled.{Settled}
 use Rattle.table_types.specs.declared.copies.Settled.TheVariants as settles
-use Rattle.peers_msg.specs.declared.control.Control.{Control}
-use Rattle.peers_msg.specs.declared.control.Control.TheVariants as controls
 use Rattle.peers_hello.specs.declared.hello.Hello.{Hello}
 use Rattle.known_state.specs.Known.{KnownState}
-use Rattle.learner.specs.declared.taken.Taken.{Taken}
-use Rattle.learner.specs.declared.taken.Taken.TheVariants as taken
 use Rattle.session_core.specs.declared.action.Action.{Action}
 use Rattle.session_core.specs.declared.event.Event.{Event}
 use Rattle.session_core.specs.declared.event.Event.TheVariants as events
@@ -21,14 +17,13 @@ use Rattle.session_core.specs.declared.phase.Greeter.{Greeter}
 use Rattle.session_core.specs.declared.share.Share.{Share}
 use Rattle.session_core.specs.Phases.{Phase}
 use Rattle.session_core.specs.Phases as phases
-use Rattle.session_core.specs.Acks.{ack_of}
-use Rattle.session_core.specs.Shares.{any_out, all_quiet, is_out, out_set, quiet_set, unquieted}
-use Rattle.session_core.specs.Courses.{Course, course_fed, teaching_anew, requested, acknowledged, ack_received, said, message_received, Receives, AreReceived, ReceivesAll, table_to_ask}
+use Rattle.session_core.specs.Shares.{any_out, all_quiet, is_out, out_set, quiet_set}
+use Rattle.session_core.specs.Courses.{Course, course_fed, teaching_anew, acknowledged, ack_received, table_to_ask}
 use Rattle.session_core.specs.Sessions.{SessionState, going, Concludes, ReceivesBytes, GoesIn, GoesNew, GoesHello, GoesOpen, Turns, HasNothing, FinishesResync, StartsPendingResync, Settles}
 use Rattle.session_core.specs.Runs.{IsBegun}
 use Rattle.session_core.specs.Paces.{inferred, is_ahead}
-use Rattle.session_core.specs.Standing.{StandingState, changed, teaches, put_off, finished_if, finishing, Does, task_at, TakesTurn, Writes, answer_of_refusal, Stands, without_tables, leaving, TicksIn}
-use Rattle.session_core.specs.StandingRuns.{Happening, At, Tick, Happens, Lasts, BeginsToStay, HasWork}
+use Rattle.session_core.specs.Standing.{StandingState, changed, teaches, shared, put_off, finished_if, finishing, Does, task_at, TakesTurn, Writes, answer_of_refusal, Stands, without_tables, leaving, TicksIn, caught_up_in}
+use Rattle.session_core.specs.StandingRuns.{Happening, At, Tick, CatchUp, Happens, Lasts, BeginsToStay, HasWork}
 
 abbrev IsOrderlyCourse : Course → Type 0
 IsOrderlyCourse c = (c.waits ≡ false) × (c.teaching ≡ true → all_quiet c.shares ≡ false)
@@ -47,78 +42,41 @@ clash b off so = absurd (false≢true (sym off ∙ so))
 
 -- ---- bytes
 
--- tables that aren't all quiet aren't all quiet anew
-busy_anew : (ss : List Share) → all_quiet ss ≡ false → all_quiet (unquieted ss) ≡ false
-busy_anew [] busy = absurd (false≢true (sym busy))
-busy_anew (s ∷ ss) busy = refl
+-- what bytes leave, if before them a resync was under way or not, and these tables were shared
+abbrev IsLeftBy : Bool → List Share → Phase → Type 0
+IsLeftBy teaching shares (phases.New hello c) = teaching ≡ false
+IsLeftBy teaching shares (phases.Hello greeter bytes c) = teaching ≡ false
+IsLeftBy teaching shares (phases.Open c) = teaching ≡ true → all_quiet shares ≡ false
+IsLeftBy teaching shares phases.Ended = Unit {0}
 
-busy_requested : (b : Bool) (c : Course) → all_quiet c.shares ≡ false → all_quiet (requested b c).1.shares ≡ false
-busy_requested true c busy = busy
-busy_requested false c busy = busy_anew c.shares busy
+put_off_orderly : (teaching : Bool) (shares : List Share) (phase : Phase) → IsLeftBy teaching shares phase → IsOrderly (changed (put_off teaching shares) phase)
+put_off_orderly teaching shares (phases.New hello c) left = (left, refl)
+put_off_orderly teaching shares (phases.Hello greeter bytes c) left = (left, refl)
+put_off_orderly teaching shares (phases.Open c) left = (refl, left)
+put_off_orderly teaching shares phases.Ended left = tt
 
-busy_said : (c : Course) (control : Control) → all_quiet c.shares ≡ false → all_quiet (said c control).1.shares ≡ false
-busy_said c controls.ResyncRequest busy = busy_requested (any_out c.shares) c busy
-busy_said c controls.ResyncFinished busy = busy
-busy_said c controls.ResyncPartial busy = busy
-busy_said c controls.ResyncConfirmed busy = busy
-busy_said c controls.Heartbeat busy = busy
+left_untaught : (teaching : Bool) (shares : List Share) (phase : Phase) → teaching ≡ false → IsLeftBy teaching shares phase
+left_untaught teaching shares (phases.New hello c) off = off
+left_untaught teaching shares (phases.Hello greeter bytes c) off = off
+left_untaught teaching shares (phases.Open c) off = λ so. clash teaching off so
+left_untaught teaching shares phases.Ended off = tt
 
-busy_acknowledged : (b : Bool) (c : Course) (table number : ℕ) → all_quiet c.shares ≡ false → all_quiet (acknowledged b c table number).1.shares ≡ false
-busy_acknowledged true c table number busy = busy
-busy_acknowledged false c table number busy = busy
+left_at : (teaching : Bool) (shares : List Share) (e x : SessionState) → e ≡ x → IsLeftBy teaching shares x.phase → IsLeftBy teaching shares e.phase
+left_at teaching shares e x is left = subst (λ (y : SessionState). IsLeftBy teaching shares y.phase) (sym is) left
 
-busy_ack : (c : Course) (ack : Option (ℕ × ℕ)) → all_quiet c.shares ≡ false → all_quiet (ack_received c ack).1.shares ≡ false
-busy_ack c (Some (table, number)) busy = busy_acknowledged (is_out table c.shares) c table number busy
-busy_ack c None busy = busy
+left_concluded : (teaching : Bool) (shares : List Share) (s : SessionState) (c : Course) (result : Result (Unit {0}) Halt) (given acts : List Action) (e : SessionState) → (teaching ≡ true → all_quiet shares ≡ false) → Concludes s c result given acts e → IsLeftBy teaching shares e.phase
+left_concluded teaching shares s c (Ok u) given acts e busy (is, ends) = left_at teaching shares e _ ends busy
+left_concluded teaching shares s c (Err halts.Failed) given acts e busy (is, ends) = left_at teaching shares e _ ends tt
+left_concluded teaching shares s c (Err (halts.Fault fault)) given acts e busy (is, ends) = left_at teaching shares e _ ends tt
+left_concluded teaching shares s c (Err halts.Memory) given acts e busy concludes = absurd concludes
 
-busy_received : (c : Course) (t : Taken) → all_quiet c.shares ≡ false → all_quiet (message_received c t).1.shares ≡ false
-busy_received c (taken.Row u) busy = busy
-busy_received c taken.Passed busy = busy
-busy_received c (taken.Said control) busy = busy_said c control busy
-busy_received c (taken.Acked table number) busy = busy_ack c (ack_of c.intake.roster (taken.Acked table number)) busy
-busy_received c (taken.Failed kind) busy = busy
+left_received : (teaching : Bool) (shares : List Share) (s : SessionState) (c : Course) (first acts : List Action) (e : SessionState) → (teaching ≡ true → all_quiet shares ≡ false) → ReceivesBytes s c first acts e → IsLeftBy teaching shares e.phase
+left_received teaching shares s c first acts e busy (result, given, mid, receives, concludes) = left_concluded teaching shares s mid result (first ++ given) acts e busy concludes
 
-busy_all : (c e : Course) (ts : List Taken) (acts : List Action) → AreReceived c ts acts e → all_quiet c.shares ≡ false → all_quiet e.shares ≡ false
-busy_all c e [] acts (none, here) busy = subst (λ (x : Course). all_quiet x.shares ≡ false) (sym here) busy
-busy_all c e (t ∷ ts) acts (mid, rest, receives, all, later) busy =
-    let before : all_quiet mid.shares ≡ false = subst (λ (x : Course). all_quiet x.shares ≡ false) (sym receives.2) busy in
-    busy_all (message_received mid t).1 e ts rest later (busy_received mid t before)
-
--- what the bytes leave, if a resync was under way or not before them
-abbrev IsLeftBy : Bool → Phase → Type 0
-IsLeftBy teaching (phases.New hello c) = teaching ≡ false
-IsLeftBy teaching (phases.Hello greeter bytes c) = teaching ≡ false
-IsLeftBy teaching (phases.Open c) = teaching ≡ true → all_quiet c.shares ≡ false
-IsLeftBy teaching phases.Ended = Unit {0}
-
-put_off_orderly : (teaching : Bool) (phase : Phase) → IsLeftBy teaching phase → IsOrderly (changed (put_off teaching) phase)
-put_off_orderly teaching (phases.New hello c) left = (left, refl)
-put_off_orderly teaching (phases.Hello greeter bytes c) left = (left, refl)
-put_off_orderly teaching (phases.Open c) left = (refl, left)
-put_off_orderly teaching phases.Ended left = tt
-
-left_untaught : (teaching : Bool) (phase : Phase) → teaching ≡ false → IsLeftBy teaching phase
-left_untaught teaching (phases.New hello c) off = off
-left_untaught teaching (phases.Hello greeter bytes c) off = off
-left_untaught teaching (phases.Open c) off = λ so. clash teaching off so
-left_untaught teaching phases.Ended off = tt
-
-left_at : (teaching : Bool) (e x : SessionState) → e ≡ x → IsLeftBy teaching x.phase → IsLeftBy teaching e.phase
-left_at teaching e x is left = subst (λ (y : SessionState). IsLeftBy teaching y.phase) (sym is) left
-
-left_concluded : (s : SessionState) (c mid : Course) (result : Result (Unit {0}) Halt) (first given acts : List Action) (e : SessionState) (teaching : Bool) → ReceivesAll c result given mid → Concludes s mid result (first ++ given) acts e → (teaching ≡ true → all_quiet c.shares ≡ false) → IsLeftBy teaching e.phase
-left_concluded s c mid (Ok u) first given acts e teaching (ts, are, waits) (is, ends) busy = left_at teaching e _ ends (λ so. busy_all c mid ts given are (busy so))
-left_concluded s c mid (Err halts.Failed) first given acts e teaching receives (is, ends) busy = left_at teaching e _ ends tt
-left_concluded s c mid (Err (halts.Fault fault)) first given acts e teaching receives (is, ends) busy = left_at teaching e _ ends tt
-left_concluded s c mid (Err halts.Memory) first given acts e teaching receives concludes busy = absurd concludes
-
-left_received : (s : SessionState) (c : Course) (first acts : List Action) (e : SessionState) (teaching : Bool) → ReceivesBytes s c first acts e → (teaching ≡ true → all_quiet c.shares ≡ false) → IsLeftBy teaching e.phase
-left_received s c first acts e teaching (result, given, mid, receives, concludes) busy = left_concluded s c mid result first given acts e teaching receives concludes busy
-
-left_bytes : (phase : Phase) (s : SessionState) (bytes : List ℕ) (acts : List Action) (e : SessionState) → IsOrderly phase → GoesIn phase s (events.Bytes bytes) acts e → IsLeftBy (teaches phase) e.phase
+left_bytes : (phase : Phase) (s : SessionState) (bytes : List ℕ) (acts : List Action) (e : SessionState) → IsOrderly phase → GoesIn phase s (events.Bytes bytes) acts e → IsLeftBy (teaches phase) (shared phase) e.phase
 left_bytes (phases.New hello c) s bytes acts e orderly goes = absurd goes
-left_bytes (phases.Hello greeter kept c) s bytes acts e orderly goes = left_untaught c.teaching e.phase orderly.0
-left_bytes (phases.Open c) s bytes acts e orderly (due, receives) = left_received s (course_fed c bytes) [] acts e c.teaching receives orderly.1
+left_bytes (phases.Hello greeter kept c) s bytes acts e orderly goes = left_untaught c.teaching c.shares e.phase orderly.0
+left_bytes (phases.Open c) s bytes acts e orderly (due, receives) = left_received c.teaching c.shares s (course_fed c bytes) [] acts e orderly.1 receives
 left_bytes phases.Ended s bytes acts e orderly goes = absurd goes
 
 -- ---- changes of the tables
@@ -250,7 +208,7 @@ no_bytes false table = tt
 
 orderly_stands : (event : Event) (s e : StandingState) (now : ℕ) (acts : List Action) → IsOrderly s.session.phase → Stands s now event acts e → IsOrderly e.session.phase
 orderly_stands (events.Bytes bytes) s e now acts orderly (given, mid, goes, is, session, pace) =
-    at_phase e.session _ session (put_off_orderly (teaches s.session.phase) mid.phase (left_bytes s.session.phase s.session bytes given mid orderly goes))
+    at_phase e.session _ session (put_off_orderly (teaches s.session.phase) (shared s.session.phase) mid.phase (left_bytes s.session.phase s.session bytes given mid orderly goes))
 orderly_stands events.Turn s e now acts orderly turns = orderly_turn s.session.phase s e now acts orderly turns
 orderly_stands (events.Copied table batch) s e now acts orderly (goes, pace) = orderly_in s.session.phase s.session (events.Copied table batch) acts e.session tt orderly goes
 orderly_stands (events.Written known) s e now acts orderly writes = orderly_writes s.session.phase s e now known acts orderly writes
@@ -273,9 +231,16 @@ orderly_ticks false (phases.New hello c) s e now left acts here orderly (leaves,
 orderly_ticks false (phases.Hello greeter bytes c) s e now left acts here orderly (leaves, is, same) = subst (λ (x : StandingState). IsOrderly x.session.phase) (sym same) orderly
 orderly_ticks false phases.Ended s e now left acts here orderly (leaves, is, same) = subst (λ (x : StandingState). IsOrderly x.session.phase) (sym same) orderly
 
+orderly_caught : (left : Bool) (phase : Phase) → IsOrderly phase → IsOrderly (changed (caught_up_in left) phase)
+orderly_caught left (phases.New hello c) orderly = orderly
+orderly_caught left (phases.Hello greeter bytes c) orderly = orderly
+orderly_caught left (phases.Open c) orderly = orderly
+orderly_caught left phases.Ended orderly = tt
+
 orderly_happens : (one : Happening) (s e : StandingState) → IsOrderly s.session.phase → Happens s one e → IsOrderly e.session.phase
 orderly_happens (At now event acts) s e orderly stands = orderly_stands event s e now acts orderly stands
 orderly_happens (Tick now left acts) s e orderly (asked, ticks) = orderly_ticks _ s.session.phase s e now left acts orderly orderly ticks
+orderly_happens CatchUp s e orderly caught = subst (λ (x : StandingState). IsOrderly x.session.phase) (sym caught) (orderly_caught s.pace.left s.session.phase orderly)
 
 -- ---- runs
 

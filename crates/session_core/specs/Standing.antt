@@ -12,6 +12,7 @@ use Rattle.session_core.specs.declared.event.Event.TheVariants as events
 use Rattle.session_core.specs.declared.stay.Stay.{Stay}
 use Rattle.session_core.specs.declared.pace.Task.{Task}
 use Rattle.session_core.specs.declared.pace.Task.TheVariants as tasks
+use Rattle.session_core.specs.declared.share.Share.{Share}
 use Rattle.session_core.specs.Phases.{Phase}
 use Rattle.session_core.specs.Phases as phases
 use Rattle.session_core.specs.Shares.{any_out, all_quiet}
@@ -81,6 +82,12 @@ teaches (phases.Hello greeter bytes c) = c.teaching
 teaches (phases.Open c) = c.teaching
 teaches phases.Ended = false
 
+abbrev pub shared : Phase → List Share
+shared (phases.New hello c) = c.shares
+shared (phases.Hello greeter bytes c) = c.shares
+shared (phases.Open c) = c.shares
+shared phases.Ended = []
+
 abbrev pub is_reopen : Action → Bool
 is_reopen (actions.Reopen table) = true
 is_reopen action = false
@@ -93,9 +100,9 @@ abbrev pub is_requested : Bool → List Action → Phase → Bool
 is_requested teaching given (phases.Open c) = c.waits || (c.teaching && not teaching) || list_any is_reopen given
 is_requested teaching given phase = false
 
--- No resync begins, and none waits in the session itself. If the bytes took back that tables are quiet, that stays so.
-abbrev pub put_off : Bool → Course → Course
-put_off teaching c = record c { teaching = teaching; waits = false }
+-- No resync begins, and none waits in the session itself: whether one is under way, and what is shared, is as before.
+abbrev pub put_off : Bool → List Share → Course → Course
+put_off teaching shares c = record c { teaching = teaching; shares = shares; waits = false }
 
 -- Bytes are received, and the acknowledgements in them are noted. What the session would begin at a resync request is
 -- left to a turn.
@@ -105,7 +112,7 @@ Listens s now bytes acts e =
     × (mid : SessionState)
     × Goes s.session (events.Bytes bytes) given mid
     × (acts ≡ without_reopens given)
-    × (e.session ≡ in_phase mid (changed (put_off (teaches s.session.phase)) mid.phase))
+    × (e.session ≡ in_phase mid (changed (put_off (teaches s.session.phase) (shared s.session.phase)) mid.phase))
     × (e.pace ≡ record (paced s.session.phase now (events.Bytes bytes) given s.pace) {
       requested = s.pace.requested || is_requested (teaches s.session.phase) given mid.phase;
       progress = noted given s.pace.progress;
@@ -184,13 +191,17 @@ abbrev pub leaving : List ℕ → Course → List Action × Course
 leaving [] c = ([], c)
 leaving (table ∷ tables) c = finishing (without_tables (table ∷ tables) c)
 
+abbrev pub any_left : List ℕ → Bool
+any_left [] = false
+any_left (table ∷ tables) = true
+
 abbrev pub heartbeats : Bool → List Action
 heartbeats true = sends_control controls.Heartbeat ∷ []
 heartbeats false = []
 
 -- At a tick, a session that has received nothing for too long closes. Any other open session leaves the tables `left` first,
--- in which it is to be closed, and then asks for the actions `acts`: the end of a resync, if only these tables held it up, and
--- a heartbeat, if it has sent nothing for too long.
+-- in which it is to be closed and opened anew, and then asks for the actions `acts`: the end of a resync, if only these tables
+-- held it up, and a heartbeat, if it has sent nothing for too long.
 abbrev pub TicksIn : Bool → Phase → StandingState → ℕ → List ℕ → List Action → StandingState → Type 0
 TicksIn true phase s now left acts e =
     (left ≡ []) × (acts ≡ actions.Close ∷ []) × (e.session ≡ ended s.session) × (e.pace ≡ s.pace)
@@ -198,7 +209,7 @@ TicksIn false (phases.Open c) s now left acts e =
     (left ≡ tables_to_leave now s.pace.progress c.shares)
     × (acts ≡ (leaving left c).0 ++ heartbeats (has_passed heartbeat_time s.pace.sent now))
     × (e.session ≡ going s.session (leaving left c).1)
-    × (e.pace ≡ record s.pace { sent = renewed (list_any is_send acts) now s.pace.sent })
+    × (e.pace ≡ record s.pace { sent = renewed (list_any is_send acts) now s.pace.sent; left = any_left left || s.pace.left })
 TicksIn false phase s now left acts e = (left ≡ []) × (acts ≡ []) × (e ≡ s)
 
 -- a tick may come whenever a turn may
@@ -206,3 +217,13 @@ abbrev pub Ticks : StandingState → ℕ → List ℕ → List Action → Standi
 Ticks s now left acts e =
     (is_asked s.session.phase events.Turn ≡ true)
     × TicksIn (has_passed silence_time s.pace.heard now) s.session.phase s now left acts e
+
+-- ---- a node that becomes up to date
+
+-- resyncs end as finished from then on, unless a table was left
+abbrev pub caught_up_in : Bool → Course → Course
+caught_up_in left c = record c { up_to_date = c.up_to_date || not left }
+
+-- this node is up to date from then on
+abbrev pub caught_up : StandingState → StandingState
+caught_up s = record { session = in_phase s.session (changed (caught_up_in s.pace.left) s.session.phase); pace = s.pace }

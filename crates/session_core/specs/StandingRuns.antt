@@ -15,17 +15,19 @@ use Rattle.session_core.specs.Actions.{control_text}
 use Rattle.session_core.specs.Sessions.{SessionState}
 use Rattle.session_core.specs.Runs.{IsBegun}
 use Rattle.session_core.specs.Paces.{has_passed, heartbeat_time}
-use Rattle.session_core.specs.Standing.{StandingState, Stands, Ticks, stays_from, is_open, heartbeats}
+use Rattle.session_core.specs.Standing.{StandingState, Stands, Ticks, stays_from, is_open, any_left, heartbeats, caught_up}
 
--- What happened at a moment: an event, with the actions that it asked for; or a tick, with the tables that it left and
--- the actions that it asked for.
+-- What happened: at a moment, an event, with the actions that it asked for; at a moment, a tick, with the tables that it left
+-- and the actions that it asked for; or this node became up to date.
 pub data Happening : Type 0 where
   At : ℕ → Event → List Action → Happening
   Tick : ℕ → List ℕ → List Action → Happening
+  CatchUp : Happening
 
 abbrev pub Happens : StandingState → Happening → StandingState → Type 0
 Happens s (At now event acts) e = Stands s now event acts e
 Happens s (Tick now left acts) e = Ticks s now left acts e
+Happens s CatchUp e = e ≡ caught_up s
 
 -- a run: what happened, in order
 abbrev pub Lasts : StandingState → List Happening → StandingState → Type 0
@@ -39,6 +41,7 @@ BeginsToStay roster s = (begun : SessionState) × (now : ℕ) × IsBegun roster 
 abbrev pub acts_of : Happening → List Action
 acts_of (At now event acts) = acts
 acts_of (Tick now left acts) = acts
+acts_of CatchUp = []
 
 -- ---- ticks that only keep the connection
 
@@ -46,15 +49,17 @@ abbrev pub is_close : Action → Bool
 is_close actions.Close = true
 is_close action = false
 
--- a tick that leaves no table and doesn't close, or an event
+-- anything but a tick that leaves a table or closes
 abbrev pub IsIdle : Happening → Type 0
 IsIdle (At now event acts) = Unit {0}
 IsIdle (Tick now left acts) = (left ≡ []) × (list_any is_close acts ≡ false)
+IsIdle CatchUp = Unit {0}
 
 abbrev pub without_ticks : List Happening → List Happening
 without_ticks [] = []
 without_ticks (At now event acts ∷ steps) = At now event acts ∷ without_ticks steps
 without_ticks (Tick now left acts ∷ steps) = without_ticks steps
+without_ticks (CatchUp ∷ steps) = CatchUp ∷ without_ticks steps
 
 -- what such a tick asks for in this phase
 abbrev pub beats : Phase → StandingState → ℕ → List Action
@@ -86,15 +91,17 @@ was_acknowledged table number steps = list_any (brings_ack table number) steps
 
 -- ---- resyncs
 
--- the events and what they asked for, without the ticks
+-- the events and what they asked for
 abbrev pub handed : List Happening → List (Event × List Action)
 handed [] = []
 handed (At now event acts ∷ steps) = (event, acts) ∷ handed steps
 handed (Tick now left acts ∷ steps) = handed steps
+handed (CatchUp ∷ steps) = handed steps
 
 abbrev pub leaves : ℕ → Happening → Bool
 leaves table (At now event acts) = false
 leaves table (Tick now left acts) = list_any (λ id. id == table) left
+leaves table CatchUp = false
 
 -- some tick left the table
 abbrev pub was_left : ℕ → List Happening → Bool
@@ -102,8 +109,8 @@ was_left table steps = list_any (leaves table) steps
 
 abbrev pub leaves_any : Happening → Bool
 leaves_any (At now event acts) = false
-leaves_any (Tick now [] acts) = false
-leaves_any (Tick now (table ∷ tables) acts) = true
+leaves_any (Tick now left acts) = any_left left
+leaves_any CatchUp = false
 
 abbrev pub is_finish : Action → Bool
 is_finish (actions.Send bytes) = is_same bytes (control_text controls.ResyncFinished)

@@ -8,6 +8,7 @@ ghost use Rattle.session_core.specs.Courses.{course_begun, teaching_anew, table_
 ghost use Rattle.session_core.specs.declared.due.Due.TheVariants as dues;
 
 use crate::action::{Action, push};
+use crate::controls::Controls;
 use crate::due::Due;
 use crate::error::SessionError;
 use crate::share::{Share, next_table, set_out, set_quiet, shares_of, unquiet};
@@ -34,6 +35,8 @@ pub(crate) struct Course {
     pub(crate) waits: bool,
     /// The actions not answered yet, in the order in which their answers are due.
     pub(crate) due: Vec<Due>,
+    /// The control messages received, which no contract counts.
+    pub(crate) controls: Controls,
 }
 
 impl Model for Course {
@@ -78,6 +81,7 @@ impl Course {
             teaching: false,
             waits: false,
             due: Vec::new(alloc),
+            controls: Controls::none(),
         })
     }
 

@@ -4,6 +4,7 @@
 
 mod acks;
 mod action;
+mod controls;
 mod course;
 mod due;
 mod error;
@@ -28,6 +29,7 @@ mod times;
 
 pub use acks::ack_of;
 pub use action::Action;
+pub use controls::Controls;
 pub use error::SessionError;
 pub use event::Event;
 pub use laws::{

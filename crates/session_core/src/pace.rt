@@ -39,6 +39,8 @@ pub(crate) struct Pace {
     pub(crate) reopened: Option<u64>,
     /// Whether a resync request of the remote peer waits.
     pub(crate) requested: bool,
+    /// Whether a table was left.
+    pub(crate) left: bool,
     /// The progress in each table, in roster order.
     pub(crate) progress: Vec<Progress>,
 }
@@ -48,7 +50,7 @@ impl Model for Pace {
 
     ghost Value = { Pace };
 
-    ghost view = { λ p. record { sent = p.sent; heard = p.heard; opened = p.opened; reopened = p.reopened; requested = p.requested; progress = p.progress.items } };
+    ghost view = { λ p. record { sent = p.sent; heard = p.heard; opened = p.opened; reopened = p.reopened; requested = p.requested; left = p.left; progress = p.progress.items } };
 }
 
 impl Pace {
@@ -62,6 +64,7 @@ impl Pace {
             opened: now,
             reopened: None,
             requested: false,
+            left: false,
             progress: progress_of(alloc, roster.tables(), now)?,
         })
     }
@@ -86,6 +89,13 @@ impl Pace {
         ensures { self.new ≡ record self.old { requested = self.old.requested || requested } }
     {
         self.requested = self.requested || requested;
+    }
+
+    /// Notes whether a table was left.
+    pub(crate) fn leave(&mut self, left: bool)
+        ensures { self.new ≡ record self.old { left = left || self.old.left } }
+    {
+        self.left = left || self.left;
     }
 
     /// Notes that a resync begins, and whether bytes were sent.

@@ -111,6 +111,7 @@ impl Course {
         ensures actions { OnOk result (actions.new.items ≡ actions.old.items ++ (said self.old control).0) }
         ensures course { OnOk result (self.new ≡ (said self.old control).1) }
     {
+        self.controls.count(control);
         match control {
             Control::ResyncRequest => self.request(actions),
             Control::ResyncFinished | Control::ResyncPartial => {

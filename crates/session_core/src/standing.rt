@@ -3,9 +3,10 @@
 ghost use Rattle.std.specs.Prelude.{◌≡◌, IfOk, IfErr, OnErr};
 ghost use Rattle.session_core.specs.declared.event.Event.TheVariants as events;
 ghost use Rattle.session_core.specs.Sessions.{Refuses, ended, state_of};
-ghost use Rattle.session_core.specs.Standing.{Stands, Ticks, stays_from};
+ghost use Rattle.session_core.specs.Standing.{Stands, Ticks, stays_from, caught_up};
 
 use crate::action::Action;
+use crate::controls::Controls;
 use crate::error::SessionError;
 use crate::event::Event;
 use crate::pace::Pace;
@@ -89,6 +90,11 @@ impl Standing {
         self.stay.machine.confirmed
     }
 
+    /// Returns how often the remote peer has sent each control message. No contract says what is counted.
+    pub fn controls(&self) -> Controls {
+        self.stay.machine.course.controls
+    }
+
     /// Returns the actions to perform at `event`, in order. Refuses events as a `Session` does.
     pub fn on(&mut self, event: Event, now: Moment) -> Result<Vec<Action>, SessionError>
         ensures stands { IfOk result (λ acts. Stands self.old now event acts.items self.new) }
@@ -102,9 +108,9 @@ impl Standing {
         given
     }
 
-    /// Returns what to do at a tick: the tables in which the session is to be closed, and then the actions to perform, in
-    /// order. The caller answers none of them. A tick may come whenever `Turn` may; if neither may, the session refuses the
-    /// tick for the cause for which it would refuse `Turn`.
+    /// Returns what to do at a tick: the tables in which the session is to be closed and opened anew, and then the actions to
+    /// perform, in order. The caller answers none of them. A tick may come whenever `Turn` may; if neither may, the session
+    /// refuses the tick for the cause for which it would refuse `Turn`.
     pub fn tick(&mut self, now: Moment) -> Result<Ticked, SessionError>
         ensures ticks { IfOk result (λ t. Ticks self.old now t.left.items t.actions.items self.new) }
         ensures refused { IfErr result (λ e. Refuses self.old.session.phase events.Turn e) }
@@ -115,5 +121,12 @@ impl Standing {
             self.stay.machine.stage = Stage::Ended;
         }
         ticked
+    }
+
+    /// Notes that this node is up to date: from now on the session's resyncs end as finished, unless a tick left a table.
+    pub fn catch_up(&mut self)
+        ensures { self.new ≡ caught_up self.old }
+    {
+        self.stay.catch_up();
     }
 }

@@ -47,8 +47,7 @@ pub fn acknowledgements_were_received()
 
 /// A resync doesn't outlast its work: in every run from the beginning, a session that teaches in a resync shares a table
 /// that hasn't yet answered that it has nothing to teach. So the resync is over once the last of these tables has answered
-/// so, or a tick has left it. A request that comes while no batch is out takes such answers back. That a table ever answers
-/// so isn't said.
+/// so, or a tick has left it. No bytes take such an answer back. That a table ever answers so isn't said.
 pub fn a_resync_has_work_left()
     ensures { (roster : List Definition) (begun s : StandingState) (steps : List Happening) →
         BeginsToStay roster begun → Lasts begun steps s → HasWork s.session.phase }

@@ -1,6 +1,6 @@
 //! The steps of a session that stays.
 
-ghost use Rattle.std.specs.Prelude.{◌≡◌, ◌||◌, ◌++◌, [], ℕ, true, false, IfOk, IfErr, OnOk, OnErr};
+ghost use Rattle.std.specs.Prelude.{◌≡◌, ◌||◌, ◌++◌, [], List, ℕ, true, false, IfOk, IfErr, OnOk, OnErr};
 ghost use Rattle.known_state.specs.Known.{KnownState};
 ghost use Rattle.std.specs.List.{list_any};
 ghost use Rattle.session_core.specs.declared.event.Event.TheVariants as events;
@@ -13,7 +13,7 @@ ghost use Rattle.session_core.specs.Phases as phases;
 ghost use Rattle.session_core.specs.Courses.{is_due, none_due};
 ghost use Rattle.session_core.specs.Sessions.{Keeps, Refuses, IsWhy, phase_of, is_asked};
 ghost use Rattle.session_core.specs.Paces.{has_passed, heartbeat_time, is_ahead};
-ghost use Rattle.session_core.specs.Standing.{stood, is_open, brings_bytes, is_lesson, is_send, is_reopen, is_requested, without_reopens, Listens, Does, task_at, TakesTurn, Writes, Stands, Ticks, TicksIn, HandsOn, answer_of_refusal, heartbeats};
+ghost use Rattle.session_core.specs.Standing.{stood, is_open, brings_bytes, is_lesson, is_send, is_reopen, is_requested, without_reopens, Listens, Does, task_at, TakesTurn, Writes, Stands, Ticks, TicksIn, HandsOn, answer_of_refusal, any_left, heartbeats, caught_up};
 
 use crate::action::Action;
 use crate::course::is_due;
@@ -25,6 +25,7 @@ use crate::pace::{Pace, Task};
 use crate::phase::Stage;
 use crate::progress::{inferred, is_ahead, last_number, note_acks, note_copy, tables_to_leave};
 use crate::receiving::push_control;
+use crate::share::copy_of;
 use known_state::Known;
 use peers_msg::Control;
 use std::alloc::Global;
@@ -33,9 +34,10 @@ use table_types::{Batch, Items, Memory, Settled};
 /// What a session that stays asks for at a tick.
 #[derive(Debug, Drop)]
 pub struct Ticked {
-    /// The tables in which the session is to be closed, before any of the actions is performed. From then on, no action
-    /// copies from them, reopens the session in them or passes on an acknowledgement of them. The session still asks to learn
-    /// rows of them that the remote peer teaches.
+    /// The tables in which the session is to be closed and opened anew, before any of the actions is performed, so that no
+    /// batch of them is out. From then on, no action copies from them, reopens the session in them or passes on an
+    /// acknowledgement of them. The session still asks to learn rows of them that the remote peer teaches, for which it has
+    /// to be open there.
     pub left: Vec<u64>,
     /// The actions to perform, in order.
     pub actions: Vec<Action>,
@@ -117,6 +119,13 @@ fn remove_reopens(actions: &mut Vec<Action>)
     actions.retain(|action| !is_reopen(action));
 }
 
+/// Returns whether there are tables that are left.
+fn any_left(left: &[u64]) -> bool
+    ensures { result ≡ any_left left.now }
+{
+    !left.is_empty()
+}
+
 impl Stay {
     /// Returns whether the session is open.
     fn is_open(&self) -> bool
@@ -158,6 +167,19 @@ impl Stay {
         }
     }
 
+    /// Fails if no bytes may come: with `Ended` if the session is over, and otherwise with `Unasked`.
+    fn check_bytes(&self) -> Result<(), SessionError>
+        ensures asked { OnOk result ((bytes : List ℕ) → is_asked (phase_of self.now.machine.stage self.now.machine.course) (events.Bytes bytes) ≡ true) }
+        ensures refused { IfErr result (λ e. (bytes : List ℕ) → Refuses (phase_of self.now.machine.stage self.now.machine.course) (events.Bytes bytes) e) }
+    {
+        match &self.machine.stage {
+            Stage::Hello(_, _) => Ok(()),
+            Stage::Open if self.machine.course.none_due() => Ok(()),
+            Stage::Open | Stage::New(_) => Err(SessionError::Unasked),
+            Stage::Ended => Err(SessionError::Ended),
+        }
+    }
+
     /// Receives bytes, and leaves what a resync request begins to a turn.
     fn listen(
         &mut self,
@@ -169,12 +191,14 @@ impl Stay {
         ensures refused { IfErr result (λ e. Refuses (phase_of self.old.machine.stage self.old.machine.course) (events.Bytes bytes) e) }
         ensures kept { OnErr result (Keeps self.old.machine self.new.machine) }
     {
+        self.check_bytes()?;
+        let shares = copy_of(alloc, self.machine.course.shares.as_slice())?;
         let teaching = self.machine.course.teaching;
         let mut actions = self.hand_on(alloc, Event::Bytes(bytes), now)?;
         let requested = self.is_requested(teaching, actions.as_slice());
         self.pace.request(requested);
         note_acks(&mut self.pace.progress, actions.as_slice());
-        self.machine.course.put_off(teaching);
+        self.machine.course.put_off(teaching, shares);
         remove_reopens(&mut actions);
         Ok(actions)
     }
@@ -366,6 +390,7 @@ impl Stay {
         self.beat(alloc, &mut actions, now)?;
         self.pace
             .note(any_send(actions.as_slice()), false, true, now);
+        self.pace.leave(any_left(left.as_slice()));
         Ok(Ticked { left, actions })
     }
 
@@ -409,5 +434,12 @@ impl Stay {
         } else {
             self.tick_heard(alloc, now)
         }
+    }
+
+    /// Makes resyncs end as finished from now on, unless a table was left.
+    pub(crate) fn catch_up(&mut self)
+        ensures { stood self.new ≡ caught_up (stood self.old) }
+    {
+        self.machine.course.catch_up(self.pace.left);
     }
 }

@@ -12,10 +12,11 @@ use Rattle.table_types.specs.declared.copies.CopyKind.{CopyKind}
 use Rattle.table_types.specs.Rows.{StoredRow}
 use Rattle.table_types.specs.Tables.{Definition}
 use Rattle.table_cell.specs.Copying.{update_of}
-use Rattle.table_cell.specs.Machine.{TableState, acknowledged_by, is_unacked, progress_of, unacked}
+use Rattle.table_cell.specs.Machine.{TableState, acknowledged_by, bound_by, in_reach, is_unacked, progress_of, unacked}
 use Rattle.table_cell.specs.Soundness.{NumbersRise}
 use Rattle.table_cell.specs.Histories.{AreAscending}
 use Rattle.table_cell.proofs.RowsLaws.{rise_each, rise_filter}
+use Rattle.table_cell.proofs.ReachLaws.{reach_rise}
 
 all_above : (d : Definition) (now number next : ℕ) (es : List (Key × StoredRow)) → AllByRecursion (λ (e : Key × StoredRow). (number + 1 ≤ e.1.number) × (e.1.number < next)) es
     → AllByRecursion (λ y. nat_cmp number y ≡ Less) (map (λ (u : Update). u.number) (map (update_of d now) es))
@@ -42,5 +43,6 @@ taken_ascend (suc n) (u ∷ us) (first, rest) = (all_taken (λ y. nat_cmp u.numb
 pub unacked_ascend : (s : TableState) (session : ℕ) (kind : CopyKind) (limit now : ℕ) → NumbersRise 1 s.next s.rows → AreAscending (unacked s session kind now limit)
 unacked_ascend s session kind limit now rise =
     let low = acknowledged_by (progress_of session s) in
-    let due = filter (is_unacked kind low now) s.rows in
-    taken_ascend limit (map (update_of s.definition now) due) (updates_ascend s.definition now 1 s.next due (rise_filter (is_unacked kind low now) 1 s.next s.rows rise))
+    let reach = in_reach kind (bound_by (progress_of session s)) s.rows in
+    let due = filter (is_unacked kind low now) reach in
+    taken_ascend limit (map (update_of s.definition now) due) (updates_ascend s.definition now 1 s.next due (rise_filter (is_unacked kind low now) 1 s.next reach (reach_rise kind (bound_by (progress_of session s)) 1 s.next s.rows rise)))

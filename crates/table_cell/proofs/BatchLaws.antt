@@ -23,8 +23,9 @@ use Rattle.table_types.specs.Batches.{IsUpdateFor, IsBatchFor}
 use Rattle.table_rows.specs.Rows.{is_live}
 use Rattle.table_types.specs.declared.copies.CopyKind.{CopyKind}
 use Rattle.table_cell.specs.Copying.{value_of, life_left, update_of}
-use Rattle.table_cell.specs.Machine.{TableState, is_unacked, is_copied, acknowledged_by, progress_of, unacked}
+use Rattle.table_cell.specs.Machine.{TableState, bound_by, in_reach, is_unacked, is_copied, acknowledged_by, progress_of, unacked}
 use Rattle.table_cell.specs.Soundness.{CellFits, CellsFit, EndFits, EntryFits, IsSound}
+use Rattle.table_cell.proofs.ReachLaws.{reach_all}
 use Rattle.table_cell.proofs.StepLaws.{all_take, later_sound}
 
 -- ---- values
@@ -165,6 +166,7 @@ pub copied_batch : (s : TableState) (session : ℕ) (kind : CopyKind) (limit now
 copied_batch s session kind limit now sound later few =
     let d = s.definition in
     let low = acknowledged_by (progress_of session s) in
-    let all = map (update_of d now) (filter (is_unacked kind low now) s.rows) in
+    let bound = bound_by (progress_of session s) in
+    let all = map (update_of d now) (filter (is_unacked kind low now) (in_reach kind bound s.rows)) in
     let short : length (unacked s session kind now limit) ≤ limit = take_short limit all in
-    (omega arith, all_take (IsUpdateFor (d ∷ [])) limit all (due_fit d kind low now s.rows sound.definition (later_sound s now sound later)))
+    (omega arith, all_take (IsUpdateFor (d ∷ [])) limit all (due_fit d kind low now (in_reach kind bound s.rows) sound.definition (reach_all (EntryFits d now) kind bound s.rows (later_sound s now sound later))))

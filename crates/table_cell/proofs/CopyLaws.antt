@@ -10,7 +10,7 @@ use Rattle.table_types.specs.declared.copies.CopyKind.{CopyKind}
 use Rattle.table_cell.specs.declared.errors.CopyError.{CopyError}
 use Rattle.table_cell.specs.declared.errors.CopyError.TheVariants as uncopied
 use Rattle.table_cell.specs.declared.progress.Progress.{Progress}
-use Rattle.table_cell.specs.Machine.{TableState, acknowledged_by, is_unacked, copied, copy_refusal, is_out, last_number, progress_of, teaching, unacked, with_progress}
+use Rattle.table_cell.specs.Machine.{TableState, acknowledged_by, bound_by, in_reach, is_unacked, copied, copy_refusal, is_out, last_number, progress_of, teaching, unacked, with_progress}
 use Rattle.table_cell.proofs.RowsLaws.{some_none}
 use Rattle.table_cell.proofs.StepLaws.{passes}
 
@@ -69,11 +69,14 @@ none_mapped f (Some a) none = absurd (true≢false none)
 
 -- nothing is copied
 pub nothing_unacked : (s : TableState) (session : ℕ) (kind : CopyKind) (now limit : ℕ) (progress : Progress) → progress_of session s ≡ Some progress
-    → slice_get (filter (is_unacked kind progress.acknowledged now) s.rows) 0 ≡ None → nat_eq (length (unacked s session kind now limit)) 0 ≡ true
+    → slice_get (filter (is_unacked kind progress.acknowledged now) (in_reach kind progress.bound s.rows)) 0 ≡ None → nat_eq (length (unacked s session kind now limit)) 0 ≡ true
 nothing_unacked s session kind now limit progress at none =
     let number : acknowledged_by (progress_of session s) ≡ progress.acknowledged = ap acknowledged_by at in
-    let empty : filter (is_unacked kind (acknowledged_by (progress_of session s)) now) s.rows ≡ [] =
-    ap (λ (n : ℕ). filter (is_unacked kind n now) s.rows) number ∙ empty_list (filter (is_unacked kind progress.acknowledged now) s.rows) none in
+    let bound : bound_by (progress_of session s) ≡ progress.bound = ap bound_by at in
+    let empty : filter (is_unacked kind (acknowledged_by (progress_of session s)) now) (in_reach kind (bound_by (progress_of session s)) s.rows) ≡ [] =
+    ap (λ (n : ℕ). filter (is_unacked kind n now) (in_reach kind (bound_by (progress_of session s)) s.rows)) number
+    ∙ ap (λ (n : ℕ). filter (is_unacked kind progress.acknowledged now) (in_reach kind n s.rows)) bound
+    ∙ empty_list (filter (is_unacked kind progress.acknowledged now) (in_reach kind progress.bound s.rows)) none in
     ap (λ (l : List (Key × StoredRow)). nat_eq (length (take limit (map (update_of s.definition now) l))) 0) empty ∙ ap (λ (l : List Update). nat_eq (length l) 0) (take_none limit)
 
 pub nothing_refused : (full : Bool) (s : TableState) (session : ℕ) (kind : CopyKind) (limit now : ℕ) (progress : Progress) → progress_of session s ≡ Some progress
@@ -92,6 +95,15 @@ nothing_refused full s session kind limit now progress at later none_out nothing
         else (if length (unacked s session kind now limit) == 0 then Some uncopied.Nothing
         else (if full then Some uncopied.HistoryFull
         else None)))
+
+-- ---- what is copied
+
+pub unacked_is : (s : TableState) (session : ℕ) (kind : CopyKind) (now limit number bound : ℕ) (us : List Update) → us ≡ take limit (map (update_of s.definition now) (filter (is_unacked kind number now) (in_reach kind bound s.rows)))
+    → number ≡ acknowledged_by (progress_of session s) → bound ≡ bound_by (progress_of session s) → us ≡ unacked s session kind now limit
+unacked_is s session kind now limit number bound us is acknowledged reach =
+    is
+    ∙ ap (λ (n : ℕ). take limit (map (update_of s.definition now) (filter (is_unacked kind n now) (in_reach kind bound s.rows)))) acknowledged
+    ∙ ap (λ (n : ℕ). take limit (map (update_of s.definition now) (filter (is_unacked kind (acknowledged_by (progress_of session s)) now) (in_reach kind n s.rows)))) reach
 
 -- ---- what is taught
 

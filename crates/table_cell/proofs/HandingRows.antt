@@ -7,16 +7,19 @@ use Rattle.std.proofs.lemmas.Bool.{cond-true, cond_both, ltb-true, lt-ltb, and_p
 use Rattle.table_types.specs.declared.key.Key.{Key}
 use Rattle.table_types.specs.declared.update.Update.{Update}
 use Rattle.table_types.specs.declared.copies.CopyKind.{CopyKind}
+use Rattle.table_types.specs.declared.copies.CopyKind.TheVariants as kinds
 use Rattle.table_types.specs.Keys.{key_cmp}
 use Rattle.table_types.specs.Tables.{Definition}
 use Rattle.table_types.specs.Rows.{StoredRow}
 use Rattle.table_types.proofs.EqualKeysAreOne.{key_cmp-same}
 use Rattle.table_rows.specs.Rows.{goes_past, is_live, row_at}
 use Rattle.table_cell.specs.Copying.{update_of}
-use Rattle.table_cell.specs.Machine.{is_copied, is_unacked, last_number}
+use Rattle.table_cell.specs.Machine.{in_reach, is_copied, is_unacked, last_number}
+use Rattle.table_cell.specs.Parts.{is_in_reach}
 use Rattle.table_cell.specs.Soundness.{KeysDiffer, NumbersRise}
 use Rattle.table_cell.specs.Handing.{Ascend, IsHanded, IsLastOfItsKey, IsNoOlder, numbers}
 use Rattle.table_cell.proofs.RowsLaws.{none_parts}
+use Rattle.table_cell.proofs.ReachLaws.{is_up_to}
 
 -- ---- elements
 
@@ -51,6 +54,28 @@ in_filter p x (y ∷ ys) (inl same) passes =
     subst (IsIn x) (sym (cond-true (p y) (y ∷ filter p ys) (filter p ys) (ap p (sym same) ∙ passes))) (inl same)
 in_filter p x (y ∷ ys) (inr later) passes =
     cond_both (p y) (y ∷ filter p ys) (filter p ys) (IsIn x) (λ _. inr (in_filter p x ys later passes)) (λ _. in_filter p x ys later passes)
+
+pub passing : {A : Type 0} (p : A → Bool) (x : A) (xs : List A) → IsIn x (filter p xs) → p x ≡ true
+passing p x [] at = absurd at
+passing p x (y ∷ ys) at =
+    cond_both (p y) (y ∷ filter p ys) (filter p ys) (λ (l : List _). IsIn x l → p x ≡ true)
+    (λ passes both. elim both [
+      | inl same ↦ ap p same ∙ passes
+      | inr later ↦ passing p x ys later
+    ])
+    (λ _ later. passing p x ys later)
+    at
+
+-- a row in the reach of a copy
+pub reach_in : (kind : CopyKind) (bound : ℕ) (e : Key × StoredRow) (rows : List (Key × StoredRow)) → IsIn e rows → is_in_reach kind bound e.1 ≡ true → IsIn e (in_reach kind bound rows)
+reach_in kinds.Push bound e rows at near = at
+reach_in kinds.Resync bound e rows at near = at
+reach_in kinds.Standing bound e rows at near = in_filter (is_up_to bound) e rows at near
+
+pub reach_from : (kind : CopyKind) (bound : ℕ) (e : Key × StoredRow) (rows : List (Key × StoredRow)) → IsIn e (in_reach kind bound rows) → IsIn e rows
+reach_from kinds.Push bound e rows at = at
+reach_from kinds.Resync bound e rows at = at
+reach_from kinds.Standing bound e rows at = from_filter (is_up_to bound) e rows at
 
 pub all_append : {A : Type 0} (P : A → Type 0) (xs ys : List A) → AllByRecursion P xs → AllByRecursion P ys → AllByRecursion P (xs ++ ys)
 all_append P [] ys front back = back

@@ -16,7 +16,7 @@ use Rattle.table_cell.specs.declared.events.CellReply.TheVariants as replies
 use Rattle.table_cell.specs.declared.progress.Progress.{Progress}
 use Rattle.table_cell.specs.Machine.{TableState, Step, acknowledging, last_number, no_progress, progress_of, unacked, with_progress}
 use Rattle.table_cell.specs.Histories.{CellState, Made, batch_in, batch_of, is_copy_of}
-use Rattle.table_cell.specs.Soundness.{IsProgressBelow}
+use Rattle.table_cell.specs.Soundness.{IsBoundBelow, IsProgressBelow}
 use Rattle.table_cell.specs.Handing.{handed_after, handed_since, is_about, is_open_of, is_push_of, resyncs_after, resyncs_since, updates_in}
 use Rattle.table_cell.proofs.RowsLaws.{some_none}
 
@@ -100,6 +100,19 @@ below_next n next p (e ∷ es) (first, rest) at = elim (cases_Bool (nat_eq e.0 n
     same_some : (a b : Progress) → ◌≡◌ {A = Option Progress} (Some a) (Some b) → a ≡ b
     same_some a b is = cc
 
+-- and its bound is a number that was assigned
+pub bound_next : (n next : ℕ) (p : Progress) (es : List (ℕ × Progress)) → AllByRecursion (IsBoundBelow next) es → lookup (λ id. id == n) es ≡ Some p → p.bound < next
+bound_next n next p [] all at = absurd (some_none p (sym at))
+bound_next n next p (e ∷ es) (first, rest) at = elim (cases_Bool (nat_eq e.0 n)) [
+  | inl own ↦
+      let is : e.1 ≡ p = same_some e.1 p (sym (cond-true (nat_eq e.0 n) (Some e.1) (lookup (λ id. id == n) es) own) ∙ at) in
+      subst (λ (q : Progress). q.bound < next) is first
+  | inr other ↦ bound_next n next p es rest (sym (cond-false (nat_eq e.0 n) (Some e.1) (lookup (λ id. id == n) es) other) ∙ at)
+]
+  where
+    same_some : (a b : Progress) → ◌≡◌ {A = Option Progress} (Some a) (Some b) → a ≡ b
+    same_some a b is = cc
+
 pub same_progress : (a b : Progress) → ◌≡◌ {A = Option Progress} (Some a) (Some b) → a ≡ b
 same_progress a b is = cc
 
@@ -108,6 +121,7 @@ same_progress a b is = cc
 no_push : (n : ℕ) (event : CellEvent) → is_copy_of n event ≡ false → is_push_of n event ≡ false
 no_push n (events.Copy id kinds.Push limit now) none = none
 no_push n (events.Copy id kinds.Resync limit now) none = refl
+no_push n (events.Copy id kinds.Standing limit now) none = refl
 no_push n (events.Track seat key change now) none = refl
 no_push n (events.Learn session u now) none = refl
 no_push n (events.Ack session number) none = refl
@@ -134,6 +148,7 @@ resyncs_as_before n resyncs event reply no_open no_copy =
 abbrev pub is_resync : CopyKind → Bool
 is_resync kinds.Push = false
 is_resync kinds.Resync = true
+is_resync kinds.Standing = true
 
 pub handed_copy : (n : ℕ) (us : List Update) (kind : CopyKind) (limit now : ℕ) (vs : List Update) → handed_after n us (events.Copy n kind limit now, replies.Copy vs) ≡ us ++ vs
 handed_copy n us kind limit now vs = ap (λ o. us ++ updates_in o) (cond-true (nat_eq n n) (Some vs) None (eq-eqb n n refl))
@@ -141,6 +156,7 @@ handed_copy n us kind limit now vs = ap (λ o. us ++ updates_in o) (cond-true (n
 pub resyncs_copy : (n : ℕ) (resyncs : Bool) (kind : CopyKind) (limit now : ℕ) (reply : CellReply) → resyncs_after n resyncs (events.Copy n kind limit now, reply) ≡ (resyncs && is_resync kind)
 resyncs_copy n resyncs kinds.Push limit now reply = ap (λ b. resyncs && not b) (eq-eqb n n refl)
 resyncs_copy n resyncs kinds.Resync limit now reply = refl
+resyncs_copy n resyncs kinds.Standing limit now reply = refl
 
 pub handed_open : (n : ℕ) (us : List Update) (reply : CellReply) → handed_after n us (events.Open n, reply) ≡ []
 handed_open n us reply = cond-true (nat_eq n n) [] (us ++ []) (eq-eqb n n refl)
@@ -174,7 +190,7 @@ same_progress_of n s e (events.Learn session u now) reply other (granted, rest, 
 same_progress_of n s e (events.Copy session kind limit now) reply other (granted, answer, is) =
     ap (progress_of n) is ∙ other_with n session (λ (r : Progress). record r { taught = last_number r.taught (unacked s session kind now limit) }) s.sessions other
 same_progress_of n s e (events.Ack session number) reply other (granted, answer, is) = ap (progress_of n) is ∙ other_with n session (acknowledging number) s.sessions other
-same_progress_of n s e (events.Open session) reply other (granted, answer, is) = ap (progress_of n) is ∙ other_end n session no_progress s.sessions other
+same_progress_of n s e (events.Open session) reply other (granted, answer, is) = ap (progress_of n) is ∙ other_end n session (no_progress s.next) s.sessions other
 same_progress_of n s e (events.Close session) reply other (granted, answer, is) = ap (progress_of n) is ∙ other_without n session s.sessions other
 same_progress_of n s e (events.Purge now) reply other (granted, answer, is) = ap (progress_of n) is
 

@@ -3,7 +3,7 @@ use Rattle.std.proofs.Common.{◌≡◌, ℕ, ◌<◌, ◌≤◌, Bool, true, fa
 use Rattle.std.specs.Prelude.{filter, map, take, fold, nat_lt, nat_le, is_some, is_none, length, MatchBool, option_map, ◌==◌, if◌then◌else◌}
 use Rattle.std.specs.List.{AllByRecursion}
 use Rattle.std.specs.Ordering.{is_eq}
-use Rattle.std.proofs.lemmas.Bool.{cases_eq, cases_lt, ne_eqb, cond_both, lt-ltb, ltb-false, and_from}
+use Rattle.std.proofs.lemmas.Bool.{cases_eq, cases_lt, ne_eqb, cond_both, lt-ltb, ltb-false, le-leb, and_from}
 use Rattle.std.proofs.lemmas.List.Sums.{fold-append, fold_push}
 use Rattle.table_types.specs.declared.key.Key.{Key}
 use Rattle.table_types.specs.declared.update.Update.{Update}
@@ -20,14 +20,16 @@ use Rattle.table_cell.specs.declared.events.CellEvent.{CellEvent}
 use Rattle.table_cell.specs.declared.events.CellEvent.TheVariants as events
 use Rattle.table_cell.specs.declared.events.CellReply.{CellReply}
 use Rattle.table_cell.specs.declared.progress.Progress.{Progress}
-use Rattle.table_cell.specs.Machine.{TableState, Leaves, Replays, Step, acknowledged_by, acknowledging, copied, copy_refusal, has_room, is_copied, is_of_table, is_out, is_unacked, last_number, no_progress, progress_of, stored, unacked, with_progress, without}
+use Rattle.table_cell.specs.Machine.{TableState, Leaves, Replays, Step, acknowledged_by, acknowledging, bound_by, copied, copy_refusal, has_room, in_reach, is_copied, is_of_table, is_out, is_unacked, last_number, no_progress, progress_of, stored, unacked, with_progress, without}
 use Rattle.table_cell.specs.Histories.{CellState, IsSoundCell, Made, is_copy_of}
+use Rattle.table_cell.specs.Parts.{is_in_reach}
 use Rattle.table_cell.specs.Soundness.{AreTimely, IsSound}
 use Rattle.table_cell.specs.Handing.{Ascend, IsHanded, IsHandedOut, IsNoOlder, IsReached, KeepsUp, handed_after, handed_since, is_about, is_of_each_kind, is_open_of, numbers, resyncs_after, resyncs_since}
 use Rattle.table_cell.proofs.RowsLaws.{all_end, all_filter, all_so, rise_each, some_none}
+use Rattle.table_cell.proofs.ReachLaws.{all_up_to, is_up_to, reach_rise}
 use Rattle.table_cell.proofs.StepLaws.{all_take, passes, step_sound}
 use Rattle.table_cell.proofs.HandingSessions.{below_next, handed_as_before, handed_copy, handed_open, is_resync, no_copy, no_open, own_end, own_with, own_without, resyncs_as_before, resyncs_copy, resyncs_open, same_progress, same_progress_of}
-use Rattle.table_cell.proofs.HandingRows.{IsIn, all_append, all_map, ascend_append, ascend_take, each_in, from_filter, handed_back, handed_front, in_filter, of_each, one_row, still_live, take_covers, unacked_ascend, up_to_last}
+use Rattle.table_cell.proofs.HandingRows.{IsIn, all_append, all_map, ascend_append, ascend_take, each_in, from_filter, handed_back, handed_front, in_filter, of_each, one_row, reach_from, reach_in, still_live, take_covers, unacked_ascend, up_to_last}
 
 -- ---- rows that leave, and a row that comes
 
@@ -79,7 +81,7 @@ pub record IsCopied (s : TableState) (session now : ℕ) (progress : Progress) :
   pub later : s.latest ≤ now
   pub none_out : is_out progress ≡ false
 
-copy_of : (s : TableState) (session : ℕ) (kind : CopyKind) (limit now : ℕ) → copy_refusal false s session kind limit now ≡ None → (progress : Progress) × IsCopied s session now progress
+pub copy_of : (s : TableState) (session : ℕ) (kind : CopyKind) (limit now : ℕ) → copy_refusal false s session kind limit now ≡ None → (progress : Progress) × IsCopied s session now progress
 copy_of s session kind limit now granted = by (progress_of session s) refl
   where
     of_session : Option Progress → Option CopyError
@@ -117,7 +119,7 @@ stays_out us resyncs taught s e (events.Copy session kind limit now) reply below
 stays_out us resyncs taught s e (events.Ack session number) reply below (granted, answer, is) out =
     subst (IsHandedOut us resyncs taught) (sym is) (rows_leave us resyncs taught s (record s { sessions = with_progress session (acknowledging number) s.sessions }) (omega arith) (λ P all. all) out)
 stays_out us resyncs taught s e (events.Open session) reply below (granted, answer, is) out =
-    subst (IsHandedOut us resyncs taught) (sym is) (rows_leave us resyncs taught s (record s { sessions = s.sessions ++ (session, no_progress) ∷ [] }) (omega arith) (λ P all. all) out)
+    subst (IsHandedOut us resyncs taught) (sym is) (rows_leave us resyncs taught s (record s { sessions = s.sessions ++ (session, no_progress s.next) ∷ [] }) (omega arith) (λ P all. all) out)
 stays_out us resyncs taught s e (events.Close session) reply below (granted, answer, is) out =
     subst (IsHandedOut us resyncs taught) (sym is) (rows_leave us resyncs taught s (record s { sessions = filter (λ (entry : ℕ × Progress). not (entry.0 == session)) s.sessions }) (omega arith) (λ P all. all) out)
 stays_out us resyncs taught s e (events.Purge now) reply below (granted, answer, is) out =
@@ -126,6 +128,31 @@ stays_out us resyncs taught s e (events.Purge now) reply below (granted, answer,
     subst (IsHandedOut us resyncs taught) (sym is) (rows_leave us resyncs taught s (record s { rows = filter live s.rows; latest = now }) (ltb-false now s.latest c.0) (λ P all. all_filter P live s.rows all) out)
 
 -- ---- a copy for the session
+
+-- a last number that is no more than a bound
+pub last_most : (bound least : ℕ) (us : List Update) → AllByRecursion (λ (u : Update). u.number ≤ bound) us → least ≤ bound → last_number least us ≤ bound
+last_most bound least [] all within = within
+last_most bound least (u ∷ us) (first, rest) within = last_most bound u.number us rest first
+
+last_low : (bound low number : ℕ) (us : List Update) → AllByRecursion (λ (u : Update). u.number ≤ bound) us → low < number → number ≤ last_number low us → number ≤ bound
+last_low bound low number [] all above within = absurd (omega arith)
+last_low bound low number (u ∷ us) (first, rest) above within = let most = last_most bound u.number us rest first in omega arith
+
+-- the updates of a standing resync have numbers up to its bound
+pub standing_within : (s : TableState) (bound low now limit : ℕ) → AllByRecursion (λ (u : Update). u.number ≤ bound) (take limit (map (update_of s.definition now) (filter (is_unacked kinds.Standing low now) (in_reach kinds.Standing bound s.rows))))
+standing_within s bound low now limit =
+    let rows = filter (is_up_to bound) s.rows in
+    all_take (λ (u : Update). u.number ≤ bound) limit (map (update_of s.definition now) (filter (is_unacked kinds.Standing low now) rows))
+    (all_map (λ (u : Update). u.number ≤ bound) (update_of s.definition now) (filter (is_unacked kinds.Standing low now) rows)
+    (all_filter (λ (e : Key × StoredRow). e.1.number ≤ bound) (is_unacked kinds.Standing low now) rows (all_up_to bound s.rows)))
+
+-- what a copy reaches with its last number is in its reach
+last_in_reach : (s : TableState) (kind : CopyKind) (bound low now limit : ℕ) (row : StoredRow) → low < row.number
+    → row.number ≤ last_number low (take limit (map (update_of s.definition now) (filter (is_unacked kind low now) (in_reach kind bound s.rows)))) → is_in_reach kind bound row ≡ true
+last_in_reach s kinds.Push bound low now limit row above reached = refl
+last_in_reach s kinds.Resync bound low now limit row above reached = refl
+last_in_reach s kinds.Standing bound low now limit row above reached =
+    le-leb row.number bound (last_low bound low row.number (take limit (map (update_of s.definition now) (filter (is_unacked kinds.Standing low now) (in_reach kinds.Standing bound s.rows)))) (standing_within s bound low now limit) above reached)
 
 copied_out : (n : ℕ) (us : List Update) (resyncs : Bool) (s : TableState) (kind : CopyKind) (limit now : ℕ) (p : Progress) → IsSound s → IsCopied s n now p → IsHandedOut us resyncs p.taught s
     → IsHandedOut (us ++ unacked s n kind now limit) (resyncs && is_resync kind) (last_number p.taught (unacked s n kind now limit)) (copied s n (unacked s n kind now limit) now)
@@ -139,8 +166,14 @@ copied_out n us resyncs s kind limit now p sound granted out = record {
     low : ℕ
     low = acknowledged_by (progress_of n s)
 
+    bound : ℕ
+    bound = bound_by (progress_of n s)
+
+    reach : List (Key × StoredRow)
+    reach = in_reach kind bound s.rows
+
     due : List (Key × StoredRow)
-    due = filter (is_unacked kind low now) s.rows
+    due = filter (is_unacked kind low now) reach
 
     all : List Update
     all = map (update_of s.definition now) due
@@ -157,10 +190,11 @@ copied_out n us resyncs s kind limit now p sound granted out = record {
         ap acknowledged_by granted.found ∙ same
 
     ascends : Ascend low (numbers all)
-    ascends = unacked_ascend s.definition kind low now 1 s.next s.rows sound.numbers
+    ascends = unacked_ascend s.definition kind low now 1 s.next reach (reach_rise kind bound 1 s.next s.rows sound.numbers)
 
     of_kind : (b : Bool) (k : CopyKind) (row : StoredRow) → is_of_each_kind (b && is_resync k) row ≡ true → is_copied k row ≡ true
     of_kind b kinds.Resync row each = refl
+    of_kind b kinds.Standing row each = refl
     of_kind true kinds.Push row each = each
     of_kind false kinds.Push row each = each
 
@@ -176,7 +210,7 @@ copied_out n us resyncs s kind limit now p sound granted out = record {
           let included : is_unacked kind low now e ≡ true =
           and_from (nat_lt low e.1.number && is_copied kind e.1) (is_live now e.1) (and_from (nat_lt low e.1.number) (is_copied kind e.1) above (of_kind resyncs kind e.1 each)) live in
           let reached : e.1.number ≤ last_number low new = subst (λ k. e.1.number ≤ last_number k new) (sym low_is) within in
-          handed_back e us new (take_covers s.definition now low limit e due ascends (in_filter (is_unacked kind low now) e s.rows at included) reached)
+          handed_back e us new (take_covers s.definition now low limit e due ascends (in_filter (is_unacked kind low now) e reach (reach_in kind bound e s.rows at (last_in_reach s kind bound low now limit e.1 (omega arith) reached)) included) reached)
       | inr under ↦
           handed_front e us new (of_each (WasHanded us resyncs p.taught s.latest) e s.rows out.handed at (under, still_live s.latest now e.1 granted.later live, before resyncs (is_resync kind) (not e.1.learned) each))
     ]
@@ -187,7 +221,7 @@ copied_out n us resyncs s kind limit now p sound granted out = record {
         (all_take (λ (u : Update). u.key ≡ e.0 → u.number ≤ e.1.number) limit all
         (all_map (λ (u : Update). u.key ≡ e.0 → u.number ≤ e.1.number) (update_of s.definition now) due
         (each_in (λ (x : Key × StoredRow). x.0 ≡ e.0 → x.1.number ≤ e.1.number) due (λ x there same.
-        let one = one_row x e s.rows sound.keys (from_filter (is_unacked kind low now) x s.rows there) at same in
+        let one = one_row x e s.rows sound.keys (reach_from kind bound x s.rows (from_filter (is_unacked kind low now) x reach there)) at same in
         let number : x.1.number ≡ e.1.number = ap (λ (y : Key × StoredRow). y.1.number) one in
         omega arith))))
 
@@ -255,8 +289,8 @@ ack_keeps n us resyncs s e number reply sound (granted, answer, is) keeps =
 open_keeps : (n : ℕ) (us : List Update) (resyncs : Bool) (s e : TableState) (reply : CellReply) → IsSound s → Step s (events.Open n) reply e → Keeps n (handed_after n us (events.Open n, reply)) (resyncs_after n resyncs (events.Open n, reply)) e
 open_keeps n us resyncs s e reply sound (granted, answer, is) q at =
     let o = passes (is_some (progress_of n s)) _ _ granted in
-    let next : progress_of n e ≡ Some no_progress = ap (progress_of n) is ∙ own_end n no_progress s.sessions (is_absent (progress_of n s) o.0) in
-    let number : 0 ≡ q.taught = ap (λ (r : Progress). r.taught) (same_progress no_progress q (sym next ∙ at)) in
+    let next : progress_of n e ≡ Some (no_progress s.next) = ap (progress_of n) is ∙ own_end n (no_progress s.next) s.sessions (is_absent (progress_of n s) o.0) in
+    let number : 0 ≡ q.taught = ap (λ (r : Progress). r.taught) (same_progress (no_progress s.next) q (sym next ∙ at)) in
     subst (λ (l : List Update). IsHandedOut l (resyncs_after n resyncs (events.Open n, reply)) q.taught e) (sym (handed_open n us reply))
     (subst (λ (b : Bool). IsHandedOut [] b q.taught e) (sym (resyncs_open n resyncs reply))
     (subst (λ (t : ℕ). IsHandedOut [] true t e) number (opened_out s e sound (ap (λ (x : TableState). x.rows) is))))

@@ -13,11 +13,11 @@ use Rattle.table_cell.specs.Copying.{update_of}
 use Rattle.table_cell.specs.declared.errors.CopyError.{CopyError}
 use Rattle.table_cell.specs.declared.errors.CopyError.TheVariants as uncopied
 use Rattle.table_cell.specs.declared.progress.Progress.{Progress}
-use Rattle.table_cell.specs.Machine.{TableState, acknowledged_by, copy_refusal, is_copied, is_out, is_unacked, last_number, progress_of, unacked}
+use Rattle.table_cell.specs.Machine.{TableState, acknowledged_by, bound_by, copy_refusal, in_reach, is_copied, is_out, is_unacked, last_number, progress_of, unacked}
 use Rattle.table_cell.specs.Histories.{CellState, IsSoundCell}
 use Rattle.table_cell.specs.Handing.{Ascend, IsHanded, IsHandedOut, IsLastOfItsKey, IsNoOlder, IsReached, KeepsUp, handed_since, is_of_each_kind, numbers, resyncs_since}
 use Rattle.table_cell.proofs.HandingSessions.{below_next}
-use Rattle.table_cell.proofs.HandingRows.{IsIn, all_front, ascend_front, each_in, in_filter, in_front, last_of_key, of_each, still_live}
+use Rattle.table_cell.proofs.HandingRows.{IsIn, all_front, ascend_front, each_in, in_filter, in_front, last_of_key, of_each, reach_from, still_live}
 use Rattle.table_cell.proofs.HandingSteps.{WasHanded}
 
 -- ---- what was acknowledged
@@ -109,10 +109,10 @@ none_taken f x (y ∷ ys) zero some at none = omega arith
 none_taken f x (y ∷ ys) (suc limit) some at none = true≢false (sym none ∙ ne_eqb (suc (length (take limit (map f ys)))) 0 (λ is. omega arith))
 
 pub nothing_left : (c : CellState) (session limit now : ℕ) (kind : CopyKind) (full : Bool) → IsSoundCell c → KeepsUp session c → 1 ≤ limit → copy_refusal full c.state session kind limit now ≡ Some uncopied.Nothing
-    → AllByRecursion (λ (e : Key × StoredRow). is_live now e.1 ≡ true → is_copied kind e.1 ≡ true → is_of_each_kind (resyncs_since session c.history) e.1 ≡ true → IsLastOfItsKey (handed_since session c.history) e) c.state.rows
+    → AllByRecursion (λ (e : Key × StoredRow). is_live now e.1 ≡ true → is_copied kind e.1 ≡ true → is_of_each_kind (resyncs_since session c.history) e.1 ≡ true → IsLastOfItsKey (handed_since session c.history) e) (in_reach kind (bound_by (progress_of session c.state)) c.state.rows)
 nothing_left c n limit now kind full sound keeps some refused =
-    each_in (λ (e : Key × StoredRow). is_live now e.1 ≡ true → is_copied kind e.1 ≡ true → is_of_each_kind resyncs e.1 ≡ true → IsLastOfItsKey us e) c.state.rows (λ e there live copied each.
-    of_each (λ (x : Key × StoredRow). IsReached resyncs p.acknowledged now x → IsLastOfItsKey us x) e c.state.rows (all_taken c n now p sound keeps found.1.found found.1.later) there
+    each_in (λ (e : Key × StoredRow). is_live now e.1 ≡ true → is_copied kind e.1 ≡ true → is_of_each_kind resyncs e.1 ≡ true → IsLastOfItsKey us e) reach (λ e there live copied each.
+    of_each (λ (x : Key × StoredRow). IsReached resyncs p.acknowledged now x → IsLastOfItsKey us x) e c.state.rows (all_taken c n now p sound keeps found.1.found found.1.later) (reach_from kind bound e c.state.rows there)
     (low e there live copied, live, each))
   where
     us : List Update
@@ -127,14 +127,20 @@ nothing_left c n limit now kind full sound keeps some refused =
     p : Progress
     p = found.0
 
-    low : (e : Key × StoredRow) → IsIn e c.state.rows → is_live now e.1 ≡ true → is_copied kind e.1 ≡ true → e.1.number ≤ p.acknowledged
+    bound : ℕ
+    bound = bound_by (progress_of n c.state)
+
+    reach : List (Key × StoredRow)
+    reach = in_reach kind bound c.state.rows
+
+    low : (e : Key × StoredRow) → IsIn e reach → is_live now e.1 ≡ true → is_copied kind e.1 ≡ true → e.1.number ≤ p.acknowledged
     low e there live copied = elim (cases_lt p.acknowledged e.1.number) [
       | inl over ↦
           let acknowledged : acknowledged_by (progress_of n c.state) ≡ p.acknowledged = ap acknowledged_by found.1.found in
           let above = lt-ltb (acknowledged_by (progress_of n c.state)) e.1.number (omega arith) in
           let included : is_unacked kind (acknowledged_by (progress_of n c.state)) now e ≡ true =
           and_from (nat_lt (acknowledged_by (progress_of n c.state)) e.1.number && is_copied kind e.1) (is_live now e.1) (and_from (nat_lt (acknowledged_by (progress_of n c.state)) e.1.number) (is_copied kind e.1) above copied) live in
-          absurd (none_taken (update_of c.state.definition now) e (filter (is_unacked kind (acknowledged_by (progress_of n c.state)) now) c.state.rows) limit some
-          (in_filter (is_unacked kind (acknowledged_by (progress_of n c.state)) now) e c.state.rows there included) found.1.nothing)
+          absurd (none_taken (update_of c.state.definition now) e (filter (is_unacked kind (acknowledged_by (progress_of n c.state)) now) reach) limit some
+          (in_filter (is_unacked kind (acknowledged_by (progress_of n c.state)) now) e reach there included) found.1.nothing)
       | inr under ↦ under
     ]

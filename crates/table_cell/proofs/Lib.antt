@@ -8,6 +8,7 @@ pub mod StockSteps
 pub mod StepLaws
 pub mod RefusalLaws
 pub mod UnackedLaws
+pub mod ReachLaws
 pub mod LiveLaws
 pub mod SomeStep
 pub mod BatchLaws
@@ -17,9 +18,11 @@ pub mod AscendingLaws
 pub mod RunLaws
 pub mod HistoryLaws
 pub mod AnewLaws
+pub mod RenumberLaws
 pub mod Crosses
 pub mod SlideLaws
 pub mod HandingRows
 pub mod HandingSessions
 pub mod HandingSteps
 pub mod HandingTaken
+pub mod StandingLaws

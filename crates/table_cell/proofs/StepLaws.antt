@@ -1,5 +1,5 @@
 -- A table stays sound, and a run continues.
-use Rattle.std.proofs.Common.{◌≡◌, ℕ, zero, suc, ◌+◌, ◌^◌, ◌<◌, ◌≤◌, Bool, true, false, not, ◌&&◌, ◌||◌, List, [], ◌∷◌, ◌++◌, length, Option, Some, None, refl, sym, ap, subst, ◌∙◌, arith, inl, inr, true≢false}
+use Rattle.std.proofs.Common.{◌≡◌, ℕ, zero, suc, ◌+◌, ◌-◌, ◌^◌, ◌<◌, ◌≤◌, Bool, true, false, not, ◌&&◌, ◌||◌, List, [], ◌∷◌, ◌++◌, length, Option, Some, None, refl, sym, ap, subst, ◌∙◌, arith, inl, inr, true≢false}
 use Rattle.std.specs.Prelude.{filter, map, take, nat_lt, nat_le, nat_eq, cond, is_some, is_none, MatchBool, option_and_then, ◌==◌, if◌then◌else◌}
 use Rattle.std.specs.List.{AllByRecursion}
 use Rattle.std.specs.Map.{lookup}
@@ -27,9 +27,10 @@ use Rattle.std.specs.Ordering.{is_eq}
 use Rattle.std.proofs.lemmas.List.{length-append}
 use Rattle.table_types.specs.Keys.{key_cmp}
 use Rattle.table_cell.specs.Copying.{update_of}
-use Rattle.table_cell.specs.Machine.{TableState, Step, without, has_row, has_room, Leaves, stored, tracked, learned, if_live, live_row, progress_of, with_progress, no_progress, is_unacked, is_copied, acknowledged_by, unacked, last_number, copied, acknowledging, is_of_table, copy_refusal, ack_refusal, is_out, Replays, new_table}
-use Rattle.table_cell.specs.Soundness.{CellsFit, EntryFits, NumbersRise, KeysDiffer, IsProgressBelow, IsTimely, AreTimely, IsSound}
+use Rattle.table_cell.specs.Machine.{TableState, Step, without, has_row, has_room, Leaves, stored, tracked, learned, if_live, live_row, progress_of, with_progress, no_progress, bound_by, in_reach, is_unacked, is_copied, acknowledged_by, unacked, last_number, copied, acknowledging, is_of_table, copy_refusal, ack_refusal, is_out, Replays, new_table}
+use Rattle.table_cell.specs.Soundness.{CellsFit, EntryFits, NumbersRise, KeysDiffer, IsBoundBelow, IsProgressBelow, IsTimely, AreTimely, IsSound}
 use Rattle.table_cell.proofs.RowsLaws.{some_none, not_false, all_filter, all_end, all_so, filter_shorter, rise_filter, rise_end, rise_bound, without_none, differ_filter, differ_end, without_shorter}
+use Rattle.table_cell.proofs.ReachLaws.{reach_rise}
 use Rattle.table_cell.proofs.SessionLaws.{sessions_differ_with, sessions_differ_filter, sessions_differ_end}
 use Rattle.table_cell.proofs.CellLaws.{cells_later, end_later, changed_cells_fit, begun_cells_fit, learned_cells_fit, end_of_fits}
 
@@ -97,6 +98,9 @@ left_sound s key rest sound leaves = elim (cases_Bool (has_room s key)) [
 progress_later : (next : ℕ) (entry : ℕ × Progress) → IsProgressBelow next entry → IsProgressBelow (next + 1) entry
 progress_later next entry (order, below) = (order, omega arith)
 
+bound_later : (next : ℕ) (entry : ℕ × Progress) → IsBoundBelow next entry → IsBoundBelow (next + 1) entry
+bound_later next entry below = let under : entry.1.bound < next = below in omega arith
+
 stored_sound : (s : TableState) (key : Key) (row : StoredRow) (now : ℕ) (rest : List (Key × StoredRow)) → IsSound s → Leaves s key rest
     → EntryFits s.definition now (key, row) → row.number ≡ s.next → s.latest ≤ now → now < 2 ^ 63 → s.next < 2 ^ 32 → IsSound (stored s key row now rest)
 stored_sound s key row now rest sound leaves fits number later timely unspent =
@@ -116,6 +120,7 @@ stored_sound s key row now rest sound leaves fits number later timely unspent =
       least = let bound = sound.least in omega arith;
       most = timely;
       progress = all_so (IsProgressBelow s.next) (IsProgressBelow (s.next + 1)) (progress_later s.next) s.sessions sound.progress;
+      bounds = all_so (IsBoundBelow s.next) (IsBoundBelow (s.next + 1)) (bound_later s.next) s.sessions sound.bounds;
       sessions = sound.sessions;
       few = sound.few;
     }
@@ -192,6 +197,17 @@ progress_below next session f (e ∷ es) progress (first, rest) at so = elim (ca
       (first, progress_below next session f es progress rest (sym (cond-false (nat_eq e.0 session) (Some e.1) (lookup (λ id. id == session) es) other) ∙ at) so)
 ]
 
+-- changing a session's progress but for its bound
+bounds_with : (next session : ℕ) (f : Progress → Progress) (sessions : List (ℕ × Progress)) → ((p : Progress) → (f p).bound ≡ p.bound) → AllByRecursion (IsBoundBelow next) sessions → AllByRecursion (IsBoundBelow next) (with_progress session f sessions)
+bounds_with next session f [] same all = tt
+bounds_with next session f (e ∷ es) same (first, rest) =
+    cond_both (nat_eq e.0 session) ((e.0, f e.1) ∷ es) (e ∷ with_progress session f es) (AllByRecursion (IsBoundBelow next))
+    (λ _. (subst (λ (n : ℕ). n < next) (sym (same e.1)) first, rest))
+    (λ _. (first, bounds_with next session f es same rest))
+
+pub acknowledging_bound : (number : ℕ) (p : Progress) → (acknowledging number p).bound ≡ p.bound
+acknowledging_bound number p = cond_both (nat_le number p.acknowledged) p (record p { acknowledged = number }) (λ (q : Progress). q.bound ≡ p.bound) (λ _. refl) (λ _. refl)
+
 pub length-with_progress : (session : ℕ) (f : Progress → Progress) (sessions : List (ℕ × Progress)) → length (with_progress session f sessions) ≡ length sessions
 length-with_progress session f [] = refl
 length-with_progress session f (e ∷ es) = cond_both (nat_eq e.0 session) ((e.0, f e.1) ∷ es) (e ∷ with_progress session f es) (λ (l : List (ℕ × Progress)). length l ≡ suc (length es)) (λ _. refl) (λ _. ap suc (length-with_progress session f es))
@@ -222,7 +238,7 @@ last_between : (low next least : ℕ) (us : List Update) → AllByRecursion (IsB
 last_between low next least [] all above below = (above, below)
 last_between low next least (u ∷ us) (first, rest) above below = last_between low next u.number us rest first.0 first.1
 
-last_of_some : (low next least : ℕ) (us : List Update) → AllByRecursion (IsBetween low next) us → nat_eq (length us) 0 ≡ false → (low < last_number least us) × (last_number least us < next)
+pub last_of_some : (low next least : ℕ) (us : List Update) → AllByRecursion (IsBetween low next) us → nat_eq (length us) 0 ≡ false → (low < last_number least us) × (last_number least us < next)
 last_of_some low next least [] all some = absurd (true≢false some)
 last_of_some low next least (u ∷ us) (first, rest) some = last_between low next u.number us rest first.0 first.1
 
@@ -231,13 +247,21 @@ last_of_some low next least (u ∷ us) (first, rest) some = last_between low nex
 pub later_sound : (s : TableState) (now : ℕ) → IsSound s → s.latest ≤ now → AllByRecursion (EntryFits s.definition now) s.rows
 later_sound s now sound later = all_so (EntryFits s.definition s.latest) (EntryFits s.definition now) (entry_later s.definition s.latest now later) s.rows sound.entries
 
+-- the updates of a copy are above the number acknowledged, and have numbers that were assigned
+pub copied_between : (s : TableState) (session : ℕ) (kind : CopyKind) (limit now : ℕ) → IsSound s → AllByRecursion (IsBetween (acknowledged_by (progress_of session s)) s.next) (unacked s session kind now limit)
+copied_between s session kind limit now sound =
+    let low = acknowledged_by (progress_of session s) in
+    let bound = bound_by (progress_of session s) in
+    let reach = in_reach kind bound s.rows in
+    let due = between_unacked s.definition kind low now 1 s.next reach (reach_rise kind bound 1 s.next s.rows sound.numbers) in
+    all_take (IsBetween low s.next) limit (map (update_of s.definition now) (filter (is_unacked kind low now) reach)) due
+
 taught_below : (s : TableState) (session : ℕ) (kind : CopyKind) (limit now : ℕ) (progress : Progress) → progress_of session s ≡ Some progress → IsSound s → nat_eq (length (unacked s session kind now limit)) 0 ≡ false
     → AllByRecursion (IsProgressBelow s.next) (copied s session (unacked s session kind now limit) now).sessions
 taught_below s session kind limit now progress at sound some =
     let us = unacked s session kind now limit in
     let low = acknowledged_by (progress_of session s) in
-    let due = between_unacked s.definition kind low now 1 s.next s.rows sound.numbers in
-    let all = all_take (IsBetween low s.next) limit (map (update_of s.definition now) (filter (is_unacked kind low now) s.rows)) due in
+    let all = copied_between s session kind limit now sound in
     let is : low ≡ progress.acknowledged = ap acknowledged_by at in
     let last = last_of_some low s.next progress.taught us all some in
     progress_below s.next session (λ (m : Progress). record m { taught = last_number m.taught us }) s.sessions progress sound.progress at (λ order below. (omega arith, last.1))
@@ -259,6 +283,7 @@ copied_sound s session kind limit now progress at sound later timely some =
       least = let bound = sound.least in omega arith;
       most = timely;
       progress = taught_below s session kind limit now progress at sound some;
+      bounds = bounds_with s.next session (λ (m : Progress). record m { taught = last_number m.taught us }) s.sessions (λ m. refl) sound.bounds;
       sessions = sessions_differ_with session (λ (m : Progress). record m { taught = last_number m.taught us }) s.sessions sound.sessions;
       few = omega arith;
     }
@@ -345,6 +370,7 @@ step_sound s e (events.Ack session number) reply timely sound (granted, answer, 
       least = sound.least;
       most = sound.most;
       progress = progress_below s.next session (acknowledging number) s.sessions found.0 sound.progress found.1 (acknowledged_below s.next session number found.0 found.2);
+      bounds = bounds_with s.next session (acknowledging number) s.sessions (acknowledging_bound number) sound.bounds;
       sessions = sessions_differ_with session (acknowledging number) s.sessions sound.sessions;
       few = omega arith;
     })
@@ -353,7 +379,7 @@ step_sound s e (events.Open session) reply timely sound (granted, answer, is) =
     let a = passes (nat_le 16 (length s.sessions)) _ _ o.1 in
     let few = leb-false 16 (length s.sessions) a.0 in
     let some = rise_bound 1 s.next s.rows sound.numbers in
-    let sizes : length (s.sessions ++ (session, no_progress) ∷ []) ≡ length s.sessions + 1 = length-append s.sessions ((session, no_progress) ∷ []) in
+    let sizes : length (s.sessions ++ (session, no_progress s.next) ∷ []) ≡ length s.sessions + 1 = length-append s.sessions ((session, no_progress s.next) ∷ []) in
     subst IsSound (sym is) (record {
       definition = sound.definition;
       some = sound.some;
@@ -364,8 +390,9 @@ step_sound s e (events.Open session) reply timely sound (granted, answer, is) =
       last = sound.last;
       least = sound.least;
       most = sound.most;
-      progress = all_end (IsProgressBelow s.next) (session, no_progress) s.sessions sound.progress (omega arith, omega arith);
-      sessions = sessions_differ_end session no_progress s.sessions sound.sessions (is_absent (lookup (λ id. id == session) s.sessions) o.0);
+      progress = all_end (IsProgressBelow s.next) (session, no_progress s.next) s.sessions sound.progress (omega arith, omega arith);
+      bounds = all_end (IsBoundBelow s.next) (session, no_progress s.next) s.sessions sound.bounds (let less : s.next - 1 < s.next = omega arith in less);
+      sessions = sessions_differ_end session (no_progress s.next) s.sessions sound.sessions (is_absent (lookup (λ id. id == session) s.sessions) o.0);
       few = omega arith;
     })
 step_sound s e (events.Close session) reply timely sound (granted, answer, is) =
@@ -382,6 +409,7 @@ step_sound s e (events.Close session) reply timely sound (granted, answer, is) =
       least = sound.least;
       most = sound.most;
       progress = all_filter (IsProgressBelow s.next) (λ (entry : ℕ × Progress). not (entry.0 == session)) s.sessions sound.progress;
+      bounds = all_filter (IsBoundBelow s.next) (λ (entry : ℕ × Progress). not (entry.0 == session)) s.sessions sound.bounds;
       sessions = sessions_differ_filter (λ (entry : ℕ × Progress). not (entry.0 == session)) s.sessions sound.sessions;
       few = omega arith;
     })
@@ -402,6 +430,7 @@ step_sound s e (events.Purge now) reply timely sound (granted, answer, is) =
       least = let bound = sound.least in omega arith;
       most = timely;
       progress = sound.progress;
+      bounds = sound.bounds;
       sessions = sound.sessions;
       few = sound.few;
     })
@@ -416,4 +445,4 @@ run_sound s e (h ∷ hs) (now, later) sound (mid, step, rest) = run_sound mid e 
 
 pub new_sound : (d : Definition) (size first : ℕ) (nopurge : Bool) → is_definition d ≡ true → 1 ≤ size → 1 ≤ first → first ≤ 2 ^ 32 → IsSound (new_table d size nopurge first)
 new_sound d size first nopurge is some least most =
-    record { definition = is; some = some; numbers = least; keys = tt; entries = tt; within = omega arith; last = most; least = omega arith; most = omega arith; progress = tt; sessions = tt; few = omega arith }
+    record { definition = is; some = some; numbers = least; keys = tt; entries = tt; within = omega arith; last = most; least = omega arith; most = omega arith; progress = tt; bounds = tt; sessions = tt; few = omega arith }

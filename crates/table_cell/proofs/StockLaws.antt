@@ -24,7 +24,7 @@ use Rattle.table_cell.proofs.RowsLaws.{differ_end, differ_filter, rise_end, rise
 pub key-same : (key : Key) → is_eq (key_cmp key key) ≡ true
 key-same key = ap is_eq (key_cmp-same key)
 
-one_turned : (a b : Key) → is_eq (key_cmp a b) ≡ is_eq (key_cmp b a)
+pub one_turned : (a b : Key) → is_eq (key_cmp a b) ≡ is_eq (key_cmp b a)
 one_turned a b = (eq_by_cmp_equiv key_cmp_total).symm a b
 
 apart_from : (b : Bool) → b ≡ true → b ≡ false → ⊥

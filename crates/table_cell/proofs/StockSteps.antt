@@ -13,10 +13,8 @@ use Rattle.table_types.specs.Keys.{key_cmp}
 use Rattle.table_types.specs.Rows.{StoredRow}
 use Rattle.table_types.proofs.EqualKeysAreOne.{one_key}
 use Rattle.table_rows.specs.Rows.{AreLive, IsFirstToEnd, is_live, row_at, rows_without}
-use Rattle.update_numbers.specs.Index.{pairs_without}
-use Rattle.update_numbers.specs.Numbers.{Numbering, above, dropped, given, pushed, without as numbers_without}
-use Rattle.update_numbers.proofs.IndexLaws.{number-same}
-use Rattle.update_numbers.proofs.NumberLaws.{numbering}
+use Rattle.update_numbers.specs.Numbers.{Numbering, above, dropped, given, pairs_without, pushed, without as numbers_without}
+use Rattle.update_numbers.proofs.NumberLaws.{number-same, numbering}
 use Rattle.table_cell.specs.Machine.{without}
 use Rattle.table_cell.specs.Soundness.{KeysDiffer, NumbersRise}
 use Rattle.table_cell.specs.Stock.{AreKept, AreTied, HaveRows, IsStock, Stocked, leave, left_for, number_of, numbered, rows_of, stocked}

@@ -44,9 +44,9 @@ due_above kind n now (x ∷ xs) = elim (cases_Bool (nat_lt n x.1.number)) [
       ∙ sym (cond-false (is_unacked kind n now x) (x ∷ filter (is_unacked kind n now) xs) (filter (is_unacked kind n now) xs) (below_is kind n now x below))
 ]
 
--- the next row, if it is copied and if it isn't
-pub next_due : (kind : CopyKind) (now : ℕ) (e : Key × StoredRow) (all rest : List (Key × StoredRow)) → all ≡ e ∷ rest → is_due kind now e ≡ true → filter (is_due kind now) all ≡ e ∷ filter (is_due kind now) rest
-next_due kind now e all rest is due = ap (filter (is_due kind now)) is ∙ cond-true (is_due kind now e) (e ∷ filter (is_due kind now) rest) (filter (is_due kind now) rest) due
+-- the next row, if it is chosen
+pub next_chosen : {A : Type 0} (p : A → Bool) (e : A) (all rest : List A) → all ≡ e ∷ rest → p e ≡ true → filter p all ≡ e ∷ filter p rest
+next_chosen p e all rest is passes = ap (filter p) is ∙ cond-true (p e) (e ∷ filter p rest) (filter p rest) passes
 
 -- ---- the batch as it grows
 

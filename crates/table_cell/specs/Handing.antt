@@ -46,7 +46,8 @@ handed_after session us h = if is_open_of session h.0 then [] else us ++ updates
 abbrev pub handed_since : ℕ → List (CellEvent × CellReply) → List Update
 handed_since session history = fold (handed_after session) [] history
 
--- whether all copies were resyncs, one event later: yes if it opens `session`, no if it is a push for it, or as before
+-- whether all copies were resyncs, standing or not, one event later: yes if it opens `session`, no if it is a push for it,
+-- or as before
 abbrev pub resyncs_after : ℕ → Bool → CellEvent × CellReply → Bool
 resyncs_after session before h = is_open_of session h.0 || (before && not (is_push_of session h.0))
 

@@ -9,3 +9,5 @@ pub mod Histories
 pub mod Cells
 pub mod Pasts
 pub mod Handing
+pub mod Renumbering
+pub mod Standing

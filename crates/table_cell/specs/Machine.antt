@@ -1,7 +1,7 @@
 -- A stick table as a state machine: the state of a table, and what each event does to it (HAProxy Configuration Manual,
 -- stick-table `size`, `expire` and `nopurge`, and doc/peers-v2.0.txt, "Update Messages" and "Acknowledgement Messages";
 -- the order of refusals, and that each change takes the next number, are the profile's choices).
-use Rattle.std.specs.Prelude.{◌≡◌, ℕ, ◌+◌, ◌^◌, Bool, true, false, not, ◌&&◌, ◌||◌, ◌==◌, nat_lt, nat_le, MatchBool, is_some, is_none, List, [], ◌∷◌, ◌++◌, length, map, filter, take, fold, Option, Some, None, option_and_then, if◌then◌else◌}
+use Rattle.std.specs.Prelude.{◌≡◌, ℕ, ◌+◌, ◌-◌, ◌^◌, Bool, true, false, not, ◌&&◌, ◌||◌, ◌==◌, nat_lt, nat_le, MatchBool, is_some, is_none, List, [], ◌∷◌, ◌++◌, length, map, filter, take, fold, Option, Some, None, option_and_then, if◌then◌else◌}
 use Rattle.std.specs.List.{list_all, list_any}
 use Rattle.std.specs.Ordering.{is_eq}
 use Rattle.std.specs.Map.{lookup}
@@ -93,9 +93,9 @@ stored s key row now rest = record s { rows = without key rest ++ (key, row) ∷
 
 -- ---- sessions
 
--- the progress of a new session
-abbrev pub no_progress : Progress
-no_progress = record { acknowledged = 0; taught = 0 }
+-- the progress of a new session of a table whose next number is `next`: its bound is the number before that
+abbrev pub no_progress : ℕ → Progress
+no_progress next = record { acknowledged = 0; taught = 0; bound = next - 1 }
 
 abbrev pub progress_of : ℕ → TableState → Option Progress
 progress_of session s = lookup (λ id. id == session) s.sessions
@@ -119,6 +119,11 @@ abbrev pub acknowledged_by : Option Progress → ℕ
 acknowledged_by None = 0
 acknowledged_by (Some progress) = progress.acknowledged
 
+-- the number up to which a standing resync copies; it copies nothing for a session that isn't open
+abbrev pub bound_by : Option Progress → ℕ
+bound_by None = 0
+bound_by (Some progress) = progress.bound
+
 -- the sessions with the progress of `session` changed
 abbrev pub with_progress : ℕ → (Progress → Progress) → List (ℕ × Progress) → List (ℕ × Progress)
 with_progress session f [] = []
@@ -126,10 +131,17 @@ with_progress session f (e ∷ es) = if e.0 == session then (e.0, f e.1) ∷ es 
 
 -- ---- copies
 
--- a push copies the rows that aren't learned, a resync copies all rows
+-- a push copies the rows that aren't learned, a resync copies all rows, and a standing resync all in its reach
 abbrev pub is_copied : CopyKind → StoredRow → Bool
 is_copied kinds.Push row = not row.learned
 is_copied kinds.Resync row = true
+is_copied kinds.Standing row = true
+
+-- the rows in the reach of a copy of `kind`: all of them, or for a standing resync those up to its session's bound
+abbrev pub in_reach : CopyKind → ℕ → List (Key × StoredRow) → List (Key × StoredRow)
+in_reach kinds.Push bound rows = rows
+in_reach kinds.Resync bound rows = rows
+in_reach kinds.Standing bound rows = filter (λ e. nat_le e.1.number bound) rows
 
 -- a copy of `kind` includes the row: the session has not acknowledged it, and it is live
 abbrev pub is_unacked : CopyKind → ℕ → ℕ → Key × StoredRow → Bool
@@ -138,7 +150,7 @@ is_unacked kind number now e = nat_lt number e.1.number && is_copied kind e.1 &&
 -- the rows that a session has not acknowledged, in ascending order of number, as updates, at most `limit` of them
 abbrev pub unacked : TableState → ℕ → CopyKind → ℕ → ℕ → List Update
 unacked s session kind now limit =
-    take limit (map (update_of s.definition now) (filter (is_unacked kind (acknowledged_by (progress_of session s)) now) s.rows))
+    take limit (map (update_of s.definition now) (filter (is_unacked kind (acknowledged_by (progress_of session s)) now) (in_reach kind (bound_by (progress_of session s)) s.rows)))
 
 abbrev pub last_number : ℕ → List Update → ℕ
 last_number least us = fold (λ number u. u.number) least us
@@ -253,7 +265,7 @@ Step s (events.Ack session number) reply e =
 Step s (events.Open session) reply e =
     (open_refusal false s session ≡ None)
     × (reply ≡ replies.Open)
-    × (e ≡ record s { sessions = s.sessions ++ (session, no_progress) ∷ [] })
+    × (e ≡ record s { sessions = s.sessions ++ (session, no_progress s.next) ∷ [] })
 Step s (events.Close session) reply e =
     (close_refusal false s session ≡ None)
     × (reply ≡ replies.Close)

@@ -66,6 +66,10 @@ SessionsDiffer (e ∷ es) = (lookup (λ id. id == e.0) es ≡ None) × SessionsD
 abbrev pub IsProgressBelow : ℕ → ℕ × Progress → Type 0
 IsProgressBelow next entry = (entry.1.acknowledged ≤ entry.1.taught) × (entry.1.taught < next)
 
+-- a session's bound is a number that was already assigned
+abbrev pub IsBoundBelow : ℕ → ℕ × Progress → Type 0
+IsBoundBelow next entry = entry.1.bound < next
+
 pub record IsSound (s : TableState) : Type 0 where
   pub definition : is_definition s.definition ≡ true
   pub some : 1 ≤ s.size
@@ -77,6 +81,7 @@ pub record IsSound (s : TableState) : Type 0 where
   pub least : 2 ^ 32 ≤ s.latest
   pub most : s.latest < 2 ^ 63
   pub progress : AllByRecursion (IsProgressBelow s.next) s.sessions
+  pub bounds : AllByRecursion (IsBoundBelow s.next) s.sessions
   pub sessions : SessionsDiffer s.sessions
   pub few : length s.sessions ≤ 16
 

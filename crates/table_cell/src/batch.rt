@@ -39,7 +39,13 @@ impl Table {
         ensures batch { IfOk result (λ batch. batch ≡ unacked self.now session kind now limit) }
         ensures for_table { IfOk result (λ batch. IsBatchFor (self.now.definition ∷ []) batch) }
     {
-        let updates = self.unacked(self.acknowledged(session), kind, limit, now)?;
+        let updates = self.unacked(
+            self.acknowledged(session),
+            self.bound(session),
+            kind,
+            limit,
+            now,
+        )?;
         batch_of(self.alloc, &self.definition, updates)
     }
 }

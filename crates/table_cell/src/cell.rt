@@ -1,6 +1,8 @@
 //! Stick tables with their history.
 
-ghost use Rattle.std.specs.Prelude.{◌≡◌, ◌+◌, ◌≤◌, ◌↔◌, IfOk, IsOk, IsTrue, false, is_none, option_map};
+ghost use Rattle.std.specs.Prelude.{◌≡◌, ◌+◌, ◌≤◌, ◌↔◌, ℕ, IfOk, IsOk, IsTrue, false, is_none, length, option_copied, option_map};
+ghost use Rattle.std.specs.List.{list_all};
+ghost use Rattle.table_rows.specs.Rows.{goes_past, is_live, row_at};
 ghost use Rattle.table_cell.specs.Machine.{ack_refusal, has_out, new_table, progress_of};
 ghost use Rattle.table_cell.specs.Stock.{AreInRisingKey};
 ghost use Rattle.table_cell.specs.Histories.{IsSoundCell, Kept, events_of, event_in, is_history_full, new_cell, room_of};
@@ -13,14 +15,15 @@ use crate::table::Table;
 use std::alloc::Global;
 use std::collections::BTreeMap;
 use std::marker::Model;
-use table_types::{Key, Memory, Row, TableDef};
+use table_types::{Key, Memory, Moment, Row, TableDef};
 
 /// A stick table that keeps its history: each event with its reply, including the batches that were copied.
 ///
 /// Its state is always what replaying the history leads to (`IsSoundCell`), so the batch of each copy is what its session
 /// had not acknowledged at that point of the history (`batches_are_kept`). The history begins with the new table, or with the
 /// state of the last `checkpoint` or `begin_anew`. After a `slide` the table has only the later events of it, and the latest
-/// batch of each session that was open then. A refused call changes nothing, and adds no event.
+/// batch of each session that was open then. `renumber` gives the rows new numbers, with which the history begins. A refused
+/// call changes nothing, and adds no event.
 #[derive(Drop)]
 pub struct TableCell {
     pub(crate) origin: Origin,
@@ -82,6 +85,42 @@ impl TableCell {
         ensures { result.now ≡ self.now.state.definition }
     {
         self.table.definition()
+    }
+
+    /// Returns the latest moment of an event, or the least moment if none had one.
+    pub fn latest(&self) -> Moment
+        ensures { result ≡ self.now.state.latest }
+    {
+        self.table.latest()
+    }
+
+    /// Returns the row of `key`, if there is one; it may have ended. Doesn't allocate.
+    pub fn row(&self, key: &Key) -> Option<&Row>
+        ensures { option_copied result ≡ row_at key.now self.now.state.rows }
+    {
+        self.table.row(key)
+    }
+
+    /// Returns the number of rows, those that have ended among them.
+    pub fn row_count(&self) -> usize
+        ensures { result ≡ length self.now.state.rows }
+    {
+        self.table.row_count()
+    }
+
+    /// Returns when the first row to end ends, or `None` if no row has an end: at each moment all rows are live exactly if
+    /// there is no such end, or it is later. So there is something to purge from then on. Doesn't allocate.
+    pub fn next_end(&self) -> Option<Moment>
+        ensures { (now : ℕ) → list_all (λ e. is_live now e.1) self.now.state.rows ≡ goes_past now result }
+    {
+        self.table.next_end()
+    }
+
+    /// Returns the next number to assign, or 2^32 if all are assigned.
+    pub fn next_number(&self) -> u64
+        ensures { result ≡ self.now.state.next }
+    {
+        self.table.next_number()
     }
 
     /// Returns whether the history begins with a new table, as `new` makes it with this `size`, `nopurge` and `first`.

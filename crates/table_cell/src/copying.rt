@@ -8,7 +8,8 @@ ghost use Rattle.table_types.specs.Tables.{has_its_period, is_definition};
 ghost use Rattle.table_types.specs.Updates.{value_fits};
 ghost use Rattle.table_types.specs.Rotation.{turned};
 ghost use Rattle.table_rows.specs.Rows.{is_live};
-ghost use Rattle.table_cell.specs.Machine.{is_copied, is_unacked, last_number};
+ghost use Rattle.table_cell.specs.Machine.{in_reach, is_copied, is_unacked, last_number};
+ghost use Rattle.table_cell.specs.Parts.{is_in_reach};
 ghost use Rattle.table_cell.specs.Soundness.{CellsFit, EndFits, EntryFits, IsSound};
 ghost use Rattle.table_cell.specs.Copying.{life_left, update_of, value_of, values_of};
 
@@ -26,15 +27,32 @@ fn is_copied(kind: CopyKind, row: &Row) -> bool
 {
     match kind {
         CopyKind::Push => !row.is_learned(),
-        CopyKind::Resync => true,
+        CopyKind::Resync | CopyKind::Standing => true,
     }
 }
 
-/// Returns whether a copy of `kind` at `now` includes the row.
+/// Returns whether the row is in the reach of a copy of `kind` for a session with this `bound`.
+fn is_in_reach(kind: CopyKind, bound: u32, row: &Row) -> bool
+    ensures { result ≡ is_in_reach kind bound row.now }
+{
+    match kind {
+        CopyKind::Push | CopyKind::Resync => true,
+        CopyKind::Standing => row.number() <= bound,
+    }
+}
+
+/// Returns whether a copy of `kind` at `now` includes the row if it is in its reach.
 fn is_copied_at(kind: CopyKind, row: &Row, now: Moment) -> bool
     ensures { result ≡ (is_copied kind row.now && is_live now row.now) }
 {
     is_copied(kind, row) && is_live(row, now)
+}
+
+/// Returns whether a copy of `kind` at `now`, for a session with this `bound`, includes the row.
+fn is_chosen(kind: CopyKind, bound: u32, row: &Row, now: Moment) -> bool
+    ensures { result ≡ (is_in_reach kind bound row.now && (is_copied kind row.now && is_live now row.now)) }
+{
+    is_in_reach(kind, bound, row) && is_copied_at(kind, row, now)
 }
 
 /// Returns the cell as of `now`: rotated, if it is a rate with a period.
@@ -130,44 +148,46 @@ fn update_of(
 }
 
 impl Table {
-    /// Returns the first row above `number`, in ascending order of number, that a copy of `kind` at `now` includes.
-    /// Doesn't allocate.
+    /// Returns the first row above `number`, in ascending order of number, that a copy of `kind` at `now`, for a session
+    /// with this `bound`, includes. Doesn't allocate.
     pub(crate) fn first_unacked(
         &self,
         number: u32,
+        bound: u32,
         kind: CopyKind,
         now: Moment,
     ) -> Option<(&Key, &Row)>
         requires { self.now.latest ≤ now }
-        ensures { option_map (λ e. (e.0.now, e.1.now)) result ≡ slice_get (filter (is_unacked kind number now) self.now.rows) 0 }
+        ensures { option_map (λ e. (e.0.now, e.1.now)) result ≡ slice_get (filter (is_unacked kind number now) (in_reach kind bound self.now.rows)) 0 }
     {
         for (key, row) in self.stock.above(self.copy_start(kind, number)) {
-            if is_copied_at(kind, row, now) {
+            if is_chosen(kind, bound, row, now) {
                 return Some((key, row));
             }
         }
         None
     }
 
-    /// Returns the updates of the rows above `number` that a copy of `kind` includes, in ascending order of number, at
-    /// most `limit` of them.
+    /// Returns the updates of the rows above `number` that a copy of `kind`, for a session with this `bound`, includes, in
+    /// ascending order of number, at most `limit` of them.
     pub(crate) fn unacked(
         &self,
         number: u32,
+        bound: u32,
         kind: CopyKind,
         limit: usize,
         now: Moment,
     ) -> Result<Vec<Update>, Memory>
         requires sound { IsSound self.now }
         requires later { self.now.latest ≤ now }
-        ensures { IfOk result (λ updates. updates.items ≡ take limit (map (update_of self.now.definition now) (filter (is_unacked kind number now) self.now.rows))) }
+        ensures { IfOk result (λ updates. updates.items ≡ take limit (map (update_of self.now.definition now) (filter (is_unacked kind number now) (in_reach kind bound self.now.rows)))) }
     {
         let mut updates = Vec::new(self.alloc);
         for (key, row) in self.stock.above(self.copy_start(kind, number)) {
             if updates.len() >= limit {
                 break;
             }
-            if is_copied_at(kind, row, now) {
+            if is_chosen(kind, bound, row, now) {
                 updates.push(update_of(self.alloc, &self.definition, key, row, now)?)?;
             }
         }

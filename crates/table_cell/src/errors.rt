@@ -1,4 +1,4 @@
-//! Why a table refuses an event, a batch isn't settled, or a history doesn't begin anew.
+//! Why a table refuses an event, a batch isn't settled, a history doesn't begin anew, or rows don't get new numbers.
 
 use thiserror::Error;
 
@@ -149,6 +149,17 @@ pub enum CheckpointError {
     #[error("a batch is out")]
     BatchOut,
     /// Memory ran out. A history begins anew without memory, so no call returns this.
+    #[error("memory")]
+    Memory,
+}
+
+/// Why the rows of a table don't get new numbers: the first of these that applies.
+#[derive(Clone, Copy, Debug, PartialEq, Eq, Error)]
+pub enum RenumberError {
+    /// A session is open.
+    #[error("a session is open")]
+    SessionOpen,
+    /// Memory ran out.
     #[error("memory")]
     Memory,
 }

@@ -9,7 +9,7 @@ ghost use Rattle.table_cell.specs.declared.errors.CopyError.TheVariants as uncop
 ghost use Rattle.table_cell.specs.declared.events.CellEvent.{CellEvent};
 ghost use Rattle.table_cell.specs.declared.events.CellReply.{CellReply};
 ghost use Rattle.table_cell.specs.declared.progress.Progress.{Progress};
-ghost use Rattle.table_cell.specs.Machine.{copy_refusal, is_copied, last_number, progress_of};
+ghost use Rattle.table_cell.specs.Machine.{bound_by, copy_refusal, in_reach, is_copied, last_number, progress_of};
 ghost use Rattle.table_cell.specs.Histories.{CellState, IsSoundCell, Made};
 ghost use Rattle.table_cell.specs.Handing.{IsLastOfItsKey, IsReached, KeepsUp, handed_since, is_about, is_of_each_kind, resyncs_since};
 
@@ -26,7 +26,7 @@ pub fn a_cell_keeps_up()
 /// with a number up to the one that the session acknowledged; the row isn't learned, or all copies were resyncs. Then the
 /// row was handed out under its number, and no later update that was handed out has its key. The same holds of any front
 /// of what was handed out that goes as far as the number acknowledged. If a copy finds nothing, it holds of each such row
-/// that a copy of that kind would include, whatever the row's number.
+/// in the reach of that copy that a copy of its kind would include, whatever the row's number.
 pub fn acknowledged_rows_were_handed_out()
     ensures all { (c : CellState) (session now : ℕ) (p : Progress) →
         IsSoundCell c → KeepsUp session c → progress_of session c.state ≡ Some p → c.state.latest ≤ now →
@@ -38,7 +38,7 @@ pub fn acknowledged_rows_were_handed_out()
     ensures nothing { (c : CellState) (session limit now : ℕ) (kind : CopyKind) (full : Bool) →
         IsSoundCell c → KeepsUp session c → 1 ≤ limit → copy_refusal full c.state session kind limit now ≡ Some uncopied.Nothing →
         AllByRecursion (λ e. is_live now e.1 ≡ true → is_copied kind e.1 ≡ true → is_of_each_kind (resyncs_since session c.history) e.1 ≡ true →
-        IsLastOfItsKey (handed_since session c.history) e) c.state.rows }
+        IsLastOfItsKey (handed_since session c.history) e) (in_reach kind (bound_by (progress_of session c.state)) c.state.rows) }
 {}
 
 /// An event that isn't about a session changes neither its progress, nor what it was handed, nor whether that was by resyncs alone.

@@ -10,6 +10,7 @@ ghost use Rattle.table_cell.specs.declared.events.CellEvent.TheVariants as event
 ghost use Rattle.table_cell.specs.declared.events.CellReply.{CellReply};
 ghost use Rattle.table_cell.specs.declared.events.CellReply.TheVariants as replies;
 ghost use Rattle.table_cell.specs.Machine.{IsGranted, Replays, Step, TableState, new_table, unacked};
+ghost use Rattle.table_cell.specs.Renumbering.{renumbered};
 ghost use Rattle.table_cell.specs.Soundness.{AreTimely, IsSound, IsTimely};
 ghost use Rattle.table_cell.specs.Histories.{AreAscending, CellState, IsLatestBatch, IsReplayed, IsSoundCell, Kept, Made, begun_anew, is_history_full, latest_batch, new_cell};
 
@@ -65,13 +66,15 @@ pub fn what_settles_is_the_latest()
 {}
 
 /// An event keeps a table with its history sound if the history has room for it and its moment, if it has one, is below
-/// 2^63. A new one is sound, and so is a sound one whose history begins anew.
+/// 2^63. A new one is sound, and so is a sound one whose history begins anew, with its rows as they are, or, if no session is
+/// open, with new numbers for them.
 pub fn a_cell_stays_sound()
     ensures step { (c e : CellState) (event : CellEvent) (reply : CellReply) → IsTimely event → is_history_full c ≡ false →
         IsSoundCell c → Made c event reply e → IsSoundCell e }
     ensures new { (d : Definition) (size first : ℕ) (nopurge : Bool) → is_definition d ≡ true → 1 ≤ size → 1 ≤ first → first ≤ 2 ^ 32 →
         IsSoundCell (new_cell d size nopurge first) }
     ensures anew { (c : CellState) → IsSoundCell c → IsSoundCell (begun_anew c) }
+    ensures renumbered { (c : CellState) → IsSoundCell c → c.state.sessions ≡ [] → IsSoundCell (begun_anew (record c { state = renumbered c.state })) }
 {}
 
 /// After each beginning of its history, a sound table with its history was a sound table, and the updates of each batch

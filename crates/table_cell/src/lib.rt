@@ -20,7 +20,9 @@ mod origin;
 mod past;
 mod progress;
 mod refusals;
+mod renumbering;
 mod sessions;
+mod standing;
 mod stock;
 mod table;
 mod tracking;
@@ -30,7 +32,7 @@ pub use checkpoints::Dropped;
 pub use entry::Entry;
 pub use errors::{
     AckError, CheckpointError, CloseError, CopyError, LearnError, OpenError, PurgeError,
-    StrangeBatch, TrackError,
+    RenumberError, StrangeBatch, TrackError,
 };
 pub use events::{CellEvent, CellReply, Reply};
 pub use handing::{a_cell_keeps_up, acknowledged_rows_were_handed_out, other_events_hand_nothing};
@@ -39,4 +41,5 @@ pub use laws::{
     a_step_exists, a_step_is_unique, a_table_stays_sound, batches_are_kept,
     what_is_copied_is_a_batch, what_settles_is_the_latest,
 };
+pub use standing::{standing_resyncs_end, what_is_left_shrinks};
 pub use table_types::{CopyKind, Settled};

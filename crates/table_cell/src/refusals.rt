@@ -104,7 +104,7 @@ impl Table {
         } else if progress.acknowledged < progress.taught {
             Some(CopyError::BatchOut)
         } else if self
-            .first_unacked(progress.acknowledged, kind, now)
+            .first_unacked(progress.acknowledged, progress.bound, kind, now)
             .is_none()
         {
             Some(CopyError::Nothing)

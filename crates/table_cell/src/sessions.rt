@@ -4,7 +4,7 @@ ghost use Rattle.std.specs.Prelude.{◌≡◌, ◌≤◌, ◌==◌, ◌++◌, �
 ghost use Rattle.std.specs.List.{list_any};
 ghost use Rattle.std.specs.Map.{lookup};
 ghost use Rattle.table_cell.specs.Parts.{index_of};
-ghost use Rattle.table_cell.specs.Machine.{acknowledged_by, acknowledging, is_any_out, is_out, no_progress, progress_of, settled_by, teaching, with_progress};
+ghost use Rattle.table_cell.specs.Machine.{acknowledged_by, acknowledging, is_any_out, is_out, bound_by, no_progress, progress_of, settled_by, teaching, with_progress};
 
 use crate::progress::Progress;
 use crate::table::Table;
@@ -95,15 +95,26 @@ impl Table {
         }
     }
 
-    /// Opens `session`, which isn't open: it has acknowledged nothing and was taught nothing. If memory runs out,
-    /// nothing has changed.
+    /// Returns the number up to which a standing resync copies for `session`, or 0 if it isn't open.
+    pub(crate) fn bound(&self, session: u32) -> u32
+        ensures { result ≡ bound_by (progress_of session self.now) }
+    {
+        match self.progress(session) {
+            Some(progress) => progress.bound,
+            None => 0,
+        }
+    }
+
+    /// Opens `session`, which isn't open: it has acknowledged nothing and was taught nothing, and its bound is the last
+    /// number assigned. If memory runs out, nothing has changed.
     pub(crate) fn open(&mut self, session: u32) -> Result<(), Memory>
-        ensures open { OnOk result (self.new ≡ record self.old { sessions = self.old.sessions ++ (session, no_progress) ∷ [] }) }
+        ensures open { OnOk result (self.new ≡ record self.old { sessions = self.old.sessions ++ (session, no_progress self.old.next) ∷ [] }) }
         ensures stays { OnErr result (self.new ≡ self.old) }
     {
         let progress = Progress {
             acknowledged: 0,
             taught: 0,
+            bound: self.stock.last_number(),
         };
         self.sessions.push((session, progress))?;
         Ok(())

@@ -1,15 +1,15 @@
 //! The rows of a table with their numbers.
 
-ghost use Rattle.std.specs.Prelude.{◌≡◌, ◌≤◌, ◌<◌, ◌+◌, ◌^◌, [], ◌∷◌, ◌++◌, nat_lt, not, filter, length, IfNone, IfOk, IfSome, OnErr, OnOk, option_copied};
+ghost use Rattle.std.specs.Prelude.{◌≡◌, ◌≤◌, ◌<◌, ◌+◌, ◌-◌, ◌^◌, [], ◌∷◌, ◌++◌, nat_lt, not, filter, length, IfNone, IfOk, IfSome, OnErr, OnOk, option_copied};
 ghost use Rattle.std.specs.Bool.{OnFalse, OnTrue};
 ghost use Rattle.std.specs.List.Sorted.{IsStrictlySortedBy};
 ghost use Rattle.std.specs.Map.{keys_of};
 ghost use Rattle.table_types.specs.declared.key.Key.{Key};
 ghost use Rattle.table_types.specs.Keys.{key_cmp};
 ghost use Rattle.table_rows.specs.Rows.{IsFirstToEnd, is_live, row_at};
-ghost use Rattle.update_numbers.specs.Index.{pairs_without};
-ghost use Rattle.update_numbers.specs.Numbers.{Numbering, pushed};
+ghost use Rattle.update_numbers.specs.Numbers.{Numbering, pairs_without, pushed};
 ghost use Rattle.table_cell.specs.Machine.{without};
+ghost use Rattle.table_cell.specs.Renumbering.{numbered_from};
 ghost use Rattle.table_cell.specs.Stock.{IsStock, left_for, number_of};
 
 use crate::above::Above;
@@ -17,14 +17,14 @@ use std::alloc::Global;
 use std::marker::Model;
 use table_rows::{Rows, is_live};
 use table_types::{Key, Memory, Moment, Row};
-use update_numbers::NumberedKeys;
+use update_numbers::Numbers;
 
 /// The rows of a table by key, with the numbers assigned to them, and the next number to assign.
 #[derive(Drop)]
 pub(crate) struct Stock<R: Rows> {
     alloc: Global,
     rows: R,
-    numbers: NumberedKeys,
+    numbers: Numbers,
 }
 
 impl<R: Rows> Model for Stock<R> {
@@ -38,7 +38,7 @@ impl<R: Rows> Model for Stock<R> {
 }
 
 /// Removes the number of `row`, if there is one. Doesn't allocate.
-fn drop_number(numbers: &mut NumberedKeys, row: Option<Row>)
+fn drop_number(numbers: &mut Numbers, row: Option<Row>)
     ensures { numbers.new ≡ record { pairs = pairs_without (number_of row) numbers.old.pairs; next = numbers.old.next } }
 {
     if let Some(row) = row {
@@ -47,7 +47,7 @@ fn drop_number(numbers: &mut NumberedKeys, row: Option<Row>)
 }
 
 /// Takes back the last number assigned. Doesn't allocate.
-fn take_back(numbers: &mut NumberedKeys)
+fn take_back(numbers: &mut Numbers)
     ensures { (before : Numbering) (key : Key) → numbers.old ≡ pushed key before → numbers.new ≡ before }
 {
     numbers.pop();
@@ -63,7 +63,7 @@ impl<R: Rows> Stock<R> {
         Stock {
             alloc,
             rows,
-            numbers: NumberedKeys::new(alloc, first),
+            numbers: Numbers::new(alloc, first),
         }
     }
 
@@ -73,6 +73,13 @@ impl<R: Rows> Stock<R> {
         ensures sound { IsStock self.now }
     {
         self.numbers.next()
+    }
+
+    /// Returns the number before the next one to assign.
+    pub(crate) fn last_number(&self) -> u32
+        ensures { result ≡ self.now.next - 1 }
+    {
+        self.next().saturating_sub(1) as u32
     }
 
     /// Returns the number of rows.
@@ -171,14 +178,14 @@ impl<R: Rows> Stock<R> {
     fn all(&self) -> Above<'_, R>
         ensures { result ≡ self.now.rows }
     {
-        Above::new(self.numbers.above(0), &self.rows)
+        Above::new(self.numbers.iter_above(0), &self.rows)
     }
 
     /// Returns the rows above `number` with their keys, in ascending order of number. Doesn't allocate.
     pub(crate) fn above(&self, number: u32) -> Above<'_, R>
         ensures { result ≡ filter (λ e. nat_lt number e.1.number) self.now.rows }
     {
-        Above::new(self.numbers.above(number), &self.rows)
+        Above::new(self.numbers.iter_above(number), &self.rows)
     }
 
     /// Returns how many rows aren't live at `now`. Doesn't allocate.
@@ -192,6 +199,28 @@ impl<R: Rows> Stock<R> {
             }
         }
         ended
+    }
+
+    /// Stores a copy of `row` under the next number in place of the key's.
+    fn store_copy(&mut self, key: &Key, row: &Row) -> Result<(), Memory>
+        requires { self.old.next < 2 ^ 32 }
+        ensures { OnOk result (self.new ≡ record { rows = without key.now self.old.rows ++ (key.now, record row.now { number = self.old.next }) ∷ []; next = self.old.next + 1 }) }
+    {
+        let numbered = row.copy_as(self.alloc, self.next() as u32)?;
+        self.store(key.copy(self.alloc)?, numbered)
+    }
+
+    /// Returns a stock of copies of the rows, in their order, with the numbers from 1 on. It keeps them in `rows`, which
+    /// has none yet.
+    pub(crate) fn renumbered(&self, rows: R) -> Result<Stock<R>, Memory>
+        requires { R.content rows ≡ [] }
+        ensures { IfOk result (λ stock. stock ≡ record { rows = numbered_from 1 self.now.rows; next = length self.now.rows + 1 }) }
+    {
+        let mut stock = Stock::new(self.alloc, rows, 1);
+        for (key, row) in self.all() {
+            stock.store_copy(key, row)?;
+        }
+        Ok(stock)
     }
 
     /// Returns copies of the rows with their keys, in ascending order of key.

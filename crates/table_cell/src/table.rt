@@ -1,10 +1,10 @@
 //! The state of a stick table.
 
-ghost use Rattle.std.specs.Prelude.{◌≡◌, ◌↔◌, ◌≤◌, ◌<◌, ◌^◌, IfOk, IfSome, IsTrue, List, nat_lt, OnErr, OnOk, filter, length, not, option_copied};
+ghost use Rattle.std.specs.Prelude.{◌≡◌, ◌↔◌, ◌≤◌, ◌<◌, ◌^◌, ℕ, IfOk, IfSome, IsTrue, List, nat_lt, OnErr, OnOk, filter, length, not, option_copied};
 ghost use Rattle.std.specs.List.{list_all};
 ghost use Rattle.table_types.specs.declared.key.Key.{Key};
 ghost use Rattle.table_types.specs.Rows.{StoredRow};
-ghost use Rattle.table_rows.specs.Rows.{IsFirstToEnd, is_live};
+ghost use Rattle.table_rows.specs.Rows.{IsFirstToEnd, goes_past, is_live, row_at};
 ghost use Rattle.table_cell.specs.Cells.{IsNewFrom};
 ghost use Rattle.table_cell.specs.Machine.{Leaves, has_room, is_full, learned, live_row, new_table, stored, tracked};
 ghost use Rattle.table_cell.specs.Stock.{AreInRisingKey, left_for};
@@ -80,6 +80,20 @@ impl Table {
         &self.definition
     }
 
+    /// Returns the row of `key`.
+    pub(crate) fn row(&self, key: &Key) -> Option<&Row>
+        ensures { option_copied result ≡ row_at key.now self.now.rows }
+    {
+        self.stock.row(key)
+    }
+
+    /// Returns the number of rows.
+    pub(crate) fn row_count(&self) -> usize
+        ensures { result ≡ length self.now.rows }
+    {
+        self.stock.len()
+    }
+
     /// Returns copies of the rows with their keys, in ascending order of key.
     pub(crate) fn rows(&self) -> Result<Vec<(Key, Row)>, Memory>
         ensures { IfOk result (λ list. AreInRisingKey self.now.rows list.items) }
@@ -111,6 +125,27 @@ impl Table {
         Some(self.stock.next())
     }
 
+    /// Returns whether a session is open.
+    pub(crate) fn has_sessions(&self) -> bool
+        ensures { result ≡ nat_lt 0 (length self.now.sessions) }
+    {
+        self.sessions.len() > 0
+    }
+
+    /// Returns the latest moment of an event.
+    pub(crate) fn latest(&self) -> Moment
+        ensures { result ≡ self.now.latest }
+    {
+        self.latest
+    }
+
+    /// Returns the next number to assign, or 2^32 if all are assigned.
+    pub(crate) fn next_number(&self) -> u64
+        ensures { result ≡ self.now.next }
+    {
+        self.stock.next()
+    }
+
     /// Returns whether `now` is before the latest moment of an event.
     pub(crate) fn is_past(&self, now: Moment) -> bool
         ensures past { result ≡ nat_lt now self.now.latest }
@@ -135,6 +170,19 @@ impl Table {
         match self.stock.row(first) {
             Some(row) => is_live(row, now),
             None => true,
+        }
+    }
+
+    /// Returns when the first row to end ends, or `None` if no row has an end.
+    pub(crate) fn next_end(&self) -> Option<Moment>
+        ensures { (now : ℕ) → list_all (λ e. is_live now e.1) self.now.rows ≡ goes_past now result }
+    {
+        let Some(first) = self.stock.first_to_end() else {
+            return None;
+        };
+        match self.stock.row(first) {
+            Some(row) => row.ends(),
+            None => None,
         }
     }
 

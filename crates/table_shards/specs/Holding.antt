@@ -37,7 +37,7 @@ Leaves {A} call event reply table c s (Ok done) c' s' =
     (answer : A) × Holds call (λ a. receipted table c s event (reply a)) table c s (Ok answer) c' s'
 Leaves call event reply table c s (Err error) c' s' = Holds call (λ a. receipted table c s event (reply a)) table c s (Err error) c' s'
 
--- The same for a call that makes no event: it needs no memory, and the seat stays as it was.
+-- The same for a call that makes no event: it needs no memory for a receipt, and the seat stays as it was.
 abbrev pub Looks : {A E : Type 0} → (CellState → Result A E → CellState → Type 0) → ℕ → CellState → SeatState → Result A (ShardError E) → CellState → SeatState → Type 0
 Looks call table c s (Err errors.Memory) c' s' = ⊥
 Looks call table c s r c' s' = Holds call (λ done. s) table c s r c' s'

@@ -5,6 +5,7 @@
 
 ghost use Rattle.std.specs.Prelude.{◌≡◌, ◌≤◌};
 ghost use Rattle.table_cell.specs.Histories.{Acknowledges, BeginsAnew, Closes, Copies, Learns, Opens, Purges, Tracks};
+ghost use Rattle.table_cell.specs.Renumbering.{Renumbers};
 ghost use Rattle.table_cell.specs.declared.events.CellEvent.TheVariants as events;
 ghost use Rattle.table_cell.specs.declared.events.CellReply.TheVariants as replies;
 ghost use Rattle.table_shards.specs.Holding.{Holds, Looks, Settles, SlidesAlways, receipted};
@@ -18,7 +19,7 @@ use crate::seat::Seat;
 use std::convert::Infallible;
 use table_cell::{
     AckError, CheckpointError, CloseError, CopyError, Dropped, LearnError, OpenError, PurgeError,
-    Reply, StrangeBatch, TrackError,
+    RenumberError, Reply, StrangeBatch, TrackError,
 };
 use table_types::{Batch, Change, CopyKind, Key, Moment, Settled, Update};
 
@@ -128,6 +129,19 @@ pub fn slide(
     ensures { Looks SlidesAlways table locked.old seat result.1 locked.new result.0 }
 {
     let result = lent::slide(locked, &seat, table);
+    (seat, result)
+}
+
+/// Calls `TableCell::renumber`. If it drops an event of the round, an audit of the round then fails. Makes no event, and
+/// returns the seat as it was.
+pub fn renumber(
+    locked: &mut Locked,
+    seat: Seat,
+    table: u64,
+) -> (Seat, Result<(), ShardError<RenumberError>>)
+    ensures { Looks (λ c r e. Renumbers c r e) table locked.old seat result.1 locked.new result.0 }
+{
+    let result = lent::renumber(locked, &seat, table);
     (seat, result)
 }
 

@@ -7,6 +7,9 @@ pub enum CopyKind {
     Push,
     /// This node's own rows and learned rows.
     Resync,
+    /// This node's own rows and learned rows up to the last number that the table had assigned when the session was
+    /// opened.
+    Standing,
 }
 
 /// How much of a batch an acknowledgement settled.

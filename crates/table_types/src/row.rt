@@ -224,6 +224,20 @@ impl Row {
             && Name::are_same(&self.name, &other.name)
     }
 
+    /// Returns a copy that is equal but for its number. Fails if memory runs out.
+    pub fn copy_as(&self, alloc: Global, number: u32) -> Result<Row, Memory>
+        ensures { IfOk result (λ copy. copy ≡ record self.now { number = number }) }
+    {
+        let name = Name::copy_of(alloc, &self.name)?;
+        Ok(Row {
+            number,
+            ends: self.ends,
+            cells: self.cells.copy(alloc)?,
+            name,
+            learned: self.learned,
+        })
+    }
+
     /// Returns an equal copy. Fails if memory runs out.
     pub fn copy(&self, alloc: Global) -> Result<Row, Memory>
         ensures { IfOk result (λ copy. copy ≡ self.now) }

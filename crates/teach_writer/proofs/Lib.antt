@@ -6,3 +6,5 @@ pub mod SelectionsAreCheapest
 pub mod MarksAreReads
 pub mod WrittenLesson
 pub mod LessonsAppend
+pub mod NextPieces
+pub mod PlannedNames

@@ -124,7 +124,7 @@ number_known : (known last : Option ℕ) (number : ℕ) → (known ≡ last) ⊎
 number_known known last number (inl same) = rw same (sent_resolved last number)
 number_known known last number (inr none) = rw none refl
 
-word_sent : (last : Option ℕ) (number : ℕ) → number < 2 ^ 32 → is_optional_word (number_sent last number) ≡ true
+pub word_sent : (last : Option ℕ) (number : ℕ) → number < 2 ^ 32 → is_optional_word (number_sent last number) ≡ true
 word_sent last number small = at (number_sent last number) refl
   where
     at : (o : Option ℕ) → number_sent last number ≡ o → is_optional_word o ≡ true

@@ -1,5 +1,6 @@
 pub mod Lessons
 pub mod Naming
+pub mod Pieces
 pub mod Planning
 pub mod Retained
 pub mod NextRequests

@@ -1,10 +1,13 @@
 //! Lessons: the stream that teaches a learner one batch.
 #![tactic(auto)]
 
+mod held_names;
 mod laws;
 mod lesson;
 mod next_requests;
+mod pieces;
 mod planned;
+mod planned_name;
 mod retained;
 mod sending;
 mod teaching;
@@ -14,4 +17,5 @@ pub use laws::{
     names_may_all_be_written,
 };
 pub use lesson::{Lesson, TeachError};
+pub use pieces::Pieces;
 pub use teaching::teach;

@@ -1,23 +1,31 @@
-//! Making a lesson according to a plan.
+//! Planning how the names of a lesson are sent.
 
-ghost use Rattle.std.specs.Prelude.{◌-◌, ◌≡◌, ◌<◌, ◌≤◌, ℕ, true, false, IfOk, IfSome, length, slice_index_or};
+ghost use Rattle.std.specs.Prelude.{◌-◌, ◌≡◌, ◌<◌, ◌≤◌, ◌^◌, ℕ, true, false, Some, IfOk, IfSome, OnOk, length, slice_index_or};
 ghost use Rattle.table_types.specs.Batches.{IsBatchFor};
+ghost use Rattle.table_types.specs.Rosters.{table_at};
 ghost use Rattle.table_types.specs.SlotIds.{slot_count, is_slot};
+ghost use Rattle.table_types.specs.Tables.{Definition, is_definition};
+ghost use Rattle.table_types.specs.Updates.{fits, stores_name};
+ghost use Rattle.peers_msg.specs.Fitting.{name_fits};
+ghost use Rattle.peers_msg.specs.Spelling.{stream_of};
 ghost use Rattle.known_state.specs.Cost.{knowledge_of};
+ghost use Rattle.known_state.specs.Known.{KnownState};
 ghost use Rattle.known_state.specs.Lessons.{IsLessonFor};
 ghost use Rattle.known_state.specs.Plans.{AreLinked, at_start, kept_over, links, names_in};
-ghost use Rattle.known_state.specs.Requests.{requests_of};
-ghost use Rattle.teach_writer.specs.Planning.{IsPlanFor};
-ghost use Rattle.teach_writer.specs.NextRequests.{retained_after, index_after};
-ghost use Rattle.teach_writer.specs.Sending.{GoesThrough};
+ghost use Rattle.known_state.specs.Requests.{IsUpdateOf, requests_of};
+ghost use Rattle.known_state.specs.State.{name_of, reads_empty, slots_after};
+ghost use Rattle.teach_writer.specs.NextRequests.{IsAsMarked, retained_after, index_after};
+ghost use Rattle.teach_writer.specs.Pieces.{AreSendable, messages_left, planned_field, state_left};
+ghost use Rattle.teach_writer.specs.Retained.{IsNameField};
+ghost use Rattle.teach_writer.specs.Sending.{GoesThrough, is_stored, slot_of};
 
-use crate::lesson::Lesson;
 use crate::next_requests::{NextRequest, next_kept, retained_first};
+use crate::planned_name::PlannedName;
 use crate::retained::Retained;
-use crate::sending::write_update;
-use known_state::{Known, Plan, Request};
+use dict_slots::Slots;
+use known_state::{Known, Request, number_sent};
 use std::alloc::Global;
-use table_types::{Batch, Items, Memory, is_slot};
+use table_types::{Batch, Memory, Update, is_slot};
 
 /// Returns the mark at this index, or false if there is none.
 fn mark_at(marks: &[bool], index: usize) -> bool
@@ -75,70 +83,111 @@ fn note_likely_slot(
     }
 }
 
-/// Sends the updates of a batch, one after another, with the requests kept that `keep` marks. Returns the bytes, and
-/// what the learner knows after them. Whatever the marks, they are a lesson. If each request that is marked has a link
-/// and the slots suffice for all these links, then each of them is read, and any other name is written.
-fn send_updates(
+/// Returns whether the table of an update stores names.
+fn stores_name(known: &Known, update: &Update) -> bool
+    requires { IsUpdateOf known.now.roster update.now }
+    ensures stored { result ≡ is_stored known.now.roster update.now }
+    ensures table { (d : Definition) → table_at known.now.roster update.now.table ≡ Some d → (stores_name d ≡ result) × (is_definition d ≡ true) }
+    ensures word { update.now.number < 2 ^ 32 }
+{
+    let Some(table) = known.roster().table(update.table) else {
+        unreachable!();
+    };
+    let (_id, _number) = (table.id(), number_sent(None, update.number));
+    table.stores_name()
+}
+
+/// Plans how the name of an update is sent: if its request is kept, read from a slot that retains it, of which the
+/// likely slot is tried first, and otherwise written to the lowest free slot. `stored` says whether the update's table
+/// stores names.
+fn plan_name(
+    retained: &Retained,
+    slots: &Slots,
+    update: &Update,
+    stored: bool,
+    kept: bool,
+    likely_slot: Option<u8>,
+) -> PlannedName
+    requires likely_slot { IfSome likely_slot (λ slot. is_slot slot ≡ true) }
+    ensures field { IsAsMarked retained.now slots.now kept update.now.name →
+        IsNameField retained.now slots.now stored update.now.name (planned_field update.now.name result) }
+    ensures fits { (d : Definition) → stores_name d ≡ stored → fits d update.now ≡ true → name_fits d (planned_field update.now.name result) ≡ true }
+    ensures reads { reads_empty slots.now (planned_field update.now.name result) ≡ false }
+    ensures named { name_of slots.now (planned_field update.now.name result) ≡ update.now.name }
+    ensures slot { IfSome (slot_of (planned_field update.now.name result)) (λ id. is_slot id ≡ true) }
+{
+    let Some(name) = &update.name else {
+        return if stored {
+            PlannedName::NoName
+        } else {
+            PlannedName::NotStored
+        };
+    };
+    match retained.find(slots, name, kept, likely_slot) {
+        Some(slot) => PlannedName::Read(slot),
+        None => PlannedName::Write(retained.free()),
+    }
+}
+
+/// Writes the name of an update to its slot, if that is planned, and returns the slot that it is read from or written to.
+fn use_name(
+    alloc: Global,
+    slots: &mut Slots,
+    update: &Update,
+    name: PlannedName,
+) -> Result<Option<u8>, Memory>
+    requires { IfSome (slot_of (planned_field update.now.name name)) (λ id. is_slot id ≡ true) }
+    ensures slot { IfOk result (λ slot. slot ≡ slot_of (planned_field update.now.name name)) }
+    ensures valid { IfOk result (λ slot. IfSome slot (λ id. is_slot id ≡ true)) }
+    ensures written { OnOk result (slots.new ≡ slots_after slots.old (planned_field update.now.name name)) }
+{
+    match (name, &update.name) {
+        (PlannedName::Read(slot), _) => Ok(Some(slot)),
+        (PlannedName::Write(slot), Some(name)) => {
+            slots.write(slot, name.copy(alloc)?);
+            Ok(Some(slot))
+        }
+        (PlannedName::NotStored | PlannedName::NoName | PlannedName::Write(_), _) => Ok(None),
+    }
+}
+
+/// Plans how the name of each update of a batch is sent, with the requests kept that `keep` marks. Whatever the marks,
+/// the updates can be sent so, and their messages are a lesson. If each request that is marked has a link and the slots
+/// suffice for all these links, then each of them is read, and any other name is written.
+pub fn plan_names(
     alloc: Global,
     known: &Known,
     batch: &Batch,
     requests: &[Request],
     keep: &[bool],
-) -> Result<(Vec<u8>, Known), Memory>
+) -> Result<Vec<PlannedName>, Memory>
     requires batch { IsBatchFor known.now.roster batch.now }
     requires requests { requests.now ≡ requests_of known.now.roster (knowledge_of known.now.state) batch.now }
     requires keep { length keep.now ≡ length requests.now }
-    ensures taught { IfOk result (λ sent. IsLessonFor known.now batch.now sent.0.items sent.1) }
-    ensures order { IfOk result (λ sent. AreLinked (at_start (names_in known.now.state.slots)) requests.now keep.now →
+    ensures sendable { IfOk result (λ names. AreSendable known.now.roster known.now.state batch.now names.items) }
+    ensures taught { IfOk result (λ names. IsLessonFor known.now batch.now (stream_of (messages_left known.now.roster known.now.state batch.now names.items))
+        (record { roster = known.now.roster; state = state_left known.now.roster known.now.state batch.now names.items })) }
+    ensures order { IfOk result (λ names. AreLinked (at_start (names_in known.now.state.slots)) requests.now keep.now →
         ((place : ℕ) → kept_over (links (names_in known.now.state.slots) requests.now keep.now) place ≤ slot_count - 1) →
-        GoesThrough known.now batch.now keep.now sent.0.items sent.1.state) }
+        GoesThrough known.now batch.now keep.now (stream_of (messages_left known.now.roster known.now.state batch.now names.items))
+        (state_left known.now.roster known.now.state batch.now names.items)) }
 {
+    let _tables = known.roster().tables();
     let (next, later, first) = next_kept(alloc, requests, keep)?;
-    let mut after = known.copy(alloc)?;
-    let mut retained = retained_first(after.slots(), &first);
+    let mut slots = known.slots().copy(alloc)?;
+    let mut retained = retained_first(&slots, &first);
     let mut likely_slots = vec![in alloc; None; requests.len()]?;
-    let mut bytes = Vec::new(alloc);
+    let mut names = Vec::new(alloc);
     let mut index = 0;
     for update in batch.updates() {
         let likely_slot = likely_slot(&likely_slots, index);
         let kept = mark_at(keep, index);
-        let slot = write_update(
-            alloc,
-            &mut after,
-            &retained,
-            update,
-            kept,
-            likely_slot,
-            &mut bytes,
-        )?;
+        let stored = stores_name(known, update);
+        let name = plan_name(&retained, &slots, update, stored, kept, likely_slot);
+        let slot = use_name(alloc, &mut slots, update, name)?;
         note_likely_slot(&mut likely_slots, &later, index, slot);
         retain_or_free(&mut retained, &mut index, slot, next.as_slice());
+        names.push(name)?;
     }
-    Ok((bytes, after))
-}
-
-/// Returns the lesson according to a plan of the batch's requests, with the plan's prices. Whatever the plan, it is a
-/// lesson. If the plan is accepted, with 128 slots, then a request that it keeps is read, and any other name is written.
-pub fn teach_by(
-    alloc: Global,
-    known: &Known,
-    batch: &Batch,
-    requests: &[Request],
-    plan: Plan,
-) -> Result<Lesson, Memory>
-    requires batch { IsBatchFor known.now.roster batch.now }
-    requires requests { requests.now ≡ requests_of known.now.roster (knowledge_of known.now.state) batch.now }
-    requires keep { length plan.keep ≡ length requests.now }
-    ensures taught { IfOk result (λ lesson. IsLessonFor known.now batch.now lesson.bytes lesson.known) }
-    ensures order { IfOk result (λ lesson. IsPlanFor known.now batch.now plan →
-        GoesThrough known.now batch.now plan.keep lesson.bytes lesson.known.state) }
-    ensures prices { IfOk result (λ lesson. lesson.prices ≡ plan.prices) }
-{
-    let (keep, prices) = plan.into_parts();
-    let (bytes, after) = send_updates(alloc, known, batch, requests, keep.as_slice())?;
-    Ok(Lesson {
-        bytes: Items::new(bytes),
-        prices: Items::new(prices),
-        known: after,
-    })
+    Ok(names)
 }

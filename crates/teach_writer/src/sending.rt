@@ -1,26 +1,21 @@
-//! How one update is written.
+//! How the messages of updates are sent, one by one.
 
-ghost use Rattle.std.specs.Prelude.{◌≡◌, ◌≤◌, ◌+◌, ◌^◌, ◌<◌, ◌∷◌, [], ◌++◌, true, false, List, Some, None, IfOk, OnOk, IfSome, IsNone, option_copied};
+ghost use Rattle.std.specs.Prelude.{◌≡◌, ◌∷◌, [], ◌++◌, true, false, List, Some, Ok, IfOk, OnOk, OnErr, IfSome, IsNone, drop};
 ghost use Rattle.table_types.specs.declared.update.Update.{Update};
 ghost use Rattle.table_types.specs.Tables.{Definition, is_definition};
-ghost use Rattle.table_types.specs.Updates.{fits, stores_name};
+ghost use Rattle.table_types.specs.Updates.{fits};
 ghost use Rattle.table_types.specs.Rosters.{table_at};
-ghost use Rattle.table_types.specs.SlotIds.{is_slot};
 ghost use Rattle.peers_msg.specs.Borrowed.{is_named, owned_name};
 ghost use Rattle.peers_msg.specs.declared.message.Message.{Message};
-ghost use Rattle.peers_msg.specs.declared.name_field.NameField.{NameField};
 ghost use Rattle.peers_msg.specs.Fitting.{name_fits};
 ghost use Rattle.peers_msg.specs.Received.{selected_table};
-ghost use Rattle.peers_msg.specs.Spelling.{spelled, stream_of};
+ghost use Rattle.peers_msg.specs.Spelling.{spelled};
 ghost use Rattle.known_state.specs.Known.{IsTakenBy};
-ghost use Rattle.known_state.specs.State.{Step, Teaches, IsOwn, name_of, reads_empty};
-ghost use Rattle.known_state.specs.Requests.{IsUpdateOf};
-ghost use Rattle.teach_writer.specs.Retained.{IsNameField};
-ghost use Rattle.teach_writer.specs.NextRequests.{IsAsMarked};
-ghost use Rattle.teach_writer.specs.Sending.{is_table, selection, slot_of, is_stored, update_sent, IsSent};
+ghost use Rattle.known_state.specs.State.{Step, IsOwn, reads_empty};
+ghost use Rattle.teach_writer.specs.Pieces.{AreSendable, IsFirst, IsPart, IsSendable, planned_field, selection_of, state_selected};
+ghost use Rattle.teach_writer.specs.Sending.{is_table, selection, update_sent};
 
-use crate::retained::Retained;
-use dict_slots::Slots;
+use crate::planned_name::PlannedName;
 use known_state::{Known, number_sent};
 use peers_msg::{Message, NameFieldRef, Received, append, append_update};
 use std::alloc::Global;
@@ -59,76 +54,49 @@ fn write_message(known: &mut Known, message: Message, bytes: &mut Vec<u8>) -> Re
     ensures step { OnOk result ((us : List Update) × Step known.old.state message us known.new.state
         × IsOwn known.old.roster message) }
     ensures roster { known.new.roster ≡ known.old.roster }
+    ensures stays { OnErr result (known.new ≡ known.old) }
 {
     append(bytes, &message)?;
     known.follow(message)
 }
 
-/// Selects a table of the roster by a definition or a switch, if it isn't selected. Returns whether the table stores
-/// names.
-fn select(alloc: Global, known: &mut Known, id: u64, bytes: &mut Vec<u8>) -> Result<bool, Memory>
-    requires { (d : Definition) × (table_at known.old.roster id ≡ Some d) }
-    ensures chosen { OnOk result ((d : Definition) → table_at known.old.roster id ≡ Some d →
-        (bytes.new.items ≡ bytes.old.items ++ stream_of (selection known.old.state.received d))
-        × Teaches known.old.state (selection known.old.state.received d) [] known.new.state) }
-    ensures selected { OnOk result (selected_table known.new.state.received ≡ table_at known.old.roster id) }
-    ensures stored { IfOk result (λ stored. (d : Definition) → table_at known.old.roster id ≡ Some d →
-        (stores_name d ≡ stored) × (is_definition d ≡ true)) }
+/// Selects a table of the roster that isn't selected, by a definition or a switch.
+fn write_selection(
+    alloc: Global,
+    known: &mut Known,
+    id: u64,
+    bytes: &mut Vec<u8>,
+) -> Result<(), Memory>
+    requires listed { (d : Definition) × (table_at known.old.roster id ≡ Some d) }
+    requires other { is_table (selected_table known.old.state.received) id ≡ false }
+    ensures written { OnOk result ((m : Message) × (bytes.new.items ≡ bytes.old.items ++ spelled m)
+        × (selection_of (table_at known.old.roster id) known.old.state.received ≡ m ∷ [])
+        × (known.new.state ≡ state_selected known.old.state (m ∷ []))
+        × (selection_of (table_at known.old.roster id) known.new.state.received ≡ [])) }
     ensures roster { known.new.roster ≡ known.old.roster }
+    ensures stays { OnErr result (known.new ≡ known.old) }
 {
     let roster = known.roster();
-    if let Some(table) = selected(known.received(), id) {
-        return Ok(table.stores_name());
-    }
     let Some(table) = roster.table(id) else {
         unreachable!();
     };
-    let stored = table.stores_name();
     let message = selection(alloc, known.received(), table)?;
     write_message(known, message, bytes)?;
-    Ok(stored)
+    Ok(())
 }
 
-/// Returns how the name of an update is sent: if its request is kept, read from a slot that retains it, of which the
-/// likely slot is tried first, and otherwise written to the lowest free slot. `stored` says whether the update's table
-/// stores names.
-fn name_field<'a>(
-    retained: &Retained,
-    slots: &Slots,
-    update: &'a Update,
-    stored: bool,
-    kept: bool,
-    likely_slot: Option<u8>,
-) -> NameFieldRef<'a>
-    requires likely_slot { IfSome likely_slot (λ slot. is_slot slot ≡ true) }
-    ensures field { IsAsMarked retained.now slots.now kept update.now.name →
-        IsNameField retained.now slots.now stored update.now.name (owned_name result) }
-    ensures fits { (d : Definition) → stores_name d ≡ stored → fits d update.now ≡ true → name_fits d (owned_name result) ≡ true }
-    ensures reads { reads_empty slots.now (owned_name result) ≡ false }
-    ensures named { name_of slots.now (owned_name result) ≡ update.now.name }
-    ensures slot { IfSome (slot_of (owned_name result)) (λ id. is_slot id ≡ true) }
-    ensures written { is_named (owned_name result) ≡ true }
+/// Returns the name field of an update whose name is planned.
+fn name_field(update: &Update, name: PlannedName) -> NameFieldRef<'_>
+    ensures { owned_name result ≡ planned_field update.now.name name }
 {
-    let Some(name) = &update.name else {
-        return if stored {
-            NameFieldRef::NoName
-        } else {
-            NameFieldRef::NotStored
-        };
-    };
-    match retained.find(slots, name, kept, likely_slot) {
-        Some(slot) => NameFieldRef::Held(slot),
-        None => NameFieldRef::Written(retained.free(), name.as_slice()),
-    }
-}
-
-/// Returns the slot that a name field reads or writes, if any.
-fn slot_of(field: NameFieldRef<'_>) -> Option<u8>
-    ensures { result ≡ slot_of (owned_name field.entry) }
-{
-    match field {
-        NameFieldRef::Held(slot) | NameFieldRef::Written(slot, _) => Some(slot),
-        NameFieldRef::NotStored | NameFieldRef::NoName => None,
+    match name {
+        PlannedName::NotStored => NameFieldRef::NotStored,
+        PlannedName::NoName => NameFieldRef::NoName,
+        PlannedName::Read(slot) => NameFieldRef::Held(slot),
+        PlannedName::Write(slot) => match &update.name {
+            Some(name) => NameFieldRef::Written(slot, name.as_slice()),
+            None => NameFieldRef::NoName,
+        },
     }
 }
 
@@ -149,6 +117,7 @@ fn write_selected(
     ensures step { OnOk result ((us : List Update)
         × Step known.old.state (update_sent known.old.state (owned_name field.entry) update.now) us known.new.state) }
     ensures roster { known.new.roster ≡ known.old.roster }
+    ensures stays { OnErr result (known.new ≡ known.old) }
 {
     let number = number_sent(known.last_numbers().last(update.table), update.number);
     let values = update.values.as_slice();
@@ -157,29 +126,58 @@ fn write_selected(
     Ok(())
 }
 
-/// Writes one update of a table of the roster: what selects its table, if it isn't selected, and the update. Returns
-/// the slot that the update's name used, if it has one. Whatever is retained, the name that is sent is the update's own.
-pub fn write_update(
+/// Sends the next message of an update: what selects its table, if it isn't selected, and otherwise the update. Returns
+/// whether that was the update.
+fn send_part(
     alloc: Global,
     known: &mut Known,
-    retained: &Retained,
     update: &Update,
-    kept: bool,
-    likely_slot: Option<u8>,
+    name: PlannedName,
     bytes: &mut Vec<u8>,
-) -> Result<Option<u8>, Memory>
-    requires update { IsUpdateOf known.old.roster update.now }
-    requires likely_slot { IfSome likely_slot (λ slot. is_slot slot ≡ true) }
-    ensures order { IfOk result (λ slot. (field : NameField) × (ms : List Message) × (slot ≡ slot_of field)
-        × (bytes.new.items ≡ bytes.old.items ++ stream_of ms)
-        × IsSent known.old.roster known.old.state update.now field ms known.new.state
-        × (IsAsMarked retained.now known.old.state.slots kept update.now.name →
-        IsNameField retained.now known.old.state.slots (is_stored known.old.roster update.now) update.now.name field)) }
-    ensures slot { IfOk result (λ slot. IfSome slot (λ id. is_slot id ≡ true)) }
+) -> Result<bool, Memory>
+    requires { IsSendable known.old.roster known.old.state update.now name }
+    ensures part { IfOk result (λ whole. (m : Message) × (bytes.new.items ≡ bytes.old.items ++ spelled m)
+        × IsPart known.old.roster known.old.state update.now name whole m known.new.state) }
     ensures roster { known.new.roster ≡ known.old.roster }
+    ensures stays { OnErr result (known.new ≡ known.old) }
 {
-    let stored = select(alloc, known, update.table, bytes)?;
-    let field = name_field(retained, known.slots(), update, stored, kept, likely_slot);
-    write_selected(known, update, field, bytes)?;
-    Ok(slot_of(field))
+    let _roster = known.roster();
+    if let Some(_table) = selected(known.received(), update.table) {
+        let field = name_field(update, name);
+        write_selected(known, update, field, bytes)?;
+        return Ok(true);
+    }
+    write_selection(alloc, known, update.table, bytes)?;
+    Ok(false)
+}
+
+/// Sends the next message of the updates from `index` on, if one is left, and moves `index` past its update unless that is
+/// still to be sent. Returns whether there was one.
+pub fn send_next(
+    alloc: Global,
+    known: &mut Known,
+    updates: &[Update],
+    names: &[PlannedName],
+    index: &mut usize,
+    bytes: &mut Vec<u8>,
+) -> Result<bool, Memory>
+    requires { AreSendable known.old.roster known.old.state (drop index.old updates.now) (drop index.old names.now) }
+    ensures more { IfOk result (λ more. more ≡ true → (m : Message) × (bytes.new.items ≡ bytes.old.items ++ spelled m)
+        × IsFirst known.old.roster known.old.state (drop index.old updates.now) (drop index.old names.now) m known.new.state
+        (drop index.new updates.now) (drop index.new names.now)) }
+    ensures none { IfOk result (λ more. more ≡ false → (drop index.old updates.now ≡ []) × (bytes.new.items ≡ bytes.old.items)
+        × (known.new ≡ known.old) × (index.new ≡ index.old)) }
+    ensures ended { drop index.old updates.now ≡ [] → result ≡ Ok false }
+    ensures roster { known.new.roster ≡ known.old.roster }
+    ensures stays { OnErr result ((known.new ≡ known.old) × (index.new ≡ index.old)) }
+{
+    if *index >= updates.len() || *index >= names.len() {
+        return Ok(false);
+    }
+    let whole = send_part(alloc, known, &updates[*index], names[*index], bytes)?;
+    if !whole {
+        return Ok(true);
+    }
+    *index += 1;
+    Ok(true)
 }

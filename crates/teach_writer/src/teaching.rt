@@ -1,51 +1,39 @@
 //! Teaching a batch.
 
-ghost use Rattle.std.specs.Prelude.{◌≡◌, ◌≤◌, ◌+◌, IfOk, List, length};
+ghost use Rattle.std.specs.Prelude.{◌≡◌, ◌+◌, IfOk, List, length};
 ghost use Rattle.table_types.specs.Batches.{IsBatchFor};
-ghost use Rattle.table_types.specs.SlotIds.{slot_count};
 ghost use Rattle.peers_msg.specs.declared.message.Message.{Message};
 ghost use Rattle.peers_msg.specs.Spelling.{stream_of};
 ghost use Rattle.known_state.specs.Cost.{full};
 ghost use Rattle.known_state.specs.Lessons.{IsLessonFor};
-ghost use Rattle.known_state.specs.Plans.{Plan, Accepts, names_in};
+ghost use Rattle.known_state.specs.Plans.{Plan};
 ghost use Rattle.known_state.specs.Shortest.{Shortest};
 ghost use Rattle.price_checker.specs.Verdicts.{Says, bound_shown};
 ghost use Rattle.price_checker.specs.declared.verdict.Verdict.TheVariants as verdicts;
+ghost use Rattle.teach_writer.specs.Pieces.{bytes_left};
 ghost use Rattle.teach_writer.specs.Planning.{IsPlanFor};
 ghost use Rattle.teach_writer.specs.Sending.{GoesThrough};
 
 use crate::lesson::{Lesson, TeachError};
-use crate::planned::teach_by;
-use dict_slots::Slots;
-use known_state::{Known, Request};
-use retention_flow::plan;
+use crate::pieces::Pieces;
+use known_state::Known;
 use std::alloc::Global;
-use table_types::{Batch, Memory, Name, SLOT_COUNT};
+use table_types::{Batch, Items, Memory};
 
-/// Returns the names that the slots hold, slot by slot. A name that several slots hold occurs as often.
-fn names_held(alloc: Global, slots: &Slots) -> Result<Vec<Name>, Memory>
-    ensures names { IfOk result (λ names. names.items ≡ names_in slots.now) }
-    ensures few { IfOk result (λ names. length names.items ≤ slot_count) }
+/// Returns what is left of a lesson as a whole.
+fn joined(alloc: Global, mut pieces: Pieces) -> Result<Lesson, Memory>
+    ensures { IfOk result (λ lesson. (lesson.bytes ≡ bytes_left pieces) × (lesson.prices ≡ pieces.prices) × (lesson.known ≡ pieces.known)) }
 {
-    let mut names = Vec::new(alloc);
-    for index in 0..slots.len() {
-        if let Some(name) = slots.name(index as u8 + 1) {
-            names.push(name.copy(alloc)?)?;
-        }
+    let mut bytes = Vec::new(alloc);
+    while pieces.append_next(&mut bytes)? {}
+    match pieces.end() {
+        Ok((prices, known)) => Ok(Lesson {
+            bytes: Items::new(bytes),
+            prices: Items::new(prices),
+            known,
+        }),
+        Err(_) => unreachable!(),
     }
-    Ok(names)
-}
-
-/// Returns the held names that a plan of these requests depends on: those that the slots hold, slot by slot, or none if
-/// there are no requests.
-fn names_to_plan(alloc: Global, slots: &Slots, requests: &[Request]) -> Result<Vec<Name>, Memory>
-    ensures enough { IfOk result (λ names. (plan : Plan) → Accepts slot_count names.items requests.now plan → Accepts slot_count (names_in slots.now) requests.now plan) }
-    ensures few { IfOk result (λ names. length names.items ≤ slot_count) }
-{
-    if requests.is_empty() {
-        return Ok(Vec::new(alloc));
-    }
-    names_held(alloc, slots)
 }
 
 /// Returns the lesson that teaches the batch to a learner in the known state. It goes through the batch in order. If an
@@ -66,10 +54,7 @@ pub fn teach(alloc: Global, known: &Known, batch: &Batch) -> Result<Lesson, Teac
         ≡ full known.now.roster known.now.state batch.now) }
     ensures said { IfOk result (λ lesson. Says known.now batch.now lesson.bytes lesson.prices (verdicts.Shortest (length lesson.bytes))) }
 {
-    let (_tables, _count) = (known.roster().tables(), known.slots().len());
-    let requests = known.costs(alloc, batch)?;
-    let held = names_to_plan(alloc, known.slots(), requests.as_slice())?;
-    let plan = plan(alloc, SLOT_COUNT, held.as_slice(), requests.as_slice())?;
-    let lesson = teach_by(alloc, known, batch, requests.as_slice(), plan)?;
+    let pieces = Pieces::new(alloc, known, batch)?;
+    let lesson = joined(alloc, pieces)?;
     Ok(lesson)
 }

@@ -2,7 +2,9 @@
 
 use crate::bytes::TWO_UPDATES;
 use table_types::{DataType, KeyKind, Value};
-use tests_play_data::lessons::{Costly, Taught, first_failing, is_taught_again, names_cost};
+use tests_play_data::lessons::{
+    Costly, Taught, comes_in_pieces, first_failing, is_taught_again, names_cost,
+};
 use tests_play_data::parts::{KeyParts, KnownParts, ST, T1, TableParts, UpdateParts};
 
 const LIFE: Option<u32> = Some(30_000);
@@ -147,6 +149,19 @@ fn a_lesson_is_taught_again(rt: HostRuntime) {
 #[test]
 fn a_lesson_of_a_name_held_is_taught_again(rt: HostRuntime) {
     assert!(rt; is_taught_again(rt.alloc(), &TAUGHT[4]) != Some(false));
+}
+
+#[test]
+fn a_lesson_comes_in_three_pieces(rt: HostRuntime) {
+    assert_eq!(rt;
+        comes_in_pieces(rt.alloc(), &TAUGHT[3], &[16, 18, 11]),
+        Some(true)
+    );
+}
+
+#[test]
+fn an_empty_lesson_comes_in_none(rt: HostRuntime) {
+    assert_eq!(rt; comes_in_pieces(rt.alloc(), &TAUGHT[0], &[]), Some(true));
 }
 
 /// Updates of `lt`, which is like `st` with keys of up to 255 bytes, and of which nothing is known.

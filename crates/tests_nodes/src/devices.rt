@@ -1,12 +1,14 @@
 //! Devices that fail at a given call, stop or go on for ever.
 
 use peers_devices::{MOST_READS, ReadError, WriteError};
-use peers_engine::WriteFault;
+use peers_engine::{PiecesError, WriteFault};
+use table_types::{DataType, KeyKind, Value};
+use tests_play_data::parts::{KeyParts, KnownParts, T1, TableParts, UpdateParts};
 use tests_play_nodes::devices::{
     Call, Called, Device, Reading, Writing, breaks_off, first_miscounted, first_misread,
     first_miswritten,
 };
-use tests_play_nodes::fused::{Written, fails_after};
+use tests_play_nodes::fused::{InPieces, Written, fails_after};
 use tests_play_nodes::{Then, fused};
 
 static CALLS: [Called; 4] = [
@@ -110,6 +112,126 @@ static WRITTEN: [Written; 2] = [
 #[test]
 fn a_lesson_over_a_writer_that_fails(rt: HostRuntime) {
     assert_eq!(rt; fused::first_miswritten(rt.alloc(), &WRITTEN), None);
+}
+
+const NEW: KnownParts = KnownParts {
+    table: T1,
+    selected: None,
+    defined: &[],
+    last: &[],
+    held: &[],
+};
+
+/// The updates of `LESSON`.
+const UPDATES: &[UpdateParts] = &[
+    UpdateParts {
+        table: 1,
+        number: 1,
+        life: Some(30_000),
+        key: KeyParts::Int(7),
+        values: &[Value::Count(5)],
+        name: b"",
+    },
+    UpdateParts {
+        table: 1,
+        number: 2,
+        life: Some(30_000),
+        key: KeyParts::Int(8),
+        values: &[Value::Count(240)],
+        name: b"",
+    },
+];
+
+const LONG_KEYS: KnownParts = KnownParts {
+    table: TableParts {
+        id: 1,
+        name: b"bt",
+        kind: KeyKind::Binary,
+        key_length: 8_192,
+        expire: 30_000,
+        types: &[(DataType::Gpc0, None)],
+    },
+    selected: Some(1),
+    defined: &[1],
+    last: &[(1, 0)],
+    held: &[],
+};
+
+const LONG_KEY: &[u8] = &[7; 8_192];
+
+/// Their lesson has three messages of 5 + 4 + 8,192 + 1 bytes, 24,606 in all: header, life, key and value, and no number.
+const LONG_UPDATES: &[UpdateParts] = &[
+    UpdateParts {
+        table: 1,
+        number: 1,
+        life: Some(30_000),
+        key: KeyParts::Bin(LONG_KEY),
+        values: &[Value::Count(5)],
+        name: b"",
+    },
+    UpdateParts {
+        table: 1,
+        number: 2,
+        life: Some(30_000),
+        key: KeyParts::Bin(LONG_KEY),
+        values: &[Value::Count(5)],
+        name: b"",
+    },
+    UpdateParts {
+        table: 1,
+        number: 3,
+        life: Some(30_000),
+        key: KeyParts::Bin(LONG_KEY),
+        values: &[Value::Count(5)],
+        name: b"",
+    },
+];
+
+/// The beginning of that lesson: an incremental update with a life and 8,197 bytes of data, and its life.
+const LONG_FIRST: &[u8] = b"\x0A\x86\xF5\xF1\x02\x00\x00\x75\x30\x07";
+
+static IN_PIECES: [InPieces; 4] = [
+    InPieces {
+        from: NEW,
+        updates: UPDATES,
+        room: 20,
+        error: Some(PiecesError::Write { sent: 20 }),
+        count: 20,
+        first: FIRST,
+    },
+    InPieces {
+        from: NEW,
+        updates: UPDATES,
+        room: 42,
+        error: None,
+        count: 42,
+        first: LESSON,
+    },
+    // The first two messages have more than 16,384 bytes, so the third is written by itself.
+    InPieces {
+        from: LONG_KEYS,
+        updates: LONG_UPDATES,
+        room: 20_000,
+        error: Some(PiecesError::Write { sent: 20_000 }),
+        count: 20_000,
+        first: LONG_FIRST,
+    },
+    InPieces {
+        from: LONG_KEYS,
+        updates: LONG_UPDATES,
+        room: 30_000,
+        error: None,
+        count: 24_606,
+        first: LONG_FIRST,
+    },
+];
+
+#[test]
+fn a_lesson_in_pieces_over_a_writer_that_fails(rt: HostRuntime) {
+    assert_eq!(rt;
+        fused::first_miswritten_in_pieces(rt.alloc(), &IN_PIECES),
+        None
+    );
 }
 
 #[test]

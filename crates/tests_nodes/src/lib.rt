@@ -19,6 +19,8 @@ mod rounds;
 #[cfg(test)]
 mod standing;
 #[cfg(test)]
+mod staying;
+#[cfg(test)]
 mod turns;
 #[cfg(test)]
 mod workers;

@@ -3,8 +3,8 @@
 use crate::parts::{KnownParts, UpdateParts, are_held, known, updates};
 use known_state::{Known, Request};
 use std::alloc::Global;
-use table_types::{Batch, Update};
-use teach_writer::{Lesson, TeachError, teach};
+use table_types::{Batch, Items, Update};
+use teach_writer::{Lesson, Pieces, TeachError, teach};
 
 /// The parts of a known state, updates, the bytes and the prices of their lesson, and the known state after it: the last number of
 /// the table, which is defined and selected, and the slots that hold `s1`.
@@ -73,6 +73,40 @@ pub fn is_taught_again(alloc: Global, taught: &Taught) -> Option<bool> {
         Ok(lesson) => Some(is_right(&lesson, taught)),
         Err(TeachError::Memory) => Some(false),
     }
+}
+
+/// Returns the lesson, if it comes in pieces of these sizes and then no more, however often it is asked for one. It isn't ended
+/// before, and `end` hands the pieces back.
+fn joined(alloc: Global, pieces: Pieces, sizes: &[usize]) -> Option<Lesson> {
+    let mut pieces = pieces;
+    let mut bytes = Vec::new(alloc);
+    for size in sizes {
+        let piece = pieces.next().ok()??;
+        if piece.len() != *size {
+            return None;
+        }
+        bytes.extend_from_slice(piece.as_slice()).ok()?;
+        pieces = pieces.end().err()?;
+    }
+    for _ in 0..2 {
+        if pieces.next().ok()?.is_some() {
+            return None;
+        }
+    }
+    let (prices, known) = pieces.end().ok()?;
+    Some(Lesson {
+        bytes: Items::new(bytes),
+        prices: Items::new(prices),
+        known,
+    })
+}
+
+/// Returns whether the lesson is right, and comes in pieces of these sizes.
+pub fn comes_in_pieces(alloc: Global, taught: &Taught, sizes: &[usize]) -> Option<bool> {
+    let known = known(alloc, &taught.from)?;
+    let batch = Batch::new(alloc, known.roster(), updates(alloc, taught.updates)?).ok()?;
+    let pieces = Pieces::new(alloc, &known, &batch).ok()?;
+    Some(is_right(&joined(alloc, pieces, sizes)?, taught))
 }
 
 /// A known state, updates, and the size of the message of each with its name read, and with it written.

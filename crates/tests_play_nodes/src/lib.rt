@@ -18,6 +18,7 @@ pub mod rounds;
 pub mod sessions;
 pub mod sides;
 pub mod standing;
+pub mod staying;
 pub mod tables;
 pub mod turns;
 mod waiting;

@@ -9,14 +9,14 @@ use std::sync::Wait;
 
 /// Bytes on their way from one side to the other.
 #[derive(Drop)]
-struct Pipe {
-    bytes: Vec<u8>,
+pub(crate) struct Pipe {
+    pub(crate) bytes: Vec<u8>,
     /// How many of them were read.
-    read: usize,
+    pub(crate) read: usize,
 }
 
 impl Pipe {
-    fn new(alloc: Global) -> Pipe {
+    pub(crate) fn new(alloc: Global) -> Pipe {
         Pipe {
             bytes: Vec::new(alloc),
             read: 0,
@@ -24,7 +24,7 @@ impl Pipe {
     }
 
     /// Returns the first bytes that weren't read, at most `most` of them.
-    fn piece(&self, most: usize) -> &[u8] {
+    pub(crate) fn piece(&self, most: usize) -> &[u8] {
         let unread = self.bytes.as_slice().get(self.read..).unwrap_or(b"");
         &unread[..unread.len().min(most)]
     }

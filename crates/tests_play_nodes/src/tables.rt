@@ -63,7 +63,7 @@ impl Tables {
     }
 
     /// Makes the tables under their locks, and two seats.
-    fn shards(&self, alloc: Global) -> Option<(Shards, Vec<Seat>)> {
+    pub(crate) fn shards(&self, alloc: Global) -> Option<(Shards, Vec<Seat>)> {
         let mut cells = Vec::new(alloc);
         for table in self.tables {
             cells.push(self.cell(alloc, table)?).ok()?;

@@ -424,9 +424,16 @@ fn slides(cell: &mut TableCell, batch: &Batch, text: Key) -> bool {
     settled && refused && slid && cell.settle(1, batch) == Ok(())
 }
 
-/// Returns whether a checkpoint drops the four events of a table without a batch out.
+/// Returns whether a table with a row that was tracked at the least moment tells its latest moment, its next number and when the row
+/// ends.
+fn tells(cell: &TableCell) -> bool {
+    cell.latest() == Moment::least() && cell.next_number() == 2 && cell.next_end() == moment(30_000)
+}
+
+/// Returns whether a checkpoint drops the four events of a table without a batch out, and nothing that it tells of its row.
 fn begins_anew(cell: &mut TableCell) -> bool {
-    cell.checkpoint() == Ok(()) && cell.events() == 4 && cell.dropped() == 4
+    let told = tells(cell);
+    cell.checkpoint() == Ok(()) && cell.events() == 4 && cell.dropped() == 4 && told && tells(cell)
 }
 
 /// Returns whether `held::begin_anew` drops the two events of `t1`, and none once they are dropped, and the seat comes back each time,

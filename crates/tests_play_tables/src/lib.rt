@@ -13,7 +13,6 @@ pub mod growth;
 pub mod holders;
 pub mod locks;
 pub mod next_rounds;
-pub mod numbered;
 pub mod numbers;
 mod round;
 pub mod seats;

@@ -5,7 +5,7 @@ use crate::seats::tracked;
 use std::alloc::Global;
 use std::convert::Infallible;
 use std::sync::Wait;
-use table_cell::CheckpointError;
+use table_cell::{CheckpointError, RenumberError};
 use table_shards::held::lent;
 use table_shards::{Audit, AuditError, RoundError, Seat, ShardError, Shards, held};
 use table_types::{CopyKind, Moment};
@@ -126,15 +126,26 @@ fn slid_away<R: Wait>(rt: &R, round: &mut Round) -> Option<Result<u64, ShardErro
     Some(dropped.map(|dropped| dropped.count()))
 }
 
-/// Returns whether `t1` begins anew from a seat, but not while a batch is out, and slides also then; and whether the seat keeps its
-/// receipts, and an audit notices.
+/// Gives the rows of `t1` new numbers from the seat, which comes back. Returns why it is refused, if it is.
+fn renumbered<R: Wait>(rt: &R, round: &mut Round) -> Option<Result<(), ShardError<RenumberError>>> {
+    let lock = round.shards.cell(1)?;
+    let seat = round.seat.take()?;
+    let (seat, done) = held::renumber(&mut lock.lock(rt), seat, 1);
+    round.seat = Some(seat);
+    Some(done)
+}
+
+/// Returns whether `t1` begins anew from a seat, but not while a batch is out, slides also then, and gets new numbers, but not while
+/// a session is open; and whether the seat keeps its receipts, and an audit notices.
 pub fn comes_back<R: Wait>(rt: &R, alloc: Global) -> Option<bool> {
     let mut round = tracked(rt, alloc)?;
-    let begun = begun_anew(rt, &mut round)? == Ok(3);
+    let begun = begun_anew(rt, &mut round)? == Ok(3) && renumbered(rt, &mut round)? == Ok(());
     let copied = copies(rt, &mut round)?;
     let refused = begun_anew(rt, &mut round)? == Err(ShardError::Cell(CheckpointError::BatchOut));
     let slid = slid_away(rt, &mut round)? == Ok(2);
+    let open = renumbered(rt, &mut round)? == Err(ShardError::Cell(RenumberError::SessionOpen));
     let kept = round.receipts(1) == Some(5);
     let fault = AuditError::Mismatch { table: 1, seat: 0 };
-    Some(begun && copied && refused && slid && kept && round.audited(alloc) == Some(Err(fault)))
+    let noticed = round.audited(alloc) == Some(Err(fault));
+    Some(begun && copied && refused && slid && open && kept && noticed)
 }

@@ -18,8 +18,9 @@ use Rattle.table_cell.specs.declared.errors.OpenError.{OpenError}
 use Rattle.table_cell.specs.declared.errors.CloseError.{CloseError}
 use Rattle.table_cell.specs.declared.errors.PurgeError.{PurgeError}
 use Rattle.table_cell.specs.declared.errors.CheckpointError.{CheckpointError}
+use Rattle.table_cell.specs.declared.errors.RenumberError.{RenumberError}
 use Rattle.node_text.specs.Events.{event_text}
-use Rattle.node_text.specs.Refusals.{ack_refusal, checkpoint_refusal, close_refusal, copy_refusal, learn_refusal, open_refusal, purge_refusal, track_refusal}
+use Rattle.node_text.specs.Refusals.{ack_refusal, checkpoint_refusal, close_refusal, copy_refusal, learn_refusal, open_refusal, purge_refusal, renumber_refusal, track_refusal}
 use Rattle.node_text.specs.Replies.{event_reply_text, reply_text, settled_name}
 use Rattle.node_text.specs.Rows.{stored_row_text}
 use Rattle.node_text.specs.Updates.{update_line}
@@ -80,6 +81,10 @@ purged (Err error) = refused (purge_refusal error)
 abbrev pub begun_anew : Result (Unit {0}) CheckpointError → Option (List ℕ)
 begun_anew (Ok done) = Some (line (codes "ok"))
 begun_anew (Err error) = refused (checkpoint_refusal error)
+
+abbrev pub renumbered : Result (Unit {0}) RenumberError → Option (List ℕ)
+renumbered (Ok done) = Some (line (codes "ok"))
+renumbered (Err error) = refused (renumber_refusal error)
 
 -- how many events a slide dropped
 abbrev pub dropped_line : ℕ → List ℕ

@@ -18,13 +18,15 @@ use Rattle.table_cell.specs.declared.errors.OpenError.{OpenError}
 use Rattle.table_cell.specs.declared.errors.CloseError.{CloseError}
 use Rattle.table_cell.specs.declared.errors.PurgeError.{PurgeError}
 use Rattle.table_cell.specs.declared.errors.CheckpointError.{CheckpointError}
+use Rattle.table_cell.specs.declared.errors.RenumberError.{RenumberError}
 use Rattle.table_cell.specs.Stock.{AreInRisingKey}
 use Rattle.table_cell.specs.Histories.{Acknowledges, CellState, Checkpoints, Closes, Copies, IsLatestBatch, Learns, Opens, Purges, Slides, Tracks, event_in, events_of, new_cell, room_of}
+use Rattle.table_cell.specs.Renumbering.{Renumbers}
 use Rattle.node_text.specs.declared.calls.Call.{Call}
 use Rattle.node_text.specs.declared.calls.Call.TheVariants as calls
 use Rattle.node_text.specs.declared.script_tables.ScriptTable.{ScriptTable}
 use Rattle.node_text.specs.declared.scripts.Script.{Script}
-use Rattle.text_commands.specs.Answers.{acknowledged, begun_anew, closed, copied, dropped_line, event_line, events_line, learned, opened, purged, rows_lines, settled, tracked}
+use Rattle.text_commands.specs.Answers.{acknowledged, begun_anew, closed, copied, dropped_line, event_line, events_line, learned, opened, purged, renumbered, rows_lines, settled, tracked}
 use Rattle.text_commands.specs.Endings.{IsEarly}
 use Rattle.text_commands.specs.declared.endings.Ending.{Ending}
 use Rattle.text_commands.specs.declared.endings.Ending.TheVariants as endings
@@ -74,6 +76,8 @@ Prints c given calls.Checkpoint text e more =
     (r : Result (Unit {0}) CheckpointError) × Checkpoints c r e × (begun_anew r ≡ Some text) × (more ≡ given)
 Prints c given calls.Slide text e more =
     (hs : List (CellEvent × CellReply)) × Slides c hs e × (text ≡ dropped_line (length hs)) × (more ≡ given)
+Prints c given calls.Renumber text e more =
+    (r : Result (Unit {0}) RenumberError) × Renumbers c r e × (renumbered r ≡ Some text) × (more ≡ given)
 Prints c given calls.Events text e more = (text ≡ events_line (events_of c) (room_of c)) × (e ≡ c) × (more ≡ given)
 Prints c given (calls.Event place) text e more = (text ≡ event_line (definition_of c) (event_in c place)) × (e ≡ c) × (more ≡ given)
 Prints c given calls.Rows text e more =

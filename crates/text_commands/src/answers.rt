@@ -10,16 +10,18 @@ ghost use Rattle.table_cell.specs.declared.errors.CloseError.{CloseError};
 ghost use Rattle.table_cell.specs.declared.errors.LearnError.{LearnError};
 ghost use Rattle.table_cell.specs.declared.errors.OpenError.{OpenError};
 ghost use Rattle.table_cell.specs.declared.errors.PurgeError.{PurgeError};
+ghost use Rattle.table_cell.specs.declared.errors.RenumberError.{RenumberError};
 ghost use Rattle.table_cell.specs.declared.errors.StrangeBatch.{StrangeBatch};
 ghost use Rattle.table_cell.specs.declared.errors.TrackError.{TrackError};
 ghost use Rattle.table_cell.specs.Histories.{Acknowledges, Checkpoints, Closes, Learns, Opens, Purges, Slides, Tracks};
-ghost use Rattle.text_commands.specs.Answers.{Adds, acknowledged, begun_anew, closed, dropped_line, learned, opened, purged, settled, tracked};
+ghost use Rattle.table_cell.specs.Renumbering.{Renumbers};
+ghost use Rattle.text_commands.specs.Answers.{Adds, acknowledged, begun_anew, closed, dropped_line, learned, opened, purged, renumbered, settled, tracked};
 ghost use Rattle.text_commands.specs.Running.{Settles, definition_of};
 
 use crate::lines::{end_line, push_line, push_refusal};
 use node_text::{
     ack_refusal, checkpoint_refusal, close_refusal, learn_refusal, open_refusal, purge_refusal,
-    push_reply, settled_name, track_refusal,
+    push_reply, renumber_refusal, settled_name, track_refusal,
 };
 use std::alloc::Global;
 use table_cell::TableCell;
@@ -138,6 +140,16 @@ pub(crate) fn slide(alloc: Global, cell: &mut TableCell, text: &mut Vec<u8>) -> 
     let dropped = cell.slide();
     let count = dropped.count();
     Ok(text.extend_from_slice(format!(in alloc; "dropped {count}\n")?.as_bytes())?)
+}
+
+/// Gives the rows the numbers from 1 on, and appends the line of the result.
+pub(crate) fn renumber(cell: &mut TableCell, text: &mut Vec<u8>) -> Result<(), Memory>
+    ensures { OnOk result ((r : Result (Unit {0}) RenumberError) × Renumbers cell.old r cell.new × Adds (renumbered r) text.old.items text.new.items) }
+{
+    match cell.renumber() {
+        Ok(()) => push_line(text, "ok"),
+        Err(error) => push_refusal(text, renumber_refusal(error)),
+    }
 }
 
 /// Compares `batch` with the latest one of a session, and appends the line of the result.

@@ -30,7 +30,10 @@ pub fn check_configuration<R: Read + Faults, E: Write + Faults>(
 }
 
 /// Returns the configuration that `input` has, or how the subcommand ends without one.
-fn configuration_of<R: Read + Faults>(alloc: Global, input: &mut R) -> Result<Configuration, Ending>
+pub fn configuration_of<R: Read + Faults>(
+    alloc: Global,
+    input: &mut R,
+) -> Result<Configuration, Ending>
     ensures configuration { IfOk result IsConfiguration }
     ensures refused { IfErr result (λ ending. (ending ≢ Ending.Done) × EndsConfiguration ending) }
 {

@@ -20,7 +20,7 @@ mod world_running;
 mod worlds;
 
 pub use checking::check;
-pub use configuring::check_configuration;
+pub use configuring::{check_configuration, configuration_of};
 pub use endings::Ending;
 pub use laws::taught_lessons_are_shortest;
 pub use learning::{learn, rising_roster};

@@ -6,7 +6,9 @@ ghost use Rattle.node_text.specs.Scripts.{IsScript};
 ghost use Rattle.text_commands.specs.Endings.{IsEarly};
 ghost use Rattle.text_commands.specs.Running.{IsPrinted, PrintAll, Prints, batch_at};
 
-use crate::answers::{acknowledge, checkpoint, close, learn, open, purge, settle, slide, track};
+use crate::answers::{
+    acknowledge, checkpoint, close, learn, open, purge, renumber, settle, slide, track,
+};
 use crate::cells::cell_of;
 use crate::endings::Ending;
 use crate::listing::{copy, push_event_at, push_events, push_rows};
@@ -99,6 +101,7 @@ impl Run {
             Call::Purge(moment) => purge(alloc, cell, text, moment)?,
             Call::Checkpoint => checkpoint(cell, text)?,
             Call::Slide => slide(alloc, cell, text)?,
+            Call::Renumber => renumber(cell, text)?,
             Call::Events => push_events(alloc, cell, text)?,
             Call::Event(place) => push_event_at(cell, text, place)?,
             Call::Rows => push_rows(alloc, cell, text)?,

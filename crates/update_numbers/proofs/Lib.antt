@@ -1,5 +1,2 @@
-pub mod IndexLaws
 pub mod NumberLaws
-pub mod KeptLaws
-pub mod NumberedLaws
 pub mod RisingLaws

@@ -1,168 +1,142 @@
--- The pairs of a key among pairs in ascending order of number.
-use Rattle.std.proofs.Common.{◌≡◌, ℕ, ◌+◌, ◌<◌, Bool, true, false, List, [], ◌∷◌, ◌++◌, Some, None, refl, sym, ap, ◌∙◌, arith}
+-- Pairs in ascending order of number: one is appended, one is removed, and those of a key are.
+use Rattle.std.proofs.Common.{◌≡◌, ℕ, suc, ◌+◌, ◌≤◌, ◌<◌, Bool, true, false, not, ◌||◌, List, [], ◌∷◌, ◌++◌, length, Some, refl, sym, ap, ◌∙◌, arith}
+use Rattle.std.specs.Prelude.{filter, nat_lt}
 use Rattle.std.specs.List.{AllByRecursion, list_any}
 use Rattle.std.specs.List.Sorted.{IsStrictlySortedBy}
-use Rattle.std.specs.declared.cmp.Ordering.{Ordering}
 use Rattle.std.specs.declared.cmp.Ordering.TheVariants.{Less, Equal, Greater}
-use Rattle.std.specs.Ordering.{is_eq, nat_cmp, ordering_reverse}
-use Rattle.std.specs.Cmp.{nat_cmp_total, nat_cmp_is}
+use Rattle.std.specs.Ordering.{is_eq, nat_cmp}
+use Rattle.std.specs.Cmp.{nat_cmp_is, ranked}
 use Rattle.std.specs.Map.{keys_of, remove_entry}
-use Rattle.std.specs.BTreeMap.{insert_entry, is_at}
+use Rattle.std.specs.BTreeMap.{is_at}
+use Rattle.std.proofs.lemmas.Bool.{le-ltb, lt-ltb, ltb-false, ltb-true}
 use Rattle.std.proofs.lemmas.Map.Lookups.{exact_unsigned}
+use Rattle.std.proofs.lemmas.Map.Views.{tells_apart}
 use Rattle.table_types.specs.declared.key.Key.{Key}
 use Rattle.table_types.specs.Keys.{key_cmp}
-use Rattle.table_types.proofs.EqualKeysAreOne.{one_key}
-use Rattle.update_numbers.specs.Index.{Agree, AreIndexed, key_at, number_at}
-use Rattle.update_numbers.specs.Numbers.{Numbering, is_of, without}
-use Rattle.update_numbers.proofs.IndexLaws.{one_number, number-same, key-same, true_or_false}
+use Rattle.table_types.proofs.EqualKeysAreOne.{key_cmp-same}
+use Rattle.update_numbers.specs.Numbers.{AreNumbered, Numbering, given, is_of, pairs_without, pushed, without, without_below}
 
--- ---- pairs that are found
+pub one_number : (a b : ℕ) → is_eq (nat_cmp a b) ≡ true → a ≡ b
+one_number a b same = tells_apart exact_unsigned a b same
 
-found_above : (es : List (ℕ × Key)) (least n : ℕ) (k : Key) → AllByRecursion (λ m. nat_cmp least m ≡ Less) (keys_of es) → key_at es n ≡ Some k → nat_cmp least n ≡ Less
-found_above [] least n k above at = absurd cc
-found_above (e ∷ es) least n k above at = by (nat_cmp n e.0) refl (λ there. found_above es least n k above.1 there)
-  where
-    by : (o : Ordering) → nat_cmp n e.0 ≡ o → (key_at es n ≡ Some k → nat_cmp least n ≡ Less) → nat_cmp least n ≡ Less
-    by Equal same rest = rw (exact_unsigned n e.0 same) above.0
-    by Less other rest = rest (sym (rw other refl) ∙ at)
-    by Greater other rest = rest (sym (rw other refl) ∙ at)
+pub number-same : (n : ℕ) → is_eq (nat_cmp n n) ≡ true
+number-same n = ap is_eq (sym (nat_cmp_is n n Equal refl))
 
-above_apart : (least n : ℕ) → nat_cmp least n ≡ Less → is_eq (nat_cmp n least) ≡ false
-above_apart least n less = ap is_eq (nat_cmp_total.antisymm n least ∙ ap ordering_reverse less)
-
--- what holds of each number and key that is found holds of each pair
-pub all_found : (es : List (ℕ × Key)) → IsStrictlySortedBy nat_cmp (keys_of es) → (T : ℕ × Key → Type 0) → ((n : ℕ) (k : Key) → key_at es n ≡ Some k → T (n, k)) → AllByRecursion T es
-unfolding IsStrictlySortedBy
-all_found [] rising T h = tt
-all_found (e ∷ es) rising T h = (h e.0 e.1 (rw (number-same e.0) refl), all_found es rising.1 T (λ n k at. h n k (rw (above_apart e.0 n (found_above es e.0 n k rising.0 at)) at)))
-
--- ---- the pairs of a key
-
-module _ (by_number : List (ℕ × Key)) (by_key : List (Key × ℕ)) (rising : IsStrictlySortedBy nat_cmp (keys_of by_number)) (agree : Agree (key_at by_number) (number_at by_key)) (key : Key) where
-  -- a key without a number has no pair
-  pub none_of : number_at by_key key ≡ None → AllByRecursion (λ e. is_of key e ≡ false) by_number
-  none_of none = all_found by_number rising _ (λ n k at. by n k at (is_eq (key_cmp key k)) refl)
-    where
-      by : (n : ℕ) (k : Key) → key_at by_number n ≡ Some k → (b : Bool) → is_eq (key_cmp key k) ≡ b → is_eq (key_cmp key k) ≡ false
-      by n k at false apart = apart
-      by n k at true same =
-          let both : None ≡ Some n = sym none ∙ ap (number_at by_key) (one_key key k same) ∙ agree.keyed n k at in
-          absurd cc
-
-  -- a key with a number has the pair of that number only
-  pub one_of : (number : ℕ) → number_at by_key key ≡ Some number → AllByRecursion (λ e. is_of key e ≡ is_eq (nat_cmp number e.0)) by_number
-  one_of number has = all_found by_number rising _ (λ n k at. by n k at (is_eq (key_cmp key k)) refl (is_eq (nat_cmp number n)) refl)
-    where
-      by : (n : ℕ) (k : Key) → key_at by_number n ≡ Some k → (a : Bool) → is_eq (key_cmp key k) ≡ a → (b : Bool) → is_eq (nat_cmp number n) ≡ b → is_eq (key_cmp key k) ≡ is_eq (nat_cmp number n)
-      by n k at true same true here = same ∙ sym here
-      by n k at false apart false other = apart ∙ sym other
-      by n k at true same false other =
-          let both : Some number ≡ Some n = sym has ∙ ap (number_at by_key) (one_key key k same) ∙ agree.keyed n k at in
-          let one : number ≡ n = cc in
-          absurd (true_or_false (is_eq (nat_cmp number n)) (rw one (number-same n)) other)
-      by n k at false apart true here =
-          let both : Some key ≡ Some k = sym (agree.numbered number key has) ∙ ap (key_at by_number) (one_number number n here) ∙ at in
-          let one : key ≡ k = cc in
-          absurd (true_or_false (is_eq (key_cmp key k)) (rw one (key-same k)) apart)
-
-pub all_without : (key : Key) (es : List (ℕ × Key)) → AllByRecursion (λ e. is_of key e ≡ false) es → without key es ≡ es
-all_without key [] none = refl
-all_without key (e ∷ es) none = rw none.0 (ap (λ (rest : List (ℕ × Key)). e ∷ rest) (all_without key es none.1))
-
-pub any_none : (key : Key) (es : List (ℕ × Key)) → AllByRecursion (λ e. is_of key e ≡ false) es → list_any (is_of key) es ≡ false
-any_none key [] none = refl
-any_none key (e ∷ es) none = rw none.0 (any_none key es none.1)
-
-pub any_some : (key : Key) (number : ℕ) (k : Key) (es : List (ℕ × Key)) → AllByRecursion (λ e. is_of key e ≡ is_eq (nat_cmp number e.0)) es → key_at es number ≡ Some k → list_any (is_of key) es ≡ true
-any_some key number k [] one at = absurd cc
-any_some key number k (e ∷ es) one at = by (is_eq (nat_cmp number e.0)) refl (λ there. any_some key number k es one.1 there)
-  where
-    by : (b : Bool) → is_eq (nat_cmp number e.0) ≡ b → (key_at es number ≡ Some k → list_any (is_of key) es ≡ true) → list_any (is_of key) (e ∷ es) ≡ true
-    by true here rest = rw (one.0, here) refl
-    by false other rest = rw (one.0, other) (rest (sym (rw other refl) ∙ at))
-
--- the pairs above a key's number aren't the key's
-none_above : (key : Key) (number : ℕ) (es : List (ℕ × Key)) → AllByRecursion (λ m. nat_cmp number m ≡ Less) (keys_of es) → AllByRecursion (λ e. is_of key e ≡ is_eq (nat_cmp number e.0)) es → AllByRecursion (λ e. is_of key e ≡ false) es
-none_above key number [] above one = tt
-none_above key number (e ∷ es) above one = (one.0 ∙ ap is_eq above.0, none_above key number es above.1 one.1)
-
--- without the number's pair is without the key's pair
-pub remove_without : (key : Key) (number : ℕ) (es : List (ℕ × Key)) → IsStrictlySortedBy nat_cmp (keys_of es) → AllByRecursion (λ e. is_of key e ≡ is_eq (nat_cmp number e.0)) es → remove_entry (is_at (nat_cmp number)) es ≡ without key es
-unfolding IsStrictlySortedBy
-remove_without key number [] rising one = refl
-remove_without key number (e ∷ es) rising one = by (is_eq (nat_cmp number e.0)) refl (remove_without key number es rising.1 one.1)
-  where
-    by : (b : Bool) → is_eq (nat_cmp number e.0) ≡ b → remove_entry (is_at (nat_cmp number)) es ≡ without key es → remove_entry (is_at (nat_cmp number)) (e ∷ es) ≡ without key (e ∷ es)
-    by false other rest = rw (one.0, other) (ap (λ (fs : List (ℕ × Key)). e ∷ fs) rest)
-    by true here rest =
-        let above : AllByRecursion (λ m. nat_cmp number m ≡ Less) (keys_of es) = rw (one_number number e.0 here) rising.0 in
-        rw (one.0, here) (sym (all_without key es (none_above key number es above one.1)))
+abbrev pub numbering : ℕ → List (ℕ × Key) → Numbering
+numbering next pairs = record { pairs = pairs; next = next }
 
 -- ---- a number above all others
 
-below_greater : (number n : ℕ) → n < number → nat_cmp number n ≡ Greater
-below_greater number n below = sym (nat_cmp_is number n Greater below)
-
-pub insert_last : (es : List (ℕ × Key)) (number : ℕ) (key : Key) → AllByRecursion (λ e. e.0 < number) es → insert_entry nat_cmp es number key ≡ es ++ (number, key) ∷ []
-insert_last [] number key below = refl
-insert_last (e ∷ es) number key below = rw (below_greater number e.0 below.0) (ap (λ (rest : List (ℕ × Key)). e ∷ rest) (insert_last es number key below.1))
-
 pub remove_last : (es : List (ℕ × Key)) (number : ℕ) (key : Key) → AllByRecursion (λ e. e.0 < number) es → remove_entry (is_at (nat_cmp number)) (es ++ (number, key) ∷ []) ≡ es
 remove_last [] number key below = rw (number-same number) refl
-remove_last (e ∷ es) number key below = rw (below_greater number e.0 below.0) (ap (λ (rest : List (ℕ × Key)). e ∷ rest) (remove_last es number key below.1))
-
-pub key_at_unused : (es : List (ℕ × Key)) (number : ℕ) → AllByRecursion (λ e. e.0 < number) es → key_at es number ≡ None
-key_at_unused [] number below = refl
-key_at_unused (e ∷ es) number below = rw (below_greater number e.0 below.0) (key_at_unused es number below.1)
-
-pub remove_in_front : (es fs : List (ℕ × Key)) (number : ℕ) (k : Key) → key_at es number ≡ Some k → remove_entry (is_at (nat_cmp number)) (es ++ fs) ≡ remove_entry (is_at (nat_cmp number)) es ++ fs
-remove_in_front [] fs number k at = absurd cc
-remove_in_front (e ∷ es) fs number k at = by (is_eq (nat_cmp number e.0)) refl (λ there. remove_in_front es fs number k there)
-  where
-    by : (b : Bool) → is_eq (nat_cmp number e.0) ≡ b → (key_at es number ≡ Some k → remove_entry (is_at (nat_cmp number)) (es ++ fs) ≡ remove_entry (is_at (nat_cmp number)) es ++ fs) → remove_entry (is_at (nat_cmp number)) ((e ∷ es) ++ fs) ≡ remove_entry (is_at (nat_cmp number)) (e ∷ es) ++ fs
-    by true here front = rw here refl
-    by false other front = rw other (ap (λ (rest : List (ℕ × Key)). e ∷ rest) (front (sym (rw other refl) ∙ at)))
-
-pub below_without : (key : Key) (es : List (ℕ × Key)) (number : ℕ) → AllByRecursion (λ e. e.0 < number) es → AllByRecursion (λ e. e.0 < number) (without key es)
-below_without key [] number below = tt
-below_without key (e ∷ es) number below = by (is_of key e) refl (below_without key es number below.1)
-  where
-    by : (b : Bool) → is_of key e ≡ b → AllByRecursion (λ f. f.0 < number) (without key es) → AllByRecursion (λ f. f.0 < number) (without key (e ∷ es))
-    by true same rest = rw same rest
-    by false apart rest = rw apart (below.0, rest)
+remove_last (e ∷ es) number key below = rw (sym (nat_cmp_is number e.0 Greater below.0)) (ap (λ (rest : List (ℕ × Key)). e ∷ rest) (remove_last es number key below.1))
 
 pub below_append : (es : List (ℕ × Key)) (number : ℕ) (key : Key) → AllByRecursion (λ e. e.0 < number) es → AllByRecursion (λ e. e.0 < number + 1) (es ++ (number, key) ∷ [])
 below_append [] number key below = (omega arith, tt)
 below_append (e ∷ es) number key below = (omega (arith, below.0), below_append es number key below.1)
 
--- ---- the maps after a change
+-- ---- the numbers of a key
 
-module _ (by_number : List (ℕ × Key)) (by_key : List (Key × ℕ)) (next : ℕ) (index : AreIndexed by_number by_key next) (key : Key) where
-  pub fresh : key_at by_number next ≡ None
-  fresh = key_at_unused by_number next index.below
+not_new : (number : ℕ) → nat_lt number number ≡ false
+not_new number = le-ltb number number (omega arith)
 
-  -- a key that has no number
-  module _ (none : number_at by_key key ≡ None) where
-    pub had_none : list_any (is_of key) by_number ≡ false
-    had_none = any_none key by_number (none_of by_number by_key index.rising index.agree key none)
+-- a key keeps the number that it was assigned last
+pub given_last : (next : ℕ) (key : Key) (es : List (ℕ × Key)) → AllByRecursion (λ e. e.0 < next) es → without_below next key (es ++ (next, key) ∷ []) ≡ without key es ++ (next, key) ∷ []
+given_last next key [] below = rw (not_new next) refl
+given_last next key (e ∷ es) below = by (is_of key e) refl (given_last next key es below.1)
+  where
+    by : (b : Bool) → is_of key e ≡ b → without_below next key (es ++ (next, key) ∷ []) ≡ without key es ++ (next, key) ∷ [] → without_below next key ((e ∷ es) ++ (next, key) ∷ []) ≡ without key (e ∷ es) ++ (next, key) ∷ []
+    by true same rest = rw (lt-ltb e.0 next below.0, same) rest
+    by false apart rest = rw (lt-ltb e.0 next below.0, apart) (ap (λ (rest : List (ℕ × Key)). e ∷ rest) rest)
 
-    pub without_none : without key by_number ≡ by_number
-    without_none = all_without key by_number (none_of by_number by_key index.rising index.agree key none)
+-- all numbers of a key are below the next one
+pub dropped_all : (next : ℕ) (key : Key) (es : List (ℕ × Key)) → AllByRecursion (λ e. e.0 < next) es → without_below next key es ≡ without key es
+dropped_all next key [] below = refl
+dropped_all next key (e ∷ es) below = by (is_of key e) refl (dropped_all next key es below.1)
+  where
+    by : (b : Bool) → is_of key e ≡ b → without_below next key es ≡ without key es → without_below next key (e ∷ es) ≡ without key (e ∷ es)
+    by true same rest = rw (lt-ltb e.0 next below.0, same) rest
+    by false apart rest = rw (lt-ltb e.0 next below.0, apart) (ap (λ (rest : List (ℕ × Key)). e ∷ rest) rest)
 
-  -- a key that has one
-  module _ (older : ℕ) (has : number_at by_key key ≡ Some older) where
-    pub had_one : list_any (is_of key) by_number ≡ true
-    had_one = any_some key older key by_number (one_of by_number by_key index.rising index.agree key older has) (index.agree.numbered older key has)
+without_most : (key : Key) (es : List (ℕ × Key)) → length (without key es) ≤ length es
+without_most key [] = omega arith
+without_most key (e ∷ es) = by (is_of key e) refl (without_most key es)
+  where
+    by : (b : Bool) → is_of key e ≡ b → length (without key es) ≤ length es → length (without key (e ∷ es)) ≤ length (e ∷ es)
+    by true same rest = rw same (omega (arith, rest))
+    by false apart rest = rw apart (omega (arith, rest))
 
-    pub without_one : remove_entry (is_at (nat_cmp older)) by_number ≡ without key by_number
-    without_one = remove_without key older by_number index.rising (one_of by_number by_key index.rising index.agree key older has)
+lt-suc : (a b : ℕ) → nat_lt (suc a) (suc b) ≡ nat_lt a b
+lt-suc a b = by (nat_lt a b) refl
+  where
+    by : (less : Bool) → nat_lt a b ≡ less → nat_lt (suc a) (suc b) ≡ nat_lt a b
+    by true is = rw is (lt-ltb (suc a) (suc b) (omega (arith, ltb-true a b is)))
+    by false is = rw is (le-ltb (suc a) (suc b) (omega (arith, ltb-false a b is)))
 
-  pub below_placed : (after : List (ℕ × Key)) → after ≡ without key by_number ++ (next, key) ∷ [] → AllByRecursion (λ e. e.0 < next + 1) after
-  below_placed after placed = rw placed (below_append (without key by_number) next key (below_without key by_number next index.below))
+-- a key had a number exactly if fewer pairs are left without its numbers
+pub fewer_without : (key : Key) (es : List (ℕ × Key)) → nat_lt (length (without key es)) (length es) ≡ list_any (is_of key) es
+fewer_without key [] = refl
+fewer_without key (e ∷ es) = by (is_of key e) refl (fewer_without key es)
+  where
+    by : (b : Bool) → is_of key e ≡ b → nat_lt (length (without key es)) (length es) ≡ list_any (is_of key) es → nat_lt (length (without key (e ∷ es))) (length (e ∷ es)) ≡ list_any (is_of key) (e ∷ es)
+    by true same rest = rw same (lt-ltb (length (without key es)) (length (e ∷ es)) (omega (arith, without_most key es)))
+    by false apart rest = rw apart (lt-suc (length (without key es)) (length es) ∙ rest)
 
--- a number that was put above all others is removed again
-pub put_back : (es : List (ℕ × Key)) (number : ℕ) (key : Key) → AllByRecursion (λ e. e.0 < number) es → remove_entry (is_at (nat_cmp number)) (insert_entry nat_cmp es number key) ≡ es
-put_back es number key below = ap (λ (fs : List (ℕ × Key)). remove_entry (is_at (nat_cmp number)) fs) (insert_last es number key below) ∙ remove_last es number key below
+all_filtered : (T : ℕ × Key → Type 0) (p : ℕ × Key → Bool) (es : List (ℕ × Key)) → AllByRecursion (λ e. T e) es → AllByRecursion (λ e. T e) (filter p es)
+all_filtered T p [] all = tt
+all_filtered T p (e ∷ es) all = by (p e) refl (all_filtered T p es all.1)
+  where
+    by : (b : Bool) → p e ≡ b → AllByRecursion (λ e. T e) (filter p es) → AllByRecursion (λ e. T e) (filter p (e ∷ es))
+    by true keeps rest = rw keeps (all.0, rest)
+    by false drops rest = rw drops rest
 
-abbrev pub numbering : ℕ → List (ℕ × Key) → Numbering
-numbering next pairs = record { pairs = pairs; next = next }
+-- some pairs are left out
+pub filtered : (p : ℕ × Key → Bool) (pairs after : List (ℕ × Key)) (next : ℕ) → AreNumbered pairs next → after ≡ filter p pairs → IsStrictlySortedBy nat_cmp (keys_of after) → AreNumbered after next
+filtered p pairs after next are is rising = record { rising = rising; below = rw is (all_filtered (λ e. e.0 < next) p pairs are.below); most = are.most }
+
+-- ---- one number is removed
+
+below_removed : (number next : ℕ) (es : List (ℕ × Key)) → AllByRecursion (λ e. e.0 < next) es → AllByRecursion (λ e. e.0 < next) (pairs_without (Some number) es)
+below_removed number next [] below = tt
+below_removed number next (e ∷ es) below = by (is_eq (nat_cmp number e.0)) refl (below_removed number next es below.1)
+  where
+    by : (b : Bool) → is_eq (nat_cmp number e.0) ≡ b → AllByRecursion (λ f. f.0 < next) (pairs_without (Some number) es) → AllByRecursion (λ f. f.0 < next) (pairs_without (Some number) (e ∷ es))
+    by true here rest = rw here below.1
+    by false other rest = rw other (below.0, rest)
+
+-- a number is removed
+pub removed : (pairs after : List (ℕ × Key)) (number next : ℕ) → AreNumbered pairs next → after ≡ pairs_without (Some number) pairs → IsStrictlySortedBy nat_cmp (keys_of after) → AreNumbered after next
+removed pairs after number next are is rising = record { rising = rising; below = rw is (below_removed number next pairs are.below); most = are.most }
+
+last_number : (T : ℕ → Type 0) (es : List (ℕ × Key)) (e : ℕ × Key) → AllByRecursion T (keys_of (es ++ e ∷ [])) → T e.0
+last_number T [] e all = all.0
+last_number T (f ∷ fs) e all = last_number T fs e all.1
+
+pub last_below : (next : ℕ) (es : List (ℕ × Key)) (e : ℕ × Key) → AllByRecursion (λ f. f.0 < next) (es ++ e ∷ []) → e.0 < next
+last_below next [] e all = all.0
+last_below next (f ∷ fs) e all = last_below next fs e all.1
+
+pub below_last : (es : List (ℕ × Key)) (e : ℕ × Key) → IsStrictlySortedBy nat_cmp (keys_of (es ++ e ∷ [])) → AllByRecursion (λ f. f.0 < e.0) es
+unfolding IsStrictlySortedBy
+below_last [] e rising = tt
+below_last (f ∷ fs) e rising = (ranked f.0 e.0 Less (sym (last_number (λ n. nat_cmp f.0 n ≡ Less) fs e rising.0)), below_last fs e rising.1)
+
+-- those before the greatest ascend
+pub rising_front : (es : List (ℕ × Key)) (e : ℕ × Key) → IsStrictlySortedBy nat_cmp (keys_of (es ++ e ∷ [])) → IsStrictlySortedBy nat_cmp (keys_of es)
+unfolding IsStrictlySortedBy
+rising_front [] e rising = tt
+rising_front (f ∷ fs) e rising = (all_front fs e (λ n. nat_cmp f.0 n ≡ Less) rising.0, rising_front fs e rising.1)
+  where
+    all_front : (gs : List (ℕ × Key)) (last : ℕ × Key) (T : ℕ → Type 0) → AllByRecursion T (keys_of (gs ++ last ∷ [])) → AllByRecursion T (keys_of gs)
+    all_front [] last T all = tt
+    all_front (g ∷ gs) last T all = (all.0, all_front gs last T all.1)
+
+-- the greatest is taken back
+pub popped : (pairs after : List (ℕ × Key)) (number next : ℕ) (key : Key) → AreNumbered pairs next → pairs ≡ after ++ (number, key) ∷ [] → IsStrictlySortedBy nat_cmp (keys_of after) → AreNumbered after number
+popped pairs after number next key are is rising =
+    let less : number < next = last_below next after (number, key) (rw (← is) are.below) in
+    record {
+      rising = rising;
+      below = below_last after (number, key) (rw (← is) are.rising);
+      most = omega (arith, less, are.most);
+    }

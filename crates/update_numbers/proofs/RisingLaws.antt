@@ -14,12 +14,9 @@ use Rattle.std.proofs.lemmas.List.{append-nil, length-append}
 use Rattle.std.proofs.lemmas.Bool.{le-ltb, lt-ltb}
 use Rattle.std.proofs.lemmas.List.Elements.{filter-append}
 use Rattle.table_types.specs.declared.key.Key.{Key}
-use Rattle.update_numbers.specs.Index.{AreNumbered, key_at, pairs_without}
-use Rattle.update_numbers.specs.Numbers.{above}
+use Rattle.update_numbers.specs.Numbers.{AreNumbered, above, is_of, key_at, pairs_without, without_below}
 use Rattle.update_numbers.specs.Rising.{rising}
-use Rattle.update_numbers.proofs.IndexLaws.{number-same, one_number}
-use Rattle.update_numbers.proofs.NumberLaws.{remove_last}
-use Rattle.update_numbers.proofs.NumberedLaws.{below_last, last_below, rising_front}
+use Rattle.update_numbers.proofs.NumberLaws.{below_last, last_below, number-same, one_number, remove_last, rising_front}
 
 -- the greatest number comes first
 abbrev pub falling_cmp : Reverse ℕ → Reverse ℕ → Ordering
@@ -129,3 +126,16 @@ above_rising (e ∷ es) number = by (nat_lt number e.0.0) refl (above_rising es 
     by : (b : Bool) → nat_lt number e.0.0 ≡ b → rising (filter (λ f. not (is_le (nat_cmp f.0.0 number))) es) ≡ above number (rising es) → rising (filter (λ f. not (is_le (nat_cmp f.0.0 number))) (e ∷ es)) ≡ above number (rising (e ∷ es))
     by true past rest = rw (past-above number e.0.0, last, past) (ap (λ (ps : List (ℕ × Key)). ps ++ (e.0.0, e.1) ∷ []) rest)
     by false not_past rest = rw (past-above number e.0.0, last, not_past) (rest ∙ sym (append-nil (above number (rising es))))
+
+-- ---- the pairs that are kept
+
+pub filter_rising : (p : ℕ × Key → Bool) (es : List (Reverse ℕ × Key)) → rising (filter (λ e. p (e.0.0, e.1)) es) ≡ filter p (rising es)
+filter_rising p [] = refl
+filter_rising p (e ∷ es) = by (p (e.0.0, e.1)) refl (filter_rising p es)
+  where
+    last : filter p (rising (e ∷ es)) ≡ filter p (rising es) ++ filter p ((e.0.0, e.1) ∷ [])
+    last = filter-append p (rising es) ((e.0.0, e.1) ∷ [])
+
+    by : (b : Bool) → p (e.0.0, e.1) ≡ b → rising (filter (λ f. p (f.0.0, f.1)) es) ≡ filter p (rising es) → rising (filter (λ f. p (f.0.0, f.1)) (e ∷ es)) ≡ filter p (rising (e ∷ es))
+    by true keeps rest = rw (last, keeps) (ap (λ (ps : List (ℕ × Key)). ps ++ (e.0.0, e.1) ∷ []) rest)
+    by false drops rest = rw (last, drops) (rest ∙ sym (append-nil (filter p (rising es))))

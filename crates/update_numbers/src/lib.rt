@@ -1,10 +1,8 @@
-//! The numbers of a table's updates, by key and by number.
+//! The numbers of a table's updates, and the keys that have them.
 #![tactic(auto)]
 
-mod numbered_keys;
 mod numbers;
 mod rising;
 
-pub use numbered_keys::NumberedKeys;
 pub use numbers::{NumberError, Numbers};
 pub use rising::Rising;

@@ -1,15 +1,16 @@
-//! Numbers of updates by number and by key.
+//! Numbers of updates, and the keys that have them.
 
-ghost use Rattle.std.specs.Prelude.{◌≡◌, ℕ, ◌↔◌, ◌≤◌, ◌<◌, ◌^◌, [], Err, IfOk, OnOk, OnErr, take};
+ghost use Rattle.std.specs.Prelude.{◌≡◌, ◌↔◌, ◌≤◌, ◌<◌, ◌^◌, ◌∷◌, ◌++◌, [], Err, IfNone, IfOk, IfSome, OnOk, OnErr, Some, length, take};
 ghost use Rattle.std.specs.List.{AllByRecursion, list_any};
 ghost use Rattle.std.specs.List.Sorted.{IsStrictlySortedBy};
 ghost use Rattle.std.specs.Map.{keys_of};
 ghost use Rattle.std.specs.Ordering.{nat_cmp};
 ghost use Rattle.update_numbers.specs.declared.numbers.NumberError.TheVariants as errors;
-ghost use Rattle.update_numbers.specs.Numbers.{above, dropped, given, is_of};
-ghost use Rattle.update_numbers.specs.Index.{AreIndexed, IsKept, key_at, key_without, pairs_without};
+ghost use Rattle.update_numbers.specs.Numbers.{above, dropped, given, is_of, key_at, pairs_without, pushed, without_below};
 
+use crate::rising::Rising;
 use std::alloc::Global;
+use std::cmp::Reverse;
 use std::collections::BTreeMap;
 use std::marker::Model;
 use std::ops::Bound;
@@ -27,61 +28,28 @@ pub enum NumberError {
     Memory,
 }
 
-/// The numbers of keys. A key is assigned the next number in place of its older one.
+/// Numbers assigned to keys, each the next one. `give` assigns a key the next number in place of its older ones, which it
+/// searches for among all pairs. A caller that knows a key's older number uses `push` and `remove`, which look for one number
+/// each.
 #[derive(Drop)]
 pub struct Numbers {
     alloc: Global,
-    by_number: BTreeMap<u32, Key>,
-    by_key: BTreeMap<Key, u32>,
+    /// In descending order: a new number is above all others, so a search that begins at the front finds its place at
+    /// once.
+    keys: BTreeMap<Reverse<u32>, Key>,
     /// 2^32 if all numbers are assigned.
     next: u64,
 }
 
 impl Model for Numbers {
-    ghost use Rattle.update_numbers.specs.Index.{AreIndexed};
-    ghost use Rattle.update_numbers.specs.Numbers.{Numbering};
+    ghost use Rattle.update_numbers.specs.Numbers.{AreNumbered, Numbering};
+    ghost use Rattle.update_numbers.specs.Rising.{rising};
 
     ghost Value = { Numbering };
 
-    ghost view = { λ a. record { pairs = a.by_number.entries; next = a.next } };
+    ghost view = { λ a. record { pairs = rising a.keys.entries; next = a.next } };
 
-    ghost invariant = { λ a. AreIndexed a.by_number.entries a.by_key.entries a.next };
-}
-
-/// Puts `key` at `number`, which is above all others, and returns its older number. If memory runs out, nothing has
-/// changed.
-fn keep(
-    alloc: Global,
-    by_number: &mut BTreeMap<u32, Key>,
-    by_key: &mut BTreeMap<Key, u32>,
-    number: u32,
-    key: &Key,
-) -> Result<Option<u32>, Memory>
-    requires { AreIndexed by_number.old.entries by_key.old.entries number }
-    ensures kept { IfOk result (λ older. IsKept by_number.old.entries by_key.old.entries number key.now older by_number.new.entries by_key.new.entries) }
-    ensures stays { OnErr result (by_number.new.entries ≡ by_number.old.entries) }
-    ensures keys_stay { OnErr result (by_key.new.entries ≡ by_key.old.entries) }
-{
-    let number_key = key.copy(alloc)?;
-    let own_key = key.copy(alloc)?;
-    by_number.insert(number, number_key)?;
-    let Ok(older) = by_key.insert(own_key, number) else {
-        by_number.remove(&number);
-        return Err(Memory);
-    };
-    Ok(older)
-}
-
-/// Removes the pair of a key's older number, if it had one.
-fn drop_older(by_number: &mut BTreeMap<u32, Key>, older: Option<u32>)
-    requires { IsStrictlySortedBy nat_cmp (keys_of by_number.old.entries) }
-    ensures dropped { by_number.new.entries ≡ pairs_without older by_number.old.entries }
-    ensures others { (n : ℕ) → key_at by_number.new.entries n ≡ key_without older (key_at by_number.old.entries) n }
-    ensures rising { IsStrictlySortedBy nat_cmp (keys_of by_number.new.entries) }
-{
-    if let Some(older) = older {
-        by_number.remove(&older);
-    }
+    ghost invariant = { λ a. AreNumbered (rising a.keys.entries) a.next };
 }
 
 impl Numbers {
@@ -92,8 +60,7 @@ impl Numbers {
     {
         Numbers {
             alloc,
-            by_number: BTreeMap::new(alloc),
-            by_key: BTreeMap::new(alloc),
+            keys: BTreeMap::new(alloc),
             next: u64::from(first),
         }
     }
@@ -108,40 +75,92 @@ impl Numbers {
         self.next
     }
 
-    /// Assigns the next number to `key` in place of its older one. If it fails, nothing has changed.
+    /// Returns how many numbers have a key.
+    pub fn len(&self) -> usize
+        ensures { result ≡ length self.now.pairs }
+    {
+        self.keys.len()
+    }
+
+    /// Assigns the next number to `key` in place of its older ones. If it fails, nothing has changed. Takes time linear in the
+    /// number of pairs.
     pub fn give(&mut self, key: &Key) -> Result<u32, NumberError>
         ensures given { OnOk result (self.new ≡ given key.now self.old) }
         ensures number { IfOk result (λ number. number ≡ self.old.next) }
         ensures spent { (result ≡ Err errors.Spent) ↔ (2 ^ 32 ≤ self.old.next) }
         ensures stays { OnErr result (self.new ≡ self.old) }
     {
-        let Ok(number) = u32::try_from(self.next) else {
+        let next = self.next();
+        let Ok(number) = u32::try_from(next) else {
             return Err(NumberError::Spent);
         };
-        let Ok(older) = keep(
-            self.alloc,
-            &mut self.by_number,
-            &mut self.by_key,
-            number,
-            key,
-        ) else {
+        let Ok(own) = key.copy(self.alloc) else {
             return Err(NumberError::Memory);
         };
-        drop_older(&mut self.by_number, older);
-        self.next += 1;
+        let Ok(()) = self.push(own) else {
+            return Err(NumberError::Memory);
+        };
+        self.drop_below(next, key);
         Ok(number)
     }
 
-    /// Removes the number of `key`, and returns whether it had one. Doesn't allocate.
+    /// Removes the numbers of `key`, and returns whether it had one. Doesn't allocate. Takes time linear in the number of
+    /// pairs.
     pub fn drop_key(&mut self, key: &Key) -> bool
         ensures had { result ≡ list_any (is_of key.now) self.old.pairs }
         ensures dropped { self.new ≡ dropped key.now self.old }
     {
-        let Some(number) = self.by_key.remove(key) else {
-            return false;
-        };
-        self.by_number.remove(&number);
-        true
+        let before = self.len();
+        self.drop_below(self.next(), key);
+        self.len() < before
+    }
+
+    /// Removes the numbers of `key` below `number`. Doesn't allocate.
+    fn drop_below(&mut self, number: u64, key: &Key)
+        ensures { self.new ≡ record { pairs = without_below number key.now self.old.pairs; next = self.old.next } }
+    {
+        self.keys.retain(|of, own| u64::from(of.0) >= number || key.cmp(own).is_ne());
+    }
+
+    /// Assigns the next number to `key`, which keeps its older one until the caller removes it. If memory runs out, nothing
+    /// has changed.
+    pub fn push(&mut self, key: Key) -> Result<(), Memory>
+        requires { self.old.next < 2 ^ 32 }
+        ensures pushed { OnOk result (self.new ≡ pushed key self.old) }
+        ensures stays { OnErr result (self.new ≡ self.old) }
+    {
+        self.keys.insert(Reverse(self.next as u32), key)?;
+        self.next += 1;
+        Ok(())
+    }
+
+    /// Takes back the greatest number, which is then the next one again, and returns it with its key; `None` if there
+    /// is none. Doesn't allocate.
+    pub fn pop(&mut self) -> Option<(u32, Key)>
+        ensures last { IfSome result (λ pair. self.old.pairs ≡ self.new.pairs ++ pair ∷ []) }
+        ensures next { IfSome result (λ pair. self.new.next ≡ pair.0) }
+        ensures none { IfNone result (self.old.pairs ≡ []) }
+        ensures stays { IfNone result (self.new ≡ self.old) }
+    {
+        let (Reverse(number), key) = self.keys.pop_first()?;
+        self.next = u64::from(number);
+        Some((number, key))
+    }
+
+    /// Removes the pair of `number`, and returns its key. Doesn't allocate.
+    pub fn remove(&mut self, number: u32) -> Option<Key>
+        ensures key { result ≡ key_at self.old.pairs number }
+        ensures removed { self.new ≡ record { pairs = pairs_without (Some number) self.old.pairs; next = self.old.next } }
+    {
+        self.keys.remove(&Reverse(number))
+    }
+
+    /// Iterates over the pairs above `number`, in ascending order of number. Doesn't allocate.
+    pub fn iter_above(&self, number: u32) -> Rising<'_>
+        ensures { result ≡ above number self.now.pairs }
+    {
+        let above = (Bound::Unbounded, Bound::Excluded(Reverse(number)));
+        Rising::new(self.keys.range(above))
     }
 
     /// Returns the pairs above `number`, in ascending order of number, with copies of the keys, at most `limit` of
@@ -150,12 +169,11 @@ impl Numbers {
         ensures { IfOk result (λ pairs. pairs.items ≡ take limit (above number self.now.pairs)) }
     {
         let mut found = Vec::new(self.alloc);
-        let range = (Bound::Excluded(number), Bound::Unbounded);
-        for (number, key) in self.by_number.range(range) {
+        for (number, key) in self.iter_above(number) {
             if found.len() == limit {
                 break;
             }
-            found.push((*number, key.copy(self.alloc)?))?;
+            found.push((number, key.copy(self.alloc)?))?;
         }
         Ok(found)
     }

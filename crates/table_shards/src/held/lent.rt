@@ -2,6 +2,7 @@
 
 ghost use Rattle.std.specs.Prelude.{◌≡◌, ◌≤◌, ◌<◌, IfErr, IfOk};
 ghost use Rattle.table_cell.specs.Histories.{Acknowledges, BeginsAnew, Closes, Copies, Learns, Opens, Purges, Tracks, events_of};
+ghost use Rattle.table_cell.specs.Renumbering.{Renumbers};
 ghost use Rattle.table_cell.specs.declared.events.CellEvent.TheVariants as events;
 ghost use Rattle.table_cell.specs.declared.events.CellReply.TheVariants as replies;
 ghost use Rattle.table_shards.specs.Receipts.{seen_of, with_receipt};
@@ -17,7 +18,7 @@ use crate::seat::Seat;
 use std::convert::Infallible;
 use table_cell::{
     AckError, CheckpointError, CloseError, CopyError, Dropped, Entry, LearnError, OpenError,
-    PurgeError, Reply, StrangeBatch, TrackError,
+    PurgeError, RenumberError, Reply, StrangeBatch, TrackError,
 };
 use table_types::{Batch, Change, CopyKind, Key, Moment, Settled, Update};
 
@@ -225,6 +226,18 @@ pub fn slide(
 {
     allow(locked, &seat.book, table)?;
     Ok(locked.cell.slide())
+}
+
+/// Calls `TableCell::renumber`. Makes no event, needs no memory but the cell's, and leaves the seat as it was.
+pub fn renumber(
+    locked: &mut Locked,
+    seat: &Seat,
+    table: u64,
+) -> Result<(), ShardError<RenumberError>>
+    ensures { Looks (λ c r e. Renumbers c r e) table locked.old seat.now result locked.new seat.now }
+{
+    allow(locked, &seat.book, table)?;
+    locked.cell.renumber().map_err(ShardError::Cell)
 }
 
 /// Calls `TableCell::open_session`, and adds a receipt.

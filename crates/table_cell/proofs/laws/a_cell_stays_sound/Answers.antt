@@ -1,4 +1,5 @@
 use Rattle.table_cell.proofs.AnewLaws.{begun_sound}
+use Rattle.table_cell.proofs.RenumberLaws.{renumbered_cell}
 use Rattle.table_cell.proofs.RunLaws.{made_sound, new_cell_sound}
 use Rattle.table_cell.proofs.laws.a_cell_stays_sound.Goals as goal
 
@@ -10,3 +11,6 @@ returns-clause-new c = new_cell_sound
 
 pub returns-clause-anew : goal.returns-clause-anew
 returns-clause-anew c = begun_sound
+
+pub returns-clause-renumbered : goal.returns-clause-renumbered
+returns-clause-renumbered c = renumbered_cell

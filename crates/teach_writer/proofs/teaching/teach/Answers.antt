@@ -1,54 +1,30 @@
-use Rattle.std.proofs.Common.{◌≡◌, ◌+◌, ℕ, None, List, length, sym, ◌∙◌, ap, subst, arith, rules}
-use Rattle.table_types.specs.Rosters.{roster_fault}
+use Rattle.std.proofs.Common.{◌≡◌, ℕ, List, sym, subst, ◌∙◌}
 use Rattle.peers_msg.specs.declared.message.Message.{Message}
 use Rattle.peers_msg.specs.Spelling.{stream_of}
-use Rattle.known_state.specs.Cost.{full, knowledge_of}
-use Rattle.known_state.specs.Known.{AreOwn}
-use Rattle.known_state.specs.Requests.{Asked, requests_of}
+use Rattle.known_state.specs.Known.{KnownState}
+use Rattle.known_state.specs.Plans.{Plan}
 use Rattle.known_state.specs.Shortest.{Shortest}
-use Rattle.known_state.proofs.CostsAddUp.{few-asked}
-use Rattle.price_checker.specs.Verdicts.{Says, bound_shown}
-use Rattle.price_checker.specs.declared.verdict.Verdict.TheVariants as verdicts
+use Rattle.teach_writer.specs.Pieces.{bytes_left}
 use Rattle.teach_writer.specs.Planning.{IsPlanFor}
 use Rattle.teach_writer.specs.Sending.{GoesThrough}
-use Rattle.teach_writer.proofs.SentUpdatesCost.{planned_shortest}
 use Rattle.teach_writer.proofs.teaching.teach.Goals as goal
 
-pub plan-requires-clause-requests : goal.plan-requires-clause-requests
-plan-requires-clause-requests c =
+pub returns-clause-order : goal.returns-clause-order
+returns-clause-order c =
     let k = c.args.known.now in
     let us = c.args.batch.now in
-    let asked : length c.as_slice-3.result.now ≡ length (requests_of k.roster (knowledge_of k.state) us) = ap (λ (rs : List Asked). length rs) (c.as_slice-3.ensures.value ∙ c.in_ok-requests.ensures) in
-    omega (arith, asked, few-asked k.roster (knowledge_of k.state) us, c.requires.batch.0)
-
--- a lesson that goes through the batch according to an accepted plan
-planned : (c : goal.After-drop-requests-2) → IsPlanFor c.args.known.now c.args.batch.now c.in_ok-plan.plan → GoesThrough c.args.known.now c.args.batch.now c.in_ok-plan.plan.keep c.in_ok-lesson.lesson.bytes c.in_ok-lesson.lesson.known.state → (ms : List Message) × (c.in_ok-lesson.lesson.bytes ≡ stream_of ms)
-    × (length (stream_of ms) + bound_shown c.args.known.now c.args.batch.now c.in_ok-plan.plan.prices ≡ full c.args.known.now.roster c.args.known.now.state c.args.batch.now) × Shortest c.args.known.now c.args.batch.now ms
-    × Says c.args.known.now c.args.batch.now (stream_of ms) c.in_ok-plan.plan.prices (verdicts.Shortest (length (stream_of ms)))
-planned c accepted order =
-    let k = c.args.known.now in
-    let us = c.args.batch.now in
-    let sound : roster_fault k.roster ≡ None = search rules in
-    let own : AreOwn k.roster k.state.received.tables = search rules in
-    let many : length k.state.slots ≡ 128 = search rules in
-    let all = planned_shortest k us c.in_ok-plan.plan order.0 c.in_ok-lesson.lesson.known.state sound own many c.requires.batch accepted order.1 in
-    (order.0, order.2, all.1, all.2, all.3)
+    let pieces = c.in_ok-pieces.pieces in
+    let lesson = c.in_ok-lesson.lesson in
+    let same : (lesson.bytes ≡ bytes_left pieces) × (lesson.prices ≡ pieces.prices) × (lesson.known ≡ pieces.known) = c.in_ok-lesson.ensures in
+    let order : (plan : Plan) × IsPlanFor k us plan × (pieces.prices ≡ plan.prices) × GoesThrough k us plan.keep (bytes_left pieces) pieces.known.state = c.in_ok-pieces.ensures.order in
+    let bytes : GoesThrough k us order.0.keep lesson.bytes pieces.known.state = subst (λ (bs : List ℕ). GoesThrough k us order.0.keep bs pieces.known.state) (sym same.0) order.3 in
+    (order.0, order.1, same.1 ∙ order.2, subst (λ (after : KnownState). GoesThrough k us order.0.keep lesson.bytes after.state) (sym same.2) bytes)
 
 pub returns-clause-shortest : goal.returns-clause-shortest
-returns-clause-shortest c = let p = planned c (search rules) (search rules) in (p.0, p.1, p.3)
-
-pub returns-clause-tight : goal.returns-clause-tight
-returns-clause-tight c =
-    let p = planned c (search rules) (search rules) in
-    let prices : c.in_ok-lesson.lesson.prices ≡ c.in_ok-plan.plan.prices = search rules in
-    rw (prices, p.1) p.2
-
-pub returns-clause-said : goal.returns-clause-said
-returns-clause-said c =
+returns-clause-shortest c =
     let k = c.args.known.now in
     let us = c.args.batch.now in
-    let lesson = c.in_ok-lesson.lesson in
-    let p = planned c (search rules) (search rules) in
-    let prices : lesson.prices ≡ c.in_ok-plan.plan.prices = search rules in
-    subst (λ (ns : List ℕ). Says k us lesson.bytes ns (verdicts.Shortest (length lesson.bytes))) (sym prices)
-    (subst (λ (bytes : List ℕ). Says k us bytes c.in_ok-plan.plan.prices (verdicts.Shortest (length bytes))) (sym p.1) p.4)
+    let pieces = c.in_ok-pieces.pieces in
+    let same : (c.in_ok-lesson.lesson.bytes ≡ bytes_left pieces) × (c.in_ok-lesson.lesson.prices ≡ pieces.prices) × (c.in_ok-lesson.lesson.known ≡ pieces.known) = c.in_ok-lesson.ensures in
+    let shortest : (ms : List Message) × (bytes_left pieces ≡ stream_of ms) × Shortest k us ms = c.in_ok-pieces.ensures.shortest in
+    (shortest.0, same.0 ∙ shortest.1, shortest.2)

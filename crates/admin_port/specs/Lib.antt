@@ -1,0 +1,12 @@
+pub mod Answers
+pub mod Metrics
+pub mod Pages
+pub mod PeerMetrics
+pub mod Reports
+pub mod RequestWords
+pub mod Requests
+pub mod Samples
+pub mod ShownKeys
+pub mod ShownTables
+pub mod TableMetrics
+pub mod TableNames

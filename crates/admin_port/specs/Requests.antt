@@ -1,0 +1,81 @@
+-- What a request's line says (profile).
+use Rattle.std.specs.Prelude.{◌≡◌, ◌++◌, ℕ, Bool, true, false, List, [], ◌∷◌, Option, Some, None, codes, option_map}
+use Rattle.std.specs.List.{list_all}
+use Rattle.table_types.specs.declared.key.Key.{Key}
+use Rattle.table_types.specs.declared.key.KeyKind.{KeyKind}
+use Rattle.table_types.specs.declared.key.KeyKind.TheVariants as kinds
+use Rattle.table_types.specs.Rosters.{is_same_name}
+use Rattle.table_types.specs.Tables.{Definition}
+use Rattle.node_text.specs.Calls.{any_key_of}
+use Rattle.node_text.specs.Changes.{IsChange}
+use Rattle.node_text.specs.Numbers.{is_digit}
+use Rattle.node_text.specs.Words.{is_text}
+use Rattle.admin_port.specs.RequestWords.{is_word, line_words}
+use Rattle.admin_port.specs.TableNames.{table_named}
+use Rattle.admin_port.specs.declared.requests.Request.{Request}
+use Rattle.admin_port.specs.declared.requests.Request.TheVariants as requests
+
+-- ---- tables and keys
+
+-- the id of a table, if it is there
+abbrev pub id_of : Option Definition → Option ℕ
+id_of table = option_map (λ t. t.id) table
+
+-- the kind of a table's keys; one that isn't there is taken to have bytes, so that no key of another kind is refused
+abbrev pub kind_of : Option Definition → KeyKind
+kind_of None = kinds.Binary
+kind_of (Some table) = table.kind
+
+-- a text that names this table, or none that is there
+abbrev pub IsTable : Option (List ℕ) → List Definition → List ℕ → Option ℕ → Type 0
+IsTable section tables word id = (is_text word ≡ true) × (id ≡ id_of (table_named section tables word))
+
+-- a table, and a key as a script of that table has it
+abbrev pub IsRow : Option (List ℕ) → List Definition → List ℕ → List ℕ → Option ℕ → Key → Type 0
+IsRow section tables table word id key =
+    IsTable section tables table id × (any_key_of (kind_of (table_named section tables table)) word ≡ Some key)
+
+-- ---- pages
+
+-- a CR (13), or nothing
+abbrev pub line_end : Bool → List ℕ
+line_end true = 13 ∷ []
+line_end false = []
+
+-- `HTTP/1.` and a digit; a CR may end it
+abbrev pub IsVersion : List ℕ → Type 0
+IsVersion word = (digit : ℕ) × (end : Bool) × (is_digit digit ≡ true) × (word ≡ codes "HTTP/1." ++ (digit ∷ line_end end))
+
+-- a page, as the words after `GET` ask for it
+pub record IsPage (path version : List ℕ) : Type 0 where
+  pub is_named : is_text path ≡ true
+  pub is_http : IsVersion version
+
+-- the path is that of the page of metrics
+abbrev pub is_metrics : List ℕ → Bool
+is_metrics path = is_same_name path (codes "/metrics")
+
+-- ---- requests
+
+-- the words of a request
+abbrev pub IsRequest : Option (List ℕ) → List Definition → List (List ℕ) → Request → Type 0
+IsRequest section tables words (requests.Track id key change) =
+    (table word : List ℕ) × (rest : List (List ℕ)) × (words ≡ codes "track" ∷ table ∷ word ∷ rest)
+    × IsRow section tables table word id key × IsChange rest change
+IsRequest section tables words (requests.Get id key) =
+    (table word : List ℕ) × (words ≡ codes "get" ∷ table ∷ word ∷ []) × IsRow section tables table word id key
+IsRequest section tables words requests.ShowTables = words ≡ codes "show" ∷ codes "table" ∷ []
+IsRequest section tables words (requests.ShowTable id) =
+    (table : List ℕ) × (words ≡ codes "show" ∷ codes "table" ∷ table ∷ []) × IsTable section tables table id
+IsRequest section tables words requests.ShowRows = words ≡ codes "show" ∷ codes "rows" ∷ []
+IsRequest section tables words requests.ShowPeers = words ≡ codes "show" ∷ codes "peers" ∷ []
+IsRequest section tables words requests.Stop = words ≡ codes "stop" ∷ []
+IsRequest section tables words requests.Metrics =
+    (path version : List ℕ) × (words ≡ codes "GET" ∷ path ∷ version ∷ []) × IsPage path version × (is_metrics path ≡ true)
+IsRequest section tables words requests.OtherPage =
+    (path version : List ℕ) × (words ≡ codes "GET" ∷ path ∷ version ∷ []) × IsPage path version × (is_metrics path ≡ false)
+
+-- the line of a request: words with one space between them
+abbrev pub IsRequestLine : Option (List ℕ) → List Definition → List ℕ → Request → Type 0
+IsRequestLine section tables line request =
+    (list_all is_word (line_words line) ≡ true) × IsRequest section tables (line_words line) request

@@ -1,0 +1,30 @@
+//! The texts of the admin port of a node that stays: the requests that it takes, as they are read, and its answers, as they are printed;
+//! and its page of metrics.
+#![tactic(auto)]
+
+mod answers;
+mod lines;
+mod metric_families;
+mod metrics_pages;
+mod pages;
+mod peer_metrics;
+mod reports;
+mod request_words;
+mod requests;
+mod samples;
+mod shown_keys;
+mod shown_tables;
+mod table_metrics;
+mod table_names;
+
+pub use answers::{Answer, push_answer, push_found, push_refused, push_rows, push_tracked};
+pub use metrics_pages::{FaultCount, Metrics, NodeMetrics, PassedOver, metrics_page};
+pub use pages::{push_missing_page, push_page};
+pub use peer_metrics::{PeerMetrics, ResyncsEnded, SessionsEnded};
+pub use reports::{
+    PeerReport, PeerRole, PeerState, PeerTableReport, SessionEnd, push_node, push_peers,
+};
+pub use requests::{MOST_REQUEST, Request, read_request};
+pub use shown_tables::{push_live_rows, push_table_header};
+pub use table_metrics::TableMetrics;
+pub use table_names::{push_table_name, table_name, table_named};

@@ -1,0 +1,207 @@
+//! The families of metrics that have samples for each peer.
+ghost use Rattle.std.specs.Prelude.{◌≡◌, ◌++◌, OnOk};
+ghost use Rattle.admin_port.specs.PeerMetrics.{as_number, end_sample, peer_families, peers_up, resync_sample, resyncs_family, resyncs_of, role_samples, sessions_family, sessions_of, up_sample};
+
+use crate::reports::SessionEnd;
+use crate::samples::{Label, push_head, push_sample};
+use std::alloc::AllocError;
+use table_types::Name;
+
+/// What is counted of a peer.
+#[derive(Debug, Drop)]
+pub struct PeerMetrics<'a> {
+    /// The peer's name.
+    pub name: &'a Name,
+    /// Whether there is a session whose hello is over.
+    pub up: bool,
+    /// The sessions that ended.
+    pub sessions: SessionsEnded,
+    /// The resyncs in which the node was the teacher.
+    pub taught: ResyncsEnded,
+    /// The resyncs in which the node was the learner.
+    pub learned: ResyncsEnded,
+}
+
+/// How many sessions ended, by the way of their end.
+#[derive(Clone, Copy, Debug)]
+pub struct SessionsEnded {
+    /// As `SessionEnd::End` says.
+    pub end: u64,
+    /// As `SessionEnd::Silent` says.
+    pub silent: u64,
+    /// As `SessionEnd::Fault` says.
+    pub fault: u64,
+    /// As `SessionEnd::Replaced` says.
+    pub replaced: u64,
+    /// As `SessionEnd::Device` says.
+    pub device: u64,
+    /// As `SessionEnd::Error` says.
+    pub error: u64,
+}
+
+/// How many resyncs ended, by the way of their end.
+#[derive(Clone, Copy, Debug)]
+pub struct ResyncsEnded {
+    /// All rows were taught.
+    pub finished: u64,
+    /// Not all rows were taught.
+    pub partial: u64,
+    /// The session ended first.
+    pub broken: u64,
+}
+
+/// Appends the families that have samples for each peer.
+pub(crate) fn push_peer_families(
+    text: &mut Vec<u8>,
+    peers: &[PeerMetrics<'_>],
+) -> Result<(), AllocError>
+    ensures { OnOk result (text.new.items ≡ text.old.items ++ peer_families peers.now) }
+{
+    push_up(text, peers)?;
+    push_sessions(text, peers)?;
+    push_resyncs(text, peers)
+}
+
+/// Appends whether each peer is up.
+#[tactic(auto, unfolding(crate::specs::PeerMetrics::peers_up))]
+fn push_up(text: &mut Vec<u8>, peers: &[PeerMetrics<'_>]) -> Result<(), AllocError>
+    ensures { OnOk result (text.new.items ≡ text.old.items ++ peers_up peers.now) }
+{
+    push_head(
+        text,
+        "digbaro_peer_up",
+        "gauge",
+        "Whether there is a session with this peer.",
+    )?;
+    for peer in peers {
+        push_peer_up(text, peer)?;
+    }
+    Ok(())
+}
+
+/// Appends whether a peer is up.
+#[tactic(auto, unfolding(crate::specs::PeerMetrics::up_sample))]
+fn push_peer_up(text: &mut Vec<u8>, peer: &PeerMetrics<'_>) -> Result<(), AllocError>
+    ensures { OnOk result (text.new.items ≡ text.old.items ++ up_sample peer.now) }
+{
+    let labels = [Label {
+        name: "peer",
+        value: peer.name.as_slice(),
+    }];
+    push_sample(
+        text,
+        "digbaro_peer_up",
+        labels.as_slice(),
+        u64::from(peer.up),
+    )
+}
+
+/// Appends how many sessions with each peer ended in each way.
+#[tactic(auto, unfolding(crate::specs::PeerMetrics::sessions_family))]
+fn push_sessions(text: &mut Vec<u8>, peers: &[PeerMetrics<'_>]) -> Result<(), AllocError>
+    ensures { OnOk result (text.new.items ≡ text.old.items ++ sessions_family peers.now) }
+{
+    push_head(
+        text,
+        "digbaro_sessions_total",
+        "counter",
+        "Sessions with this peer that ended so.",
+    )?;
+    for peer in peers {
+        push_peer_sessions(text, peer)?;
+    }
+    Ok(())
+}
+
+/// Appends how many sessions with a peer ended in each way.
+#[tactic(auto, unfolding(crate::specs::PeerMetrics::sessions_of))]
+fn push_peer_sessions(text: &mut Vec<u8>, peer: &PeerMetrics<'_>) -> Result<(), AllocError>
+    ensures { OnOk result (text.new.items ≡ text.old.items ++ sessions_of peer.now) }
+{
+    let ended = peer.sessions;
+    push_end(text, peer.name, SessionEnd::End, ended.end)?;
+    push_end(text, peer.name, SessionEnd::Silent, ended.silent)?;
+    push_end(text, peer.name, SessionEnd::Fault, ended.fault)?;
+    push_end(text, peer.name, SessionEnd::Replaced, ended.replaced)?;
+    push_end(text, peer.name, SessionEnd::Device, ended.device)?;
+    push_end(text, peer.name, SessionEnd::Error, ended.error)
+}
+
+/// Appends how many sessions with a peer ended in one way.
+#[tactic(auto, unfolding(crate::specs::PeerMetrics::end_sample))]
+fn push_end(text: &mut Vec<u8>, peer: &Name, end: SessionEnd, count: u64) -> Result<(), AllocError>
+    ensures { OnOk result (text.new.items ≡ text.old.items ++ end_sample peer.now end count) }
+{
+    let labels = [
+        Label {
+            name: "peer",
+            value: peer.as_slice(),
+        },
+        Label {
+            name: "end",
+            value: end.name().as_bytes(),
+        },
+    ];
+    push_sample(text, "digbaro_sessions_total", labels.as_slice(), count)
+}
+
+/// Appends how many resyncs with each peer ended in each way.
+#[tactic(auto, unfolding(crate::specs::PeerMetrics::resyncs_family))]
+fn push_resyncs(text: &mut Vec<u8>, peers: &[PeerMetrics<'_>]) -> Result<(), AllocError>
+    ensures { OnOk result (text.new.items ≡ text.old.items ++ resyncs_family peers.now) }
+{
+    push_head(
+        text,
+        "digbaro_resyncs_total",
+        "counter",
+        "Resyncs with this peer that ended so, by the role of this node.",
+    )?;
+    for peer in peers {
+        push_role(text, peer.name, "teacher", peer.taught)?;
+        push_role(text, peer.name, "learner", peer.learned)?;
+    }
+    Ok(())
+}
+
+/// Appends how many resyncs with a peer ended in each way, for one role of the node.
+#[tactic(auto, unfolding(crate::specs::PeerMetrics::role_samples))]
+fn push_role(
+    text: &mut Vec<u8>,
+    peer: &Name,
+    role: &str,
+    ended: ResyncsEnded,
+) -> Result<(), AllocError>
+    ensures { OnOk result (text.new.items ≡ text.old.items ++ role_samples peer.now role.now ended) }
+{
+    push_resync(text, peer, role, "finished", ended.finished)?;
+    push_resync(text, peer, role, "partial", ended.partial)?;
+    push_resync(text, peer, role, "broken", ended.broken)
+}
+
+/// Appends how many resyncs with a peer ended in one way.
+#[tactic(auto, unfolding(crate::specs::PeerMetrics::resync_sample))]
+fn push_resync(
+    text: &mut Vec<u8>,
+    peer: &Name,
+    role: &str,
+    end: &str,
+    count: u64,
+) -> Result<(), AllocError>
+    ensures { OnOk result (text.new.items ≡ text.old.items ++ resync_sample peer.now role.now end.now count) }
+{
+    let labels = [
+        Label {
+            name: "peer",
+            value: peer.as_slice(),
+        },
+        Label {
+            name: "role",
+            value: role.as_bytes(),
+        },
+        Label {
+            name: "end",
+            value: end.as_bytes(),
+        },
+    ];
+    push_sample(text, "digbaro_resyncs_total", labels.as_slice(), count)
+}

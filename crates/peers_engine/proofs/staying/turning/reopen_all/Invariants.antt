@@ -1,0 +1,11 @@
+use Rattle.std.proofs.Common.{◌≡◌, drop}
+use Rattle.table_shards.specs.Receipts.{SeatState}
+use Rattle.peers_engine.specs.Staying.{AreReopened}
+use Rattle.peers_engine.proofs.staying.turning.reopen_all.Given as goal
+
+-- once the session is reopened in the tables that are left, it is in all
+abbrev pub invariant-loop-table : goal.invariant-loop-table
+invariant-loop-table g l = record {
+  reopened : (t : SeatState) → AreReopened l.context.number l.seat (drop l.table-index l.tables) t → AreReopened l.context.number l.fn.seat l.tables t;
+  seat : l.seat.number ≡ l.fn.seat.number;
+}

@@ -1,0 +1,14 @@
+use Rattle.std.proofs.Common.{◌≡◌, length}
+use Rattle.teach_writer.specs.Pieces.{bytes_left}
+use Rattle.peers_engine.proofs.PiecesLaws.{IsWritten}
+use Rattle.peers_engine.proofs.writing.write_pieces.Given as goal
+
+abbrev pub invariant-loop-bytes : goal.invariant-loop-bytes
+invariant-loop-bytes g l = record {
+  written : IsWritten (g.W.Write.contents l.fn.output) (g.W.Write.contents l.output) (bytes_left l.fn.pieces) (bytes_left l.pieces) l.sent;
+  prices : l.pieces.prices ≡ l.fn.pieces.prices;
+  known : l.pieces.known ≡ l.fn.pieces.known;
+}
+
+abbrev pub decreases-loop-bytes : goal.decreases-loop-bytes
+decreases-loop-bytes g l = length l.pieces.messages

@@ -1,0 +1,154 @@
+-- A session that stays at work. Its turns differ from those of any other in three ways: a call on a table comes at the turn's
+-- moment, or later if the table has a later one; a resync copies up to its session's bound; and the session requests no
+-- resync by itself.
+use Rattle.std.specs.Prelude.{◌≡◌, ◌≤◌, ℕ, nat_eq, Bool, true, false, List, [], ◌∷◌, ◌++◌, Option, Some, None, if◌then◌else◌}
+use Rattle.std.specs.Cmp.Lexicographic.{pointwise}
+use Rattle.table_types.specs.declared.copies.CopyKind.{CopyKind}
+use Rattle.table_types.specs.declared.copies.CopyKind.TheVariants as copies
+use Rattle.peers_msg.specs.declared.control.Control.TheVariants as controls
+use Rattle.table_shards.specs.Receipts.{SeatState}
+use Rattle.session_core.specs.declared.action.Action.{Action}
+use Rattle.session_core.specs.declared.action.Action.TheVariants as actions
+use Rattle.session_core.specs.declared.event.Event.{Event}
+use Rattle.session_core.specs.declared.state.State.{State}
+use Rattle.session_core.specs.declared.state.State.TheVariants as states
+use Rattle.session_core.specs.Actions.{control_text}
+use Rattle.session_core.specs.Sessions.{state_of}
+use Rattle.session_core.specs.Standing.{StandingState, Stands, Ticks}
+use Rattle.peers_engine.specs.Acting.{asked}
+use Rattle.peers_engine.specs.Calls.{IsReopened}
+use Rattle.peers_engine.specs.Doing.{Done}
+use Rattle.peers_engine.specs.Turns.{first_event}
+
+-- A session that stays, at work: its state, the seat from which it calls the tables, its number in them, and the moment of
+-- the turn.
+pub record StandingWorker : Type 0 where
+  pub session : StandingState
+  pub seat : SeatState
+  pub number : ℕ
+  pub now : ℕ
+
+abbrev pub standing_worker : StandingState → SeatState → ℕ → ℕ → StandingWorker
+standing_worker s seat number now = record { session = s; seat = seat; number = number; now = now }
+
+-- the same worker with the session `s` and the seat `seat`
+abbrev pub stays : StandingWorker → StandingState → SeatState → StandingWorker
+stays w s seat = standing_worker s seat w.number w.now
+
+-- ---- what is performed
+
+-- the resync of a session that stays is a standing one, which copies up to the session's bound in the table
+abbrev pub standing_kind : CopyKind → CopyKind
+standing_kind copies.Push = copies.Push
+standing_kind copies.Resync = copies.Standing
+standing_kind copies.Standing = copies.Standing
+
+abbrev pub is_request : List ℕ → Bool
+is_request bytes = pointwise nat_eq bytes (control_text controls.ResyncRequest)
+
+-- a heartbeat takes the place of a resync request
+abbrev pub without_request : List ℕ → List ℕ
+without_request bytes = if is_request bytes then control_text controls.Heartbeat else bytes
+
+-- what a session that stays does in the place of an action
+abbrev pub as_standing : Action → Action
+as_standing (actions.Send bytes) = actions.Send (without_request bytes)
+as_standing (actions.Copy table kind) = actions.Copy table (standing_kind kind)
+as_standing act = act
+
+-- an action is performed, as a session that stays does it, at the turn's moment or later
+abbrev pub IsPerformed : StandingWorker → Action → List ℕ → Option Event → SeatState → Type 0
+IsPerformed w act out answer seat =
+    (at : ℕ) × (w.now ≤ at) × Done w.number at w.session.session.known w.seat (as_standing act) out answer seat
+
+-- The session receives an answer, if there is one, at the moment `now`: the events that it receives, each with what it then
+-- asks for. A session that is over receives nothing.
+abbrev pub IsToldIn : State → StandingState → ℕ → Event → List (Event × List Action) → StandingState → Type 0
+IsToldIn states.Ended s now event steps e = (steps ≡ []) × (e ≡ s)
+IsToldIn state s now event steps e = (acts : List Action) × Stands s now event acts e × (steps ≡ (event, acts) ∷ [])
+
+abbrev pub IsTold : StandingState → ℕ → Option Event → List (Event × List Action) → StandingState → Type 0
+IsTold s now None steps e = (steps ≡ []) × (e ≡ s)
+IsTold s now (Some event) steps e = IsToldIn (state_of s.session.phase) s now event steps e
+
+-- Actions are performed one after another, each for the session as the answers so far left it, which receives the answer
+-- at once: the answers received, each with what it asked for; what was written; and the session at the end.
+abbrev pub Performs : StandingWorker → List Action → List (Event × List Action) → List ℕ → StandingWorker → Type 0
+Performs w [] answers out e = (answers ≡ []) × (out ≡ []) × (e ≡ w)
+Performs w (act ∷ acts) answers out e =
+    (bytes more : List ℕ)
+    × (answer : Option Event)
+    × (first rest : List (Event × List Action))
+    × (seat : SeatState)
+    × (mid : StandingState)
+    × IsPerformed w act bytes answer seat
+    × IsTold w.session w.now answer first mid
+    × Performs (stays w mid seat) acts rest more e
+    × (answers ≡ first ++ rest)
+    × (out ≡ bytes ++ more)
+
+-- ---- a turn
+
+-- The session receives an event. What it asks for is performed in order, then what the answers ask for, and then what
+-- their answers ask for, after which nothing is left to do.
+abbrev pub Responds : StandingWorker → Event → List ℕ → StandingWorker → Type 0
+Responds w event out e =
+    (acts : List Action)
+    × (first second third : List (Event × List Action))
+    × (mid : StandingState)
+    × (one next : StandingWorker)
+    × (a b c : List ℕ)
+    × Stands w.session w.now event acts mid
+    × Performs (stays w mid w.seat) acts first a one
+    × Performs one (asked first) second b next
+    × Performs next (asked second) third c e
+    × (asked third ≡ [])
+    × (out ≡ a ++ (b ++ c))
+
+-- the event of a read, if there was one
+abbrev pub RespondsTo : StandingWorker → Option Event → List ℕ → StandingWorker → Type 0
+RespondsTo w None out e = (out ≡ []) × (e ≡ w)
+RespondsTo w (Some event) out e = Responds w event out e
+
+-- A turn gives the session its first event, and then the event of a read, if there is one.
+abbrev pub TakesStandingTurn : StandingWorker → Option Event → List ℕ → StandingWorker → Type 0
+TakesStandingTurn w received out e =
+    (mid : StandingWorker)
+    × (first rest : List ℕ)
+    × Responds w (first_event (state_of w.session.session.phase)) first mid
+    × RespondsTo mid received rest e
+    × (out ≡ first ++ rest)
+
+-- ---- a tick
+
+-- the session is closed in these tables and opened anew, one after another
+abbrev pub AreReopened : ℕ → SeatState → List ℕ → SeatState → Type 0
+AreReopened n s [] t = t ≡ s
+AreReopened n s (table ∷ tables) t = (mid : SeatState) × IsReopened n s table mid × AreReopened n mid tables t
+
+-- A tick reopens the session in the tables that it leaves, so that no batch of them is out, and then performs what it asks
+-- for, after which nothing is left to do.
+abbrev pub TakesTick : StandingWorker → List ℕ → StandingWorker → Type 0
+TakesTick w out e =
+    (left : List ℕ)
+    × (acts : List Action)
+    × (answers : List (Event × List Action))
+    × (mid : StandingState)
+    × (seat : SeatState)
+    × Ticks w.session w.now left acts mid
+    × AreReopened w.number w.seat left seat
+    × Performs (stays w mid seat) acts answers out e
+    × (asked answers ≡ [])
+
+-- ---- a request
+
+-- only an open session can request a resync
+abbrev pub can_request : State → Bool
+can_request states.Ready = true
+can_request states.Teaching = true
+can_request state = false
+
+-- what is written if a resync is requested
+abbrev pub request_text : Bool → List ℕ
+request_text true = control_text controls.ResyncRequest
+request_text false = []

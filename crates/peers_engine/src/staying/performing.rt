@@ -1,0 +1,187 @@
+//! Performing the actions of a session that stays.
+
+ghost use Rattle.std.specs.Prelude.{◌≡◌, ◌≢◌, ◌↔◌, ◌++◌, ℕ, true, List, Option, IfErr, IfOk, OnOk};
+ghost use Rattle.std.specs.Io.KnownBytes.{Appends};
+ghost use Rattle.session_core.specs.declared.action.Action.{Action};
+ghost use Rattle.session_core.specs.declared.event.Event.{Event};
+ghost use Rattle.session_core.specs.declared.state.State.TheVariants as states;
+ghost use Rattle.session_core.specs.Sessions.{state_of};
+ghost use Rattle.session_core.specs.Standing.{Stands};
+ghost use Rattle.peers_engine.specs.declared.errors.EngineError.TheVariants as errors;
+ghost use Rattle.peers_engine.specs.Acting.{asked};
+ghost use Rattle.peers_engine.specs.Staying.{IsPerformed, IsTold, Performs, is_request, standing_kind, standing_worker, without_request};
+
+use crate::context::Context;
+use crate::doing::{part, send, teach_batch};
+use crate::errors::EngineError;
+use crate::gate::Gate;
+use crate::staying::tally::Tally;
+use crate::tables::{acknowledge, copy_late, learn_late, reopen};
+use peers_devices::Faults;
+use session_core::{Action, Event, Standing, State};
+use std::io::Write;
+use std::sync::Wait;
+use table_shards::Seat;
+use table_types::{CopyKind, Moment};
+
+/// Returns the kind of a copy of a session that stays.
+fn standing_kind(kind: CopyKind) -> CopyKind
+    ensures { result ≡ standing_kind kind }
+{
+    match kind {
+        CopyKind::Push => CopyKind::Push,
+        CopyKind::Resync | CopyKind::Standing => CopyKind::Standing,
+    }
+}
+
+/// Returns whether the bytes are a resync request.
+fn is_request(bytes: &[u8]) -> bool
+    ensures { result ≡ is_request bytes.now }
+{
+    bytes == [0, 0].as_slice()
+}
+
+/// Returns whether the bytes are a heartbeat.
+fn is_heartbeat(bytes: &[u8]) -> bool {
+    bytes == [0, 4].as_slice()
+}
+
+/// Writes bytes that a session that stays sends: a heartbeat in the place of a resync request.
+fn send_bytes<W: Write + Faults>(
+    output: &mut W,
+    tally: &mut Tally,
+    bytes: &[u8],
+) -> Result<(), EngineError>
+    ensures sent { OnOk result (Appends (W.contents output.old) (W.contents output.new) (without_request bytes.now)) }
+    ensures unread { IfErr result (λ e. e ≢ errors.Read) }
+{
+    if is_request(bytes) {
+        tally.count_heartbeat();
+        return send(output, &[0, 4]);
+    }
+    if is_heartbeat(bytes) {
+        tally.count_heartbeat();
+    }
+    send(output, bytes)
+}
+
+/// Performs one action of a session that stays, and returns its answer, if it has one.
+fn perform<H: Wait, G: Gate, W: Write + Faults>(
+    context: &Context<H, G>,
+    session: &Standing,
+    output: &mut W,
+    seat: &mut Seat,
+    tally: &mut Tally,
+    action: Action,
+) -> Result<Option<Event>, EngineError>
+    ensures seat { seat.new.number ≡ seat.old.number }
+    ensures done { IfOk result (λ answer. (out : List ℕ)
+        × IsPerformed (standing_worker session.now seat.old context.now.number context.now.moment) action out answer seat.new
+        × Appends (W.contents output.old) (W.contents output.new) out) }
+    ensures unread { IfErr result (λ e. e ≢ errors.Read) }
+{
+    match action {
+        Action::Send(bytes) => {
+            send_bytes(output, tally, bytes.as_slice())?;
+            Ok(None)
+        }
+        Action::Learn(update) => {
+            tally.count_learned(update.table, update.number);
+            learn_late(context, seat, update)?;
+            Ok(None)
+        }
+        Action::Ack { table, number } => {
+            tally.note_ack(table, number);
+            let answer = acknowledge(context, seat, table, number)?;
+            Ok(Some(answer))
+        }
+        Action::Reopen(table) => {
+            reopen(context, seat, table)?;
+            Ok(None)
+        }
+        Action::Copy { table, kind } => {
+            let answer = copy_late(context, seat, table, standing_kind(kind))?;
+            Ok(Some(answer))
+        }
+        Action::Teach(batch) => {
+            let answer = teach_batch(context, session.known(), output, seat, &batch)?;
+            tally.count_taught(&batch);
+            Ok(Some(answer))
+        }
+        Action::Part(kind) => {
+            part(output, kind)?;
+            Ok(None)
+        }
+        Action::Close => Ok(None),
+    }
+}
+
+/// Gives the session an event, and appends what the session then asks for.
+fn tell_event(
+    session: &mut Standing,
+    now: Moment,
+    event: Event,
+    given: &mut Vec<Action>,
+) -> Result<(), EngineError>
+    ensures stands { OnOk result ((acts : List Action) × Stands session.old now event acts session.new
+        × (given.new.items ≡ given.old.items ++ acts)) }
+    ensures unread { IfErr result (λ e. e ≢ errors.Read) }
+{
+    let mut more = session.on(event, now)?;
+    match given.append(&mut more) {
+        Ok(()) => Ok(()),
+        Err(_) => Err(EngineError::Memory),
+    }
+}
+
+/// Returns whether the session is over.
+pub(crate) fn is_over(session: &Standing) -> bool
+    ensures { (result ≡ true) ↔ (state_of session.now.session.phase ≡ states.Ended) }
+{
+    session.state() == State::Ended
+}
+
+/// Gives the session an answer, if there is one, and appends what the session then asks for. Gives nothing to a session that
+/// is over.
+fn tell(
+    session: &mut Standing,
+    now: Moment,
+    answer: Option<Event>,
+    given: &mut Vec<Action>,
+) -> Result<(), EngineError>
+    ensures told { OnOk result ((steps : List (Event × List Action)) × IsTold session.old now answer steps session.new
+        × (given.new.items ≡ given.old.items ++ asked steps)) }
+    ensures unread { IfErr result (λ e. e ≢ errors.Read) }
+{
+    let Some(event) = answer else {
+        return Ok(());
+    };
+    if is_over(session) {
+        return Ok(());
+    }
+    tell_event(session, now, event, given)
+}
+
+/// Performs the actions in order, gives the session each answer, and returns what it then asks for.
+pub(crate) fn perform_all<H: Wait, G: Gate, W: Write + Faults>(
+    context: &Context<H, G>,
+    session: &mut Standing,
+    output: &mut W,
+    seat: &mut Seat,
+    tally: &mut Tally,
+    actions: Vec<Action>,
+) -> Result<Vec<Action>, EngineError>
+    ensures seat { seat.new.number ≡ seat.old.number }
+    ensures done { IfOk result (λ given. (answers : List (Event × List Action)) × (out : List ℕ)
+        × Performs (standing_worker session.old seat.old context.now.number context.now.moment) actions.items answers out (standing_worker session.new seat.new context.now.number context.now.moment)
+        × (given.items ≡ asked answers)
+        × Appends (W.contents output.old) (W.contents output.new) out) }
+    ensures unread { IfErr result (λ e. e ≢ errors.Read) }
+{
+    let mut given = Vec::new(context.alloc);
+    for action in actions {
+        let answer = perform(context, session, output, seat, tally, action)?;
+        tell(session, context.moment, answer, &mut given)?;
+    }
+    Ok(given)
+}

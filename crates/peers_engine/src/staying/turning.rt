@@ -1,0 +1,169 @@
+//! Turns and ticks of a session that stays.
+
+ghost use Rattle.std.specs.Prelude.{◌≡◌, ◌≢◌, [], ℕ, List, Option, Err, IfErr, OnOk};
+ghost use Rattle.std.specs.Io.KnownBytes.{Appends, Consumes, IsAtEnd};
+ghost use Rattle.peers_devices.specs.Failures.{Rose};
+ghost use Rattle.peers_msg.specs.declared.control.Control.TheVariants as controls;
+ghost use Rattle.session_core.specs.declared.event.Event.{Event};
+ghost use Rattle.session_core.specs.declared.state.State.TheVariants as states;
+ghost use Rattle.session_core.specs.Actions.{control_text};
+ghost use Rattle.session_core.specs.Sessions.{state_of};
+ghost use Rattle.peers_engine.specs.declared.errors.EngineError.TheVariants as errors;
+ghost use Rattle.peers_engine.specs.Doing.{IsRefusal};
+ghost use Rattle.peers_engine.specs.Reading.{IsRead};
+ghost use Rattle.peers_engine.specs.Staying.{AreReopened, Responds, RespondsTo, TakesStandingTurn, TakesTick, standing_worker};
+
+use crate::context::Context;
+use crate::doing::send;
+use crate::errors::EngineError;
+use crate::gate::Gate;
+use crate::reading::read_event;
+use crate::staying::performing::perform_all;
+use crate::staying::tally::Tally;
+use crate::tables::reopen;
+use crate::turning::{are_pushes, first_event};
+use peers_devices::Faults;
+use session_core::{Action, Event, Standing, Ticked};
+use std::io::{Read, Write};
+use std::sync::Wait;
+use table_shards::Seat;
+use table_types::Moment;
+
+/// Fails with `Strange` if there is more to do.
+fn check_done(rest: &[Action]) -> Result<(), EngineError>
+    ensures done { OnOk result (rest.now ≡ []) }
+    ensures unread { IfErr result (λ e. e ≢ errors.Read) }
+{
+    if rest.is_empty() {
+        Ok(())
+    } else {
+        Err(EngineError::Strange)
+    }
+}
+
+/// Gives the session an event, performs what it asks for, and then what the answers ask for, and their answers. Returns whether
+/// there was nothing to do: no action, or only copies of this node's own rows from tables that had nothing to teach.
+///
+/// Fails with `Strange` if the session asks for more than that. It never does: a turn asks for a copy, its answer for a lesson,
+/// and the end of the lesson at most for an acknowledgement to be passed on.
+fn respond<H: Wait, G: Gate, W: Write + Faults>(
+    context: &Context<H, G>,
+    session: &mut Standing,
+    output: &mut W,
+    seat: &mut Seat,
+    tally: &mut Tally,
+    event: Event,
+) -> Result<bool, EngineError>
+    ensures seat { seat.new.number ≡ seat.old.number }
+    ensures done { OnOk result ((out : List ℕ) × Responds (standing_worker session.old seat.old context.now.number context.now.moment) event out (standing_worker session.new seat.new context.now.number context.now.moment)
+        × Appends (W.contents output.old) (W.contents output.new) out) }
+    ensures unread { IfErr result (λ e. e ≢ errors.Read) }
+{
+    let first = session.on(event, context.moment)?;
+    let may_idle = are_pushes(first.as_slice());
+    let second = perform_all(context, session, output, seat, tally, first)?;
+    let is_idle = may_idle && second.is_empty();
+    let third = perform_all(context, session, output, seat, tally, second)?;
+    let rest = perform_all(context, session, output, seat, tally, third)?;
+    check_done(rest.as_slice())?;
+    Ok(is_idle)
+}
+
+/// Reads once, and responds to what was read. Returns whether there was nothing to do.
+fn receive<H: Wait, G: Gate, R: Read + Faults, W: Write + Faults>(
+    context: &Context<H, G>,
+    session: &mut Standing,
+    input: &mut R,
+    output: &mut W,
+    seat: &mut Seat,
+    tally: &mut Tally,
+) -> Result<bool, EngineError>
+    ensures seat { seat.new.number ≡ seat.old.number }
+    ensures done { OnOk result ((received : Option Event) × (read out : List ℕ) × IsRead (IsAtEnd (R.remaining input.new)) received read
+        × RespondsTo (standing_worker session.old seat.old context.now.number context.now.moment) received out (standing_worker session.new seat.new context.now.number context.now.moment)
+        × Consumes (R.remaining input.old) (R.remaining input.new) read
+        × Appends (W.contents output.old) (W.contents output.new) out) }
+    ensures read { result ≡ Err errors.Read → Rose (R.failed input.old) (R.failed input.new) }
+{
+    match read_event(context.alloc, input)? {
+        Some(event) => respond(context, session, output, seat, tally, event),
+        None => Ok(true),
+    }
+}
+
+/// Takes a turn, but leaves it to the caller to end the session after an error. Returns whether there was nothing to do.
+pub(crate) fn take_turn<H: Wait, G: Gate, R: Read + Faults, W: Write + Faults>(
+    context: &Context<H, G>,
+    session: &mut Standing,
+    input: &mut R,
+    output: &mut W,
+    seat: &mut Seat,
+    tally: &mut Tally,
+) -> Result<bool, EngineError>
+    ensures seat { seat.new.number ≡ seat.old.number }
+    ensures done { OnOk result ((received : Option Event) × (read out : List ℕ) × IsRead (IsAtEnd (R.remaining input.new)) received read
+        × TakesStandingTurn (standing_worker session.old seat.old context.now.number context.now.moment) received out (standing_worker session.new seat.new context.now.number context.now.moment)
+        × Consumes (R.remaining input.old) (R.remaining input.new) read
+        × Appends (W.contents output.old) (W.contents output.new) out) }
+    ensures read { result ≡ Err errors.Read → Rose (R.failed input.old) (R.failed input.new) }
+{
+    let event = first_event(session.state());
+    if respond(context, session, output, seat, tally, event)? {
+        receive(context, session, input, output, seat, tally)
+    } else {
+        Ok(false)
+    }
+}
+
+/// Closes the session in the tables and opens it anew, in order.
+fn reopen_all<H: Wait, G>(
+    context: &Context<H, G>,
+    seat: &mut Seat,
+    tables: &[u64],
+) -> Result<(), EngineError>
+    ensures seat { seat.new.number ≡ seat.old.number }
+    ensures reopened { OnOk result (AreReopened context.now.number seat.old tables.now seat.new) }
+    ensures refused { IfErr result IsRefusal }
+{
+    for table in tables {
+        reopen(context, seat, *table)?;
+    }
+    Ok(())
+}
+
+/// Takes a tick, but leaves it to the caller to end the session after an error. Returns whether there was nothing to do. Fails
+/// with `Strange` if there is more to do after that; a tick asks for nothing that has an answer.
+pub(crate) fn take_tick<H: Wait, G: Gate, W: Write + Faults>(
+    context: &Context<H, G>,
+    session: &mut Standing,
+    output: &mut W,
+    seat: &mut Seat,
+    tally: &mut Tally,
+) -> Result<bool, EngineError>
+    ensures seat { seat.new.number ≡ seat.old.number }
+    ensures done { OnOk result ((out : List ℕ) × TakesTick (standing_worker session.old seat.old context.now.number context.now.moment) out (standing_worker session.new seat.new context.now.number context.now.moment)
+        × Appends (W.contents output.old) (W.contents output.new) out) }
+    ensures unread { IfErr result (λ e. e ≢ errors.Read) }
+{
+    let Ticked { left, actions } = session.tick(context.moment)?;
+    let is_idle = left.is_empty() && actions.is_empty();
+    tally.note_left(left.as_slice());
+    reopen_all(context, seat, left.as_slice())?;
+    let rest = perform_all(context, session, output, seat, tally, actions)?;
+    check_done(rest.as_slice())?;
+    Ok(is_idle)
+}
+
+/// Writes a resync request.
+pub(crate) fn request<W: Write + Faults>(output: &mut W) -> Result<(), EngineError>
+    ensures { OnOk result (Appends (W.contents output.old) (W.contents output.new) (control_text controls.ResyncRequest)) }
+{
+    send(output, &[0, 0])
+}
+
+/// Ends the session after an error.
+pub(crate) fn end(session: &mut Standing, now: Moment)
+    ensures { state_of session.new.session.phase ≡ states.Ended }
+{
+    let _closing = session.on(Event::End, now);
+}

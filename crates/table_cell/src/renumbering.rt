@@ -1,0 +1,48 @@
+//! Rows that get new numbers.
+
+ghost use Rattle.std.specs.Prelude.{◌≡◌, OnErr, OnOk};
+ghost use Rattle.table_cell.specs.Renumbering.{Renumbers, renumbered};
+
+use crate::blocks::Blocks;
+use crate::cell::TableCell;
+use crate::errors::RenumberError;
+use crate::learned_run::LearnedRun;
+use crate::origin::Origin;
+use crate::table::Table;
+use std::collections::BTreeMap;
+use table_rows::MapRows;
+use table_types::Memory;
+
+impl Table {
+    /// Gives the rows, in their order, the numbers from 1 on. If memory runs out, nothing has changed.
+    fn renumber(&mut self) -> Result<(), Memory>
+        ensures renumbered { OnOk result (self.new ≡ renumbered self.old) }
+        ensures stays { OnErr result (self.new ≡ self.old) }
+    {
+        self.stock = self.stock.renumbered(MapRows::new(self.alloc))?;
+        self.learned_run = LearnedRun { after: 0, last: 0 };
+        Ok(())
+    }
+}
+
+impl TableCell {
+    /// Gives the rows, in their order, the numbers from 1 on, so that numbers are left for further changes, and lets the
+    /// history begin anew with them. The rows' contents, their origin, the latest moment and the number of events so far
+    /// stay. No batch is kept. If a session is open, the call is refused; then, and if memory runs out, nothing has changed.
+    pub fn renumber(&mut self) -> Result<(), RenumberError>
+        ensures { Renumbers self.old result self.new }
+    {
+        if self.table.has_sessions() {
+            return Err(RenumberError::SessionOpen);
+        }
+        let alloc = self.table.alloc();
+        let events = self.events();
+        let Ok(()) = self.table.renumber() else {
+            return Err(RenumberError::Memory);
+        };
+        self.latest_copies = BTreeMap::new(alloc);
+        self.origin = Origin::at(&self.table, events, &self.latest_copies);
+        self.history = Blocks::new(alloc);
+        Ok(())
+    }
+}

@@ -1,0 +1,62 @@
+//! Two nodes that stay connected, by a clock that the test moves.
+
+use tests_play_data::parts::T1;
+use tests_play_nodes::staying::{Stay, Stayed, stay_on};
+use tests_play_nodes::tables::Tables;
+
+/// An hour in which nothing happens, in steps of half a second.
+static SILENT_HOUR: Stay = Stay {
+    tables: Tables {
+        roster: &[T1],
+        tables: &[T1],
+        rows: &[],
+        are_full: false,
+        are_open: true,
+    },
+    step: 500,
+    steps: 7_200,
+    tracks: 0,
+    keys: 0,
+};
+
+/// Each side sends a heartbeat after each 3 s in which it sent nothing: 3,600 s have 1,200 of them. The side that connected sent one
+/// more at once, in the place of a resync request.
+#[test]
+fn a_silent_hour(rt: HostRuntime) {
+    let stayed = stay_on(&rt, rt.alloc(), &SILENT_HOUR);
+    let expected = Stayed {
+        heartbeats: (1_201, 1_200),
+        rows: 0,
+        equal: true,
+        stand: true,
+    };
+    assert_eq!(rt; stayed, Some(expected));
+}
+
+/// Ten minutes in which one of ten keys is tracked each second. What is taught each second takes the place of heartbeats, and so does
+/// what acknowledges it, but for the one at the beginning.
+static BUSY_MINUTES: Stay = Stay {
+    tables: Tables {
+        roster: &[T1],
+        tables: &[T1],
+        rows: &[],
+        are_full: false,
+        are_open: true,
+    },
+    step: 500,
+    steps: 1_200,
+    tracks: 2,
+    keys: 10,
+};
+
+#[test]
+fn ten_busy_minutes(rt: HostRuntime) {
+    let stayed = stay_on(&rt, rt.alloc(), &BUSY_MINUTES);
+    let expected = Stayed {
+        heartbeats: (1, 0),
+        rows: 10,
+        equal: true,
+        stand: true,
+    };
+    assert_eq!(rt; stayed, Some(expected));
+}

@@ -1,0 +1,228 @@
+//! Two sessions that stay, at work over memory, by a clock that the example moves.
+
+use crate::pipes::Pipe;
+use crate::sessions::roster;
+use crate::sides::rows;
+use crate::tables::{Role, Tables};
+use crate::waiting::Waiting;
+use peers_devices::Counting;
+use peers_engine::{StandingWorker, Stood};
+use session_core::{Standing, State};
+use std::alloc::Global;
+use std::sync::Wait;
+use table_shards::held::lent;
+use table_shards::{Seat, Shards};
+use table_types::{Change, DataType, Key, Moment, Row};
+
+/// A side of a session that stays: the session at work, its tables, and a seat from which keys are tracked.
+#[derive(Drop)]
+struct Stayer {
+    worker: StandingWorker,
+    shards: Shards,
+    tracker: Seat,
+}
+
+/// Both sides, and the bytes between them.
+#[derive(Drop)]
+struct Pair {
+    joiner: Stayer,
+    server: Stayer,
+    to_joiner: Pipe,
+    to_server: Pipe,
+}
+
+/// How long two sides stay, and what happens to them meanwhile.
+#[derive(Drop)]
+pub struct Stay {
+    /// The tables of both sides.
+    pub tables: Tables,
+    /// How far the clock moves at a time, in milliseconds.
+    pub step: u32,
+    /// How often it does.
+    pub steps: u32,
+    /// After how many steps, again and again, a key of `t1` is tracked at the joiner; 0 for never.
+    pub tracks: u32,
+    /// How many keys are tracked in turn.
+    pub keys: u32,
+}
+
+/// What two sides came to.
+#[derive(Clone, Copy, Debug, PartialEq, Eq)]
+pub struct Stayed {
+    /// The heartbeats that the joiner and the server sent.
+    pub heartbeats: (u64, u64),
+    /// The number of rows of `t1` that the server has.
+    pub rows: usize,
+    /// Whether the joiner has the same keys and cells there.
+    pub equal: bool,
+    /// Whether both sessions still stand.
+    pub stand: bool,
+}
+
+impl Stayer {
+    /// Makes a side.
+    fn new(alloc: Global, tables: &Tables, role: Role) -> Option<Stayer> {
+        let roster = roster(alloc, tables.roster)?;
+        let (session, (shards, mut seats)) = tables.session(alloc, role).zip(tables.shards(alloc))?;
+        let standing = Standing::new(alloc, session, Moment::least()).ok()?;
+        let tracker = seats.pop()?;
+        let seat = seats.pop()?;
+        let worker = StandingWorker::new(alloc, standing, seat, 1, &roster).ok()?;
+        Some(Stayer {
+            worker,
+            shards,
+            tracker,
+        })
+    }
+
+    /// Takes a turn, for which the bytes of `input` have come.
+    fn take_turn<H: Wait>(
+        &mut self,
+        rt: &H,
+        alloc: Global,
+        input: &mut Pipe,
+        output: &mut Pipe,
+        now: Moment,
+    ) -> Option<Stood> {
+        let piece = input.piece(4_096);
+        let mut reader = Waiting::new(piece);
+        let mut writer = Counting::new(Vec::new(alloc));
+        let stood = self
+            .worker
+            .turn(rt, alloc, &mut reader, &mut writer, &self.shards, now);
+        let read = piece.len().saturating_sub(reader.left());
+        input.read = input.read.saturating_add(read);
+        output.bytes.append(&mut writer.into_inner()).ok()?;
+        stood.ok()
+    }
+
+    /// Takes a tick, and then turns until there is nothing to do, at most `most` of them.
+    fn go_on<H: Wait>(
+        &mut self,
+        rt: &H,
+        alloc: Global,
+        input: &mut Pipe,
+        output: &mut Pipe,
+        now: Moment,
+        most: u32,
+    ) -> Option<()> {
+        let mut writer = Counting::new(Vec::new(alloc));
+        let ticked = self
+            .worker
+            .tick(rt, alloc, &mut writer, &self.shards, now)
+            .ok()?;
+        output.bytes.append(&mut writer.into_inner()).ok()?;
+        if ticked == Stood::Closed {
+            return None;
+        }
+        for _ in 0..most {
+            match self.take_turn(rt, alloc, input, output, now)? {
+                Stood::Worked => {}
+                Stood::Idled => return Some(()),
+                Stood::Closed => return None,
+            }
+        }
+        Some(())
+    }
+
+    /// Adds 1 to gpc0 of a key, and drops what a long history has.
+    fn track<H: Wait>(&mut self, rt: &H, key: u32, now: Moment) -> Option<()> {
+        let mut locked = self.shards.cell(1)?.lock(rt);
+        let change = Change::Add(DataType::Gpc0, 1);
+        lent::track(
+            &mut locked,
+            &mut self.tracker,
+            1,
+            Key::Int(key),
+            change,
+            now,
+        )
+        .ok()?;
+        if locked
+            .cell()
+            .events()
+            .saturating_sub(locked.cell().dropped())
+            >= 1_024
+        {
+            lent::slide(&mut locked, &self.tracker, 1).ok()?;
+        }
+        self.tracker.forget(1);
+        self.worker.seat.forget(1);
+        Some(())
+    }
+}
+
+/// Returns whether two lists of rows have the same keys and cells, in order.
+fn are_equal(rows: &[(Key, Row)], others: &[(Key, Row)]) -> bool {
+    if rows.len() != others.len() {
+        return false;
+    }
+    for ((key, row), (other_key, other)) in rows.iter().zip(others.iter()) {
+        if !key.is_same(other_key) || row.cells() != other.cells() {
+            return false;
+        }
+    }
+    true
+}
+
+impl Pair {
+    /// Makes two sides of the same tables.
+    fn new(alloc: Global, tables: &Tables) -> Option<Pair> {
+        Some(Pair {
+            joiner: Stayer::new(alloc, tables, Role::Connects)?,
+            server: Stayer::new(alloc, tables, Role::Accepts)?,
+            to_joiner: Pipe::new(alloc),
+            to_server: Pipe::new(alloc),
+        })
+    }
+
+    /// Lets both sides go on at a moment.
+    fn go_on<H: Wait>(&mut self, rt: &H, alloc: Global, now: Moment) -> Option<()> {
+        let Pair {
+            joiner,
+            server,
+            to_joiner,
+            to_server,
+        } = self;
+        joiner.go_on(rt, alloc, to_joiner, to_server, now, 8)?;
+        server.go_on(rt, alloc, to_server, to_joiner, now, 8)
+    }
+
+    /// Returns what both sides came to.
+    fn stayed<H: Wait>(&self, rt: &H) -> Option<Stayed> {
+        let here = rows(rt, &self.joiner.shards, 1)?;
+        let there = rows(rt, &self.server.shards, 1)?;
+        let joiner = &self.joiner.worker;
+        let server = &self.server.worker;
+        Some(Stayed {
+            heartbeats: (joiner.tally.heartbeats, server.tally.heartbeats),
+            rows: there.len(),
+            equal: are_equal(here.as_slice(), there.as_slice()),
+            stand: joiner.session.state() == State::Ready && server.session.state() == State::Ready,
+        })
+    }
+
+    /// Lets both sides stay, and returns what they came to, or `None` if a session ends.
+    fn stay<H: Wait>(&mut self, rt: &H, alloc: Global, stay: &Stay) -> Option<Stayed> {
+        let mut moment = Moment::least();
+        self.go_on(rt, alloc, moment)?;
+        self.go_on(rt, alloc, moment)?;
+        for step in 1..=stay.steps {
+            moment = moment.later_by(stay.step);
+            if stay.tracks > 0 && step % stay.tracks == 0 {
+                let key = (step / stay.tracks) % stay.keys.max(1);
+                self.joiner.track(rt, key, moment)?;
+            }
+            self.go_on(rt, alloc, moment)?;
+        }
+        self.go_on(rt, alloc, moment)?;
+        self.go_on(rt, alloc, moment)?;
+        self.stayed(rt)
+    }
+}
+
+/// Lets two sides stay, and returns what they came to, or `None` if a session ends.
+pub fn stay_on<H: Wait>(rt: &H, alloc: Global, stay: &Stay) -> Option<Stayed> {
+    let mut pair = Pair::new(alloc, &stay.tables)?;
+    pair.stay(rt, alloc, stay)
+}
