@@ -1,0 +1,140 @@
+#!/usr/bin/env python3
+"""Checks a node that stays, as `peers_node run` runs it, against scripted far sides that speak the peers protocol:
+
+  staying.py                      all checks, side by side, of the built program, or of the one that PEERS_NODE names
+  staying.py NAME..               these checks alone
+  staying.py --list               the names of the checks, and what each of them is about
+
+For each check it prints a line `passed NAME`, `FAILED NAME: WHY` or `skipped NAME: WHY`, and at the end how many passed and failed; the
+status is 0 only if none failed and one at least passed. A check that is skipped counts as neither."""
+
+import os
+import signal
+import sys
+import time
+import traceback
+from concurrent.futures import ThreadPoolExecutor, TimeoutError as NotYet
+
+sys.dont_write_bytecode = True
+top = os.path.dirname(os.path.dirname(os.path.dirname(os.path.abspath(__file__))))
+sys.path[0] = os.path.join(top, 'bin')
+
+from peering.ports import Ports  # noqa: E402, since the path has to be set first
+from peering.trial import CHECKS, Skipped, Trial, Wrong  # noqa: E402
+from staying import balancers, hostile, meshes, requests, resyncs, sessions, starting  # noqa: E402, F401
+
+AT_ONCE = 20
+# All checks have to end in so many seconds.
+LIMIT = 600
+# Those that take longest, which begin first.
+LONGEST = """million-changes haproxy-starts-again haproxy-that-connects haproxy-that-is-connected-to deaf stops-beside-the-deaf
+    heartbeats heartbeats-of-a-connector three-faults bytes-are-enough silent silent-to-a-connector two-of-three-killed
+    killed-and-started-again stopped-and-started-again no-answer-to-a-hello refused-by-a-status""".split()
+
+
+trials = []
+
+
+# What takes long, and is tried only by its name.
+LONG = ('million-changes',)
+# What a node can't do yet. These checks are tried only by their names.
+TOLERANCE = 'a definition or an update outside the profile ends the session'
+NAMES = 'names that a peer dropped with the rows of a table count as known'
+NOT_DONE = {
+    'empty-slots': TOLERANCE,
+    'types-from-20-up': TOLERANCE,
+    'other-definitions': TOLERANCE,
+    'values-out-of-range': TOLERANCE,
+    'log-of-rows-passed-over': TOLERANCE,
+    'too-many-definitions': 'a peer may define as many tables as it likes',
+    'names-alone': NAMES,
+    'names-forgotten': NAMES,
+}
+
+
+def give_up(*_):
+    """Ends all nodes that still run, and this process."""
+    for trial in trials:
+        for node in trial.nodes:
+            node.end()
+    sys.stdout.flush()
+    os._exit(1)
+
+
+def tried(program, ports, function):
+    """Returns the first word of a check's line, and why it failed or was skipped."""
+    trial = Trial(program, ports)
+    trials.append(trial)
+    wrongs, skipped = [], None
+    try:
+        function(trial)
+    except Wrong as wrong:
+        wrongs = [str(wrong)]
+    except Skipped as why:
+        skipped = str(why)
+    except Exception:  # A check that breaks down has failed.
+        wrongs = [traceback.format_exc()]
+    wrongs += trial.finish()
+    if wrongs:
+        return 'FAILED', '; '.join(wrongs).replace('\n', ' | ')
+    return ('passed', None) if skipped is None else ('skipped', skipped)
+
+
+def in_order(names):
+    """Returns the names, the longest checks first."""
+    return sorted(names, key=lambda name: LONGEST.index(name) if name in LONGEST else len(LONGEST))
+
+
+def run(program, names):
+    """Runs checks, prints a line for each, and returns the status."""
+    ports, counts = Ports(), dict.fromkeys(('passed', 'FAILED', 'skipped'), 0)
+    begun = time.monotonic()
+    pool = ThreadPoolExecutor(AT_ONCE)
+    for name in [name for name in names if len(names) > 1 and name in NOT_DONE]:
+        counts['skipped'] += 1
+        print('skipped %s: not done yet, %s' % (name, NOT_DONE[name]), flush=True)
+    names = [name for name in names if len(names) == 1 or name not in NOT_DONE and name not in LONG]
+    running = [(name, pool.submit(tried, program, ports, CHECKS[name])) for name in in_order(names)]
+    again = []
+    for name, check in running:
+        try:
+            word, why = check.result(max(0, begun + LIMIT - time.monotonic()))
+        except NotYet:
+            word, why = 'FAILED', 'it has not ended after %d s' % LIMIT
+        if word == 'FAILED' and check.done() and len(names) > 1:
+            again.append(name)
+            print('again %s: %s' % (name, why), flush=True)
+            continue
+        counts[word] += 1
+        print(word, name if why is None else '%s: %s' % (name, why), flush=True)
+    # A check that failed beside the others, which may have kept it from its times, is tried once more by itself.
+    for name in again:
+        word, why = tried(program, ports, CHECKS[name])
+        counts[word] += 1
+        print(word, name if why is None else '%s: %s' % (name, why), flush=True)
+    print('%d passed, %d failed, %d skipped, in %.0f s' % (*counts.values(), time.monotonic() - begun), flush=True)
+    if not all(check.done() for _, check in running):
+        give_up()
+    return 0 if counts['passed'] and not counts['FAILED'] else 1
+
+
+def main(words):
+    if words == ['--list']:
+        for name, function in CHECKS.items():
+            print('%-32s %s' % (name, function.__doc__))
+        return 0
+    strange = [word for word in words if word not in CHECKS]
+    if strange:
+        print('no such check: %s; staying.py --list has their names' % ' '.join(strange), file=sys.stderr)
+        return 2
+    program = os.path.abspath(os.environ.get('PEERS_NODE') or os.path.join(top, 'crates/peers_node/out/peers_node'))
+    if not os.access(program, os.X_OK):
+        print('no program: ' + program, file=sys.stderr)
+        return 1
+    signal.signal(signal.SIGTERM, give_up)
+    signal.signal(signal.SIGINT, give_up)
+    return run(program, words or list(CHECKS))
+
+
+if __name__ == '__main__':
+    sys.exit(main(sys.argv[1:]))

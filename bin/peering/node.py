@@ -1,0 +1,255 @@
+"""A node that stays, as `run` starts it, and its admin port."""
+
+import collections
+import os
+import re
+import socket
+import subprocess
+import tempfile
+import time
+
+from peering.trial import PATIENCE, equal, matches, require, wait
+
+FIRST_MOMENT = 2 ** 32
+T1 = 'table 1 t1 integer 4 0 gpc0'
+
+
+def address(port):
+    return '127.0.0.1:%d' % port
+
+
+class Admin:
+    """A connection to an admin port."""
+
+    def __init__(self, port, host='127.0.0.1'):
+        self.peer = socket.create_connection((host, port), timeout=PATIENCE)
+        self.peer.setsockopt(socket.IPPROTO_TCP, socket.TCP_NODELAY, 1)
+        self.whole, self.left = collections.deque(), b''
+
+    def send(self, text):
+        self.peer.sendall(text if isinstance(text, bytes) else text.encode())
+
+    def line(self, seconds=PATIENCE):
+        """Returns the next line that comes, without its end; None once the connection is over."""
+        self.peer.settimeout(seconds)
+        while not self.whole:
+            try:
+                came = self.peer.recv(1 << 16)
+            except ConnectionError:
+                came = b''
+            except socket.timeout:
+                require(False, 'the admin port does not answer in %g s' % seconds, self.left)
+            if not came:
+                require(not self.left, 'half a line of the admin port:', self.left)
+                return None
+            *whole, self.left = (self.left + came).split(b'\n')
+            self.whole.extend(whole)
+        return self.whole.popleft().decode('ascii')
+
+    def lines(self):
+        """Returns the lines of an answer that ends with a full stop, without that."""
+        return list(iter(self.line, '.'))
+
+    def ask(self, request):
+        """Returns the answer to a request: a line, or the lines of one that begins with `show`."""
+        self.send(request + '\n')
+        return self.lines() if request.split(' ')[0] == 'show' else self.line()
+
+    def rest(self, seconds=PATIENCE):
+        """Returns all that comes until the connection is over."""
+        self.peer.settimeout(seconds)
+        came = [b''.join(line + b'\n' for line in self.whole) + self.left]
+        try:
+            while came[-1] or len(came) == 1:
+                came.append(self.peer.recv(1 << 16))
+        except ConnectionError:
+            pass
+        except socket.timeout:
+            require(False, 'the admin port keeps the connection open after', b''.join(came))
+        return b''.join(came)
+
+    def close(self):
+        self.peer.close()
+
+
+class Node:
+    """A run of the program. It listens at `port`, and takes requests at `admin_port`."""
+
+    def __init__(self, trial, name='n', peers=('b',), tables=(T1,), more=(), port=None, host='127.0.0.1', admin=True):
+        self.trial = trial
+        self.name = name
+        self.host = host
+        self.port = port or trial.ports.next()
+        self.admin_port = trial.ports.next() if admin else None
+        at = '[%s]:%d' if ':' in host else '%s:%d'
+        lines = ['node ' + name, 'listen ' + at % (host, self.port)]
+        lines += ['admin ' + at % (host, self.admin_port)] if admin else []
+        lines += ['peer ' + peer for peer in peers] + list(tables) + list(more)
+        self.configuration = ''.join(line + '\n' for line in lines)
+        self.may_end = False
+        self.admins = None
+        self.child = None
+        trial.nodes.append(self)
+
+    def start(self):
+        """Starts it, waits until it listens, and returns it."""
+        self.launch()
+        if self.admin_port:
+            self.admins = wait(self.opened, PATIENCE, 'the admin port is open', self.said)
+        wait(self.listens, PATIENCE, 'the node listens', self.said, pause=0.1)
+        return self
+
+    def launch(self):
+        """Starts it."""
+        self.output, self.errors = tempfile.TemporaryFile(), tempfile.TemporaryFile()
+        self.started = time.monotonic()
+        self.child = subprocess.Popen([self.trial.program, 'run'], stdin=subprocess.PIPE, stdout=self.output, stderr=self.errors)
+        try:
+            self.child.stdin.write(self.configuration.encode())
+            self.child.stdin.close()
+        except BrokenPipeError:
+            pass
+        self.admins = None
+
+    def opened(self):
+        """Returns a connection to its admin port, once it is open."""
+        require(self.child.poll() is None, 'the node ended with status %s:' % self.child.poll(), self.said())
+        try:
+            return self.admin()
+        except ConnectionRefusedError:
+            return None
+
+    def listens(self):
+        """Whether it listens for peers."""
+        require(self.child.poll() is None, 'the node ended with status %s:' % self.child.poll(), self.said())
+        return listening(self.port, self.host)
+
+    def admin(self):
+        """Returns a new connection to its admin port."""
+        return self.trial.closes(Admin(self.admin_port, self.host))
+
+    def ask(self, request):
+        return self.admins.ask(request)
+
+    # --- What it says of itself
+
+    def moment(self):
+        """Returns its moment by the clock that it started with, at the most."""
+        return FIRST_MOMENT + 1000 * (time.monotonic() - self.started)
+
+    def head(self):
+        """Returns the first line of `show peers` as a dictionary."""
+        return fields(self.ask('show peers')[0])
+
+    def peer(self, name):
+        """Returns the line of a peer in `show peers` as a dictionary."""
+        return next(fields(line) for line in self.ask('show peers') if line.startswith('peer %s ' % name))
+
+    def shared(self, peer, table):
+        """Returns the line of a peer's table in `show peers` as a dictionary."""
+        return next(fields(line) for line in self.ask('show peers') if line.startswith('table %s %s ' % (peer, table)))
+
+    def is_up_to_date(self):
+        return self.head()['up_to_date'] == 'yes'
+
+    def metrics(self):
+        """Returns the metrics, as a dictionary from a name with its labels to a value."""
+        _, body = self.get('/metrics')
+        return dict(line.rsplit(' ', 1) for line in body.splitlines() if not line.startswith('#'))
+
+    def metric(self, name):
+        """Returns a metric as a number, 0 if it isn't there."""
+        return float(self.metrics().get(name, 0))
+
+    def shows(self, name, value):
+        """Waits until a metric has a value."""
+        wait(lambda: self.metric(name) == value, 2, '%s is %g' % (name, value), self.metrics)
+
+    def get(self, path):
+        """Returns the head and the body of what it answers to a GET."""
+        admin = self.admin()
+        admin.send('GET %s HTTP/1.1\r\nHost: localhost\r\n\r\n' % path)
+        head, _, body = admin.rest().partition(b'\r\n\r\n')
+        admin.close()
+        return head.decode('ascii'), body.decode('ascii')
+
+    def events(self):
+        """Returns the number of events of its tables."""
+        return sum(float(value) for name, value in self.metrics().items() if name.startswith('digbaro_table_events_total{'))
+
+    def memory(self):
+        """Returns its resident memory in MiB."""
+        with open('/proc/%d/status' % self.child.pid) as file:
+            return next(int(line.split()[1]) / 1024 for line in file if line.startswith('VmRSS:'))
+
+    def said(self):
+        """Returns what it wrote on standard error."""
+        return os.pread(self.errors.fileno(), 1 << 24, 0)
+
+    # --- Its end
+
+    def kill(self):
+        """Ends it at once."""
+        self.child.kill()
+        self.child.wait()
+
+    def end(self):
+        """Ends it if it runs, whatever becomes of the check."""
+        if self.child is not None and self.child.poll() is None:
+            self.child.kill()
+
+    def again(self):
+        """Starts it again after its end."""
+        for wrong in self.ended():
+            require(False, wrong)
+        return self.start()
+
+    def stop(self):
+        """Stops it by a request, and returns how long that took."""
+        begun = time.monotonic()
+        equal(self.ask('stop'), 'ok', 'the answer to stop')
+        try:
+            status = self.child.wait(PATIENCE)
+        except subprocess.TimeoutExpired:
+            status = 'none'
+        equal(status, 0, 'the status after stop')
+        return time.monotonic() - begun
+
+    def ended(self):
+        """Ends it if it runs, and returns what is wrong with its end and its output."""
+        if self.child is None:
+            return []
+        wrongs = []
+        if self.child.poll() is None:
+            self.child.kill()
+        elif self.child.returncode not in (0, -9) and not self.may_end:
+            wrongs.append('%s: the node ended with status %d: %r' % (self.name, self.child.returncode, self.said()[-300:]))
+        self.child.wait()
+        written = os.pread(self.output.fileno(), 1000, 0)
+        if written:
+            wrongs.append('%s: standard output: %r' % (self.name, written))
+        errors = self.said()
+        if not re.fullmatch(rb'(?:[ -~]*\n)*', errors):
+            wrongs.append('%s: standard error: %r' % (self.name, errors[-1000:]))
+        self.output.close()
+        self.errors.close()
+        self.child = None
+        return wrongs
+
+
+def listening(port, host='127.0.0.1'):
+    """Whether somebody listens at a port. No connection is made, but the kernel takes some ms to say it."""
+    wanted = ':%04X' % port
+    with open('/proc/net/tcp6' if ':' in host else '/proc/net/tcp') as file:
+        return any(words[1].endswith(wanted) and words[3] == '0A' for words in map(str.split, file))
+
+
+def fields(line):
+    """Returns the fields `NAME=VALUE` of a line."""
+    return dict(word.split('=', 1) for word in line.split(' ') if '=' in word)
+
+
+def reply(line, what='a reply'):
+    """Returns the number, the end and the rest of a line `reply`."""
+    match = matches(r'reply ([0-9]+) (-|[0-9]+) (.*)', line, what)
+    return int(match[1]), match[2], match[3]

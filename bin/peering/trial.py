@@ -1,0 +1,82 @@
+"""A trial: what one check starts, waits for and says."""
+
+import re
+import time
+
+PATIENCE = 10
+
+
+class Wrong(Exception):
+    """What a check found to be wrong."""
+
+
+class Skipped(Exception):
+    """Why a check can't be made here."""
+
+
+def require(holds, what, *shown):
+    """Ends the check unless something holds."""
+    if not holds:
+        raise Wrong(' '.join([what] + [short(part) for part in shown]))
+
+
+def short(part):
+    text = part.decode('latin-1') if isinstance(part, bytes) else str(part)
+    return repr(text) if len(text) <= 400 else repr(text[:250]) + ' .. ' + repr(text[-100:])
+
+
+def equal(found, wanted, what):
+    require(found == wanted, what + ':', found, 'and not', wanted)
+
+
+def between(low, found, high, what):
+    require(low <= found <= high, what + ':', round(found, 3), 'and not from', low, 'to', high)
+
+
+def matches(pattern, text, what):
+    """Returns the match of a whole text."""
+    match = re.fullmatch(pattern, text)
+    require(match, what + ':', text, 'is not as', pattern)
+    return match
+
+
+def wait(holds, seconds, what, shown=lambda: '', pause=0.02):
+    """Waits until something holds, and returns it. It looks again after each pause."""
+    latest = time.monotonic() + seconds
+    while True:
+        found = holds()
+        if found:
+            return found
+        require(time.monotonic() < latest, '%s: not in %g s' % (what, seconds), shown())
+        time.sleep(pause)
+
+
+class Trial:
+    """What a check has started. At its end all of it is closed, and each node has to have kept to its output."""
+
+    def __init__(self, program, ports):
+        self.program = program
+        self.ports = ports
+        self.nodes = []
+        self.open = []
+
+    def closes(self, thing):
+        """Notes something that is to be closed at the end, and returns it."""
+        self.open.append(thing)
+        return thing
+
+    def finish(self):
+        """Ends what still runs, and says what is wrong with it."""
+        for thing in reversed(self.open):
+            thing.close()
+        wrongs = ['a lesson is wrong: ' + thing.wrong for thing in self.open if getattr(thing, 'wrong', None)]
+        return wrongs + [wrong for node in self.nodes for wrong in node.ended()]
+
+
+CHECKS = {}
+
+
+def check(function):
+    """Notes a check, under the name of its function."""
+    CHECKS[function.__name__.replace('_', '-')] = function
+    return function

@@ -1,0 +1,106 @@
+"""A node beside a real HAProxy, if one is installed."""
+
+import shutil
+import tempfile
+import time
+
+from peering.members import HAProxy, NodeMember
+from peering.node import fields
+from peering.trial import Skipped, check, equal, require, wait
+
+
+class Pair:
+    """A HAProxy and a node. Either of them, or both, know where the other listens."""
+
+    def __init__(self, trial, to_node=True, to_balancer=True):
+        binary = shutil.which('haproxy') or shutil.which('haproxy', path='/usr/sbin:/usr/local/sbin')
+        if binary is None:
+            raise Skipped('no haproxy')
+        folder = tempfile.mkdtemp(prefix='staying.')
+        trial.closes(self)
+        self.folder = folder
+        ports = trial.ports
+        self.balancer = trial.closes(HAProxy('h', folder, ports.next(), ports, binary))
+        self.node = trial.closes(NodeMember('n', folder, ports.next(), ports, trial.program))
+        nowhere = ports.next()
+        self.balancer.configure((('h', self.balancer.port), ('n', self.node.port if to_node else nowhere)))
+        self.node.configure((('h', self.balancer.port if to_balancer else nowhere), ('n', self.node.port)))
+        self.balancer.start()
+        self.node.start()
+
+    def close(self):
+        shutil.rmtree(self.folder, ignore_errors=True)
+
+    def line(self):
+        """Returns what the node says of its peer."""
+        return next(fields(line) for line in self.node.ask('show peers') if line.startswith('peer h '))
+
+    def connected(self):
+        wait(lambda: self.node.connected_to() == {'h'}, 12, 'the node is connected', lambda: self.node.ask('show peers'))
+        wait(lambda: self.balancer.connected_to() == {'n'}, 12, 'the HAProxy is connected')
+
+    def counts(self, member, key, times):
+        """Lets a member count a key, and waits until both have the row."""
+        for _ in range(times):
+            wait(lambda: member.count(key), 7, '%s counts' % member.name, pause=0.2)
+        wait(lambda: self.balancer.rows().get(('ints', key)) == self.node.rows().get(('ints', key)) == times, 5,
+             'both have the row of %d' % key, lambda: (self.balancer.rows(), self.node.rows()))
+
+    def sticks(self, key):
+        """Lets the HAProxy choose a server for a key, and waits until both have its name."""
+        require(self.balancer.stick(key), 'a request is answered')
+        wait(lambda: self.node.rows().get(('names', key)) == self.balancer.rows().get(('names', key)), 5, 'both have the server of %s' % key,
+             lambda: (self.balancer.rows(), self.node.rows()))
+
+    def has_rows(self, count, after):
+        """Waits until both have the same rows, so many of them."""
+        wait(lambda: self.balancer.rows() == self.node.rows() and len(self.node.rows()) == count, 12, 'both have all rows after ' + after,
+             lambda: (self.balancer.rows(), self.node.rows()))
+
+
+def stands_idle(pair):
+    """Checks that a session lasts while nothing is said, and that rows then go both ways."""
+    pair.connected()
+    time.sleep(1)
+    before = pair.line()
+    time.sleep(13)
+    after = pair.line()
+    equal((after['sessions'], after['state']), (before['sessions'], 'ready'), 'sessions and state after 13 s')
+    require(int(after['heartbeats_sent']) - int(before['heartbeats_sent']) in (3, 4, 5), 'heartbeats sent', before, after)
+    pair.counts(pair.node, 1, 3)
+    pair.counts(pair.balancer, 2, 3)
+    pair.sticks('k1')
+    equal(pair.balancer.faults()['proto_err'], 0, 'protocol errors at the HAProxy')
+    equal(pair.line()['faults'], '0', 'faults at the node')
+
+
+@check
+def haproxy_that_is_connected_to(trial):
+    """a session that the node opened lasts at a HAProxy that has nothing to say, and rows go both ways"""
+    stands_idle(Pair(trial, to_node=False))
+
+
+@check
+def haproxy_that_connects(trial):
+    """a session that a HAProxy opened lasts while it has nothing to say, and rows go both ways"""
+    stands_idle(Pair(trial, to_balancer=False))
+
+
+@check
+def haproxy_starts_again(trial):
+    """a HAProxy and a node that are killed in turn, and one that reloads, have all rows again"""
+    pair = Pair(trial)
+    pair.connected()
+    pair.counts(pair.node, 1, 2)
+    pair.counts(pair.balancer, 2, 2)
+    pair.sticks('k1')
+    for member in (pair.balancer, pair.node):
+        member.kill()
+        member.start()
+        pair.connected()
+        pair.has_rows(3, '%s was killed' % member.name)
+    pair.balancer.reload()
+    pair.connected()
+    pair.has_rows(3, 'the reload')
+    pair.counts(pair.node, 3, 2)
+    pair.counts(pair.balancer, 4, 2)

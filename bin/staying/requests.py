@@ -1,0 +1,468 @@
+"""The admin port of a node that stays: its requests, their answers, and its bounds."""
+
+import contextlib
+import re
+import threading
+import time
+
+from peering.far import CONFIRMED, REQUEST, Manners, connected, hello, kept_open
+from peering.lessons import definition, table, update
+from peering.node import FIRST_MOMENT, T1, Node, reply
+from peering.trial import between, check, equal, matches, require, wait
+from staying.resyncs import long_rows, tracked
+from staying.sessions import node_of_b, up_to_date
+
+KINDS = ('table 1 t1 integer 4 30000 gpc0', 'table 2 v4 ipv4 4 0 gpc0', 'table 3 v6 ipv6 16 0 gpc0', 'table 4 st string 9 0 gpc0 server_key',
+         'table 5 bin binary 3 0 bytes_in_cnt', 'table 6 r integer 4 0 gpc0_rate:10000')
+
+
+def alone(trial, tables=KINDS, **other):
+    """Returns a node without peers, which is up to date at once."""
+    return Node(trial, peers=(), tables=tables, **other).start()
+
+
+def answers(node, pairs):
+    """Checks the answers to requests of one line."""
+    for request, answer in pairs:
+        equal(node.ask(request), answer, request)
+
+
+@check
+def tracks(trial):
+    """each kind of change of a row is answered with the row"""
+    node = alone(trial)
+    before = node.head()
+    equal((before['up_to_date'], node.ask('show peers')[0].split(' ')[:2]), ('yes', ['node', 'n']), 'up to date without peers')
+    number, ends, rest = reply(node.ask('track t1 7 add gpc0 5'))
+    after = node.head()
+    equal((number, rest), (1, '7 5 local'), 'the row')
+    between(int(before['moment']) + 30000, int(ends), int(after['moment']) + 30000, 'its end')
+    between(FIRST_MOMENT, int(before['moment']), node.moment(), 'the moment')
+    equal([reply(node.ask('track t1 7 ' + change))[::2] for change in ('add gpc0 2', 'take gpc0 3', 'take gpc0 9', 'put gpc0 8')],
+          [(2, '7 7 local'), (3, '7 4 local'), (4, '7 0 local'), (5, '7 8 local')], 'changes')
+    equal(reply(node.ask('track t1 7 add gpc0 18446744073709551615'))[2], '7 4294967295 local', 'the greatest value')
+    answers(node, (('track st =a name s1', 'reply 1 - =a 0 s1 local'), ('track st =a add gpc0 1', 'reply 2 - =a 1 s1 local'),
+                   ('track st =a name -', 'reply 3 - =a 1 - local'), ('track bin 00ff7f add bytes_in_cnt 18446744073709551615',
+                                                                     'reply 1 - 00FF7F 18446744073709551615 local'),
+                   ('track v4 7F000001 add gpc0 1', 'reply 1 - 7F000001 1 local'),
+                   ('track v6 %s add gpc0 1' % ('0' * 31 + '1'), 'reply 1 - %s 1 local' % ('0' * 31 + '1'))))
+    matches(r'reply 1 - 7 [0-9]+/4/0 local', node.ask('track r 7 rate gpc0_rate 4'), 'a rate')
+    matches(r'reply 2 - 7 [0-9]+/6/0 local', node.ask('track r 7 rate gpc0_rate 2'), 'a rate')
+
+
+@check
+def refused_tracks(trial):
+    """a change that a table refuses is answered with the refusal's name, and changes nothing"""
+    node = alone(trial, more=('size 1 1', 'nopurge 1'))
+    events = node.events()
+    answers(node, (('track t9 7 add gpc0 1', 'NoTable'), ('track t9 =a add gpc0 1', 'NoTable'), ('track t1 =a add gpc0 1', 'WrongKey'),
+                   ('track st 7 add gpc0 1', 'WrongKey'), ('track st =123456789 add gpc0 1', 'WrongKey'),
+                   ('track bin 00 add bytes_in_cnt 1', 'WrongKey'), ('track t1 7 add gpc1 1', 'NoSuchData'), ('track t1 7 rate gpc0 1', 'NoSuchData'), ('track t1 7 name s1', 'NoSuchData'),
+                   ('track r 7 add gpc0_rate 1', 'NoSuchData'), ('track st =a add server_key 1', 'NoSuchData'), ('get t9 7', 'NoTable'),
+                   ('get t1 =a', 'WrongKey'), ('get st 7', 'WrongKey'), ('get t1 8', 'none')))
+    equal(node.events(), events, 'events')
+    equal(reply(node.ask('track t1 7 add gpc0 1'))[2], '7 1 local', 'a track that fits')
+    equal(node.ask('track t1 8 add gpc0 1'), 'TableFull', 'a track of a key too many')
+
+
+@check
+def unreadable(trial):
+    """a line that can't be read is refused, and the connection goes on"""
+    node = alone(trial)
+    for line in ('track', 'tracks t1 7 add gpc0 1', 'Track t1 7 add gpc0 1', 'track t1 7 add gpc0', 'track t1 7 add gpc0 1 2',
+                 'track t1 7 add gpc0 -1', 'track t1 7 add gpc0 01', 'track t1 7 add nothing 1', 'track t1 7 grow gpc0 1', 'track t1 7 add gpc0 18446744073709551616',
+                 'track r 7 rate gpc0_rate 4294967296', 'track t1  7 add gpc0 1', 'track t1 7 add gpc0 1 ', ' track t1 7 add gpc0 1',
+                 'track\tt1 7 add gpc0 1', 'track t1 7 add gpc0 1\r', 'track t1 x add gpc0 1', 'track t1 4294967296 add gpc0 1',
+                 'track t1 07 add gpc0 1', 'get t1', 'get t1 7 8', 'get', 'stop now', 'stopp', 'STOP', 'clear table t1',
+                 'track st =a name \x7f', 'get st =\xe9', 'get st =\x00'):
+        equal(node.ask(line), 'refused', 'the answer to %r' % line)
+    for line in ('show', 'show nothing', 'show peers more', 'show rows t1', 'show table t1 data.gpc0 gt 1'):
+        equal(node.ask(line), ['refused'], 'the answer to %r' % line)
+    equal(node.ask('show table t9'), ['NoTable'], 'the answer for no table')
+    equal(node.ask('get t1 7'), 'none', 'the answer to a request behind them')
+
+
+@check
+def gets(trial):
+    """get gives a live row, with the table's id"""
+    node = alone(trial)
+    _, ends, _ = reply(node.ask('track t1 7 add gpc0 5'))
+    equal(node.ask('get t1 7'), 'row 1 %s 7 5' % ends, 'the row')
+    node.ask('track st =a name s1')
+    equal(node.ask('get st =a'), 'row 4 - =a 0 s1', 'the row with a name')
+    node.ask('track r 7 rate gpc0_rate 4')
+    matches(r'row 6 - 7 [0-9]+/4/0', node.ask('get r 7'), 'the row with a rate')
+
+
+@check
+def headers(trial):
+    """show table gives a header for each table in rising id, as HAProxy does"""
+    node = alone(trial, more=('size 2 500',))
+    node.ask('track bin 00ff7f add bytes_in_cnt 9')
+    equal(node.ask('show table'), ['# table: %s, type: %s, size:%d, used:%d' % words for words in (
+        ('t1', 'integer', 1000000, 0), ('v4', 'ip', 500, 0), ('v6', 'ipv6', 1000000, 0), ('st', 'string', 1000000, 0),
+        ('bin', 'binary', 1000000, 1), ('r', 'integer', 1000000, 0))], 'the headers')
+
+
+def entries(node, name):
+    """Returns the lines of a table's rows, each without its first word, which is an address."""
+    lines = node.ask('show table ' + name)
+    require(lines and lines[0].startswith('# table: %s, ' % name), 'the header of %s' % name, lines)
+    for line in lines[1:]:
+        matches(r'0x[0-9a-f]+: key=.*', line, 'a row of %s' % name)
+    return [line.split(': ', 1)[1] for line in lines[1:]]
+
+
+@check
+def tables_shown(trial):
+    """show table gives the rows of a table as HAProxy does"""
+    node = alone(trial)
+    node.ask('track t1 7 add gpc0 5')
+    exp = int(matches(r'key=7 use=0 exp=([0-9]+) gpc0=5', entries(node, 't1')[0], 'a row')[1])
+    between(28000, exp, 30000, 'its life')
+    for table_name, key, shows in (('v4', '7F000001', 'key=127.0.0.1 use=0 exp=0 gpc0=1'),
+                                   ('v6', '20010DB8' + '0' * 23 + '1', 'key=2001:db8::1 use=0 exp=0 gpc0=1'),
+                                   ('st', '=a=b\\', 'key=a\\=b\\\\ use=0 exp=0 gpc0=1 server_key=-')):
+        node.ask('track %s %s add gpc0 1' % (table_name, key))
+        equal(entries(node, table_name), [shows], 'the row of ' + table_name)
+    node.ask('track bin 00ff7f add bytes_in_cnt 9')
+    equal(entries(node, 'bin'), ['key=00FF7F use=0 exp=0 bytes_in_cnt=9'], 'a binary key')
+    node.ask('track st =a=b\\ name s1')
+    equal(entries(node, 'st'), ['key=a\\=b\\\\ use=0 exp=0 gpc0=1 server_key=s1'], 'a name')
+    node.ask('track r 7 rate gpc0_rate 4')
+    equal(entries(node, 'r'), ['key=7 use=0 exp=0 gpc0_rate(10000)=4'], 'a rate')
+    equal(len(node.ask('show table t1')), 2, 'lines of one table')
+
+
+@check
+def rows_shown(trial):
+    """show rows gives all rows, in rising id of their tables and rising key"""
+    node = alone(trial)
+    for request in ('track st =b add gpc0 1', 'track v4 7F000001 add gpc0 1', 'track st =a name s1', 'track v4 0A000001 add gpc0 2',
+                    'track bin 0001ff add bytes_in_cnt 3'):
+        node.ask(request)
+    equal(node.ask('show rows'), ['row 2 - 0A000001 2', 'row 2 - 7F000001 1', 'row 4 - =a 0 s1', 'row 4 - =b 1 -', 'row 5 - 0001FF 3'], 'the rows')
+
+
+@check
+def peers_shown(trial):
+    """show peers gives each peer in the order of the configuration, and its tables while there is a session"""
+    node = node_of_b(trial, peers=('b', 'c'), tables=KINDS[:2])
+    lines = node.ask('show peers')
+    matches(r'node n moment=[0-9]+ up_to_date=no( .*)?', lines[0], 'the first line')
+    pattern = r'peer %s state=%s role=%s since=[0-9]+ sessions=%d heartbeats_sent=[0-9]+ heartbeats_received=[0-9]+ faults=0 last_end=-( .*)?'
+    equal(len(lines), 3, 'lines without a session')
+    for name, line in zip('bc', lines[1:]):
+        matches(pattern % (name, 'down', '-', 0), line, 'a peer without a session')
+    connected(trial, node, 'b').gets(CONFIRMED, 3)
+    wait(lambda: node.peer('b')['state'] == 'ready', 2, 'the peer is ready')
+    lines = node.ask('show peers')
+    matches(pattern % ('b', 'ready', 'accept', 1), lines[1], 'a peer with a session')
+    for name, line in zip(('t1', 'v4'), lines[2:4]):
+        matches(r'table b %s taught=0 acknowledged=0 received=- left=no( .*)?' % name, line, 'a table of it')
+    matches(pattern % ('c', 'down', '-', 0), lines[4], 'the other peer')
+    equal(len(lines), 5, 'lines')
+
+
+@check
+def pipelined(trial):
+    """requests may be sent without waiting, and are answered in order"""
+    node = alone(trial, tables=(T1,))
+    count = 5000
+    node.admins.send(''.join('track t1 %d add gpc0 1\n' % (place % 100) for place in range(count)) + 'show table\nget t1 7\nnonsense\n')
+    for place in range(count):
+        equal(node.admins.line(), 'reply %d - %d %d local' % (place + 1, place % 100, place // 100 + 1), 'an answer')
+    equal((node.admins.lines(), node.admins.line(), node.admins.line()),
+          (['# table: t1, type: integer, size:1000000, used:100'], 'row 1 - 7 %d' % (count // 100), 'refused'), 'the last answers')
+
+
+@check
+def request_in_pieces(trial):
+    """a request may come byte by byte, and one that stays cut is none"""
+    node = alone(trial)
+    for byte in 'track t1 7 add gpc0 5\n':
+        node.admins.send(byte)
+        time.sleep(0.01)
+    equal(reply(node.admins.line())[2], '7 5 local', 'the answer')
+    other = node.admin()
+    other.send('track t1 7 add gpc0 5')
+    other.close()
+    time.sleep(0.3)
+    equal(node.ask('get t1 7').split(' ')[4], '5', 'the value after a request that was cut')
+
+
+@check
+def long_lines(trial):
+    """a line of 32,768 bytes is read; a longer one is refused, and its connection closed"""
+    node = alone(trial)
+    equal(node.ask('get t9 =' + 'x' * (32768 - 8)), 'NoTable', 'the answer to a line of 32,768 bytes')
+    equal(node.ask('get t1 7'), 'none', 'the answer behind it')
+    for data in (b'get t9 =' + b'x' * (32769 - 8) + b'\n', b'x' * 32769 + b'\n', b'x' * 200_000):
+        admin = node.admin()
+        admin.send(b'get t1 7\n')
+        equal(admin.line(), 'none', 'the answer to a line before it')
+        try:
+            admin.send(data)
+        except OSError:
+            pass
+        equal(admin.rest(), b'refused\n', 'the answer to a line of %d bytes' % len(data))
+    equal(node.ask('get t1 7'), 'none', 'the answer on another connection')
+
+
+@check
+def thirty_three(trial):
+    """of 33 connections 32 are served, and the last is told that the port is busy, until one ends"""
+    node = alone(trial)
+    others = [node.admin() for _ in range(31)]
+    for admin in others:
+        equal(admin.ask('get t1 7'), 'none', 'the answer on each of 32 connections')
+    equal(node.admin().rest(3), b'busy\n', 'the answer on one more')
+    others.pop().close()
+
+    def served():
+        admin = node.admin()
+        try:
+            admin.send('get t1 7\n')
+            return admin.line() == 'none'
+        except OSError:
+            return False
+    wait(served, 3, 'another connection is served once one has ended')
+
+
+@check
+def stops(trial):
+    """stop ends a node with status 0 within 5 s, whoever is connected"""
+    node = node_of_b(trial, peers=('b', 'c 127.0.0.1:9'))
+    far = connected(trial, node)
+    up_to_date(node)
+    others = [node.admin() for _ in range(3)]
+    others[0].send('track t1 7 add gpc0')
+    hanging = trial.closes(kept_open((node.host, node.port)))
+    hanging.sendall(hello('n', 'b')[:9])
+    between(0, node.stop(), 5, 'seconds until it has ended')
+    far.ends(1)
+    for admin in others:
+        equal(admin.rest(), b'', 'what the other connections get')
+
+
+@check
+def stops_beside_the_deaf(trial):
+    """stop ends a node also while a client and a peer don't read"""
+    node = node_of_b(trial, peers=('b', 'c'), tables=('table 1 long string 8192 0 gpc0',))
+    connected(trial, node, 'c')
+    up_to_date(node)
+    long_rows(node, 512)
+    peer = trial.closes(kept_open((node.host, node.port), buffer=2048))
+    peer.sendall(hello('n', 'b') + REQUEST)
+    client = node.admin()
+    client.send('show rows\n' * 20)
+    time.sleep(1)
+    between(0, node.stop(), 5, 'seconds until it has ended')
+
+
+@check
+def stops_beside_the_busy(trial):
+    """stop ends a node also while a client goes on tracking, and that client's connection too"""
+    node = alone(trial, tables=(T1,))
+    client = node.admin()
+
+    def track():
+        with contextlib.suppress(OSError):
+            while client.ask('track t1 7 add gpc0 1') is not None:
+                time.sleep(0.01)
+    thread = threading.Thread(target=track, daemon=True)
+    thread.start()
+    time.sleep(0.5)
+    between(0, node.stop(), 5, 'seconds until it has ended')
+    thread.join(1)
+    require(not thread.is_alive(), 'the client is still served')
+
+
+@check
+def deaf_client(trial):
+    """a client that doesn't read its answers delays nobody else, and takes little memory"""
+    node = node_of_b(trial, tables=(T1,))
+    far = connected(trial, node)
+    up_to_date(node)
+    tracked(node, 't1', range(500))
+    before = node.memory()
+    client = node.admin()
+    client.send('show rows\n' * 2000)
+    for key in range(5):
+        time.sleep(0.3)
+        equal(node.ask('track t1 %d add gpc0 1' % key), 'reply %d - %d 2 local' % (501 + key, key), 'a track beside it')
+        far.gets_row('t1', key, (2,), 2)
+    equal(client.line(), 'row 1 - 0 1', 'the first of its answers')
+    between(0, node.memory() - before, 32, 'MiB more')
+
+
+@check
+def million_changes(trial):
+    """a table takes more than a million changes, while a peer takes them in, and memory stays as it was after 100,000"""
+    node = node_of_b(trial, tables=(T1,))
+    far = connected(trial, node)
+    up_to_date(node)
+    count, at_once = 1_010_000, 5000
+    begun = time.monotonic()
+    for place in range(count // at_once):
+        between(0, time.monotonic() - begun, 40, 'seconds after %d changes' % (place * at_once))
+        if place * at_once == 100_000:
+            before = node.memory()
+        node.admins.send('track t1 7 add gpc0 1\n' * at_once)
+        last = [node.admins.line(30) for _ in range(at_once)][-1]
+    equal(last, 'reply %d - 7 %d local' % (count, count), 'the last answer')
+    far.gets_row('t1', 7, (count,), 3)
+    between(0, max(0, node.memory() - before), 16, 'MiB more than after 100,000 changes')
+
+
+@check
+def stops_while_it_learns(trial):
+    """stop ends a node also before it is up to date, while a track waits"""
+    node = node_of_b(trial)
+    far = connected(trial, node, manners=Manners(answer=b''))
+    waiting = node.admin()
+    waiting.send('track t1 7 add gpc0 1\n')
+    between(0, node.stop(), 5, 'seconds until it has ended')
+    far.ends(1)
+
+
+FAMILIES = ['haproxy_' + name for name in 'sticktable_size sticktable_used process_active_peers process_connected_peers'.split()] + [
+    'digbaro_' + name for name in 'peer_up sessions_total rows_learned_total rows_taught_total bytes_sent_total bytes_received_total '
+    'resyncs_total tables_left passed_over_total faults_total table_events_total table_next_number uptime_seconds'.split()]
+
+
+@check
+def metrics(trial):
+    """GET /metrics gives each family with HELP and TYPE, and closes"""
+    node = node_of_b(trial, peers=('b', 'c'), tables=KINDS[:2])
+    far = connected(trial, node)
+    up_to_date(node)
+    node.ask('track t1 7 add gpc0 1')
+    far.gets_row('t1', 7, (1,))
+    head, body = node.get('/metrics')
+    lines = head.split('\r\n')
+    matches(r'HTTP/1\.[01] 200 .*', lines[0], 'the status')
+    found = {line.split(':', 1)[0].lower(): line.split(':', 1)[1].strip() for line in lines[1:]}
+    equal(found['content-type'], 'text/plain; version=0.0.4', 'Content-Type')
+    equal(found['content-length'], str(len(body)), 'Content-Length')
+    families = re.findall(r'^# HELP ([a-z_]+) \S.*\n# TYPE ([a-z_]+) (counter|gauge)$', body, re.M)
+    names = [family for family, _, _ in families]
+    equal(names, [other for _, other, _ in families], 'the families of HELP and of TYPE')
+    equal(sorted(names), sorted(FAMILIES), 'the families')
+    for line in body.splitlines():
+        require(line.startswith('# ') or re.fullmatch(r'[a-z_]+(\{([a-z]+="(\\.|[^"\\])*",?)+\})? [0-9.e+-]+', line), 'a line of the metrics', line)
+    values = node.metrics()
+    for name, value in (('haproxy_sticktable_size{name="t1",type="integer"}', 1000000), ('haproxy_sticktable_used{name="t1",type="integer"}', 1),
+                        ('haproxy_sticktable_used{name="v4",type="ip"}', 0), ('haproxy_process_active_peers', 1),
+                        ('haproxy_process_connected_peers', 1), ('digbaro_peer_up{peer="b"}', 1), ('digbaro_peer_up{peer="c"}', 0),
+                        ('digbaro_table_next_number{name="t1"}', 2)):
+        equal(float(values.get(name, -1)), value, name)
+    between(0, float(values['digbaro_uptime_seconds']), node.moment() / 1000 - FIRST_MOMENT / 1000 + 1, 'the uptime')
+    for name in ('digbaro_bytes_sent_total', 'digbaro_bytes_received_total'):
+        wait(lambda: node.metric(name) >= 2, 2, 'bytes are counted', node.metrics)
+
+
+@check
+def other_pages(trial):
+    """any other path is not found"""
+    node = alone(trial)
+    for path in ('/', '/metrics/', '/metric', '/metrics?x=1', '/%s' % ('x' * 5000)):
+        head, _ = node.get(path)
+        matches(r'HTTP/1\.[01] 404 .*', head.split('\r\n')[0], 'the status of %s' % path[:20])
+    admin = node.admin()
+    admin.send('GET /metrics HTTP/1.0\r\n\r\n')
+    require(b' 200 ' in admin.rest().split(b'\r\n')[0], 'HTTP/1.0 is answered')
+    equal(node.ask('get t1 7'), 'none', 'the answer behind it')
+
+
+@check
+def sections(trial):
+    """a name on the wire that begins with / is shown with the section before it"""
+    node = node_of_b(trial, tables=('table 1 /ints integer 4 0 gpc0', 'table 2 plain integer 4 0 gpc0'), more=('section mesh',))
+    far = connected(trial, node)
+    up_to_date(node)
+    equal(node.ask('track mesh/ints 7 add gpc0 5'), 'reply 1 - 7 5 local', 'a track')
+    far.gets_row('/ints', 7, (5,))
+    equal(node.ask('show table'), ['# table: mesh/ints, type: integer, size:1000000, used:1', '# table: plain, type: integer, size:1000000, used:0'],
+          'the headers')
+    equal(entries(node, 'mesh/ints'), ['key=7 use=0 exp=0 gpc0=5'], 'the rows')
+    equal(node.ask('get plain 7'), 'none', 'a row of the other table')
+    require('haproxy_sticktable_used{name="mesh/ints",type="integer"}' in node.metrics(), 'the name in the metrics', node.metrics())
+    wait(lambda: node.shared('b', 'mesh/ints')['taught'] == '1', 2, 'the name in show peers', lambda: node.ask('show peers'))
+
+
+@check
+def odd_names(trial):
+    """names with quotes, backslashes and braces make no lines of their own in the metrics"""
+    node = Node(trial, peers=('b"{}\\',), tables=('table 1 t"1\\{}, integer 4 0 gpc0',)).start()
+    values = node.metrics()
+    require(r'digbaro_peer_up{peer="b\"{}\\"}' in values, 'the peer', values)
+    require(r'haproxy_sticktable_used{name="t\"1\\{},",type="integer"}' in values, 'the table', values)
+
+
+@check
+def hostile_keys(trial):
+    """keys and names that a peer sends can't make lines of their own"""
+    node = node_of_b(trial, tables=('table 1 st string 33 0 server_key', 'table 2 t1 integer 4 0 gpc0'))
+    far = connected(trial, node)
+    there = table(7, 'st', 'string', types=('server_key',))
+    bad = table(8, 'x\n# HELP y z\n', types=('gpc0',))
+    far.send(definition(there) + update(there, 1, b'a\nrow 1', (), name=('write', 1, b'-'))
+             + update(there, 2, b'b =\\', (), name=('write', 2, b'n\n.')) + definition(bad) + update(bad, 1, 7, (1,)))
+    far.gets_ack(7, 2)
+    equal(node.ask('show rows'), ['row 1 - ~610A726F772031 ~2D', 'row 1 - ~62203D5C ~6E0A2E'], 'the rows')
+    shown = entries(node, 'st')
+    equal(len(shown), 2, 'lines of the table')
+    require(any(line.startswith('key=b\\ \\=\\\\ use=0 ') for line in shown), 'a space, = and a backslash are marked', shown)
+    require(all(re.fullmatch('[ -~]*', line) for line in shown), 'all of it can be printed', shown)
+
+
+@check
+def ended_rows(trial):
+    """a row that has ended isn't given any more, and goes soon; a table at rest has no events"""
+    node = alone(trial, tables=('table 1 t1 integer 4 1000 gpc0', 'table 2 t2 integer 4 0 gpc0'))
+    node.ask('track t1 7 add gpc0 5')
+    node.ask('track t2 7 add gpc0 5')
+    time.sleep(1.1)
+    equal((node.ask('get t1 7'), entries(node, 't1')), ('none', []), 'the row after its end')
+    wait(lambda: ' used:0' in node.ask('show table t1')[0], 2.5, 'the row goes')
+    equal(node.ask('show rows'), ['row 2 - 7 5'], 'the rows')
+    before = node.events()
+    time.sleep(2.5)
+    equal(node.events(), before, 'events of tables at rest')
+    matches(r'reply 2 [0-9]+ 7 1 local', node.ask('track t1 7 add gpc0 1'), 'a row of the same key begins anew')
+
+
+@check
+def full_tables(trial):
+    """a full table drops the row that ends first for a new one"""
+    node = alone(trial, tables=('table 1 t1 integer 4 30000 gpc0',), more=('size 1 2',))
+    for key in (1, 2, 3):
+        node.ask('track t1 %d add gpc0 1' % key)
+        time.sleep(0.01)
+    equal([line.split(' ')[3] for line in node.ask('show rows')], ['2', '3'], 'the keys')
+
+
+@check
+def rates(trial):
+    """a rate is shown by its value at the moment"""
+    node = alone(trial, tables=('table 1 r integer 4 0 gpc0_rate:1000',))
+    node.ask('track r 7 rate gpc0_rate 1000')
+    time.sleep(1.5)
+    value = int(matches(r'key=7 use=0 exp=0 gpc0_rate\(1000\)=([0-9]+)', entries(node, 'r')[0], 'the row')[1])
+    between(200, value, 500, 'the rate half a period after the one that counted')
+    time.sleep(1)
+    equal(entries(node, 'r'), ['key=7 use=0 exp=0 gpc0_rate(1000)=0'], 'the rate two periods later')
+
+
+@check
+def many_clients(trial):
+    """clients that track the same key at once lose no count"""
+    node = alone(trial, tables=(T1,))
+    admins = [node.admin() for _ in range(8)]
+    for admin in admins:
+        admin.send('track t1 7 add gpc0 1\n' * 200)
+    for admin in admins:
+        for _ in range(200):
+            require(admin.line().startswith('reply '), 'a track')
+    equal(node.ask('get t1 7'), 'row 1 - 7 1600', 'the sum')

@@ -1,0 +1,366 @@
+"""Resyncs of a node that stays: whom it asks, whom it teaches, and when they end."""
+
+import time
+
+from fuzzing.messages import acknowledgement
+from peering.far import CONFIRMED, FINISHED, PARTIAL, REQUEST, Manners, connected
+from peering.lessons import definition, table, update
+from peering.node import T1
+from peering.trial import between, check, equal, require, wait
+from staying.sessions import KEEPS_QUIET, node_of_b, node_with_door, up_to_date
+
+T2 = 'table 2 t2 integer 4 0 gpc0'
+NAMES = ('table 1 st integer 4 0 server_key', 'table 2 su integer 4 0 server_key')
+
+
+def tracked(node, name, keys):
+    """Tracks keys of a table, each once."""
+    answered(node, [b'track %s %d add gpc0 1' % (name.encode(), key) for key in keys], 1000)
+
+
+def long_rows(node, count):
+    """Makes rows with long keys in the table `long`, which take more than the kernel keeps for a connection."""
+    answered(node, [b'track long =%s%04d add gpc0 1' % (b'k' * 8100, key) for key in range(count)], 20)
+
+
+def answered(node, requests, at_once):
+    """Makes tracks, so many in one go, and reads their answers."""
+    for first in range(0, len(requests), at_once):
+        some = requests[first:first + at_once]
+        node.admins.send(b'\n'.join(some) + b'\n')
+        for request in some:
+            line = node.admins.line()
+            require((line or '').startswith('reply '), request, line)
+
+
+def again(trial, node, far, manners=Manners()):
+    """Returns a far side on a new connection, which begins with a node that is up to date."""
+    up_to_date(node)
+    far.close()
+    return connected(trial, node, manners=manners)
+
+
+def finishes(far, times=1, seconds=2, message=FINISHED):
+    """Asks for a resync, and returns how long it took until its end."""
+    begun = time.monotonic()
+    far.send(REQUEST)
+    return far.gets(message, seconds, times) - begun
+
+
+@check
+def resync(trial):
+    """a far side that asks is taught all rows of all tables, told so, and may confirm it"""
+    node = node_of_b(trial, tables=(T1, T2))
+    far = connected(trial, node)
+    up_to_date(node)
+    tracked(node, 't1', range(5))
+    tracked(node, 't2', range(3))
+    far.close()
+    far = connected(trial, node)
+    finishes(far)
+    equal((len(far.rows('t1')), len(far.rows('t2'))), (5, 3), 'the rows taught')
+    require(not far.count(PARTIAL), 'the resync is partial')
+    far.send(CONFIRMED)
+    wait(lambda: node.peer('b')['state'] == 'ready', 2, 'the peer is ready')
+    time.sleep(0.5)
+    equal((len(far.updates()), far.count(FINISHED)), (8, 1), 'updates and ends')
+    node.shows('digbaro_resyncs_total{peer="b",role="teacher",end="finished"}', 1)
+    node.shows('digbaro_resyncs_total{peer="b",role="learner",end="finished"}', 1)
+
+
+@check
+def resync_of_nothing(trial):
+    """a resync without rows ends at once"""
+    node = node_of_b(trial)
+    far = connected(trial, node)
+    up_to_date(node)
+    far.close()
+    far = connected(trial, node)
+    between(0, finishes(far), 1, 'seconds until its end')
+    equal(far.updates(), [], 'updates')
+
+
+@check
+def long_resync(trial):
+    """a resync of many rows goes in lessons of 512 at most, each acknowledged before the next"""
+    node = node_of_b(trial)
+    far = connected(trial, node)
+    up_to_date(node)
+    tracked(node, 't1', range(1200))
+    far.close()
+    far = connected(trial, node, manners=Manners(acks='none'))
+    far.send(REQUEST)
+    for count in (512, 1024, 1200):
+        wait(lambda: len(far.updates()) >= count, 2, '%d updates' % count, far.shown)
+        time.sleep(0.3)
+        equal((len(far.updates()), far.count(FINISHED)), (count, 0), 'updates before their acknowledgement, and ends')
+        far.send(acknowledgement(1, far.updates()[-1].number))
+    far.gets(FINISHED, 2)
+    equal(len(far.rows('t1')), 1200, 'rows')
+
+
+@check
+def taught_back(trial):
+    """a resync teaches what stood when it began, so it ends, also if the far side teaches each row back"""
+    node = node_of_b(trial)
+    far = connected(trial, node)
+    up_to_date(node)
+    tracked(node, 't1', range(100))
+    far.close()
+    far = connected(trial, node, manners=Manners(acks='none'), behind=REQUEST)
+    wait(lambda: len(far.updates()) == 100, 2, 'the rows', far.shown)
+    there = table(77, 't1')
+    far.send(definition(there) + b''.join(update(there, place + 1, one.key, one.values) for place, one in enumerate(far.updates())))
+    far.gets_ack(77, 100, 2)
+    far.send(acknowledgement(1, far.updates()[-1].number))
+    far.gets(FINISHED, 2)
+    time.sleep(0.5)
+    equal((len(far.updates()), node.events() >= 200), (100, True), 'updates, and whether the rows were taught back')
+
+
+@check
+def partial_resync(trial):
+    """a node that isn't up to date ends a resync as partial"""
+    node = node_of_b(trial)
+    far = connected(trial, node, manners=KEEPS_QUIET)
+    far.gets(REQUEST, 2)
+    between(0, finishes(far, message=PARTIAL), 1, 'seconds until its end')
+    equal(far.count(FINISHED), 0, 'finished resyncs')
+
+
+@check
+def finished_once_up_to_date(trial):
+    """a session that began before its node was up to date ends a resync as finished once it is"""
+    node = node_of_b(trial)
+    far = connected(trial, node, manners=KEEPS_QUIET)
+    far.gets(REQUEST, 2)
+    far.send(FINISHED)
+    up_to_date(node)
+    finishes(far)
+    equal(far.count(PARTIAL), 0, 'partial resyncs')
+
+
+@check
+def asks_the_next(trial):
+    """a node asks one peer at a time, each once, until one ends its resync as finished"""
+    node = node_of_b(trial, peers=('b', 'c', 'd'))
+    fars = [connected(trial, node, name, KEEPS_QUIET) for name in 'bcd']
+    asked = []
+    for answer in (PARTIAL, PARTIAL, FINISHED):
+        wait(lambda: sum(far.count(REQUEST) for far in fars) > len(asked), 2, 'the node asks')
+        time.sleep(0.3)
+        equal(sum(far.count(REQUEST) for far in fars), len(asked) + 1, 'requests at once')
+        equal(node.head()['up_to_date'], 'no', 'up to date')
+        asked.append(next(far for far in fars if far not in asked and far.count(REQUEST)))
+        asked[-1].send(answer)
+        asked[-1].gets(CONFIRMED, 2)
+    up_to_date(node)
+    equal([far.count(REQUEST) for far in fars], [1, 1, 1], 'requests')
+    equal(sum(node.metric('digbaro_resyncs_total{peer="%s",role="learner",end="partial"}' % name) for name in 'bcd'), 2, 'partial resyncs')
+
+
+@check
+def asks_another_if_one_goes(trial):
+    """a node whose teacher goes away asks the next peer"""
+    node = node_of_b(trial, peers=('b', 'c'))
+    first = connected(trial, node, manners=KEEPS_QUIET)
+    first.gets(REQUEST, 2)
+    second = connected(trial, node, 'c')
+    time.sleep(0.2)
+    equal(second.count(REQUEST), 0, 'requests while another peer is asked')
+    first.close()
+    second.gets(CONFIRMED, 3)
+    up_to_date(node)
+    node.shows('digbaro_resyncs_total{peer="b",role="learner",end="broken"}', 1)
+
+
+@check
+def up_to_date_after_5_seconds(trial):
+    """a node that finds nobody to ask is up to date 5 s after its start"""
+    node = node_of_b(trial)
+    equal(node.head()['up_to_date'], 'no', 'up to date')
+    wait(node.is_up_to_date, 7, 'the node is up to date')
+    between(4.9, time.monotonic() - node.started, 6.5, 'seconds until it is')
+
+
+@check
+def asks_nobody_at_a_reconnection(trial):
+    """a node that is up to date asks nobody any more"""
+    node = node_of_b(trial, peers=('b', 'c'))
+    far = connected(trial, node)
+    up_to_date(node)
+    far.close()
+    fars = [connected(trial, node), connected(trial, node, 'c')]
+    time.sleep(0.7)
+    equal([far.count(REQUEST) for far in fars], [0, 0], 'requests')
+
+
+@check
+def acknowledges_no_number_again(trial):
+    """a resync ends at once at a far side that, as HAProxy does, never acknowledges a number of a table again"""
+    node = node_of_b(trial, tables=(T1, T2))
+    far = again(trial, node, connected(trial, node), Manners(acks='new'))
+    tracked(node, 't1', range(5))
+    tracked(node, 't2', range(3))
+    wait(lambda: len(far.updates()) == 8, 2, 'the rows are pushed')
+    time.sleep(1.1)
+    for times in (1, 2):
+        between(0, finishes(far, times), 1.4, 'seconds until its end')
+        equal(len(far.updates()), 8 + 8 * times, 'updates')
+    equal(far.count(PARTIAL), 0, 'partial resyncs')
+    node.ask('track t1 9 add gpc0 9')
+    far.gets_row('t1', 9, (9,), 1)
+
+
+@check
+def one_table_never_acknowledged(trial):
+    """a table of which nothing is acknowledged for 2 s is left: the resync ends as partial, and the other table is taught on"""
+    node = node_of_b(trial, tables=(T1, T2))
+    far = connected(trial, node)
+    up_to_date(node)
+    tracked(node, 't1', range(5))
+    tracked(node, 't2', range(3))
+    far.close()
+    far = connected(trial, node, manners=Manners(passed=('t2',)))
+    between(1.9, finishes(far, seconds=5, message=PARTIAL), 3.2, 'seconds until the end of the resync')
+    equal((len(far.rows('t1')), far.count(FINISHED)), (5, 0), 'rows, and finished resyncs')
+    equal([node.shared('b', name)['left'] for name in ('t1', 't2')], ['no', 'yes'], 'tables left')
+    node.shows('digbaro_tables_left', 1)
+    taught = len(far.updates('t2'))
+    node.ask('track t2 9 add gpc0 9')
+    node.ask('track t1 9 add gpc0 9')
+    far.gets_row('t1', 9, (9,), 1)
+    far.send(REQUEST)
+    far.gets(PARTIAL, 3, 2)
+    equal(len(far.updates('t2')), taught, 'updates of the table that was left')
+    far.stands()
+
+
+@check
+def pushed_and_never_acknowledged(trial):
+    """a table that is pushed and of which nothing is acknowledged is left too"""
+    node = node_of_b(trial, tables=(T1, T2))
+    far = connected(trial, node, manners=Manners(passed=('t2',)))
+    up_to_date(node)
+    time.sleep(0.4)
+    node.ask('track t2 1 add gpc0 1')
+    far.gets_row('t2', 1, (1,), 1)
+    begun = time.monotonic()
+    wait(lambda: node.shared('b', 't2')['left'] == 'yes', 4, 'the table is left')
+    between(1.5, time.monotonic() - begun, 3.2, 'seconds until it is left')
+    node.ask('track t1 1 add gpc0 1')
+    far.gets_row('t1', 1, (1,), 1)
+    far.close()
+    far = connected(trial, node)
+    far.gets_row('t2', 1, (1,), 2)
+    equal(node.shared('b', 't2')['left'], 'no', 'left on the next connection')
+
+
+@check
+def names_alone(trial):
+    """the first lesson of a table with server names goes alone, until it is acknowledged"""
+    node = node_of_b(trial, tables=NAMES)
+    far = connected(trial, node)
+    up_to_date(node)
+    for name in ('st', 'su'):
+        node.ask('track %s 1 name s1' % name)
+    far.close()
+    far = connected(trial, node, manners=Manners(acks='none'))
+    far.send(REQUEST)
+    wait(far.updates, 2, 'the first lesson')
+    time.sleep(0.5)
+    equal(len(far.updates()), 1, 'updates before an acknowledgement')
+    first = far.updates()[0]
+    far.send(acknowledgement(first.id, first.number))
+    wait(lambda: len(far.updates()) == 2, 1, 'the second lesson', far.shown)
+    second = far.updates()[1]
+    equal((first.name, second.name, first.id != second.id), (b's1', b's1', True), 'names, and tables apart')
+    far.send(acknowledgement(second.id, second.number))
+    far.gets(FINISHED, 2)
+
+
+@check
+def names_forgotten(trial):
+    """once a table with server names is left, no later lesson reads the names that its own wrote"""
+    node = node_of_b(trial, tables=NAMES)
+    far = connected(trial, node)
+    up_to_date(node)
+    for name in ('st', 'su'):
+        node.ask('track %s 1 name s1' % name)
+    far.close()
+    far = connected(trial, node, manners=Manners(acks='none'))
+    far.send(REQUEST)
+    wait(far.updates, 2, 'the first lesson')
+    far.manners = Manners(passed=(far.updates()[0].table.name.decode(),))
+    wait(lambda: len(far.updates()) == 2, 4, 'the second lesson', far.shown)
+    far.gets(PARTIAL, 2)
+    written = [one.data for one in far.came if one.kind[0] == 10 and one.kind[1] in (128, 133)]
+    require(all(b's1' in data for data in written) and len(written) == 2, 'both lessons write the name', written)
+
+
+@check
+def requests_without_end(trial):
+    """a far side that asks without end gets one resync a second at most"""
+    node = node_of_b(trial)
+    far = again(trial, node, connected(trial, node), Manners(acks='new'))
+    tracked(node, 't1', range(5))
+    begun = time.monotonic()
+    while time.monotonic() < begun + 4:
+        far.send(REQUEST * 50)
+        time.sleep(0.01)
+    ends = [moment for moment in far.controls(FINISHED)]
+    between(3, len(ends), 5, 'resyncs in 4 s')
+    require(all(later - before > 0.8 for before, later in zip(ends, ends[1:])), 'resyncs a second apart:', ends)
+    far.stands()
+    node.ask('track t1 9 add gpc0 9')
+    far.gets_row('t1', 9, (9,), 2)
+
+
+@check
+def taught_by_a_far_side(trial):
+    """a node takes the rows of a resync in, with their lives, names and rates"""
+    tables = ('table 1 /ints integer 4 60000 gpc0 gpc0_rate:10000', 'table 2 st string 33 0 server_key')
+    door, node = node_with_door(trial, KEEPS_QUIET, tables=tables)
+    far = door.far()
+    far.gets(REQUEST, 2)
+    ints = table(501, '/ints', types=('gpc0', 'gpc0_rate'), expire=60000, periods=(10000,))
+    st = table(502, 'st', 'string', types=('server_key',))
+    far.send(definition(ints) + update(ints, 4000, 7, (5, (100, 3, 1)), life=20000) + definition(st)
+             + update(st, 9, b'a', (), name=('write', 1, b's1')) + update(st, None, b'b', (), name=('read', 1)) + FINISHED)
+    far.gets(CONFIRMED, 2)
+    far.gets_ack(502, 10, 2)
+    equal(far.acks(), [(501, 4000), (502, 10)], 'acknowledgements')
+    row = node.ask('get /ints 7').split(' ')
+    now = int(node.head()['moment'])
+    between(now + 18000, int(row[2]), now + 20000, 'the end of the row')
+    start, current, previous = row[5].split('/')
+    equal((row[:2], row[3:5], current, previous), (['row', '1'], ['7', '5'], '3', '1'), 'the row')
+    between(now - 2100, int(start), now - 100, 'the start of the rate')
+    equal(node.ask('get st =b'), 'row 2 - =b s1', 'the row with a name')
+
+
+@check
+def tracks_meanwhile(trial):
+    """while a node learns, a track waits, and those behind it on its connection; what it learned is then the base of the change"""
+    door, node = node_with_door(trial, KEEPS_QUIET)
+    far = door.far()
+    far.gets(REQUEST, 2)
+    node.admins.send('track t1 7 add gpc0 1\nget t1 7\n')
+    other = node.admin()
+    equal(other.ask('get t1 7'), 'none', 'the row meanwhile, by another connection')
+    time.sleep(0.5)
+    equal(other.ask('get t1 7'), 'none', 'the row meanwhile')
+    there = table(9, 't1')
+    far.send(definition(there) + update(there, 1, 7, (50,)) + FINISHED)
+    equal(node.admins.line(2), 'reply 2 - 7 51 local', 'the track that waited')
+    equal(node.admins.line(2), 'row 1 - 7 51', 'the request behind it')
+
+
+@check
+def tracks_after_5_seconds(trial):
+    """after 5 s tracks are made, even if the node learns still"""
+    door, node = node_with_door(trial, KEEPS_QUIET)
+    door.far().gets(REQUEST, 2)
+    node.admins.send('track t1 7 add gpc0 1\n')
+    equal(node.admins.line(8), 'reply 1 - 7 1 local', 'the track')
+    between(4.9, time.monotonic() - node.started, 6.5, 'seconds after the start')

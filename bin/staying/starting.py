@@ -1,0 +1,102 @@
+"""How a node that stays starts: its configuration, its ports, its command line."""
+
+import socket
+import subprocess
+import time
+
+from peering.far import Door
+from peering.node import T1, Node, address
+from peering.trial import PATIENCE, check, equal, require
+
+NEEDED = b'node n\nlisten 127.0.0.1:%d\n' + T1.encode() + b'\n'
+
+
+def ends(trial, words, text, status, errors):
+    """Checks that the program ends so at once, and prints nothing on standard output."""
+    try:
+        run = subprocess.run([trial.program, *words], input=text, capture_output=True, timeout=PATIENCE, check=False)
+    except subprocess.TimeoutExpired:
+        require(False, 'it does not end: %s' % ' '.join(words), text[-200:])
+    wanted = status, b'', run.stderr if errors is None else errors
+    equal((run.returncode, run.stdout, run.stderr), wanted, '%s with %r' % (' '.join(words), text[-200:]))
+
+
+@check
+def refused_configurations(trial):
+    """a configuration that breaks a rule is refused, with --check and without"""
+    good = NEEDED % trial.ports.next()
+    for text, line in ((b'', None), (b'# nothing\n\n', None), (b'node n\n' + T1.encode() + b'\n', None), (good[:-1], 3), (good + b'nod m\n', 4),
+                       (good + b'node m\n', 4), (good + b'admin 10.0.0.1:9\n', 4), (good + b'admin 127.0.0.1:0\n', 4), (good + b'peer n\n', 4),
+                       (good + b'peer b localhost:9\n', 4), (good + b'size 2 5\n', 4), (good + b'\n#\nsize 1 0\n', 6),
+                       (good + b'moment 4294967296\n', 4), (good + b'table 2147483648 t2 integer 4 0\n', 4), (good + b'peer b\r\n', 4)):
+        errors = b'configuration: refused\n' if line is None else b'line %d: refused\n' % line
+        for words in (('run',), ('run', '--check')):
+            ends(trial, words, text, 1, errors)
+
+
+@check
+def checked_configurations(trial):
+    """--check of a configuration that keeps the rules opens no port and prints nothing"""
+    with socket.socket() as taken:
+        taken.bind(('127.0.0.1', trial.ports.next()))
+        taken.listen()
+        port = taken.getsockname()[1]
+        ends(trial, ('run', '--check'), NEEDED % port + b'admin 127.0.0.1:%d\npeer b 127.0.0.1:9\n' % port, 0, b'')
+
+
+@check
+def other_words(trial):
+    """other words than run and run --check are no command line"""
+    for words in (('run', 'more'), ('run', '--check', 'more'), ('run', '--config', 'x')):
+        ends(trial, words, NEEDED % trial.ports.next(), 2, None)
+
+
+def port_taken(trial, lines):
+    """Checks that a node ends with `device` and never connects to its peer."""
+    door = Door(trial)
+    ends(trial, ('run',), lines + T1.encode() + b'\npeer b %s\n' % address(door.port).encode(), 4, b'device\n')
+    time.sleep(0.3)
+    equal(door.tries, [], 'connections of a node that could not start')
+
+
+@check
+def taken_port(trial):
+    """a port that can't be had is a device fault, before any connection is made"""
+    with socket.socket() as taken:
+        taken.bind(('127.0.0.1', trial.ports.next()))
+        taken.listen()
+        port_taken(trial, b'node n\nlisten 127.0.0.1:%d\n' % taken.getsockname()[1])
+        port_taken(trial, b'node n\nlisten 127.0.0.1:%d\nadmin 127.0.0.1:%d\n' % (trial.ports.next(), taken.getsockname()[1]))
+
+
+@check
+def foreign_address(trial):
+    """an address that isn't this host's can't be had"""
+    port_taken(trial, b'node n\nlisten 203.0.113.1:%d\n' % trial.ports.next())
+
+
+@check
+def same_port_again(trial):
+    """a node that is killed and starts again at once has its ports again"""
+    node = Node(trial, peers=()).start()
+    node.ask('track t1 7 add gpc0 1')
+    node.kill()
+    node.again()
+    equal(node.ask('get t1 7'), 'none', 'the row')
+
+
+@check
+def end_of_input(trial):
+    """the end of standard input is no stop"""
+    node = Node(trial, peers=()).start()
+    time.sleep(0.5)
+    equal((node.ask('get t1 7'), node.child.poll()), ('none', None), 'the answer, and the status')
+
+
+@check
+def terminated(trial):
+    """SIGTERM ends a node at once"""
+    node = Node(trial, peers=()).start()
+    node.may_end = True
+    node.child.terminate()
+    equal(node.child.wait(5), -15, 'the status')
