@@ -1,4 +1,4 @@
--- What is answered by HTTP (RFC 9112; Prometheus, text format 0.0.4).
+-- What the admin port answers to HTTP requests (RFC 9112; Prometheus, text format 0.0.4).
 use Rattle.std.specs.Prelude.{◌++◌, ℕ, List, codes, length}
 use Rattle.std.specs.Fmt.{decimal}
 

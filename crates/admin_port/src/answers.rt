@@ -77,8 +77,8 @@ fn is_show(line: &[u8]) -> bool
     }
 }
 
-/// Appends the answer to a change of the row of `key`: the row that it stored, or the name of the refusal. Only want of memory
-/// has no name.
+/// Appends the answer to a change of the row of `key`: the row that the change stored, or the name of the refusal. Returns `Memory` if
+/// the change was refused for want of memory, which is no answer.
 pub fn push_tracked(
     text: &mut Vec<u8>,
     table: &TableDef,

@@ -1,4 +1,4 @@
-//! Pages that are answered by HTTP.
+//! The pages with which the admin port answers HTTP requests.
 ghost use Rattle.std.specs.Prelude.{◌≡◌, ◌++◌, OnOk, codes};
 ghost use Rattle.admin_port.specs.Pages.{missing_page, page_answer, page_head};
 

@@ -129,7 +129,7 @@ stays_out us resyncs taught s e (events.Purge now) reply below (granted, answer,
 
 -- ---- a copy for the session
 
--- a last number that is no more than a bound
+-- the last number is at most `bound` if the number of each update is, and `least` too
 pub last_most : (bound least : ℕ) (us : List Update) → AllByRecursion (λ (u : Update). u.number ≤ bound) us → least ≤ bound → last_number least us ≤ bound
 last_most bound least [] all within = within
 last_most bound least (u ∷ us) (first, rest) within = last_most bound u.number us rest first
