@@ -29,3 +29,4 @@ pub mod ReadsNeedSlots
 pub mod AcceptedIsShortest
 pub mod LinkPlaces
 pub mod NamesToKeep
+pub mod FewerNames

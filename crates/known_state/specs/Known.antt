@@ -34,6 +34,10 @@ AreOwn roster ds = AllByRecursion (λ d. table_at roster d.id ≡ Some d) ds
 abbrev pub fresh_of : List Definition → KnownState
 fresh_of roster = record { roster = roster; state = record { received = nothing_received; last_numbers = []; slots = no_names } }
 
+-- the same knowledge without the names: no slot is known to hold one
+abbrev pub without_names : KnownState → KnownState
+without_names k = record { roster = k.roster; state = record { received = k.state.received; last_numbers = k.state.last_numbers; slots = no_names } }
+
 abbrev pub is_in : ℕ → List ℕ → Bool
 is_in id ids = list_any (λ other. other == id) ids
 

@@ -8,3 +8,4 @@ pub mod Cost
 pub mod Requests
 pub mod Lessons
 pub mod Plans
+pub mod FewerNames

@@ -10,7 +10,7 @@ ghost use Rattle.peers_msg.specs.Received.{selected_table};
 ghost use Rattle.known_state.specs.Effects.{refusal_of};
 ghost use Rattle.known_state.specs.State.{Step, IsOwn};
 ghost use Rattle.known_state.specs.declared.effect.Effect.TheVariants as effects;
-ghost use Rattle.known_state.specs.Known.{known_of, KnownState, AreOwn, fresh_of, build_fault, built, Refuses, as_step_error, switch_refusal, update_refusal, IsTakenBy, IsLegalEffect, step_error_name};
+ghost use Rattle.known_state.specs.Known.{known_of, KnownState, AreOwn, fresh_of, without_names, build_fault, built, Refuses, as_step_error, switch_refusal, update_refusal, IsTakenBy, IsLegalEffect, step_error_name};
 ghost use Rattle.known_state.specs.LastNumbers.{AreRising};
 ghost use Rattle.known_state.specs.declared.known.KnownError.{KnownError};
 ghost use Rattle.known_state.specs.declared.known.KnownError.TheVariants as build_errors;
@@ -236,6 +236,14 @@ impl Known {
         ensures { result.now ≡ self.now.state.slots }
     {
         self.state.slots()
+    }
+
+    /// Forgets the names: no slot is known to hold one any more, so a lesson writes each name before it reads it. Doesn't
+    /// allocate.
+    pub fn forget_names(&mut self)
+        ensures { self.new ≡ without_names self.old }
+    {
+        self.state.forget_names();
     }
 
     /// Applies one message if it is legal in this state: it makes the step that the definition of `Step` says, and a

@@ -4,6 +4,7 @@ ghost use Rattle.std.specs.Prelude.{◌≡◌, ◌≤◌, ◌+◌, ◌++◌, ℕ
 ghost use Rattle.std.specs.List.{AllByRecursion};
 ghost use Rattle.table_types.specs.declared.update.Update.{Update};
 ghost use Rattle.table_types.specs.Rosters.{roster_fault, table_at};
+ghost use Rattle.table_types.specs.SlotIds.{slot_count};
 ghost use Rattle.table_types.specs.Tables.{Definition};
 ghost use Rattle.peers_msg.specs.declared.message.Message.{Message};
 ghost use Rattle.peers_msg.specs.Spelling.{stream_of, size_of_all};
@@ -13,7 +14,8 @@ ghost use Rattle.peers_msg.specs.declared.name_field.NameField.{NameField};
 ghost use Rattle.known_state.specs.State.{State, Step, Teaches, Named, IsOwn, Legal, fresh, reads_empty, name_of, slots_after};
 ghost use Rattle.known_state.specs.LastNumbers.{last_of, AreRising};
 ghost use Rattle.known_state.specs.declared.known.StepError.{StepError};
-ghost use Rattle.known_state.specs.Known.{KnownState, AreOwn, build_fault, built, is_in, Refuses, known_of};
+ghost use Rattle.known_state.specs.Known.{KnownState, AreOwn, build_fault, built, is_in, Refuses, known_of, without_names};
+ghost use Rattle.known_state.specs.FewerNames.{LacksNames};
 ghost use Rattle.known_state.specs.Requests.{read_savings, reads_of, requests_of};
 ghost use Rattle.known_state.specs.Cost.{IsOfRoster, Knowledge, Pays, Saves, cost, full, knowledge_of};
 ghost use Rattle.known_state.specs.Shortest.{Shortest};
@@ -103,6 +105,15 @@ pub fn what_is_known_is_enough()
         AreOwn roster s.received.tables → AreRising s.last_numbers → Legal roster (known_of roster s).state ms us after →
         (e : State) × Legal roster s ms us e × AreOwn roster e.received.tables × AreRising e.last_numbers
         × (known_of roster e ≡ record { roster = roster; state = after }) }
+{}
+
+/// Knowing fewer names is enough. Messages that are legal from a state are legal from one that differs only in that its slots
+/// hold more names; they carry the same updates, and lead to such a state again. So lessons stay legal if the names are
+/// forgotten (`Known::forget_names`), although the learner still holds them.
+pub fn fewer_names_are_enough()
+    ensures legal { (roster : List Definition) (known s after : State) (ms : List Message) (us : List Update) →
+        LacksNames known s → Legal roster known ms us after → (e : State) × Legal roster s ms us e × LacksNames after e }
+    ensures forgotten { (k : KnownState) → length k.state.slots ≡ slot_count → LacksNames (without_names k).state k.state }
 {}
 
 /// Last numbers are in ascending order of id if nothing was received, and each step keeps them so.

@@ -21,9 +21,9 @@ pub use effect::{Effect, Refusal, ResolvedUpdate, effects_are_steps};
 pub use known::{Known, KnownError, StepError};
 pub use last_numbers::LastNumbers;
 pub use laws::{
-    a_list_pays, a_step_pays, full_adds_up, numbers_rise, one_lesson, one_name, one_step,
-    reads_pay, refused_is_no_step, resuming_gives_back, steps_fit, what_is_built,
-    what_is_known_is_enough,
+    a_list_pays, a_step_pays, fewer_names_are_enough, full_adds_up, numbers_rise, one_lesson,
+    one_name, one_step, reads_pay, refused_is_no_step, resuming_gives_back, steps_fit,
+    what_is_built, what_is_known_is_enough,
 };
 pub use plan_laws::{
     accepted_is_shortest, carried_is_of_the_roster, fitting_prices_are_tight, links_go_forward,

@@ -2,7 +2,7 @@
 
 ghost use Rattle.std.specs.Prelude.{◌≡◌, ◌≢◌, ◌-◌, true, false, None, Some, Err, IfOk, IfErr, IfSome, OnOk, OnErr, option_copied, option_map, slice_set};
 ghost use Rattle.table_types.specs.Names.{is_name};
-ghost use Rattle.dict_slots.specs.Slots.{slot_at};
+ghost use Rattle.dict_slots.specs.Slots.{no_names, slot_at};
 ghost use Rattle.peers_msg.specs.Borrowed.{owned_name, is_named};
 ghost use Rattle.known_state.specs.LastNumbers.{last_of};
 ghost use Rattle.known_state.specs.State.{fresh, resolved_number, reads_empty, name_of};
@@ -262,6 +262,13 @@ impl State {
         self.last_numbers.set(update.table, update.number)?;
         write(&mut self.slots, update.written);
         Ok(())
+    }
+
+    /// Empties the slots of the dictionary of server names. Doesn't allocate.
+    pub(crate) fn forget_names(&mut self)
+        ensures { self.new ≡ record self.old { slots = no_names } }
+    {
+        self.slots = Slots::new(self.alloc);
     }
 
     /// Returns an equal state.
