@@ -20,4 +20,13 @@ mod StandingWork
 mod SilentTicks
 mod StandingEnds
 mod StandingFinish
+mod NamesKept
 mod TickGives
+mod StandingTimes
+mod LeftForGood
+mod AsksFree
+mod StaysOut
+mod ReopensApart
+mod OnlyTurnsCopy
+mod StandingOnce
+mod SomeStand

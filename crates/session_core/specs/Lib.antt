@@ -9,3 +9,4 @@ pub mod Cutting
 pub mod Paces
 pub mod Standing
 pub mod StandingRuns
+pub mod StandingSteps

@@ -3,6 +3,7 @@
 use Rattle.std.specs.Prelude.{ℕ, ◌-◌, Bool, true, false, ◌==◌, ◌&&◌, nat_le, nat_lt, List, [], ◌∷◌, length, map, slice_get, Option, Some, None, is_none, if◌then◌else◌}
 use Rattle.std.specs.List.{list_any}
 use Rattle.table_types.specs.Tables.{Definition}
+use Rattle.table_types.specs.Updates.{stores_name}
 use Rattle.table_types.specs.declared.update.Update.{Update}
 use Rattle.session_core.specs.declared.action.Action.{Action}
 use Rattle.session_core.specs.declared.action.Action.TheVariants as actions
@@ -40,7 +41,7 @@ has_passed time since now = nat_le time (now - since)
 
 -- nothing is taught yet
 abbrev pub progress_of : ℕ → List Definition → List Progress
-progress_of now roster = map (λ d. record { table = d.id; last = 0; since = now; greatest = 0; acknowledged = None; ahead = false }) roster
+progress_of now roster = map (λ d. record { table = d.id; names = stores_name d; last = 0; since = now; greatest = 0; acknowledged = None; ahead = false }) roster
 
 -- the number of a batch: that of its last update
 abbrev pub number_of : Option Update → ℕ
@@ -55,7 +56,7 @@ larger a b = if nat_lt a b then b else a
 
 -- a batch with this number was copied from `table`
 abbrev pub with_copy : ℕ → ℕ → Progress → Progress
-with_copy number now p = record { table = p.table; last = number; since = now; greatest = larger p.greatest number; acknowledged = p.acknowledged; ahead = p.ahead }
+with_copy number now p = record { table = p.table; names = p.names; last = number; since = now; greatest = larger p.greatest number; acknowledged = p.acknowledged; ahead = p.ahead }
 
 abbrev pub copied_in : ℕ → ℕ → ℕ → List Progress → List Progress
 copied_in table number now ps = map (λ p. if p.table == table then with_copy number now p else p) ps
@@ -64,8 +65,8 @@ copied_in table number now ps = map (λ p. if p.table == table then with_copy nu
 abbrev pub with_ack : ℕ → Progress → Progress
 with_ack number p =
     if nat_le number p.greatest
-    then record { table = p.table; last = p.last; since = p.since; greatest = p.greatest; acknowledged = Some number; ahead = p.ahead }
-    else record { table = p.table; last = p.last; since = p.since; greatest = p.greatest; acknowledged = p.acknowledged; ahead = true }
+    then record { table = p.table; names = p.names; last = p.last; since = p.since; greatest = p.greatest; acknowledged = Some number; ahead = p.ahead }
+    else record { table = p.table; names = p.names; last = p.last; since = p.since; greatest = p.greatest; acknowledged = p.acknowledged; ahead = true }
 
 abbrev pub acknowledged_in : ℕ → ℕ → List Progress → List Progress
 acknowledged_in table number ps = map (λ p. if p.table == table then with_ack number p else p) ps
@@ -108,6 +109,21 @@ is_overdue now ps s = s.out && list_any (λ p. p.table == s.table && is_none p.a
 abbrev pub tables_to_leave : ℕ → List Progress → List Share → List ℕ
 tables_to_leave now ps [] = []
 tables_to_leave now ps (s ∷ ss) = if is_overdue now ps s then s.table ∷ tables_to_leave now ps ss else tables_to_leave now ps ss
+
+-- ---- tables that store the server's name
+
+abbrev pub stores_names : ℕ → List Progress → Bool
+stores_names table ps = list_any (λ p. p.table == table && p.names) ps
+
+-- A batch of a table that stores the server's name is outstanding, and the remote peer has never acknowledged the table: it may
+-- lack the table, and drop the names that the batch writes.
+abbrev pub may_lose_names : List Progress → Share → Bool
+may_lose_names ps s = s.out && list_any (λ p. p.table == s.table && (p.names && is_none p.acknowledged)) ps
+
+-- the table stores the server's name, and is not to read names that may be lost
+abbrev pub awaits_names : Option ℕ → List Progress → List Share → Bool
+awaits_names None ps ss = false
+awaits_names (Some table) ps ss = stores_names table ps && list_any (may_lose_names ps) ss
 
 -- ---- the pace
 

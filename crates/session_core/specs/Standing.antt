@@ -4,7 +4,7 @@ use Rattle.std.specs.Prelude.{◌≡◌, ℕ, Bool, true, false, not, ◌==◌, 
 use Rattle.std.specs.List.{list_any}
 use Rattle.table_types.specs.declared.copies.Settled.TheVariants as settles
 use Rattle.peers_msg.specs.declared.control.Control.TheVariants as controls
-use Rattle.known_state.specs.Known.{KnownState}
+use Rattle.known_state.specs.Known.{KnownState, without_names}
 use Rattle.session_core.specs.declared.action.Action.{Action}
 use Rattle.session_core.specs.declared.action.Action.TheVariants as actions
 use Rattle.session_core.specs.declared.event.Event.{Event}
@@ -17,9 +17,9 @@ use Rattle.session_core.specs.Phases.{Phase}
 use Rattle.session_core.specs.Phases as phases
 use Rattle.session_core.specs.Shares.{any_out, all_quiet}
 use Rattle.session_core.specs.Actions.{reopens, sends_control}
-use Rattle.session_core.specs.Courses.{Course, teaching_anew, ack_received, finished}
+use Rattle.session_core.specs.Courses.{Course, teaching_anew, ack_received, finished, table_to_ask}
 use Rattle.session_core.specs.Sessions.{SessionState, Goes, seen, in_phase, going, ended, is_asked}
-use Rattle.session_core.specs.Paces.{Pace, heartbeat_time, silence_time, push_time, has_passed, pace_at, renewed, is_rested, copied_in, last_number, noted, is_ahead, inferred, tables_to_leave}
+use Rattle.session_core.specs.Paces.{Pace, heartbeat_time, silence_time, push_time, has_passed, pace_at, renewed, is_rested, copied_in, last_number, noted, is_ahead, inferred, tables_to_leave, awaits_names}
 
 pub record StandingState : Type 0 where
   pub session : SessionState
@@ -130,12 +130,12 @@ finishing c = finished_if (c.teaching && all_quiet c.shares) c
 
 -- What a turn of an open session does. If a resync was requested, and the last one began long enough ago, it begins one as
 -- soon as no batch is outstanding, and copies none before. Otherwise it copies; but it pushes nothing right after the opening,
--- since the remote peer may still request a resync then.
+-- since the remote peer may still request a resync then. Nor does it copy from a table that awaits the names of another one.
 abbrev pub task_at : ℕ → Pace → Course → Task
 task_at now p c =
     if p.requested && is_rested p.reopened now
     then (if any_out c.shares then tasks.Rest else tasks.Begin)
-    else (if c.teaching || has_passed push_time p.opened now then tasks.Copy else tasks.Rest)
+    else (if (c.teaching || has_passed push_time p.opened now) && not (awaits_names (table_to_ask c) p.progress c.shares) then tasks.Copy else tasks.Rest)
 
 -- the session is reopened in each table that wasn't left, and teaching begins
 abbrev pub begun_resync : Course → List Action × Course
@@ -191,6 +191,11 @@ abbrev pub leaving : List ℕ → Course → List Action × Course
 leaving [] c = ([], c)
 leaving (table ∷ tables) c = finishing (without_tables (table ∷ tables) c)
 
+-- The remote peer may lack these tables, and have dropped the names that their batches wrote. So no name is known from then on.
+abbrev pub forgetting : List ℕ → SessionState → SessionState
+forgetting [] s = s
+forgetting (table ∷ tables) s = record { phase = s.phase; known = without_names s.known; fault = s.fault; confirmed = s.confirmed }
+
 abbrev pub any_left : List ℕ → Bool
 any_left [] = false
 any_left (table ∷ tables) = true
@@ -200,7 +205,7 @@ heartbeats true = sends_control controls.Heartbeat ∷ []
 heartbeats false = []
 
 -- At a tick, a session that has received nothing for too long closes. Any other open session leaves the tables `left` first,
--- in which it is to be closed and opened anew, and then asks for the actions `acts`: the end of a resync, if only these tables
+-- in which it is to be closed and opened anew, forgets the names if there are any, and then asks for the actions `acts`: the end of a resync, if only these tables
 -- held it up, and a heartbeat, if it has sent nothing for too long.
 abbrev pub TicksIn : Bool → Phase → StandingState → ℕ → List ℕ → List Action → StandingState → Type 0
 TicksIn true phase s now left acts e =
@@ -208,7 +213,7 @@ TicksIn true phase s now left acts e =
 TicksIn false (phases.Open c) s now left acts e =
     (left ≡ tables_to_leave now s.pace.progress c.shares)
     × (acts ≡ (leaving left c).0 ++ heartbeats (has_passed heartbeat_time s.pace.sent now))
-    × (e.session ≡ going s.session (leaving left c).1)
+    × (e.session ≡ going (forgetting left s.session) (leaving left c).1)
     × (e.pace ≡ record s.pace { sent = renewed (list_any is_send acts) now s.pace.sent; left = any_left left || s.pace.left })
 TicksIn false phase s now left acts e = (left ≡ []) × (acts ≡ []) × (e ≡ s)
 
@@ -217,6 +222,11 @@ abbrev pub Ticks : StandingState → ℕ → List ℕ → List Action → Standi
 Ticks s now left acts e =
     (is_asked s.session.phase events.Turn ≡ true)
     × TicksIn (has_passed silence_time s.pace.heard now) s.session.phase s now left acts e
+
+-- ---- bytes that the session didn't ask for
+
+abbrev pub sent_at : ℕ → StandingState → StandingState
+sent_at now s = record { session = s.session; pace = record s.pace { sent = now } }
 
 -- ---- a node that becomes up to date
 

@@ -39,7 +39,9 @@ pub use laws::{
 pub use session::Session;
 pub use standing::Standing;
 pub use standing_laws::{
-    a_resync_has_work_left, acknowledgements_were_received, standing_resyncs_end_taught,
+    a_batch_stays_out, a_left_table_stays_left, a_resync_has_work_left, a_standing_step_exists,
+    a_standing_step_is_unique, acknowledgements_were_received, heartbeats_keep_time,
+    no_name_is_lost, only_free_tables_are_asked, resyncs_begin_apart, standing_resyncs_end_taught,
     ticks_change_nothing_else, what_a_tick_gives,
 };
 pub use state::State;

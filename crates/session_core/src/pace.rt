@@ -1,12 +1,13 @@
 //! The times of a session that stays.
 
-ghost use Rattle.std.specs.Prelude.{◌≡◌, ◌||◌, Some, true, false, not, IfOk};
+ghost use Rattle.std.specs.Prelude.{◌≡◌, ◌||◌, ◌&&◌, Some, true, false, not, IfOk};
 ghost use Rattle.session_core.specs.Shares.{any_out};
-ghost use Rattle.session_core.specs.Paces.{pace_at, renewed, is_rested, has_passed, silence_time, heartbeat_time, push_time};
+ghost use Rattle.session_core.specs.Paces.{pace_at, renewed, is_rested, has_passed, silence_time, heartbeat_time, push_time, awaits_names};
+ghost use Rattle.session_core.specs.Courses.{table_to_ask};
 ghost use Rattle.session_core.specs.Standing.{task_at};
 
 use crate::course::Course;
-use crate::progress::{Progress, progress_of};
+use crate::progress::{Progress, awaits_names, progress_of};
 use crate::share::any_out;
 use crate::times;
 use crate::times::has_passed;
@@ -133,6 +134,18 @@ impl Pace {
         }
     }
 
+    /// Returns whether the next table may be asked for a batch.
+    fn may_copy(&self, course: &Course, now: u64) -> bool
+        ensures { result ≡ ((course.now.teaching || has_passed push_time self.now.opened now) && not (awaits_names (table_to_ask course.now) self.now.progress course.now.shares)) }
+    {
+        (course.teaching || has_passed(times::PUSH, self.opened, now))
+            && !awaits_names(
+                self.progress.as_slice(),
+                course.table_to_ask(),
+                course.shares.as_slice(),
+            )
+    }
+
     /// Returns what a turn does.
     pub(crate) fn task(&self, course: &Course, now: u64) -> Task
         ensures { result ≡ task_at now self.now course.now }
@@ -143,7 +156,7 @@ impl Pace {
             } else {
                 Task::Begin
             }
-        } else if course.teaching || has_passed(times::PUSH, self.opened, now) {
+        } else if self.may_copy(course, now) {
             Task::Copy
         } else {
             Task::Rest

@@ -1,7 +1,8 @@
 //! How far the remote peer has acknowledged what it was taught.
 
 ghost use Rattle.std.specs.Prelude.{◌≡◌, IfOk};
-ghost use Rattle.session_core.specs.Paces.{progress_of, last_number, copied_in, acknowledged_in, ack_in, noted, is_ahead, is_number, inferred, is_overdue, tables_to_leave};
+ghost use Rattle.session_core.specs.Paces.{progress_of, last_number, copied_in, acknowledged_in, ack_in, noted, is_ahead, is_number, inferred, is_overdue, tables_to_leave, stores_names, may_lose_names, awaits_names};
+ghost use Rattle.std.specs.List.{list_any};
 
 use crate::action::Action;
 use crate::share::Share;
@@ -15,6 +16,8 @@ use table_types::{Batch, Memory, TableDef};
 pub(crate) struct Progress {
     /// The table's id.
     pub(crate) table: u64,
+    /// Whether the table stores the server's name.
+    pub(crate) names: bool,
     /// The number of the latest batch: that of its last update.
     pub(crate) last: u32,
     /// The moment at which that batch was copied.
@@ -39,6 +42,7 @@ pub(crate) fn progress_of(
     for table in tables {
         progress.push(Progress {
             table: table.id(),
+            names: table.stores_name(),
             last: 0,
             since: now,
             greatest: 0,
@@ -122,6 +126,18 @@ pub(crate) fn is_ahead(progress: &[Progress], table: u64) -> bool
     false
 }
 
+/// Returns whether the remote peer acknowledged a number of some table above every one that it was taught.
+pub(crate) fn any_ahead(progress: &[Progress]) -> bool
+    ensures { result ≡ list_any (λ p. p.ahead) progress.now }
+{
+    for entry in progress {
+        if entry.ahead {
+            return true;
+        }
+    }
+    false
+}
+
 /// Returns whether the remote peer acknowledged the number of the latest batch last.
 fn is_repeated(entry: &Progress) -> bool
     ensures { result ≡ is_number entry.now.acknowledged entry.now.last }
@@ -163,6 +179,56 @@ fn is_overdue(progress: &[Progress], share: &Share, now: u64) -> bool
         }
     }
     false
+}
+
+/// Returns whether the table stores the server's name.
+fn stores_names(progress: &[Progress], table: u64) -> bool
+    ensures { result ≡ stores_names table progress.now }
+{
+    for entry in progress {
+        if entry.table == table && entry.names {
+            return true;
+        }
+    }
+    false
+}
+
+/// Returns whether a batch of the table is outstanding and may write names that are lost, since the remote peer has never
+/// acknowledged the table.
+fn may_lose_names(progress: &[Progress], share: &Share) -> bool
+    ensures { result ≡ may_lose_names progress.now share.now }
+{
+    if !share.out {
+        return false;
+    }
+    for entry in progress {
+        if entry.table == share.table && entry.names && entry.acknowledged.is_none() {
+            return true;
+        }
+    }
+    false
+}
+
+/// Returns whether names may be lost that an outstanding batch writes.
+fn any_may_lose_names(progress: &[Progress], shares: &[Share]) -> bool
+    ensures { result ≡ list_any (may_lose_names progress.now) shares.now }
+{
+    for share in shares {
+        if may_lose_names(progress, share) {
+            return true;
+        }
+    }
+    false
+}
+
+/// Returns whether the table to ask, if there is one, awaits the acknowledgement of names that it may read.
+pub(crate) fn awaits_names(progress: &[Progress], asked: Option<u64>, shares: &[Share]) -> bool
+    ensures { result ≡ awaits_names asked progress.now shares.now }
+{
+    match asked {
+        Some(table) => { stores_names(progress, table) && any_may_lose_names(progress, shares) }
+        None => false,
+    }
 }
 
 /// Returns the ids of the tables that are overdue.

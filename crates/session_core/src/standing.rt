@@ -3,7 +3,8 @@
 ghost use Rattle.std.specs.Prelude.{◌≡◌, IfOk, IfErr, OnErr};
 ghost use Rattle.session_core.specs.declared.event.Event.TheVariants as events;
 ghost use Rattle.session_core.specs.Sessions.{Refuses, ended, state_of};
-ghost use Rattle.session_core.specs.Standing.{Stands, Ticks, stays_from, caught_up};
+ghost use Rattle.session_core.specs.Standing.{Stands, Ticks, stays_from, caught_up, sent_at};
+ghost use Rattle.std.specs.List.{list_any};
 
 use crate::action::Action;
 use crate::controls::Controls;
@@ -11,6 +12,7 @@ use crate::error::SessionError;
 use crate::event::Event;
 use crate::pace::Pace;
 use crate::phase::Stage;
+use crate::progress::any_ahead;
 use crate::session::Session;
 use crate::state::State;
 use crate::stay::{Stay, Ticked};
@@ -27,7 +29,9 @@ use table_types::{Memory, Moment};
 /// - Once a batch is written, it counts as acknowledged if its last number is the one that the remote peer acknowledged
 ///   last on this connection.
 /// - At a tick, it leaves each table that the remote peer has never acknowledged and of which a batch, copied at least 2 s
-///   ago, is still out. From then on resyncs end as partial.
+///   ago, is still out. From then on resyncs end as partial. It forgets the names that it has taught, which the remote peer
+///   may have dropped.
+/// - It copies no batch of a table that stores the server's name while the first one of another such table is out.
 /// - An acknowledgement that the table refuses settles nothing, unless its number is above every one taught on this
 ///   connection, which ends the session.
 /// - It begins a requested resync at a turn, and not within a second of the one before. It pushes nothing in the first
@@ -95,6 +99,13 @@ impl Standing {
         self.stay.machine.course.controls
     }
 
+    /// Returns whether the remote peer acknowledged a number above every one that it was taught on this connection.
+    pub fn is_ahead(&self) -> bool
+        ensures { result ≡ list_any (λ p. p.ahead) self.now.pace.progress }
+    {
+        any_ahead(self.stay.pace.progress.as_slice())
+    }
+
     /// Returns the actions to perform at `event`, in order. Refuses events as a `Session` does.
     pub fn on(&mut self, event: Event, now: Moment) -> Result<Vec<Action>, SessionError>
         ensures stands { IfOk result (λ acts. Stands self.old now event acts.items self.new) }
@@ -121,6 +132,13 @@ impl Standing {
             self.stay.machine.stage = Stage::Ended;
         }
         ticked
+    }
+
+    /// Notes that this node has sent bytes for which the session didn't ask.
+    pub fn note_sent(&mut self, now: Moment)
+        ensures { self.new ≡ sent_at now self.old }
+    {
+        self.stay.pace.sent = now.milliseconds();
     }
 
     /// Notes that this node is up to date: from now on the session's resyncs end as finished, unless a tick left a table.

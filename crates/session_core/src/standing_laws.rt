@@ -1,16 +1,21 @@
 //! Laws of sessions that stay, which hold whatever the program does.
 
-ghost use Rattle.std.specs.Prelude.{◌≡◌, ◌⊎◌, ◌&&◌, not, ℕ, true, false, ◌∷◌, ◌++◌, [], List};
+ghost use Rattle.std.specs.Prelude.{◌≡◌, ◌≢◌, ◌≤◌, ◌<◌, ◌+◌, ◌⊎◌, ◌&&◌, not, ℕ, true, false, ◌∷◌, ◌++◌, [], List};
 ghost use Rattle.std.specs.List.{list_any, list_all, AllByRecursion};
 ghost use Rattle.table_types.specs.Tables.{Definition};
 ghost use Rattle.session_core.specs.declared.action.Action.{Action};
 ghost use Rattle.session_core.specs.declared.event.Event.{Event};
 ghost use Rattle.session_core.specs.Phases as phases;
+ghost use Rattle.session_core.specs.Shares.{is_out};
 ghost use Rattle.session_core.specs.Courses.{Course};
-ghost use Rattle.session_core.specs.Paces.{has_passed, heartbeat_time, silence_time, tables_to_leave};
-ghost use Rattle.session_core.specs.Runs.{HasNothingLeft, HasNothingOut, ends_resync};
-ghost use Rattle.session_core.specs.Standing.{StandingState, Stands, Ticks, is_open};
-ghost use Rattle.session_core.specs.StandingRuns.{Happening, At, Happens, Lasts, BeginsToStay, HasWork, IsIdle, IsSameButSent, acknowledges, acts_of, beats, handed, is_close, is_finish, is_heartbeat, is_of_tick, leaves_any, was_acknowledged, was_left, without_ticks};
+ghost use Rattle.session_core.specs.Paces.{has_passed, heartbeat_time, silence_time, resync_time, is_rested, tables_to_leave, stores_names, may_lose_names};
+ghost use Rattle.session_core.specs.declared.event.Event.TheVariants as events;
+ghost use Rattle.known_state.specs.Known.{without_names};
+ghost use Rattle.session_core.specs.Sessions.{is_asked};
+ghost use Rattle.session_core.specs.Runs.{BringsBytes, HasNothingLeft, HasNothingOut, ends_resync, copies};
+ghost use Rattle.session_core.specs.Standing.{StandingState, Stands, Ticks, is_open, is_reopen, shared};
+ghost use Rattle.session_core.specs.StandingSteps.{HearsBytes, IsSince, SendsAt, is_about, is_quiet, sent_by, settles_all};
+ghost use Rattle.session_core.specs.StandingRuns.{Happening, At, Happens, Lasts, BeginsToStay, HasWork, IsIdle, IsSameButSent, acknowledges, acts_of, beats, handed, is_close, is_finish, is_heartbeat, is_of_tick, leaves, leaves_any, was_acknowledged, was_left, without_ticks};
 
 /// A tick closes exactly if nothing has been received for 10 s. Any other tick of an open session leaves exactly the tables
 /// that the remote peer has never acknowledged and of which a batch, copied at least 2 s ago, is still out. A tick sends a
@@ -66,4 +71,91 @@ pub fn standing_resyncs_end_taught()
     ensures finished { (roster : List Definition) (begun s e : StandingState) (steps : List Happening) (one : Happening) →
         BeginsToStay roster begun → Lasts begun steps s → Happens s one e → list_any is_finish (acts_of one) ≡ true →
         list_any leaves_any (steps ++ (one ∷ [])) ≡ false }
+{}
+
+/// No name is lost with a table that the remote peer lacks. A turn copies no batch of a table that stores the server's name
+/// while the batch of a table is out that writes such names too and that the remote peer has never acknowledged. Once a tick has
+/// left tables, no slot is known to hold a name, so later lessons write each name before they read it.
+pub fn no_name_is_lost()
+    ensures alone { (s e : StandingState) (c : Course) (now : ℕ) (acts : List Action) (table : ℕ) →
+        s.session.phase ≡ phases.Open c → Stands s now events.Turn acts e → copies table acts ≡ true →
+        (stores_names table s.pace.progress && list_any (may_lose_names s.pace.progress) c.shares) ≡ false }
+    ensures forgotten { (s e : StandingState) (now table : ℕ) (tables : List ℕ) (acts : List Action) →
+        Ticks s now (table ∷ tables) acts e → e.session.known ≡ without_names s.session.known }
+{}
+
+/// Heartbeats keep their time. When bytes were last sent is the moment of the last step that sent some. After a tick none is
+/// owed by a session that is open then. A tick sends one only 3 s after whatever was sent before, another heartbeat included,
+/// if nothing in between happened at an earlier moment. And until d ms after such a tick, under the same premise, less than
+/// 3 s and d ms have passed since bytes were last sent: so a session that ticks every d ms is never silent for longer.
+pub fn heartbeats_keep_time()
+    ensures sent { (s e : StandingState) (one : Happening) → Happens s one e → e.pace.sent ≡ sent_by one s.pace.sent }
+    ensures fresh { (s e : StandingState) (now : ℕ) (left : List ℕ) (acts : List Action) → Ticks s now left acts e →
+        is_open e.session.phase ≡ true → has_passed heartbeat_time e.pace.sent now ≡ false }
+    ensures apart { (s t u e : StandingState) (one : Happening) (steps : List Happening) (m n : ℕ) (left : List ℕ) (acts : List Action) →
+        Happens s one t → SendsAt m one → Lasts t steps u → AllByRecursion (IsSince m) steps → Ticks u n left acts e →
+        list_any is_heartbeat acts ≡ true → m + heartbeat_time ≤ n }
+    ensures silence { (s t u : StandingState) (steps : List Happening) (m n d : ℕ) (left : List ℕ) (acts : List Action) →
+        Ticks s m left acts t → is_open t.session.phase ≡ true → Lasts t steps u → AllByRecursion (IsSince m) steps → n ≤ m + d →
+        n < u.pace.sent + (heartbeat_time + d) }
+{}
+
+/// Resyncs begin a second apart. A resync begins only if none began within the last second. And in every run from the
+/// beginning, two events that reopen tables are at least 1 s apart, if nothing between them happened before the first.
+pub fn resyncs_begin_apart()
+    ensures rested { (s e : StandingState) (now : ℕ) (event : Event) (acts : List Action) → Stands s now event acts e →
+        e.pace.reopened ≢ s.pace.reopened → is_rested s.pace.reopened now ≡ true }
+    ensures apart { (roster : List Definition) (begun s t u e : StandingState) (before between : List Happening) (m n : ℕ) (first last : Event) (acts given : List Action) →
+        BeginsToStay roster begun → Lasts begun before s → Stands s m first acts t → list_any is_reopen acts ≡ true →
+        Lasts t between u → AllByRecursion (IsSince m) between → Stands u n last given e → list_any is_reopen given ≡ true →
+        m + resync_time ≤ n }
+{}
+
+/// A table that was left is left for good. In every run, once a tick has left a table, no later step copies from it, reopens
+/// the session in it or passes on an acknowledgement of it. Rows of it that the remote peer teaches may still be learned.
+pub fn a_left_table_stays_left()
+    ensures { (s t e : StandingState) (steps : List Happening) (one : Happening) (table : ℕ) → Lasts s steps t →
+        was_left table steps ≡ true → Happens t one e → list_any (is_about table) (acts_of one) ≡ false }
+{}
+
+/// Only free tables are asked for a batch, and only by a turn. In every run from the beginning, nothing is copied from a table
+/// of which a batch is out nor, in a resync, from one that has answered, since it began, that it has nothing to teach.
+pub fn only_free_tables_are_asked()
+    ensures turn { (s e : StandingState) (now : ℕ) (event : Event) (acts : List Action) (table : ℕ) → Stands s now event acts e →
+        copies table acts ≡ true → event ≡ events.Turn }
+    ensures out { (roster : List Definition) (begun s e : StandingState) (steps : List Happening) (c : Course) (now : ℕ) (event : Event) (acts : List Action) (table : ℕ) →
+        BeginsToStay roster begun → Lasts begun steps s → s.session.phase ≡ phases.Open c → Stands s now event acts e →
+        copies table acts ≡ true → is_out table c.shares ≡ false }
+    ensures quiet { (roster : List Definition) (begun s e : StandingState) (steps : List Happening) (c : Course) (now : ℕ) (event : Event) (acts : List Action) (table : ℕ) →
+        BeginsToStay roster begun → Lasts begun steps s → s.session.phase ≡ phases.Open c → Stands s now event acts e →
+        copies table acts ≡ true → c.teaching ≡ true → is_quiet table c.shares ≡ false }
+{}
+
+/// A batch stays out until it is acknowledged. If a batch of a table is out, one still is after every step but three: one that
+/// ends the session, a tick that leaves the table, and the table's answer that an acknowledgement covers the batch to its end.
+pub fn a_batch_stays_out()
+    ensures { (s e : StandingState) (one : Happening) (table : ℕ) → Happens s one e → is_out table (shared s.session.phase) ≡ true →
+        settles_all table one ≡ false → leaves table one ≡ false → is_open e.session.phase ≡ true →
+        is_out table (shared e.session.phase) ≡ true }
+{}
+
+/// A step is unique: the event or tick, its moment and the session before it determine what is asked for, the tables left and
+/// the session after it. An event that may not come makes no step; of ticks the definition says so.
+pub fn a_standing_step_is_unique()
+    ensures event { (s e end : StandingState) (now : ℕ) (event : Event) (acts others : List Action) →
+        Stands s now event acts e → Stands s now event others end → (acts ≡ others) × (e ≡ end) }
+    ensures tick { (s e end : StandingState) (now : ℕ) (left tables : List ℕ) (acts others : List Action) →
+        Ticks s now left acts e → Ticks s now tables others end → (left ≡ tables) × (acts ≡ others) × (e ≡ end) }
+    ensures asked { (s e : StandingState) (now : ℕ) (event : Event) (acts : List Action) → Stands s now event acts e →
+        is_asked s.session.phase event ≡ true }
+{}
+
+/// Every event that may come has a step at any moment, in every run from the beginning in which only bytes are received; and so
+/// has every tick that may come, in any session.
+pub fn a_standing_step_exists()
+    ensures event { (roster : List Definition) (begun s : StandingState) (steps : List Happening) (now : ℕ) (event : Event) →
+        BeginsToStay roster begun → Lasts begun steps s → AllByRecursion HearsBytes steps → BringsBytes event →
+        is_asked s.session.phase event ≡ true → (acts : List Action) × (e : StandingState) × Stands s now event acts e }
+    ensures tick { (s : StandingState) (now : ℕ) → is_asked s.session.phase events.Turn ≡ true →
+        (left : List ℕ) × (acts : List Action) × (e : StandingState) × Ticks s now left acts e }
 {}

@@ -373,8 +373,8 @@ impl Stay {
         push_control(alloc, actions, Control::Heartbeat)
     }
 
-    /// Makes the step at a tick of an open session that isn't silent: leaves the tables that are overdue, and asks for a
-    /// heartbeat if one is owed.
+    /// Makes the step at a tick of an open session that isn't silent: leaves the tables that are overdue, forgets the names if
+    /// there are any, and asks for a heartbeat if one is owed.
     fn tick_open(&mut self, alloc: Global, now: u64) -> Result<Ticked, SessionError>
         requires { self.old.machine.stage ≡ stages.Open }
         ensures ticks { IfOk result (λ t. TicksIn false (phases.Open self.old.machine.course) (stood self.old) now t.left.items t.actions.items (stood self.new)) }
@@ -391,6 +391,9 @@ impl Stay {
         self.pace
             .note(any_send(actions.as_slice()), false, true, now);
         self.pace.leave(any_left(left.as_slice()));
+        if any_left(left.as_slice()) {
+            self.machine.known.forget_names();
+        }
         Ok(Ticked { left, actions })
     }
 

@@ -1,0 +1,116 @@
+-- Only tables that are free are asked for a batch: no batch of them is out and, in a resync, they aren't quiet.
+use Rattle.std.proofs.Common.{◌≡◌, ℕ, Bool, true, false, ◌&&◌, ◌||◌, ◌==◌, List, [], ◌∷◌, Option, Some, None, refl, sym, ap, ◌∙◌, subst, inl, inr, cond}
+use Rattle.std.specs.Prelude.{is_some}
+use Rattle.std.proofs.lemmas.Bool.{cases_eq, ne_eqb, false≢true}
+use Rattle.std.proofs.lemmas.List.Folds.{list_any-append}
+use Rattle.table_types.specs.Tables.{Definition}
+use Rattle.session_core.specs.declared.action.Action.{Action}
+use Rattle.session_core.specs.declared.event.Event.{Event}
+use Rattle.session_core.specs.declared.event.Event.TheVariants as events
+use Rattle.session_core.specs.declared.pace.Task.{Task}
+use Rattle.session_core.specs.declared.pace.Task.TheVariants as tasks
+use Rattle.session_core.specs.declared.share.Share.{Share}
+use Rattle.session_core.specs.Phases.{Phase}
+use Rattle.session_core.specs.Phases as phases
+use Rattle.session_core.specs.Shares.{is_out, all_quiet, next_table}
+use Rattle.session_core.specs.Actions.{reopens}
+use Rattle.session_core.specs.Courses.{Course, teaching_anew, table_to_ask}
+use Rattle.session_core.specs.Sessions.{SessionState, GoesIn, Turns}
+use Rattle.session_core.specs.Standing.{StandingState, finished_if, finishing, begun_resync, Does, task_at, TakesTurn, Stands}
+use Rattle.session_core.specs.Runs.{is_copy_of, copies}
+use Rattle.session_core.specs.StandingRuns.{Happening, Lasts, BeginsToStay, handed}
+use Rattle.session_core.specs.StandingSteps.{is_quiet}
+use Rattle.session_core.proofs.ShareLemmas.{ids_of, shares_in, IsFree, next_free}
+use Rattle.session_core.proofs.EndLemmas.{plain_reopens}
+use Rattle.session_core.proofs.RunLemmas.{IsKeptIn, IsSound}
+use Rattle.session_core.proofs.StandingEnds.{rest_after, lasts_kept, begun_kept}
+use Rattle.session_core.proofs.OnlyTurnsCopy.{only_turns_copy}
+
+-- ---- flags that depend on the ids alone
+
+and-no : (b : Bool) → (b && false) ≡ false
+and-no true = refl
+and-no false = refl
+
+neither : (a b : Bool) → a ≡ false → b ≡ false → (a || b) ≡ false
+neither true b one other = one
+neither false b one other = other
+
+flag_off : (flag : ℕ → Bool) (id t : ℕ) → flag t ≡ false → (id == t && flag id) ≡ false
+flag_off flag id t off = elim (cases_eq id t) [
+  | inl same ↦ rw (ap flag same ∙ off) (and-no (id == t))
+  | inr other ↦ rw (ne_eqb id t other) refl
+]
+
+none_out : (t : ℕ) (ids : List ℕ) (out quiet : ℕ → Bool) → out t ≡ false → is_out t (shares_in ids out quiet) ≡ false
+none_out t [] out quiet off = refl
+none_out t (id ∷ ids) out quiet off = neither _ _ (flag_off out id t off) (none_out t ids out quiet off)
+
+none_quiet : (t : ℕ) (ids : List ℕ) (out quiet : ℕ → Bool) → quiet t ≡ false → is_quiet t (shares_in ids out quiet) ≡ false
+none_quiet t [] out quiet off = refl
+none_quiet t (id ∷ ids) out quiet off = neither _ _ (flag_off quiet id t off) (none_quiet t ids out quiet off)
+
+-- no batch of the table is out, and in a resync it isn't quiet
+abbrev IsFreeIn : ℕ → Bool → List Share → Type 0
+IsFreeIn t teaching ss = (is_out t ss ≡ false) × (teaching ≡ true → is_quiet t ss ≡ false)
+
+free_in : (t : ℕ) (teaching : Bool) (ids : List ℕ) (out quiet : ℕ → Bool) → IsFree teaching out quiet t → IsFreeIn t teaching (shares_in ids out quiet)
+free_in t teaching ids out quiet (not_out, unquiet) = (none_out t ids out quiet not_out, λ so. none_quiet t ids out quiet (unquiet so))
+
+-- ---- a turn copies from the table to ask
+
+copied_is_asked : (o : Option ℕ) (s e : SessionState) (c : Course) (acts : List Action) (table : ℕ) → Turns o s c acts e → copies table acts ≡ true → o ≡ Some table
+copied_is_asked None s e c acts table turns is = absurd (false≢true (sym (ap (copies table) turns.0) ∙ is))
+copied_is_asked (Some other) s e c acts table turns is = elim (cases_eq other table) [
+  | inl same ↦ ap (λ (n : ℕ). Some n) same
+  | inr apart ↦
+      let none : copies table acts ≡ false = ap (copies table) turns.0 ∙ rw (ne_eqb other table apart) refl in
+      absurd (false≢true (sym none ∙ is))
+]
+
+asked_next : (waits : Bool) (o : Option ℕ) (t : ℕ) → cond waits None o ≡ Some t → o ≡ Some t
+asked_next true o t is = absurd (false≢true (ap (λ (x : Option ℕ). is_some x) is))
+asked_next false o t is = is
+
+next_is_free : (t : ℕ) (steps : List (Event × List Action)) (ids : List ℕ) (c : Course) → IsSound ids steps c → next_table c.teaching c.asked c.shares ≡ Some t → IsFreeIn t c.teaching c.shares
+next_is_free t steps ids c (out, quiet, flags, sound) next =
+    let next_in : next_table c.teaching c.asked (shares_in ids out quiet) ≡ Some t = subst (λ (ss : List Share). next_table c.teaching c.asked ss ≡ Some t) flags.0 next in
+    subst (IsFreeIn t c.teaching) (sym flags.0) (free_in t c.teaching ids out quiet (next_free c.teaching c.asked out quiet ids t next_in))
+
+copies_end : (table : ℕ) (b : Bool) (c : Course) → copies table (finished_if b c).0 ≡ false
+copies_end table true c = refl
+copies_end table false c = refl
+
+copies_begun : (table : ℕ) (c : Course) → copies table (begun_resync c).0 ≡ false
+copies_begun table c =
+    let d : Course = teaching_anew c in
+    list_any-append (is_copy_of table) (reopens c.shares) (finishing d).0
+    ∙ rw ((plain_reopens table c.shares).1, copies_end table (d.teaching && all_quiet d.shares) d) refl
+
+free_does : (task : Task) (ids : List ℕ) (steps : List (Event × List Action)) (s e : StandingState) (c : Course) (now : ℕ) (acts : List Action) (table : ℕ) → s.session.phase ≡ phases.Open c → IsSound ids steps c → Does task s c now acts e → copies table acts ≡ true → IsFreeIn table c.teaching c.shares
+free_does tasks.Copy ids steps s e c now acts table stands sound does copied =
+    let goes = subst (λ (p : Phase). GoesIn p s.session events.Turn acts e.session) stands does.0 in
+    next_is_free table steps ids c sound (asked_next c.waits (next_table c.teaching c.asked c.shares) table (copied_is_asked (table_to_ask c) s.session e.session c acts table goes.1 copied))
+free_does tasks.Rest ids steps s e c now acts table stands sound (due, none, same) copied = absurd (false≢true (sym (ap (copies table) none) ∙ copied))
+free_does tasks.Begin ids steps s e c now acts table stands sound (due, begun, session, pace) copied =
+    absurd (false≢true (sym (ap (copies table) begun ∙ copies_begun table c) ∙ copied))
+
+-- ---- the law
+
+asks_free : (roster : List Definition) (begun s e : StandingState) (steps : List Happening) (c : Course) (now : ℕ) (acts : List Action) (table : ℕ) → BeginsToStay roster begun → Lasts begun steps s → s.session.phase ≡ phases.Open c → Stands s now events.Turn acts e → copies table acts ≡ true → IsFreeIn table c.teaching c.shares
+asks_free roster begun s e steps c now acts table (first, since, begins, is) lasts stands turns copied =
+    let start : IsKeptIn (ids_of roster) [] begun.session.phase = subst (λ (x : StandingState). IsKeptIn (ids_of roster) [] x.session.phase) (sym is) (begun_kept roster first begins) in
+    let ids : List ℕ = ids_of (rest_after roster steps) in
+    let kept : IsKeptIn ids (handed steps) s.session.phase = lasts_kept steps roster [] begun s start lasts in
+    let sound : IsSound ids (handed steps) c = subst (IsKeptIn ids (handed steps)) stands kept in
+    free_does (task_at now s.pace c) ids (handed steps) s e c now acts table stands sound (subst (λ (p : Phase). TakesTurn p s now acts e) stands turns) copied
+
+free_at : (roster : List Definition) (begun s e : StandingState) (steps : List Happening) (c : Course) (now : ℕ) (event : Event) (acts : List Action) (table : ℕ) → BeginsToStay roster begun → Lasts begun steps s → s.session.phase ≡ phases.Open c → Stands s now event acts e → copies table acts ≡ true → IsFreeIn table c.teaching c.shares
+free_at roster begun s e steps c now event acts table begins lasts stands happens copied =
+    asks_free roster begun s e steps c now acts table begins lasts stands (subst (λ (x : Event). Stands s now x acts e) (only_turns_copy s e now event acts table happens copied) happens) copied
+
+pub asked_is_not_out : (roster : List Definition) (begun s e : StandingState) (steps : List Happening) (c : Course) (now : ℕ) (event : Event) (acts : List Action) (table : ℕ) → BeginsToStay roster begun → Lasts begun steps s → s.session.phase ≡ phases.Open c → Stands s now event acts e → copies table acts ≡ true → is_out table c.shares ≡ false
+asked_is_not_out roster begun s e steps c now event acts table begins lasts stands happens copied = (free_at roster begun s e steps c now event acts table begins lasts stands happens copied).0
+
+pub asked_is_not_quiet : (roster : List Definition) (begun s e : StandingState) (steps : List Happening) (c : Course) (now : ℕ) (event : Event) (acts : List Action) (table : ℕ) → BeginsToStay roster begun → Lasts begun steps s → s.session.phase ≡ phases.Open c → Stands s now event acts e → copies table acts ≡ true → c.teaching ≡ true → is_quiet table c.shares ≡ false
+asked_is_not_quiet roster begun s e steps c now event acts table begins lasts stands happens copied = (free_at roster begun s e steps c now event acts table begins lasts stands happens copied).1

@@ -1,0 +1,289 @@
+-- A batch that is out stays out until its table answers that all of it is acknowledged, or is left, or the session is over.
+use Rattle.std.proofs.Common.{◌≡◌, ℕ, Bool, true, false, not, ◌&&◌, ◌||◌, ◌==◌, cond, List, [], ◌∷◌, Option, Some, None, refl, sym, ap, ◌∙◌, subst, inl, inr}
+use Rattle.std.specs.Prelude.{filter}
+use Rattle.std.specs.List.{list_any}
+use Rattle.std.proofs.lemmas.Bool.{cases_eq, eq-eqb, ne_eqb, false≢true}
+use Rattle.table_types.specs.declared.copies.Settled.{Settled}
+use Rattle.table_types.specs.declared.copies.Settled.TheVariants as settles
+use Rattle.known_state.specs.Known.{KnownState}
+use Rattle.peers_hello.specs.declared.hello.Hello.{Hello}
+use Rattle.session_core.specs.declared.action.Action.{Action}
+use Rattle.session_core.specs.declared.event.Event.{Event}
+use Rattle.session_core.specs.declared.event.Event.TheVariants as events
+use Rattle.session_core.specs.declared.pace.Task.{Task}
+use Rattle.session_core.specs.declared.pace.Task.TheVariants as tasks
+use Rattle.session_core.specs.declared.phase.Greeter.{Greeter}
+use Rattle.session_core.specs.declared.share.Share.{Share}
+use Rattle.session_core.specs.Phases.{Phase}
+use Rattle.session_core.specs.Phases as phases
+use Rattle.session_core.specs.Shares.{any_out, all_quiet, is_out, out_set, quiet_set, unquieted}
+use Rattle.session_core.specs.Courses.{Course, teaching_anew, acknowledged, ack_received, table_to_ask}
+use Rattle.session_core.specs.Sessions.{SessionState, going, GoesIn, GoesNew, GoesHello, GoesOpen, Turns, HasNothing, FinishesResync, StartsPendingResync, Settles}
+use Rattle.session_core.specs.Paces.{inferred, is_ahead}
+use Rattle.session_core.specs.Standing.{StandingState, is_open, changed, teaches, shared, put_off, finished_if, finishing, Does, task_at, TakesTurn, Writes, answer_of_refusal, Stands, without_tables, leaving, TicksIn, caught_up_in}
+use Rattle.session_core.specs.StandingRuns.{Happening, At, Tick, CatchUp, Happens, leaves}
+use Rattle.session_core.specs.StandingSteps.{is_settlement, settles_all}
+
+-- ---- truth values
+
+or_true : (b : Bool) → (b || true) ≡ true
+or_true true = refl
+or_true false = refl
+
+and_left : (a b : Bool) → (a && b) ≡ true → a ≡ true
+and_left true b so = refl
+and_left false b so = absurd (false≢true so)
+
+or_either : (a b c d : Bool) → (a ≡ true → c ≡ true) → (b ≡ true → d ≡ true) → (a || b) ≡ true → (c || d) ≡ true
+or_either true b c d one other so = rw (one refl) refl
+or_either false b c d one other so = rw (other so) (or_true c)
+
+second_of : (a b : Bool) → a ≡ false → (a || b) ≡ true → b ≡ true
+second_of true b not_it so = absurd (false≢true (sym not_it))
+second_of false b not_it so = so
+
+-- ---- changes of the tables
+
+out_more_one : (t : ℕ) (b : Bool) (s : Share) → (s.table == t && s.out) ≡ true → ((cond b (record { table = s.table; out = true; quiet = s.quiet }) s).table == t && (cond b (record { table = s.table; out = true; quiet = s.quiet }) s).out) ≡ true
+out_more_one t true s is = rw (and_left (s.table == t) s.out is) refl
+out_more_one t false s is = is
+
+-- one more batch is out
+out_more : (t table : ℕ) (ss : List Share) → is_out t ss ≡ true → is_out t (out_set table true ss) ≡ true
+out_more t table [] is = is
+out_more t table (s ∷ ss) is = or_either (s.table == t && s.out) (is_out t ss) _ _ (out_more_one t (s.table == table) s) (out_more t table ss) is
+
+-- a batch of another table is out no longer
+out_other : (t table : ℕ) (ss : List Share) → (table == t) ≡ false → is_out t (out_set table false ss) ≡ is_out t ss
+out_other t table [] apart = refl
+out_other t table (s ∷ ss) apart = elim (cases_eq s.table table) [
+  | inl same ↦
+      let not_it : (s.table == t) ≡ false = ap (λ (x : ℕ). x == t) same ∙ apart in
+      rw (eq-eqb s.table table same, not_it) (out_other t table ss apart)
+  | inr other ↦ rw (ne_eqb s.table table other) (ap (λ (b : Bool). (s.table == t && s.out) || b) (out_other t table ss apart))
+]
+
+quiet_table : (b : Bool) (s : Share) → (cond b (record { table = s.table; out = s.out; quiet = true }) s).table ≡ s.table
+quiet_table true s = refl
+quiet_table false s = refl
+
+quiet_out : (b : Bool) (s : Share) → (cond b (record { table = s.table; out = s.out; quiet = true }) s).out ≡ s.out
+quiet_out true s = refl
+quiet_out false s = refl
+
+out_quiet_set : (t table : ℕ) (ss : List Share) → is_out t (quiet_set table ss) ≡ is_out t ss
+out_quiet_set t table [] = refl
+out_quiet_set t table (s ∷ ss) = rw (quiet_table (s.table == table) s, quiet_out (s.table == table) s, out_quiet_set t table ss) refl
+
+out_unquieted : (t : ℕ) (ss : List Share) → is_out t (unquieted ss) ≡ is_out t ss
+out_unquieted t [] = refl
+out_unquieted t (s ∷ ss) = ap (λ (b : Bool). (s.table == t && s.out) || b) (out_unquieted t ss)
+
+-- the tables that a tick doesn't leave
+abbrev kept : List ℕ → List Share → List Share
+kept left ss = filter (λ s. not (list_any (λ table. table == s.table) left)) ss
+
+out_in_rest : (t : ℕ) (b : Bool) (s : Share) (ss : List Share) → is_out t ss ≡ true → is_out t (cond b (s ∷ ss) ss) ≡ true
+out_in_rest t true s ss is = rw is (or_true (s.table == t && s.out))
+out_in_rest t false s ss is = is
+
+out_kept : (t : ℕ) (left : List ℕ) (ss : List Share) → list_any (λ table. table == t) left ≡ false → is_out t ss ≡ true → is_out t (kept left ss) ≡ true
+out_kept t left [] stays is = is
+out_kept t left (s ∷ ss) stays is = elim (cases_eq s.table t) [
+  | inl same ↦
+      let here : list_any (λ table. table == s.table) left ≡ false = subst (λ (x : ℕ). list_any (λ table. table == x) left ≡ false) (sym same) stays in
+      rw here (or_either (s.table == t && s.out) (is_out t ss) (s.table == t && s.out) (is_out t (kept left ss)) (λ so. so) (out_kept t left ss stays) is)
+  | inr other ↦
+      let not_it : (s.table == t && s.out) ≡ false = rw (ne_eqb s.table t other) refl in
+      out_in_rest t (not (list_any (λ table. table == s.table) left)) s (kept left ss) (out_kept t left ss stays (second_of (s.table == t && s.out) (is_out t ss) not_it is))
+]
+
+-- ---- events
+
+-- if the session is open, the batch is out
+abbrev IsStillOut : ℕ → Phase → Type 0
+IsStillOut t phase = is_open phase ≡ true → is_out t (shared phase) ≡ true
+
+still_at : (t : ℕ) (e x : SessionState) → e ≡ x → IsStillOut t x.phase → IsStillOut t e.phase
+still_at t e x is out = subst (λ (y : SessionState). IsStillOut t y.phase) (sym is) out
+
+closed : (t : ℕ) (phase : Phase) → is_open phase ≡ false → IsStillOut t phase
+closed t phase not_open = λ opened. absurd (false≢true (sym not_open ∙ opened))
+
+out_off : (t : ℕ) (teaching : Bool) (ss : List Share) (phase : Phase) → is_out t ss ≡ true → IsStillOut t (changed (put_off teaching ss) phase)
+out_off t teaching ss (phases.New hello c) out = λ opened. out
+out_off t teaching ss (phases.Hello greeter bytes c) out = λ opened. out
+out_off t teaching ss (phases.Open c) out = λ opened. out
+out_off t teaching ss phases.Ended out = closed t phases.Ended refl
+
+out_new : (t : ℕ) (s : SessionState) (hello : Hello) (c : Course) (event : Event) (acts : List Action) (e : SessionState) → GoesNew s hello c event acts e → IsStillOut t e.phase
+out_new t s hello c events.Opened acts e (is, ends) = still_at t e _ ends (λ opened. absurd (false≢true opened))
+out_new t s hello c events.Turn acts e (is, ends) = still_at t e _ ends (λ opened. absurd (false≢true opened))
+out_new t s hello c events.End acts e (is, ends) = still_at t e _ ends (λ opened. absurd (false≢true opened))
+out_new t s hello c events.ReadFault acts e (is, ends) = still_at t e _ ends (λ opened. absurd (false≢true opened))
+out_new t s hello c events.WriteFault acts e (is, ends) = still_at t e _ ends (λ opened. absurd (false≢true opened))
+out_new t s hello c (events.Bytes bytes) acts e goes = absurd goes
+out_new t s hello c (events.Copied table batch) acts e goes = absurd goes
+out_new t s hello c (events.Nothing table) acts e goes = absurd goes
+out_new t s hello c (events.Written known) acts e goes = absurd goes
+out_new t s hello c (events.Settled table settled) acts e goes = absurd goes
+out_new t s hello c (events.Refused table) acts e goes = absurd goes
+
+abbrev IsNoBytes : Event → Type 0
+IsNoBytes (events.Bytes bytes) = ⊥
+IsNoBytes event = Unit {0}
+
+out_hello : (t : ℕ) (s : SessionState) (greeter : Greeter) (bytes : List ℕ) (c : Course) (event : Event) (acts : List Action) (e : SessionState) → IsNoBytes event → GoesHello s greeter bytes c event acts e → IsStillOut t e.phase
+out_hello t s greeter bytes c (events.Bytes piece) acts e other goes = absurd other
+out_hello t s greeter bytes c events.Turn acts e other (is, ends) = still_at t e _ ends (λ opened. absurd (false≢true opened))
+out_hello t s greeter bytes c events.End acts e other (is, ends) = still_at t e _ ends (λ opened. absurd (false≢true opened))
+out_hello t s greeter bytes c events.ReadFault acts e other (is, ends) = still_at t e _ ends (λ opened. absurd (false≢true opened))
+out_hello t s greeter bytes c events.WriteFault acts e other (is, ends) = still_at t e _ ends (λ opened. absurd (false≢true opened))
+out_hello t s greeter bytes c events.Opened acts e other goes = absurd goes
+out_hello t s greeter bytes c (events.Copied table batch) acts e other goes = absurd goes
+out_hello t s greeter bytes c (events.Nothing table) acts e other goes = absurd goes
+out_hello t s greeter bytes c (events.Written known) acts e other goes = absurd goes
+out_hello t s greeter bytes c (events.Settled table settled) acts e other goes = absurd goes
+out_hello t s greeter bytes c (events.Refused table) acts e other goes = absurd goes
+
+out_turns : (t : ℕ) (asked : Option ℕ) (s : SessionState) (c : Course) (acts : List Action) (e : SessionState) → is_out t c.shares ≡ true → Turns asked s c acts e → IsStillOut t e.phase
+out_turns t None s c acts e out (is, ends) = still_at t e _ ends (λ opened. out)
+out_turns t (Some table) s c acts e out (is, ends) = still_at t e _ ends (λ opened. out)
+
+out_finishes : (t : ℕ) (b : Bool) (s : SessionState) (c : Course) (acts : List Action) (e : SessionState) → is_out t c.shares ≡ true → FinishesResync b s c acts e → IsStillOut t e.phase
+out_finishes t true s c acts e out (is, ends) = still_at t e _ ends (λ opened. out)
+out_finishes t false s c acts e out (is, ends) = still_at t e _ ends (λ opened. out)
+
+out_nothing : (t : ℕ) (b : Bool) (s : SessionState) (c : Course) (table : ℕ) (acts : List Action) (e : SessionState) → is_out t c.shares ≡ true → HasNothing b s c table acts e → IsStillOut t e.phase
+out_nothing t true s c table acts e out finishes =
+    out_finishes t (all_quiet (quiet_set table c.shares)) s (record c { shares = quiet_set table c.shares }) acts e (out_quiet_set t table c.shares ∙ out) finishes
+out_nothing t false s c table acts e out (is, ends) = still_at t e _ ends (λ opened. out)
+
+out_starts : (t : ℕ) (b : Bool) (s : SessionState) (c : Course) (acts : List Action) (e : SessionState) → is_out t c.shares ≡ true → StartsPendingResync b s c acts e → IsStillOut t e.phase
+out_starts t true s c acts e out (is, ends) = still_at t e _ ends (λ opened. out_unquieted t c.shares ∙ out)
+out_starts t false s c acts e out (is, ends) = still_at t e _ ends (λ opened. out)
+
+and_yes : (b : Bool) → (b && true) ≡ false → b ≡ false
+and_yes true so = so
+and_yes false so = refl
+
+out_settles : (t : ℕ) (settled : Settled) (s : SessionState) (c : Course) (table : ℕ) (acts : List Action) (e : SessionState) → is_settlement t (events.Settled table settled) ≡ false → is_out t c.shares ≡ true → Settles settled s c table acts e → IsStillOut t e.phase
+out_settles t settles.All s c table acts e other out starts =
+    out_starts t (c.waits && not (any_out (out_set table false c.shares))) s (record c { shares = out_set table false c.shares }) acts e (out_other t table c.shares (and_yes (table == t) other) ∙ out) starts
+out_settles t settles.Some s c table acts e other out (is, ends) = still_at t e _ ends (λ opened. out)
+out_settles t settles.Older s c table acts e other out (is, ends) = still_at t e _ ends (λ opened. out)
+
+answered_out : (t : ℕ) (c mid : Course) → mid ≡ record c { due = mid.due } → is_out t c.shares ≡ true → is_out t mid.shares ≡ true
+answered_out t c mid is out = ap (λ (x : Course). is_out t x.shares) is ∙ out
+
+out_open : (t : ℕ) (s : SessionState) (c : Course) (event : Event) (acts : List Action) (e : SessionState) → IsNoBytes event → is_settlement t event ≡ false → is_out t c.shares ≡ true → GoesOpen s c event acts e → IsStillOut t e.phase
+out_open t s c events.Turn acts e other unsettled out (due, turns) = out_turns t (table_to_ask c) s c acts e out turns
+out_open t s c (events.Bytes bytes) acts e other unsettled out goes = absurd other
+out_open t s c (events.Copied table batch) acts e other unsettled out (mid, answered, (is, ends)) =
+    still_at t e _ ends (λ opened. out_more t table mid.shares (answered_out t c mid answered.1 out))
+out_open t s c (events.Nothing table) acts e other unsettled out (mid, answered, nothing) =
+    out_nothing t mid.teaching s mid table acts e (answered_out t c mid answered.1 out) nothing
+out_open t s c (events.Written known) acts e other unsettled out (mid, answered, is, ends) = still_at t e _ ends (λ opened. answered_out t c mid answered.1 out)
+out_open t s c (events.Settled table settled) acts e other unsettled out (mid, answered, settles) =
+    out_settles t settled s mid table acts e unsettled (answered_out t c mid answered.1 out) settles
+out_open t s c (events.Refused table) acts e other unsettled out (mid, answered, is, ends) = still_at t e _ ends (λ opened. absurd (false≢true opened))
+out_open t s c events.End acts e other unsettled out (is, ends) = still_at t e _ ends (λ opened. absurd (false≢true opened))
+out_open t s c events.ReadFault acts e other unsettled out (is, ends) = still_at t e _ ends (λ opened. absurd (false≢true opened))
+out_open t s c events.WriteFault acts e other unsettled out (is, ends) = still_at t e _ ends (λ opened. absurd (false≢true opened))
+out_open t s c events.Opened acts e other unsettled out goes = absurd goes
+
+out_in : (t : ℕ) (phase : Phase) (s : SessionState) (event : Event) (acts : List Action) (e : SessionState) → IsNoBytes event → is_settlement t event ≡ false → is_out t (shared phase) ≡ true → GoesIn phase s event acts e → IsStillOut t e.phase
+out_in t (phases.New hello c) s event acts e other unsettled out goes = out_new t s hello c event acts e goes
+out_in t (phases.Hello greeter bytes c) s event acts e other unsettled out goes = out_hello t s greeter bytes c event acts e other goes
+out_in t (phases.Open c) s event acts e other unsettled out goes = out_open t s c event acts e other unsettled out goes
+out_in t phases.Ended s event acts e other unsettled out goes = absurd goes
+
+-- ---- each step
+
+out_finished : (t : ℕ) (b : Bool) (c : Course) → is_out t c.shares ≡ true → is_out t (finished_if b c).1.shares ≡ true
+out_finished t true c out = out
+out_finished t false c out = out
+
+out_finishing : (t : ℕ) (c : Course) → is_out t c.shares ≡ true → is_out t (finishing c).1.shares ≡ true
+out_finishing t c out = out_finished t (c.teaching && all_quiet c.shares) c out
+
+out_still : (t : ℕ) (s e : StandingState) → e ≡ s → is_out t (shared s.session.phase) ≡ true → IsStillOut t e.session.phase
+out_still t s e same out = λ opened. ap (λ (x : StandingState). is_out t (shared x.session.phase)) same ∙ out
+
+out_does : (t : ℕ) (task : Task) (s e : StandingState) (c : Course) (now : ℕ) (acts : List Action) → s.session.phase ≡ phases.Open c → is_out t (shared s.session.phase) ≡ true → Does task s c now acts e → IsStillOut t e.session.phase
+out_does t tasks.Copy s e c now acts stands out (goes, paces) = out_in t s.session.phase s.session events.Turn acts e.session tt refl out goes
+out_does t tasks.Rest s e c now acts stands out (due, is, same) = out_still t s e same out
+out_does t tasks.Begin s e c now acts stands out (due, is, session, paces) =
+    still_at t e.session _ session (λ opened. out_finishing t (teaching_anew c) (out_unquieted t c.shares ∙ subst (λ (p : Phase). is_out t (shared p) ≡ true) stands out))
+
+out_turn : (t : ℕ) (phase : Phase) (s e : StandingState) (now : ℕ) (acts : List Action) → s.session.phase ≡ phase → is_out t (shared s.session.phase) ≡ true → TakesTurn phase s now acts e → IsStillOut t e.session.phase
+out_turn t (phases.Open c) s e now acts stands out does = out_does t (task_at now s.pace c) s e c now acts stands out does
+out_turn t (phases.New hello c) s e now acts stands out (goes, paces) = out_in t s.session.phase s.session events.Turn acts e.session tt refl out goes
+out_turn t (phases.Hello greeter bytes c) s e now acts stands out (goes, paces) = out_in t s.session.phase s.session events.Turn acts e.session tt refl out goes
+out_turn t phases.Ended s e now acts stands out (goes, paces) = out_in t s.session.phase s.session events.Turn acts e.session tt refl out goes
+
+out_passed : (t : ℕ) (b : Bool) (c : Course) (table number : ℕ) → is_out t c.shares ≡ true → is_out t (acknowledged b c table number).1.shares ≡ true
+out_passed t true c table number out = out
+out_passed t false c table number out = out
+
+out_ack : (t : ℕ) (c : Course) (ack : Option (ℕ × ℕ)) → is_out t c.shares ≡ true → is_out t (ack_received c ack).1.shares ≡ true
+out_ack t c (Some (table, number)) out = out_passed t (is_out table c.shares) c table number out
+out_ack t c None out = out
+
+out_writes : (t : ℕ) (phase : Phase) (s e : StandingState) (now : ℕ) (known : KnownState) (acts : List Action) → is_out t (shared phase) ≡ true → Writes phase s now known acts e → IsStillOut t e.session.phase
+out_writes t (phases.Open c) s e now known acts out (goes, is, paces) =
+    out_open t (going s.session (ack_received c (inferred c.asked s.pace.progress)).1) (ack_received c (inferred c.asked s.pace.progress)).1 (events.Written known) [] e.session tt refl (out_ack t c (inferred c.asked s.pace.progress) out) goes
+out_writes t (phases.New hello c) s e now known acts out writes = absurd writes
+out_writes t (phases.Hello greeter bytes c) s e now known acts out writes = absurd writes
+out_writes t phases.Ended s e now known acts out writes = absurd writes
+
+no_bytes : (b : Bool) (table : ℕ) → IsNoBytes (answer_of_refusal b table)
+no_bytes true table = tt
+no_bytes false table = tt
+
+and-no : (b : Bool) → (b && false) ≡ false
+and-no true = refl
+and-no false = refl
+
+no_settlement : (t : ℕ) (b : Bool) (table : ℕ) → is_settlement t (answer_of_refusal b table) ≡ false
+no_settlement t true table = refl
+no_settlement t false table = and-no (table == t)
+
+out_stands : (t : ℕ) (event : Event) (s e : StandingState) (now : ℕ) (acts : List Action) → is_settlement t event ≡ false → is_out t (shared s.session.phase) ≡ true → Stands s now event acts e → IsStillOut t e.session.phase
+out_stands t (events.Bytes bytes) s e now acts unsettled out (given, mid, goes, is, session, paces) =
+    still_at t e.session _ session (out_off t (teaches s.session.phase) (shared s.session.phase) mid.phase out)
+out_stands t events.Turn s e now acts unsettled out turns = out_turn t s.session.phase s e now acts refl out turns
+out_stands t (events.Written known) s e now acts unsettled out writes = out_writes t s.session.phase s e now known acts out writes
+out_stands t (events.Refused table) s e now acts unsettled out (goes, paces) =
+    out_in t s.session.phase s.session _ acts e.session (no_bytes (is_ahead table s.pace.progress) table) (no_settlement t (is_ahead table s.pace.progress) table) out goes
+out_stands t (events.Copied table batch) s e now acts unsettled out (goes, paces) = out_in t s.session.phase s.session (events.Copied table batch) acts e.session tt unsettled out goes
+out_stands t events.Opened s e now acts unsettled out (goes, paces) = out_in t s.session.phase s.session events.Opened acts e.session tt unsettled out goes
+out_stands t events.End s e now acts unsettled out (goes, paces) = out_in t s.session.phase s.session events.End acts e.session tt unsettled out goes
+out_stands t events.ReadFault s e now acts unsettled out (goes, paces) = out_in t s.session.phase s.session events.ReadFault acts e.session tt unsettled out goes
+out_stands t events.WriteFault s e now acts unsettled out (goes, paces) = out_in t s.session.phase s.session events.WriteFault acts e.session tt unsettled out goes
+out_stands t (events.Nothing table) s e now acts unsettled out (goes, paces) = out_in t s.session.phase s.session (events.Nothing table) acts e.session tt unsettled out goes
+out_stands t (events.Settled table settled) s e now acts unsettled out (goes, paces) = out_in t s.session.phase s.session (events.Settled table settled) acts e.session tt unsettled out goes
+
+out_leaving : (t : ℕ) (left : List ℕ) (c : Course) → list_any (λ table. table == t) left ≡ false → is_out t c.shares ≡ true → is_out t (leaving left c).1.shares ≡ true
+out_leaving t [] c stays out = out
+out_leaving t (table ∷ tables) c stays out = out_finishing t (without_tables (table ∷ tables) c) (out_kept t (table ∷ tables) c.shares stays out)
+
+out_ticks : (t : ℕ) (silent : Bool) (phase : Phase) (s e : StandingState) (now : ℕ) (left : List ℕ) (acts : List Action) → s.session.phase ≡ phase → list_any (λ table. table == t) left ≡ false → is_out t (shared s.session.phase) ≡ true → TicksIn silent phase s now left acts e → IsStillOut t e.session.phase
+out_ticks t true phase s e now left acts stands stays out (leaves, is, session, paces) = still_at t e.session _ session (λ opened. absurd (false≢true opened))
+out_ticks t false (phases.Open c) s e now left acts stands stays out (leaves, is, session, paces) =
+    still_at t e.session _ session (λ opened. out_leaving t left c stays (subst (λ (p : Phase). is_out t (shared p) ≡ true) stands out))
+out_ticks t false (phases.New hello c) s e now left acts stands stays out (leaves, is, same) = out_still t s e same out
+out_ticks t false (phases.Hello greeter bytes c) s e now left acts stands stays out (leaves, is, same) = out_still t s e same out
+out_ticks t false phases.Ended s e now left acts stands stays out (leaves, is, same) = out_still t s e same out
+
+out_caught : (t : ℕ) (left : Bool) (phase : Phase) → is_out t (shared phase) ≡ true → is_out t (shared (changed (caught_up_in left) phase)) ≡ true
+out_caught t left (phases.New hello c) out = out
+out_caught t left (phases.Hello greeter bytes c) out = out
+out_caught t left (phases.Open c) out = out
+out_caught t left phases.Ended out = absurd (false≢true out)
+
+pub stays_out : (s e : StandingState) (one : Happening) (table : ℕ) → Happens s one e → is_out table (shared s.session.phase) ≡ true → settles_all table one ≡ false → leaves table one ≡ false → is_open e.session.phase ≡ true → is_out table (shared e.session.phase) ≡ true
+stays_out s e (At now event acts) table stands out unsettled stays opened = out_stands table event s e now acts unsettled out stands opened
+stays_out s e (Tick now left acts) table (asked, ticks) out unsettled stays opened = out_ticks table _ s.session.phase s e now left acts refl stays out ticks opened
+stays_out s e CatchUp table caught out unsettled stays opened =
+    ap (λ (x : StandingState). is_out table (shared x.session.phase)) caught ∙ out_caught table s.pace.left s.session.phase out
