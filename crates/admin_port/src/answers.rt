@@ -1,5 +1,7 @@
 //! Answers of one word, and the lines of rows.
-ghost use Rattle.std.specs.Prelude.{◌≡◌, ◌++◌, OnOk, flat_map, option_copied};
+ghost use Rattle.std.specs.Prelude.{◌≡◌, ◌++◌, OnOk, Err, None, flat_map, option_copied};
+ghost use Rattle.table_cell.specs.declared.errors.TrackError.{TrackError};
+ghost use Rattle.node_text.specs.Refusals.{track_refusal};
 ghost use Rattle.node_text.specs.Rows.{row_line};
 ghost use Rattle.admin_port.specs.Answers.{answer_line, answer_word, found_text, is_show, refused_text, tracked_text};
 
@@ -85,7 +87,8 @@ pub fn push_tracked(
     key: &Key,
     tracked: &Result<Reply, TrackError>,
 ) -> Result<(), Memory>
-    ensures { OnOk result (text.new.items ≡ text.old.items ++ tracked_text table.now key.now tracked.now) }
+    ensures answer { OnOk result (text.new.items ≡ text.old.items ++ tracked_text table.now key.now tracked.now) }
+    ensures unanswered { (error : TrackError) → tracked.now ≡ Err error → track_refusal error ≡ None → OnOk result ⊥ }
 {
     match tracked {
         Ok(reply) => push_reply(text, table, key, reply)?,

@@ -57,7 +57,7 @@ pub struct PeerReport<'a> {
     pub state: PeerState,
     /// Which end connected, if there is a session.
     pub role: Option<PeerRole>,
-    /// For how long that has been so, in milliseconds.
+    /// How long the session has stood, or how long ago the last one ended or the node began, in milliseconds.
     pub since: u64,
     /// The number of sessions so far.
     pub sessions: u64,

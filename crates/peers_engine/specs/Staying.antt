@@ -14,7 +14,7 @@ use Rattle.session_core.specs.declared.state.State.{State}
 use Rattle.session_core.specs.declared.state.State.TheVariants as states
 use Rattle.session_core.specs.Actions.{control_text}
 use Rattle.session_core.specs.Sessions.{state_of}
-use Rattle.session_core.specs.Standing.{StandingState, Stands, Ticks}
+use Rattle.session_core.specs.Standing.{StandingState, Stands, Ticks, sent_at}
 use Rattle.peers_engine.specs.Acting.{asked}
 use Rattle.peers_engine.specs.Calls.{IsReopened}
 use Rattle.peers_engine.specs.Doing.{Done}
@@ -147,6 +147,11 @@ abbrev pub can_request : State → Bool
 can_request states.Ready = true
 can_request states.Teaching = true
 can_request state = false
+
+-- a request counts as bytes that this node sent
+abbrev pub after_request : Bool → ℕ → StandingState → StandingState
+after_request true now s = sent_at now s
+after_request false now s = s
 
 -- what is written if a resync is requested
 abbrev pub request_text : Bool → List ℕ

@@ -13,7 +13,7 @@ ghost use Rattle.session_core.specs.Sessions.{state_of};
 ghost use Rattle.peers_engine.specs.declared.errors.EngineError.TheVariants as errors;
 ghost use Rattle.peers_engine.specs.declared.staying.Stood.TheVariants as stands;
 ghost use Rattle.peers_engine.specs.Reading.{IsRead};
-ghost use Rattle.peers_engine.specs.Staying.{TakesStandingTurn, TakesTick, can_request, request_text, standing_worker};
+ghost use Rattle.peers_engine.specs.Staying.{TakesStandingTurn, TakesTick, after_request, can_request, request_text, standing_worker};
 
 use crate::context::Context;
 use crate::errors::EngineError;
@@ -47,7 +47,7 @@ pub struct StandingWorker {
 pub enum Stood {
     /// Something was done, and the session goes on.
     Worked,
-    /// There was nothing to do, and the session goes on.
+    /// There was nothing to do and nothing to read, and the session goes on.
     Idled,
     /// The session is over.
     Closed,
@@ -200,7 +200,7 @@ impl StandingWorker {
     ) -> Result<bool, EngineError>
         ensures requested { IfOk result (λ done. done ≡ can_request (state_of self.old.session.session.phase)) }
         ensures written { IfOk result (λ done. Appends (W.contents output.old) (W.contents output.new) (request_text done)) }
-        ensures session { OnOk result (self.new.session ≡ self.old.session) }
+        ensures session { IfOk result (λ done. self.new.session ≡ after_request done now self.old.session) }
         ensures ended { OnErr result (state_of self.new.session.session.phase ≡ states.Ended) }
         ensures seat { self.new.seat ≡ self.old.seat }
         ensures number { self.new.number ≡ self.old.number }
@@ -209,7 +209,10 @@ impl StandingWorker {
             return Ok(false);
         }
         match request(output) {
-            Ok(()) => Ok(true),
+            Ok(()) => {
+                self.session.note_sent(now);
+                Ok(true)
+            }
             Err(error) => {
                 end(&mut self.session, now);
                 Err(error)

@@ -86,8 +86,9 @@ fn perform<H: Wait, G: Gate, W: Write + Faults>(
             Ok(None)
         }
         Action::Learn(update) => {
-            tally.count_learned(update.table, update.number);
+            let (table, number) = (update.table, update.number);
             learn_late(context, seat, update)?;
+            tally.count_learned(table, number);
             Ok(None)
         }
         Action::Ack { table, number } => {

@@ -69,7 +69,7 @@ fn respond<H: Wait, G: Gate, W: Write + Faults>(
     Ok(is_idle)
 }
 
-/// Reads once, and responds to what was read. Returns whether there was nothing to do.
+/// Reads once, and responds to what was read. Returns whether nothing was read.
 fn receive<H: Wait, G: Gate, R: Read + Faults, W: Write + Faults>(
     context: &Context<H, G>,
     session: &mut Standing,
@@ -86,12 +86,16 @@ fn receive<H: Wait, G: Gate, R: Read + Faults, W: Write + Faults>(
     ensures read { result ≡ Err errors.Read → Rose (R.failed input.old) (R.failed input.new) }
 {
     match read_event(context.alloc, input)? {
-        Some(event) => respond(context, session, output, seat, tally, event),
+        Some(event) => {
+            respond(context, session, output, seat, tally, event)?;
+            Ok(false)
+        }
         None => Ok(true),
     }
 }
 
-/// Takes a turn, but leaves it to the caller to end the session after an error. Returns whether there was nothing to do.
+/// Takes a turn, but leaves it to the caller to end the session after an error. Returns whether there was nothing to do and nothing
+/// to read.
 pub(crate) fn take_turn<H: Wait, G: Gate, R: Read + Faults, W: Write + Faults>(
     context: &Context<H, G>,
     session: &mut Standing,
