@@ -1,0 +1,13 @@
+pub mod StrictReading
+pub mod StandInsAreDefinitions
+pub mod TypesStored
+pub mod Planned
+pub mod FrontSifted
+pub mod PassedOn
+pub mod SameHoweverCut
+pub mod NamesArrive
+pub mod SentIsTaken
+pub mod StoodInFits
+pub mod StandInsStay
+pub mod NoSuchFault
+pub mod StandInsAreOthers

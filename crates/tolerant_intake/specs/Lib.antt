@@ -1,0 +1,10 @@
+pub mod Counts
+pub mod Loose
+pub mod StandIns
+pub mod Sifting
+pub mod Passages
+pub mod Sifts
+pub mod Changes
+pub mod Counting
+pub mod Taking
+pub mod Sound
