@@ -30,26 +30,11 @@ LIMIT = 600
 LONGEST = """million-changes haproxy-starts-again haproxy-that-connects haproxy-that-is-connected-to deaf stops-beside-the-deaf
     heartbeats heartbeats-of-a-connector three-faults bytes-are-enough silent silent-to-a-connector two-of-three-killed
     killed-and-started-again stopped-and-started-again no-answer-to-a-hello refused-by-a-status""".split()
+# What takes long, and is tried only by its name.
+LONG = ('million-changes',)
 
 
 trials = []
-
-
-# What takes long, and is tried only by its name.
-LONG = ('million-changes',)
-# What a node can't do yet. These checks are tried only by their names.
-TOLERANCE = 'a definition or an update outside the profile ends the session'
-NAMES = 'names that a peer dropped with the rows of a table count as known'
-NOT_DONE = {
-    'empty-slots': TOLERANCE,
-    'types-from-20-up': TOLERANCE,
-    'other-definitions': TOLERANCE,
-    'values-out-of-range': TOLERANCE,
-    'log-of-rows-passed-over': TOLERANCE,
-    'too-many-definitions': 'a peer may define as many tables as it likes',
-    'names-alone': NAMES,
-    'names-forgotten': NAMES,
-}
 
 
 def give_up(*_):
@@ -90,10 +75,7 @@ def run(program, names):
     ports, counts = Ports(), dict.fromkeys(('passed', 'FAILED', 'skipped'), 0)
     begun = time.monotonic()
     pool = ThreadPoolExecutor(AT_ONCE)
-    for name in [name for name in names if len(names) > 1 and name in NOT_DONE]:
-        counts['skipped'] += 1
-        print('skipped %s: not done yet, %s' % (name, NOT_DONE[name]), flush=True)
-    names = [name for name in names if len(names) == 1 or name not in NOT_DONE and name not in LONG]
+    names = [name for name in names if len(names) == 1 or name not in LONG]
     running = [(name, pool.submit(tried, program, ports, CHECKS[name])) for name in in_order(names)]
     again = []
     for name, check in running:

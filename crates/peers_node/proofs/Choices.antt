@@ -9,7 +9,7 @@ use Rattle.peers_node.specs.Choices.{TakesNone, name_of}
 use Rattle.peers_node.specs.CommandLine.{HasLink, HasNumberOr, HasOptions, Meets, program}
 use Rattle.peers_node.proofs.Numbers.{number_or_least, number_within}
 use Rattle.peers_node.specs.declared.choice.Options.{Options}
-use Rattle.peers_node.specs.declared.choice.Options.TheVariants.{Lesson, Check, Learn, Table, World, CheckConfiguration, Round, Serve, Join}
+use Rattle.peers_node.specs.declared.choice.Options.TheVariants.{Lesson, Check, Learn, Table, World, Run, Round, Serve, Join}
 
 -- the name of the subcommand that was met, by its name and rows
 pub named : (m : ArgMatches) → subcommand_name_of m ≡ option_map (λ found. found.0) (subcommand_rows_of m)
@@ -57,7 +57,7 @@ has_none rows Check none = tt
 has_none rows Learn none = tt
 has_none rows Table none = tt
 has_none rows World none = tt
-has_none rows CheckConfiguration none = tt
+has_none rows (Run checks) none = elim none [ ]
 has_none rows (Round threads tracks rounds) none = elim none [ ]
 has_none rows (Serve link) none = elim none [ ]
 has_none rows (Join link) none = elim none [ ]

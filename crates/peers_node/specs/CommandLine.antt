@@ -1,5 +1,5 @@
 -- What words choose: the program as clap sees it, and what clap meets in the words.
-use Rattle.std.specs.Prelude.{◌≡◌, ◌≤◌, ℕ, pos, true, ◌⊎◌, List, [], Option, None, Some, codes, map}
+use Rattle.std.specs.Prelude.{◌≡◌, ◌≤◌, ℕ, Bool, pos, true, false, ◌⊎◌, List, [], Option, None, Some, codes, map}
 use Rattle.std.specs.Borrow.{Bor}
 use Rattle.std.specs.Str.Parse.{IsNumeral, digits_value, without_leading_plus}
 use Rattle.clap.specs.Kinds.{HasKind, Kinds}
@@ -11,7 +11,7 @@ use Rattle.clap.specs.declared.error.kind.ErrorKind.TheVariants as kinds
 use Rattle.table_types.specs.Names.{is_name}
 use Rattle.node_commands.specs.declared.link.Link.{Link}
 use Rattle.peers_node.specs.declared.choice.Options.{Options}
-use Rattle.peers_node.specs.declared.choice.Options.TheVariants.{Round, Serve, Join}
+use Rattle.peers_node.specs.declared.choice.Options.TheVariants.{Run, Round, Serve, Join}
 use Rattle.peers_node.specs.declared.command_line.Refusal.{Refusal}
 use Rattle.peers_node.specs.declared.command_line.Refusal.TheVariants.{Parser, NoCommand, NoName}
 use Rattle.peers_node.specs.declared.options_error.OptionsError.{OptionsError}
@@ -41,6 +41,11 @@ HasNumberOr rows option most otherwise number = HasNumber rows option most numbe
 abbrev pub HasName : List Row → List ℕ → List ℕ → Type 0
 HasName rows option name = (first_of option rows ≡ Some name) × (is_name name ≡ true)
 
+-- the flag was met, or not
+abbrev pub HasFlag : List Row → List ℕ → Bool → Type 0
+HasFlag rows option true = first_of option rows ≡ Some (codes "true")
+HasFlag rows option false = first_of option rows ≡ Some (codes "true") → ⊥
+
 -- the options of a link were met
 abbrev pub HasLink : List Row → Link → Type 0
 HasLink rows link =
@@ -49,6 +54,7 @@ HasLink rows link =
 
 -- what clap met after the subcommand's name are the options
 abbrev pub HasOptions : List Row → Options → Type 0
+HasOptions rows (Run checks) = HasFlag rows (codes "check") checks
 HasOptions rows (Round threads tracks rounds) =
     HasNumber rows (codes "threads") 8 threads × HasNumber rows (codes "tracks") 1000 tracks × HasNumberOr rows (codes "rounds") 100 1 rounds
 HasOptions rows (Serve link) = HasLink rows link × HasNumberOr rows (codes "sessions") 16 1 link.sessions
@@ -114,11 +120,11 @@ meeting name = with_rule (with_rule (numbered name) (name_option (codes "name"))
 abbrev pub serving : App
 serving = with_rule (meeting (codes "serve")) (optional_number (codes "sessions") 16)
 
--- the subcommand that checks a configuration, with its one option, which is required and has no value
+-- the subcommand that runs a node, with its one option, a flag
 abbrev pub running : App
 running =
     with_rule (new_app (codes "run"))
-    (record (new_rule (codes "check")) { long = Some (codes "check"); action = Some actions.SetTrue; required = true })
+    (record (new_rule (codes "check")) { long = Some (codes "check"); action = Some actions.SetTrue })
 
 -- the program with all subcommands that need no other node
 abbrev pub alone : App

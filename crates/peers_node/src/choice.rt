@@ -33,8 +33,11 @@ pub enum Options {
     Table,
     /// Read a script, make its world's steps, and write the answers to its questions.
     World,
-    /// Read a configuration and say whether a node can be run with it.
-    CheckConfiguration,
+    /// Read a configuration, and run a node with it until it is stopped.
+    Run {
+        /// Whether to say only whether a node can be run with it.
+        checks: bool,
+    },
     /// Run rounds, one after another.
     Round {
         /// The number of threads: 1 to 8.

@@ -7,7 +7,7 @@ ghost use Rattle.peers_node.specs.declared.choice.Options.{Options};
 ghost use Rattle.peers_node.specs.declared.choice.Options.TheVariants as choices;
 ghost use Rattle.peers_node.specs.declared.options_error.OptionsError.TheVariants as errors;
 ghost use Rattle.peers_node.specs.Choices.{TakesNone, name_of};
-ghost use Rattle.peers_node.specs.CommandLine.{Chooses, HasLink, HasName, HasNumber, HasNumberOr, HasOptions, Meets, Refuses, cause_of, faults_of, program, texts};
+ghost use Rattle.peers_node.specs.CommandLine.{Chooses, HasFlag, HasLink, HasName, HasNumber, HasNumberOr, HasOptions, Meets, Refuses, cause_of, faults_of, program, texts};
 
 use crate::choice::{
     LAST_PORT, MOST_ROUNDS, MOST_SESSIONS, MOST_THREADS, MOST_TRACKS, MOST_TURNS, Options,
@@ -107,6 +107,9 @@ fn chosen(alloc: Global, matches: &ArgMatches<'_>) -> Result<Option<Options>, Al
     ensures none { result ≡ Ok None → (chosen : Options) → Meets (subcommand_rows_of matches.now) chosen → ⊥ }
 {
     match matches.subcommand() {
+        Some(("run", options)) => Ok(Some(Options::Run {
+            checks: flag_met(options, "check"),
+        })),
         Some(("round", options)) => Ok(round_met(options)),
         Some(("serve", options)) => match serve_met(alloc, options)? {
             Some(link) => Ok(Some(Options::Serve(link))),
@@ -132,7 +135,6 @@ fn named(name: &str) -> Option<Options>
         "learn" => Some(Options::Learn),
         "table" => Some(Options::Table),
         "world" => Some(Options::World),
-        "run" => Some(Options::CheckConfiguration),
         _ => None,
     }
 }
@@ -229,6 +231,16 @@ fn name_met<'a>(matches: &ArgMatches<'a>, option: &str) -> Option<&'a str>
     match text_met(matches, option) {
         Some(text) if is_name(text.as_bytes()) => Some(text),
         _ => None,
+    }
+}
+
+/// Returns whether clap met the flag `option`.
+fn flag_met(matches: &ArgMatches<'_>, option: &str) -> bool
+    ensures { HasFlag (rows_of (found_of matches.now)) option.now result }
+{
+    match text_met(matches, option) {
+        Some(text) => text == "true",
+        None => false,
     }
 }
 

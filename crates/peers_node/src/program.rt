@@ -147,7 +147,7 @@ fn rounds<'a>(alloc: Global) -> Result<Command<'a>, AllocError>
     )
 }
 
-/// Makes the subcommand that checks a configuration.
+/// Makes the subcommand that runs a node that stays.
 fn running<'a>(alloc: Global) -> Result<Command<'a>, AllocError>
     ensures app { IfOk result (λ command. app_of command ≡ running) }
     ensures local { IfOk result (λ command. (fields_of command).has_globals ≡ false) }
@@ -155,10 +155,16 @@ fn running<'a>(alloc: Global) -> Result<Command<'a>, AllocError>
     let run = bare(
         alloc,
         "run",
-        "Reads a configuration, and says whether a node can be run with it",
+        "Reads a configuration, and runs a node that stays until it is stopped at its admin port",
     );
-    let check = required(flag(with_long(Arg::new(alloc, "check"), "check")));
-    with_option(run, with_help(check, "Opens nothing"))
+    let check = flag(with_long(Arg::new(alloc, "check"), "check"));
+    with_option(
+        run,
+        with_help(
+            check,
+            "Only says whether a node can be run with the configuration, and opens nothing",
+        ),
+    )
 }
 
 /// Makes a subcommand with the numbers of a link as options.

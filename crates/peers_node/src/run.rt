@@ -6,12 +6,14 @@ use crate::command_line::{Refusal, read_words};
 use crate::options_error::OptionsError;
 use node_commands::{Link, RoundSize, join, round, serve};
 use peers_devices::{Counting, Faults, write_all};
+use staying_node::run;
 use std::alloc::{AllocError, Global};
 use std::env;
 use std::io::{ErrorKind, Read, Write};
 use std::net::{Net, TcpListener, TcpStream};
 use std::sync::Wait;
 use std::thread::Threads;
+use std::time::Clock;
 use text_commands::{Ending, check, check_configuration, learn, lesson, table, world};
 
 /// The exit status if the command line is refused or asks for help.
@@ -22,7 +24,7 @@ const NO_COMMAND_LINE: &str = "error: not a command line of this program\n";
 
 /// Runs the subcommand that the command line chooses and returns the exit status. `runner` starts its threads and opens
 /// its sockets.
-pub fn status<R: Threads + Wait + Sync + Net<Listener = TcpListener, Stream = TcpStream>>(
+pub fn status<R: Threads + Wait + Clock + Sync + Net<Listener = TcpListener, Stream = TcpStream>>(
     rt: &HostRuntime,
     runner: &R,
 ) -> u8 {
@@ -63,7 +65,7 @@ fn texts<'a>(alloc: Global, arguments: &'a [String]) -> Result<Vec<&'a str>, All
 #[tactic(auto, using(crate::proofs::Choices::few_threads, crate::proofs::Choices::some_rounds))]
 fn dispatched<
     'a,
-    R: Threads + Wait + Sync + Net<Listener = TcpListener, Stream = TcpStream>,
+    R: Threads + Wait + Clock + Sync + Net<Listener = TcpListener, Stream = TcpStream>,
     E: Write + Faults,
 >(rt: &HostRuntime, runner: &R, words: &'a [&'a str], errors: &mut E) -> u8 {
     let alloc = rt.alloc();
@@ -75,7 +77,8 @@ fn dispatched<
         Ok(Options::Learn) => learn(alloc, &mut input, &mut output, errors).status(),
         Ok(Options::Table) => run_table(alloc, &mut input, &mut output, errors),
         Ok(Options::World) => run_world(alloc, &mut input, &mut output, errors),
-        Ok(Options::CheckConfiguration) => run_configuration_check(alloc, &mut input, errors),
+        Ok(Options::Run { checks: true }) => run_configuration_check(alloc, &mut input, errors),
+        Ok(Options::Run { checks: false }) => run_node(runner, alloc, &mut input, errors),
         Ok(
             Options::Round {
                 threads,
@@ -143,6 +146,15 @@ fn run_configuration_check<I: Read + Faults, E: Write + Faults>(
     errors: &mut E,
 ) -> u8 {
     check_configuration(alloc, input, errors).status()
+}
+
+#[inline(never)]
+fn run_node<
+    R: Threads + Wait + Clock + Sync + Net<Listener = TcpListener, Stream = TcpStream>,
+    I: Read + Faults,
+    E: Write + Faults,
+>(runner: &R, alloc: Global, input: &mut I, errors: &mut E) -> u8 {
+    run(runner, alloc, input, errors).status()
 }
 
 #[inline(never)]

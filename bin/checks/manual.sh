@@ -1,0 +1,50 @@
+# Checks of the manual page of `run`, of the configurations that it shows, and of the unit. They stand in a file of their own, which
+# bin/test reads. What can't be checked here is said, and not counted.
+
+page=docs/peers_node.8
+
+# has COMMAND WHAT: whether the command is there. If not, says that WHAT isn't checked.
+has() {
+    command -v "$1" >/dev/null && return
+    echo "skipped: no $1 for $2"
+    return 1
+}
+
+# shown FIRST: prints the literal text of the page that begins with this line.
+shown() {
+    awk -v first="$1" '/^\.Bd/ { text = ""; inside = 1; next }
+        /^\.Ed/ { if (inside && index(text, first) == 1) printf "%s", text; inside = 0; next }
+        inside { text = text $0 "\n" }' "$page"
+}
+
+page_is_sound() {
+    local title
+    keep man --warnings=w -l "$page"
+    ends 'man -l of the manual page' 0 "$output" ''
+    for title in NAME SYNOPSIS DESCRIPTION CONFIGURATION ADMIN METRICS 'EXIT STATUS' "WHAT ISN'T SHARED" 'WHAT MAY BE LOST' SECURITY EXAMPLES; do
+        if grep -q "^$title" "$scratch/output"; then pass; else fail "the manual page has no $title"; fi
+    done
+}
+
+# A frontend and defaults, which the fragment in the page leaves out.
+haproxy_takes_it() {
+    { printf 'global\n    localpeer lb1\ndefaults\n    mode http\n    timeout connect 1s\n    timeout client 1s\n    timeout server 1s\n'
+        shown 'peers mesh'; } >"$scratch/haproxy.cfg"
+    keep haproxy -c -f "$scratch/haproxy.cfg"
+    ends 'haproxy -c of the configuration in the manual page' 0 "$output" "$errors"
+}
+
+# The unit, with another program that is there in place of the one that it starts.
+unit_is_sound() {
+    sed 's|/usr/bin/peers_node|/bin/true|' dist/digbaro.service >"$scratch/digbaro.service"
+    keep systemd-analyze verify --man=no "$scratch/digbaro.service"
+    ends 'systemd-analyze verify of the unit' 0 '' ''
+}
+
+manual() {
+    shown 'node node' >"$scene"
+    if [ -s "$scene" ]; then checked_is taken 'the configuration in the manual page'; else fail 'the manual page shows no configuration'; fi
+    ! has man 'the manual page' || page_is_sound
+    ! has haproxy 'the configuration in the manual page' || haproxy_takes_it
+    ! has systemd-analyze 'the unit' || unit_is_sound
+}

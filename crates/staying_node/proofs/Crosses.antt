@@ -1,0 +1,65 @@
+-- The threads of a node share it, and each takes its seat with it. A lemma for each part, since one search through all of them gives up.
+use mathlib.Core.List.{List, [], ◌∷◌}
+use mir.Syntax.{Sym}
+use denote.RattleType.{RattleType}
+use denote.Param.Send.{AllSend, IsSend, IsSync, sendable}
+use denote.Param.SendFields.{FieldsHave, as_row_send, declared_send}
+use denote.Struct.Field.{row_field}
+use denote.Struct.Tuple.{TupleAt, type_at}
+use Rattle.std.proofs.Crossing.{crosses}
+use Rattle.table_types.specs.contracts.name.Name as Name
+use Rattle.table_types.specs.contracts.roster.Roster as Roster
+use Rattle.admin_text.specs.contracts.peers.Peer as Peer
+use Rattle.admin_text.specs.contracts.table_settings.TableSetting as TableSetting
+use Rattle.admin_text.specs.contracts.configurations.Configuration as Configuration
+use Rattle.table_shards.proofs.Crosses.{shards_sync}
+use Rattle.staying_node.specs.contracts.admin.AdminPort as AdminPort
+use Rattle.staying_node.specs.contracts.admin.Clients as Clients
+use Rattle.staying_node.specs.contracts.doors.Doors as Doors
+use Rattle.staying_node.specs.contracts.slot.Slot as Slot
+use Rattle.staying_node.specs.contracts.node.Node as Node
+use Rattle.staying_node.specs.contracts.running.Ports as Ports
+
+roster_sync : IsSync (Roster.the_field).row
+roster_sync = search (sendable, crosses) depth 80 fits 20000
+
+name_sync : IsSync (Name.the_field).row
+name_sync = search (sendable, crosses) depth 80 fits 20000
+
+peer_sync : IsSync (Peer.the_field).row
+peer_sync = search (name_sync, sendable, crosses) depth 80 fits 20000
+
+setting_sync : IsSync (TableSetting.the_field).row
+setting_sync = search (sendable, crosses) depth 80 fits 20000
+
+configuration_sync : IsSync (Configuration.the_field).row
+configuration_sync = search (name_sync, peer_sync, setting_sync, sendable, crosses) depth 80 fits 20000
+
+slot_sync : IsSync (Slot.the_field).row
+slot_sync = search (sendable, crosses) depth 80 fits 20000
+
+pub node_sync : IsSync (Node.the_field).row
+node_sync = search (roster_sync, configuration_sync, slot_sync, shards_sync, sendable, crosses) depth 80 fits 20000
+
+doors_sync : IsSync (Doors.the_field).row
+doors_sync = search (sendable, crosses) depth 80 fits 20000
+
+clients_sync : IsSync (Clients.the_field).row
+clients_sync = search (sendable, crosses) depth 80 fits 20000
+
+pub admin_sync : IsSync (AdminPort.the_field).row
+admin_sync = search (clients_sync, sendable, crosses) depth 80 fits 20000
+
+pub ports_sync : IsSync (Ports.the_field).row
+ports_sync = search (doors_sync, admin_sync, sendable, crosses) depth 80 fits 20000
+
+parts_send : (name : Sym) (As : List RattleType) → AllSend As → FieldsHave IsSend (type_at name As).parts
+parts_send name [] all = tt
+parts_send name (A ∷ As) (first, rest) = (as_row_send (row_field A) first, parts_send name As rest)
+
+captures_send : (name : Sym) (As : List RattleType) → AllSend As → IsSend (TupleAt name As)
+captures_send name As all = declared_send (type_at name As) (parts_send name As all)
+
+-- A closure of four captures. A search through all of them gives up.
+pub four_send : (name : Sym) (A B C D : RattleType) → IsSend A → IsSend B → IsSend C → IsSend D → IsSend (TupleAt name (A ∷ B ∷ C ∷ D ∷ []))
+four_send name A B C D a b c d = captures_send name (A ∷ B ∷ C ∷ D ∷ []) (a, (b, (c, (d, tt))))

@@ -1,0 +1,2 @@
+pub mod CatchingUp
+pub mod Doors

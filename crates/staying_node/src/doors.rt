@@ -1,0 +1,330 @@
+//! The doors, at which peers connect.
+
+ghost use Rattle.std.specs.Prelude.{◌≡◌};
+ghost use Rattle.std.specs.List.{list_all};
+ghost use Rattle.staying_node.specs.Doors.{is_later, is_longest};
+
+use crate::clock::milliseconds;
+use crate::devices::is_pause;
+use crate::node::Node;
+use crate::slot::{Arrival, Slot};
+use admin_port::PeerState;
+use node_text::push_number;
+use peers_hello::{Answer, Hello};
+use std::alloc::Global;
+use std::io::{Read, Write};
+use std::net::{TcpListener, TcpStream};
+use std::sync::{Mutex, Wait};
+use std::time::Clock;
+use std::{io, thread};
+use table_types::{Memory, Name};
+
+/// The doors of a node, each a thread.
+pub(crate) const DOORS: usize = 4;
+
+/// How long a door waits for a hello, in milliseconds.
+const HELLO: u64 = 5_000;
+
+/// How long a read waits before a door looks around, in milliseconds.
+const LOOK: u64 = 50;
+
+/// How often a door looks for a connection, in milliseconds.
+const POLL: u64 = 20;
+
+/// How long a door waits whether the connection stays, if a session with its peer stands, in milliseconds.
+const STAY: u64 = 300;
+
+/// The doors of a node. One free door at a time waits for the next connection. While none is free, the one whose connection
+/// has been silent longest closes it if another connection comes.
+#[derive(Drop)]
+pub(crate) struct Doors {
+    /// Since when the connection of each door has been silent, in milliseconds since the node began; `None` for a door that is free.
+    silent: Mutex<Vec<Option<u64>>>,
+    /// Whoever has this lock waits for the next connection.
+    turn: Mutex<()>,
+}
+
+/// Returns whether a door isn't free, and its connection hasn't been silent for longer than since `own`.
+fn is_later(own: u64, since: Option<u64>) -> bool
+    ensures { result ≡ is_later own since }
+{
+    match since {
+        Some(since) => own <= since,
+        None => false,
+    }
+}
+
+/// Returns whether each door is such.
+fn are_later(own: u64, silent: &[Option<u64>]) -> bool
+    ensures { result ≡ list_all (is_later own) silent.now }
+{
+    for since in silent {
+        if !is_later(own, *since) {
+            return false;
+        }
+    }
+    true
+}
+
+/// Returns whether no door is free, and the connection of none has been silent for longer than that of this one.
+fn is_longest(silent: &[Option<u64>], door: usize) -> bool
+    ensures { result ≡ is_longest silent.now door }
+{
+    match silent.get(door) {
+        Some(Some(own)) => are_later(*own, silent),
+        Some(None) | None => false,
+    }
+}
+
+impl Doors {
+    /// Returns doors that are all free.
+    pub(crate) fn new(alloc: Global) -> Result<Doors, Memory> {
+        let mut silent = Vec::new(alloc);
+        for _ in 0..DOORS {
+            silent.push(None)?;
+        }
+        Ok(Doors {
+            silent: Mutex::new(silent),
+            turn: Mutex::new(()),
+        })
+    }
+
+    /// Notes since when the connection of a door has been silent, or that the door is free.
+    fn set<R: Wait>(&self, rt: &R, door: usize, since: Option<u64>) {
+        let mut silent = self.silent.lock(rt);
+        if let Some(place) = silent.get_mut(door) {
+            *place = since;
+        }
+    }
+
+    /// Returns whether the connection of a door is the first to be closed.
+    fn is_first<R: Wait>(&self, rt: &R, door: usize) -> bool {
+        let silent = self.silent.lock(rt);
+        is_longest(silent.as_slice(), door)
+    }
+}
+
+/// What a door found on its connection.
+#[derive(Drop)]
+enum Found {
+    /// The hello of the peer with this name.
+    Peer(Name),
+    /// Another connection, for which the door closes its own.
+    Other(TcpStream),
+    /// Nothing that the door goes on with.
+    Nothing,
+}
+
+/// Returns the place of the peer with this name.
+fn slot_of<'a>(node: &'a Node, name: &Name) -> Option<&'a Slot> {
+    let index = node
+        .configuration
+        .peers
+        .iter()
+        .position(|peer| peer.name.as_slice() == name.as_slice())?;
+    node.slots.get(index)
+}
+
+/// Writes a status line.
+fn refuse(alloc: Global, stream: &TcpStream, code: u16) -> io::Result<()> {
+    let mut line = Vec::new(alloc);
+    push_number(&mut line, u64::from(code))?;
+    line.push(b'\n')?;
+    let mut to = stream;
+    to.write_all(line.as_slice())
+}
+
+/// What a read of a hello came to.
+#[derive(Clone, Copy, Debug, PartialEq, Eq)]
+enum More {
+    /// Bytes came.
+    Came,
+    /// None came yet.
+    Waits,
+    /// None will come.
+    Over,
+}
+
+/// Reads more of a hello, if it comes within `LOOK`.
+fn read_more(stream: &TcpStream, bytes: &mut Vec<u8>) -> More {
+    let mut piece = [0u8; 512];
+    let mut from = stream;
+    match from.read(&mut piece) {
+        Ok(0) => More::Over,
+        Ok(count) if bytes.extend_from_slice(&piece[..count.min(512)]).is_ok() => More::Came,
+        Ok(_) => More::Over,
+        Err(error) if is_pause(error.kind()) => More::Waits,
+        Err(_) => More::Over,
+    }
+}
+
+/// Returns whether a connection stays for a while. While a session with its peer stands, a connection may be one that the peer drops
+/// at once, since it already has the other.
+fn stays(stream: &TcpStream) -> bool {
+    if stream.set_read_timeout(Some(milliseconds(STAY))).is_err() {
+        return false;
+    }
+    let mut byte = [0u8; 1];
+    match stream.peek(&mut byte) {
+        Ok(0) => false,
+        Ok(_) => true,
+        Err(error) => is_pause(error.kind()),
+    }
+}
+
+/// Prepares a connection for its hello.
+fn greeted(stream: TcpStream) -> io::Result<TcpStream> {
+    stream.set_nonblocking(false)?;
+    stream.set_read_timeout(Some(milliseconds(LOOK)))?;
+    stream.set_write_timeout(Some(milliseconds(HELLO)))?;
+    Ok(stream)
+}
+
+/// A door at work.
+#[derive(Drop)]
+struct Door<'a, R> {
+    rt: &'a R,
+    node: &'a Node,
+    listener: &'a TcpListener,
+    doors: &'a Doors,
+    index: usize,
+}
+
+impl<'a, R: Wait + Clock> Door<'a, R> {
+    /// Returns a connection that waits, if there is one.
+    fn waiting(&self) -> Option<TcpStream> {
+        match self.listener.accept() {
+            Ok((stream, _)) => greeted(stream).ok(),
+            Err(_) => None,
+        }
+    }
+
+    /// Waits for the next connection. Returns `None` once the node stops.
+    fn next(&self) -> Option<TcpStream> {
+        let rt = self.rt;
+        let _turn = self.doors.turn.lock(rt);
+        for _ in rt.forever() {
+            if self.node.stops() {
+                return None;
+            }
+            if let Some(stream) = self.waiting() {
+                return Some(stream);
+            }
+            thread::sleep(rt, milliseconds(POLL));
+        }
+        unreachable!()
+    }
+
+    /// Returns what the bytes of a hello come to, or `None` if it isn't whole. One that is refused gets its code.
+    fn answer(&self, stream: &TcpStream, bytes: &[u8]) -> Option<Found> {
+        let node = self.node;
+        let own = &node.configuration.node;
+        match Hello::read(node.alloc, bytes, own, node.names.as_slice()) {
+            Ok(Answer::Accepted(name, _)) => Some(Found::Peer(name)),
+            Ok(Answer::Refused(code, _)) => {
+                let _refused = refuse(node.alloc, stream, code);
+                Some(Found::Nothing)
+            }
+            Ok(Answer::More) => None,
+            Err(_) => Some(Found::Nothing),
+        }
+    }
+
+    /// Returns why the door goes on with no more of a hello that began at `begun`, if it doesn't: the node stops, the hello takes
+    /// too long, or another connection comes and this one has been silent longest.
+    fn leaves(&self, begun: u64) -> Option<Found> {
+        let now = self.node.clock.milliseconds(self.rt);
+        if self.node.stops() || now.saturating_sub(begun) >= HELLO {
+            return Some(Found::Nothing);
+        }
+        if !self.doors.is_first(self.rt, self.index) {
+            return None;
+        }
+        let other = self.waiting()?;
+        Some(Found::Other(other))
+    }
+
+    /// Reads a hello until it is whole.
+    fn hello(&self, stream: &TcpStream, bytes: &mut Vec<u8>) -> Found {
+        let rt = self.rt;
+        let begun = self.node.clock.milliseconds(rt);
+        self.doors.set(rt, self.index, Some(begun));
+        for _ in rt.forever() {
+            if let Some(found) = self.answer(stream, bytes.as_slice()) {
+                return found;
+            }
+            match read_more(stream, bytes) {
+                More::Came => {
+                    let now = self.node.clock.milliseconds(rt);
+                    self.doors.set(rt, self.index, Some(now));
+                }
+                More::Waits => {}
+                More::Over => return Found::Nothing,
+            }
+            if let Some(found) = self.leaves(begun) {
+                return found;
+            }
+        }
+        unreachable!()
+    }
+
+    /// Hands a connection to the worker of its peer, if it stays.
+    fn hand_over(&self, name: &Name, stream: TcpStream, bytes: Vec<u8>) {
+        let Some(slot) = slot_of(self.node, name) else {
+            return;
+        };
+        let status = slot.status(self.rt);
+        let stands = status.state != PeerState::Down;
+        drop(status);
+        if !stands || stays(&stream) {
+            slot.arrive(self.rt, Arrival { stream, bytes });
+        }
+    }
+
+    /// Takes a connection. Returns another one, for which it closes the first.
+    fn take(&self, stream: TcpStream) -> Option<TcpStream> {
+        let mut bytes = Vec::new(self.node.alloc);
+        match self.hello(&stream, &mut bytes) {
+            Found::Peer(name) => {
+                self.hand_over(&name, stream, bytes);
+                None
+            }
+            Found::Other(other) => Some(other),
+            Found::Nothing => None,
+        }
+    }
+
+    /// Takes connections for as long as the node runs.
+    fn keep(&self) {
+        let mut next = None;
+        for _ in self.rt.forever() {
+            let stream = match next {
+                Some(stream) => stream,
+                None => match self.next() {
+                    Some(stream) => stream,
+                    None => return,
+                },
+            };
+            next = self.take(stream);
+            self.doors.set(self.rt, self.index, None);
+        }
+    }
+}
+
+/// Takes connections of peers at a door for as long as the node runs.
+pub(crate) fn keep_door<R: Wait + Clock>(
+    rt: &R,
+    node: &Node,
+    listener: &TcpListener,
+    doors: &Doors,
+    index: usize,
+) {
+    let door = Door {
+        rt,
+        node,
+        listener,
+        doors,
+        index,
+    };
+    door.keep();
+}

@@ -1,0 +1,158 @@
+//! What arrived on a connection and wasn't read yet.
+
+ghost use Rattle.std.specs.Prelude.{◌≡◌, IfOk};
+ghost use Rattle.std.specs.Io.{ReadsAtMost};
+
+use crate::bell::Bell;
+use std::alloc::Global;
+use std::io;
+use std::io::{ErrorKind, Read};
+use std::net::TcpStream;
+use std::sync::{Condvar, Mutex, Wait};
+
+/// The most bytes that an inbox holds. The thread that reads the connection waits until there is room.
+const MOST_BYTES: usize = 1 << 20;
+
+/// The size of one read.
+const PIECE: usize = 16_384;
+
+/// The bytes that arrived, and how the connection stands.
+#[derive(Drop)]
+struct Arrivals {
+    bytes: Vec<u8>,
+    /// How many of the bytes were read.
+    taken: usize,
+    /// The bytes that arrived since the connection began.
+    total: u64,
+    /// Whether the remote peer sends nothing more.
+    over: bool,
+    /// Whether a read of the connection failed.
+    failed: bool,
+    /// Whether nobody reads the inbox any more.
+    closed: bool,
+}
+
+/// What arrived on a connection, from the thread that reads it to the one that works with it.
+#[derive(Drop)]
+pub(crate) struct Inbox {
+    arrivals: Mutex<Arrivals>,
+    room: Condvar,
+}
+
+impl Inbox {
+    /// Returns an inbox in which `bytes` have arrived.
+    pub(crate) fn new(bytes: Vec<u8>) -> Inbox {
+        let total = bytes.len() as u64;
+        Inbox {
+            arrivals: Mutex::new(Arrivals {
+                bytes,
+                taken: 0,
+                total,
+                over: false,
+                failed: false,
+                closed: false,
+            }),
+            room: Condvar::new(),
+        }
+    }
+
+    /// Adds bytes once there is room. Returns whether the reading goes on.
+    fn add<R: Wait>(&self, rt: &R, piece: &[u8]) -> bool {
+        let mut arrivals = self.arrivals.lock(rt);
+        for _ in rt.forever() {
+            if arrivals.closed {
+                return false;
+            }
+            if arrivals.bytes.len() < MOST_BYTES {
+                break;
+            }
+            arrivals = self.room.wait(rt, arrivals);
+        }
+        if arrivals.bytes.extend_from_slice(piece).is_err() {
+            arrivals.failed = true;
+            return false;
+        }
+        arrivals.total = arrivals.total.saturating_add(piece.len() as u64);
+        true
+    }
+
+    /// Notes that nothing more arrives, and whether that is because a read failed.
+    fn end<R: Wait>(&self, rt: &R, failed: bool) {
+        let mut arrivals = self.arrivals.lock(rt);
+        arrivals.over = true;
+        arrivals.failed = arrivals.failed || failed;
+    }
+
+    /// Closes the inbox, so that the thread that reads the connection ends.
+    pub(crate) fn close<R: Wait>(&self, rt: &R) {
+        let mut arrivals = self.arrivals.lock(rt);
+        arrivals.closed = true;
+        drop(arrivals);
+        self.room.notify_all();
+    }
+
+    /// Returns how many bytes arrived.
+    pub(crate) fn total<R: Wait>(&self, rt: &R) -> u64 {
+        let arrivals = self.arrivals.lock(rt);
+        arrivals.total
+    }
+
+    /// Takes bytes that arrived, as a read does. `WouldBlock` if there are none yet.
+    pub(crate) fn take<R: Wait>(&self, rt: &R, buffer: &mut [u8]) -> io::Result<usize>
+        ensures { ReadsAtMost result buffer.new }
+    {
+        let mut arrivals = self.arrivals.lock(rt);
+        let taken = arrivals.taken.min(arrivals.bytes.len());
+        let unread = &arrivals.bytes[taken..];
+        let count = unread.len().min(buffer.len());
+        if count == 0 {
+            return nothing(&arrivals);
+        }
+        buffer[..count].copy_from_slice(&unread[..count]);
+        arrivals.taken = taken + count;
+        if arrivals.taken == arrivals.bytes.len() {
+            arrivals.bytes.clear();
+            arrivals.taken = 0;
+            drop(arrivals);
+            self.room.notify_all();
+        }
+        Ok(count)
+    }
+}
+
+/// Returns what a read gives if no bytes are left.
+fn nothing(arrivals: &Arrivals) -> io::Result<usize>
+    ensures { IfOk result (λ count. count ≡ 0) }
+{
+    if arrivals.failed {
+        Err(ErrorKind::ConnectionReset.into())
+    } else if arrivals.over {
+        Ok(0)
+    } else {
+        Err(ErrorKind::WouldBlock.into())
+    }
+}
+
+/// Reads a connection into an inbox until it ends or nobody reads the inbox any more, and rings the bell at each arrival.
+pub(crate) fn receive<R: Wait>(rt: &R, stream: &TcpStream, inbox: &Inbox, bell: &Bell) {
+    let mut piece = [0u8; PIECE];
+    for _ in rt.forever() {
+        let mut from = stream;
+        let goes_on = match from.read(&mut piece) {
+            Ok(0) => {
+                inbox.end(rt, false);
+                false
+            }
+            Ok(count) => inbox.add(rt, &piece[..count.min(PIECE)]),
+            Err(error) if error.kind() == ErrorKind::Interrupted => true,
+            Err(_) => {
+                inbox.end(rt, true);
+                false
+            }
+        };
+        bell.ring(rt);
+        if !goes_on {
+            return;
+        }
+    }
+}

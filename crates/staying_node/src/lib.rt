@@ -1,0 +1,26 @@
+//! A node that stays: it keeps a session with each of its peers for as long as it runs, connects again after one ended, and
+//! answers requests at its admin port. The sessions themselves are `peers_engine`'s; what is here are the threads around
+//! them, the sockets and the clock, of which no contract speaks.
+#![tactic(auto)]
+
+mod admin;
+mod bell;
+mod catching_up;
+mod clock;
+mod devices;
+mod doors;
+mod fault_counts;
+mod inbox;
+mod intake;
+mod log;
+mod node;
+mod outbox;
+mod peers;
+mod requests;
+mod running;
+mod sessions;
+mod slot;
+mod status;
+mod tables;
+
+pub use running::run;

@@ -1,0 +1,125 @@
+//! The worker of a peer: it connects, takes connections of the peer, and holds its sessions.
+
+use crate::clock::milliseconds;
+use crate::node::Node;
+use crate::sessions::{Connection, hold};
+use crate::slot::{Arrival, Slot};
+use admin_port::PeerRole;
+use std::io;
+use std::net::{Net, SocketAddr, TcpListener, TcpStream};
+use std::sync::Wait;
+use std::thread::Threads;
+use std::time::Clock;
+use table_shards::Seat;
+
+/// How long an attempt to connect takes at most, in milliseconds.
+const ATTEMPT: u64 = 2_000;
+
+/// The least pause between the end of a session or of an attempt and the next attempt, in milliseconds. Up to twice as long, so that
+/// two nodes don't keep in step.
+const PAUSE: u64 = 2_000;
+
+/// How long a write waits for the remote peer to read, in milliseconds.
+pub(crate) const WRITE_TIMEOUT: u64 = 10_000;
+
+/// How long a worker with nothing to do waits at most, in milliseconds.
+const REST: u64 = 500;
+
+/// Has a connection send at once what is written, and give up writing after `WRITE_TIMEOUT`.
+pub(crate) fn prepared(stream: TcpStream) -> io::Result<TcpStream> {
+    stream.set_nodelay(true)?;
+    stream.set_read_timeout(None)?;
+    stream.set_write_timeout(Some(milliseconds(WRITE_TIMEOUT)))?;
+    Ok(stream)
+}
+
+/// Connects to a peer.
+fn connected<N: Net<Listener = TcpListener, Stream = TcpStream>>(
+    rt: &N,
+    address: &SocketAddr,
+) -> io::Result<TcpStream> {
+    let stream = TcpStream::connect_timeout(rt, address, milliseconds(ATTEMPT))?;
+    prepared(stream)
+}
+
+/// Returns when to try again to connect: `PAUSE` from `now` on, or later if the peer had too many faults, and up to `PAUSE` after
+/// that, by the last digits of the clock.
+fn next_attempt<R: Wait>(rt: &R, slot: &Slot, now: u64) -> u64 {
+    let status = slot.status(rt);
+    now.saturating_add(PAUSE)
+        .max(status.rests_until())
+        .saturating_add(now.wrapping_mul(7_919) % PAUSE)
+}
+
+/// Makes the connection of an arrival.
+fn connection_of(arrival: Arrival) -> Option<Connection> {
+    let Arrival { stream, bytes } = arrival;
+    let Ok(stream) = prepared(stream) else {
+        return None;
+    };
+    Some(Connection {
+        stream,
+        role: PeerRole::Accept,
+        bytes,
+    })
+}
+
+/// Returns a connection to work with, if there is one: one that waits, or one that this node makes now if `attempts`.
+fn next_connection<N: Net<Listener = TcpListener, Stream = TcpStream> + Wait>(
+    rt: &N,
+    node: &Node,
+    slot: &Slot,
+    peer: usize,
+    attempts: bool,
+) -> Option<Connection> {
+    if let Some(arrival) = slot.take_arrival(rt) {
+        return connection_of(arrival);
+    }
+    if !attempts {
+        return None;
+    }
+    let address = node.configuration.peers.get(peer)?.address?;
+    let Ok(stream) = connected(rt, &address) else {
+        return None;
+    };
+    Some(Connection {
+        stream,
+        role: PeerRole::Connect,
+        bytes: Vec::new(node.alloc),
+    })
+}
+
+/// Keeps a session with a peer for as long as the node runs.
+pub(crate) fn keep_peer<
+    N: Net<Listener = TcpListener, Stream = TcpStream> + Threads + Wait + Clock + Sync,
+>(rt: &N, node: &Node, peer: usize, mut seat: Seat) {
+    let Some(slot) = node.slots.get(peer) else {
+        return;
+    };
+    let mut attempt = 0;
+    for _ in rt.forever() {
+        let seen = slot.bell.rings(rt);
+        if node.stops() {
+            return;
+        }
+        if node.is_paused() {
+            slot.bell.wait(rt, seen, milliseconds(REST));
+            continue;
+        }
+        let now = node.clock.milliseconds(rt);
+        let attempts = now >= attempt;
+        match next_connection(rt, node, slot, peer, attempts) {
+            Some(connection) => {
+                seat = hold(rt, node, slot, peer, seat, connection);
+                attempt = next_attempt(rt, slot, node.clock.milliseconds(rt));
+            }
+            None => {
+                if attempts {
+                    attempt = next_attempt(rt, slot, node.clock.milliseconds(rt));
+                }
+                let time = attempt.saturating_sub(now).max(1).min(REST);
+                slot.bell.wait(rt, seen, milliseconds(time));
+            }
+        }
+    }
+}

@@ -1,0 +1,549 @@
+//! Answering requests.
+
+use crate::node::Node;
+use crate::status::{PeerStatus, Totals};
+use crate::tables::{MANY, forget, lock, not_before_latest, slide};
+use admin_port::{
+    Answer, MOST_REQUEST, Metrics, NodeMetrics, PeerMetrics, PeerReport, PeerState,
+    PeerTableReport, Request, TableMetrics, metrics_page, push_answer, push_found, push_live_rows,
+    push_missing_page, push_node, push_page, push_peers, push_refused, push_rows,
+    push_table_header, push_tracked, read_request,
+};
+use admin_text::TableSetting;
+use node_text::LineError;
+use std::alloc::{AllocError, Global};
+use std::io;
+use std::io::Write;
+use std::sync::Wait;
+use std::time::Clock;
+use table_cell::{Reply, TrackError};
+use table_shards::held::lent;
+use table_shards::{Seat, ShardError};
+use table_types::{Change, Key, Memory, Row, TableDef};
+
+/// How many bytes of answers are written before further requests are answered.
+const MANY_ANSWERS: usize = 65_536;
+
+/// What was read of a connection: the beginning of a line, and the answers to the lines before it.
+#[derive(Drop)]
+pub(crate) struct Reading {
+    alloc: Global,
+    line: Vec<u8>,
+    answers: Vec<u8>,
+    /// A page that was asked for by HTTP; it is answered once the head of the request is over.
+    page: Option<Request>,
+}
+
+impl Reading {
+    /// Returns what was read of a new connection.
+    pub(crate) fn new(alloc: Global) -> Reading {
+        Reading {
+            alloc,
+            line: Vec::new(alloc),
+            answers: Vec::new(alloc),
+            page: None,
+        }
+    }
+
+    /// Writes the answers that aren't written yet.
+    fn write<W: Write>(&mut self, output: &mut W) -> io::Result<()> {
+        output.write_all(self.answers.as_slice())?;
+        self.answers.clear();
+        Ok(())
+    }
+}
+
+/// Whether a connection goes on after a request.
+#[derive(Clone, Copy, Debug, PartialEq, Eq)]
+enum After {
+    /// It takes further requests.
+    GoesOn,
+    /// It is closed.
+    Closes,
+    /// It is closed, and the node stops.
+    Stops,
+}
+
+/// Who answers the requests of one connection after another.
+#[derive(Drop)]
+pub(crate) struct Requester<'a> {
+    node: &'a Node,
+    seat: Seat,
+    /// Whether keys were tracked of which the peers weren't told.
+    tracked: bool,
+}
+
+impl<'a> Requester<'a> {
+    /// Returns one that works from `seat`.
+    pub(crate) fn new(node: &'a Node, seat: Seat) -> Requester<'a> {
+        Requester {
+            node,
+            seat,
+            tracked: false,
+        }
+    }
+
+    /// Returns the allocator.
+    pub(crate) fn alloc(&self) -> Global {
+        self.node.alloc
+    }
+
+    /// Wakes the peers' workers if keys were tracked.
+    pub(crate) fn tell_peers<R: Wait>(&mut self, rt: &R) {
+        if self.tracked {
+            self.tracked = false;
+            self.node.ring_all(rt);
+        }
+    }
+
+    /// Answers the requests whose lines end in `piece`, and writes the answers. Returns whether the connection goes on.
+    pub(crate) fn answer<R: Wait + Clock, W: Write>(
+        &mut self,
+        rt: &R,
+        reading: &mut Reading,
+        piece: &[u8],
+        output: &mut W,
+    ) -> io::Result<bool> {
+        for byte in piece {
+            if *byte != b'\n' {
+                reading.line.push(*byte)?;
+                continue;
+            }
+            if !self.node.tracks() || reading.answers.len() >= MANY_ANSWERS {
+                self.tell_peers(rt);
+                reading.write(output)?;
+            }
+            match self.answer_whole_line(rt, reading, output)? {
+                After::GoesOn => reading.line.clear(),
+                After::Closes => return self.close(rt, reading, output),
+                After::Stops => {
+                    let closed = self.close(rt, reading, output);
+                    self.node.stop(rt);
+                    return closed;
+                }
+            }
+        }
+        self.tell_peers(rt);
+        let is_long = reading.line.len() > MOST_REQUEST;
+        if is_long {
+            push_answer(&mut reading.answers, Answer::Refused)?;
+        }
+        reading.write(output)?;
+        Ok(!is_long)
+    }
+
+    /// Writes the last answers. Returns that the connection doesn't go on.
+    fn close<R: Wait, W: Write>(
+        &mut self,
+        rt: &R,
+        reading: &mut Reading,
+        output: &mut W,
+    ) -> io::Result<bool> {
+        self.tell_peers(rt);
+        reading.write(output)?;
+        Ok(false)
+    }
+
+    /// Answers the request of a line. If memory runs out, writes the answers to the lines before it.
+    fn answer_whole_line<R: Wait + Clock, W: Write>(
+        &mut self,
+        rt: &R,
+        reading: &mut Reading,
+        output: &mut W,
+    ) -> io::Result<After> {
+        let before = reading.answers.len();
+        match self.answer_line(rt, reading) {
+            Ok(after) => Ok(after),
+            Err(error) => {
+                reading.answers.truncate(before);
+                let _closed = self.close(rt, reading, output)?;
+                Err(error.into())
+            }
+        }
+    }
+
+    /// Answers the request of a line. A node that stops answers none.
+    fn answer_line<R: Wait + Clock>(
+        &mut self,
+        rt: &R,
+        reading: &mut Reading,
+    ) -> Result<After, AllocError> {
+        if self.node.stops() {
+            return Ok(After::Closes);
+        }
+        if reading.page.is_some() {
+            return self.answer_head(rt, reading);
+        }
+        if reading.line.len() > MOST_REQUEST {
+            push_answer(&mut reading.answers, Answer::Refused)?;
+            return Ok(After::Closes);
+        }
+        let configuration = &self.node.configuration;
+        let read = read_request(
+            reading.alloc,
+            &configuration.section,
+            configuration.tables.as_slice(),
+            reading.line.as_slice(),
+        );
+        match read {
+            Ok(request) => self.answer_request(rt, reading, request),
+            Err(LineError::Memory) => Err(AllocError),
+            Err(_) => {
+                push_refused(&mut reading.answers, reading.line.as_slice())?;
+                Ok(After::GoesOn)
+            }
+        }
+    }
+
+    /// Answers a request for a page once an empty line ends its head.
+    fn answer_head<R: Wait + Clock>(
+        &mut self,
+        rt: &R,
+        reading: &mut Reading,
+    ) -> Result<After, AllocError> {
+        if !matches!(reading.line.as_slice(), [] | [b'\r']) {
+            return Ok(After::GoesOn);
+        }
+        if matches!(reading.page, Some(Request::Metrics)) {
+            let page = self.page(rt)?;
+            push_page(&mut reading.answers, page.as_slice())?;
+        } else {
+            push_missing_page(&mut reading.answers)?;
+        }
+        Ok(After::Closes)
+    }
+
+    /// Answers a request.
+    fn answer_request<R: Wait + Clock>(
+        &mut self,
+        rt: &R,
+        reading: &mut Reading,
+        request: Request,
+    ) -> Result<After, AllocError> {
+        let text = &mut reading.answers;
+        match request {
+            Request::Track { table, key, change } => {
+                if !self.wait_to_track(rt) {
+                    return Ok(After::Closes);
+                }
+                self.track(rt, text, table, key, change)?;
+            }
+            Request::Get { table, key } => self.get(rt, text, table, &key)?,
+            Request::ShowTables => {
+                self.show_tables(rt, text)?;
+                push_answer(text, Answer::End)?;
+            }
+            Request::ShowTable(table) => {
+                self.show_table(rt, text, table)?;
+                push_answer(text, Answer::End)?;
+            }
+            Request::ShowRows => {
+                self.show_rows(rt, text)?;
+                push_answer(text, Answer::End)?;
+            }
+            Request::ShowPeers => {
+                self.show_peers(rt, text)?;
+                push_answer(text, Answer::End)?;
+            }
+            Request::Stop => {
+                push_answer(text, Answer::Done)?;
+                return Ok(After::Stops);
+            }
+            page @ (Request::Metrics | Request::OtherPage) => reading.page = Some(page),
+        }
+        Ok(After::GoesOn)
+    }
+
+    /// Returns the configuration's table with this id.
+    fn setting(&self, table: Option<u64>) -> Option<&'a TableSetting> {
+        let id = table?;
+        self.node
+            .configuration
+            .tables
+            .iter()
+            .find(|setting| setting.definition.id() == id)
+    }
+
+    /// Waits until keys may be tracked. Returns whether the node still runs.
+    fn wait_to_track<R: Wait + Clock>(&mut self, rt: &R) -> bool {
+        if !self.node.tracks() {
+            self.node.wait_to_track(rt);
+        }
+        !self.node.stops()
+    }
+
+    /// Changes the row of a key, and appends the answer.
+    fn track<R: Wait + Clock>(
+        &mut self,
+        rt: &R,
+        text: &mut Vec<u8>,
+        table: Option<u64>,
+        key: Key,
+        change: Change,
+    ) -> Result<(), AllocError> {
+        let Some(setting) = self.setting(table) else {
+            return push_answer(text, Answer::NoTable);
+        };
+        let copy = key.copy(self.node.alloc).map_err(|_| AllocError)?;
+        let tracked = self.make_track(rt, &setting.definition, copy, change);
+        push_tracked(text, &setting.definition, &key, &tracked).map_err(|_| AllocError)
+    }
+
+    /// Changes the row of a key at this moment, or at the table's latest.
+    fn make_track<R: Wait + Clock>(
+        &mut self,
+        rt: &R,
+        definition: &TableDef,
+        key: Key,
+        change: Change,
+    ) -> Result<Reply, TrackError> {
+        let id = definition.id();
+        let Some(mut locked) = lock(rt, self.node, id) else {
+            return Err(TrackError::Memory);
+        };
+        let now = not_before_latest(&locked, self.node.clock.now(rt));
+        let tracked = lent::track_with_reply(&mut locked, &mut self.seat, id, key, change, now);
+        if self.seat.receipts(id).len() as u64 >= MANY {
+            slide(&mut locked, &self.seat, id);
+        }
+        drop(locked);
+        forget(&mut self.seat, id);
+        match tracked {
+            Ok(reply) => {
+                self.tracked = true;
+                Ok(reply)
+            }
+            Err(ShardError::Cell(error)) => Err(error),
+            Err(_) => Err(TrackError::Memory),
+        }
+    }
+
+    /// Appends the row of a key.
+    fn get<R: Wait + Clock>(
+        &self,
+        rt: &R,
+        text: &mut Vec<u8>,
+        table: Option<u64>,
+        key: &Key,
+    ) -> Result<(), AllocError> {
+        let Some(setting) = self.setting(table) else {
+            return push_answer(text, Answer::NoTable);
+        };
+        let Some(locked) = lock(rt, self.node, setting.definition.id()) else {
+            return push_answer(text, Answer::NoTable);
+        };
+        let now = self.node.clock.now(rt);
+        push_found(text, &setting.definition, key, locked.cell().row(key), now)
+    }
+
+    /// Appends the header of a table.
+    fn show_header<R: Wait>(
+        &self,
+        rt: &R,
+        text: &mut Vec<u8>,
+        setting: &TableSetting,
+    ) -> Result<(), AllocError> {
+        let Some(locked) = lock(rt, self.node, setting.definition.id()) else {
+            return Ok(());
+        };
+        let used = locked.cell().row_count() as u64;
+        drop(locked);
+        push_table_header(
+            text,
+            &self.node.configuration.section,
+            &setting.definition,
+            setting.most_rows(),
+            used,
+        )
+    }
+
+    /// Appends the header of each table, in ascending order of id.
+    fn show_tables<R: Wait>(&self, rt: &R, text: &mut Vec<u8>) -> Result<(), AllocError> {
+        for table in self.node.roster.tables() {
+            if let Some(setting) = self.setting(Some(table.id())) {
+                self.show_header(rt, text, setting)?;
+            }
+        }
+        Ok(())
+    }
+
+    /// Returns copies of a table's rows.
+    fn rows_of<R: Wait>(&self, rt: &R, table: u64) -> Result<Vec<(Key, Row)>, AllocError> {
+        match lock(rt, self.node, table) {
+            Some(locked) => locked.cell().rows().map_err(|_| AllocError),
+            None => Ok(Vec::new(self.node.alloc)),
+        }
+    }
+
+    /// Appends the header of a table, and its live rows.
+    fn show_table<R: Wait + Clock>(
+        &self,
+        rt: &R,
+        text: &mut Vec<u8>,
+        table: Option<u64>,
+    ) -> Result<(), AllocError> {
+        let Some(setting) = self.setting(table) else {
+            return push_answer(text, Answer::NoTable);
+        };
+        self.show_header(rt, text, setting)?;
+        let rows = self.rows_of(rt, setting.definition.id())?;
+        let now = self.node.clock.now(rt);
+        push_live_rows(
+            self.node.alloc,
+            text,
+            &setting.definition,
+            rows.as_slice(),
+            now,
+        )
+    }
+
+    /// Appends the rows of all tables.
+    fn show_rows<R: Wait>(&self, rt: &R, text: &mut Vec<u8>) -> Result<(), AllocError> {
+        for table in self.node.roster.tables() {
+            let rows = self.rows_of(rt, table.id())?;
+            push_rows(text, table, rows.as_slice())?;
+        }
+        Ok(())
+    }
+
+    /// Returns what the session that stands did in each table, to be reported.
+    fn table_reports(&self, status: &PeerStatus) -> Result<Vec<PeerTableReport<'a>>, AllocError> {
+        let mut reports = Vec::new(self.node.alloc);
+        if status.state == PeerState::Down {
+            return Ok(reports);
+        }
+        let node = self.node;
+        for tally in &status.tables {
+            for table in node.roster.tables() {
+                if table.id() == tally.table {
+                    reports.push(PeerTableReport {
+                        table,
+                        taught: tally.taught,
+                        acknowledged: tally.acknowledged,
+                        received: tally.received,
+                        left: tally.left,
+                    })?;
+                }
+            }
+        }
+        Ok(reports)
+    }
+
+    /// Returns what is reported of each peer.
+    fn peer_reports<R: Wait>(&self, rt: &R, now: u64) -> Result<Vec<PeerReport<'a>>, AllocError> {
+        let node = self.node;
+        let mut reports = Vec::new(node.alloc);
+        for (peer, slot) in node.configuration.peers.iter().zip(node.slots.iter()) {
+            let status = slot.status(rt);
+            let totals = status.totals();
+            let stands = status.state != PeerState::Down;
+            reports.push(PeerReport {
+                name: &peer.name,
+                state: status.state,
+                role: if stands { status.role } else { None },
+                since: now.saturating_sub(status.since),
+                sessions: status.sessions,
+                heartbeats_sent: totals.heartbeats_sent,
+                heartbeats_received: totals.heartbeats_received,
+                faults: status.faults,
+                last_end: status.last_end,
+                tables: self.table_reports(&status)?,
+            })?;
+        }
+        Ok(reports)
+    }
+
+    /// Appends the node and its peers.
+    fn show_peers<R: Wait + Clock>(&self, rt: &R, text: &mut Vec<u8>) -> Result<(), AllocError> {
+        let now = self.node.clock.now(rt);
+        let up_to_date = self.node.catching_up.is_up_to_date(rt);
+        let configuration = &self.node.configuration;
+        push_node(text, &configuration.node, now, up_to_date)?;
+        let reports = self.peer_reports(rt, self.node.clock.milliseconds(rt))?;
+        push_peers(text, &configuration.section, reports.as_slice())
+    }
+
+    /// Returns what is counted of each table.
+    fn table_metrics<'b, R: Wait>(&'b self, rt: &R) -> Result<Vec<TableMetrics<'b>>, AllocError> {
+        let mut metrics = Vec::new(self.node.alloc);
+        for table in self.node.roster.tables() {
+            let Some(setting) = self.setting(Some(table.id())) else {
+                return Ok(metrics);
+            };
+            let Some(locked) = lock(rt, self.node, table.id()) else {
+                return Ok(metrics);
+            };
+            let cell = locked.cell();
+            metrics.push(TableMetrics {
+                table,
+                size: setting.most_rows(),
+                used: cell.row_count() as u64,
+                events: cell.events(),
+                next_number: cell.next_number(),
+            })?;
+        }
+        Ok(metrics)
+    }
+
+    /// Returns what is counted of each peer.
+    fn peer_metrics<'b, R: Wait>(&'b self, rt: &R) -> Result<Vec<PeerMetrics<'b>>, AllocError> {
+        let mut metrics = Vec::new(self.node.alloc);
+        for (peer, slot) in self
+            .node
+            .configuration
+            .peers
+            .iter()
+            .zip(self.node.slots.iter())
+        {
+            let status = slot.status(rt);
+            metrics.push(PeerMetrics {
+                name: &peer.name,
+                up: status.state != PeerState::Down,
+                sessions: status.ended,
+                taught: status.resyncs_taught,
+                learned: status.resyncs_learned,
+            })?;
+        }
+        Ok(metrics)
+    }
+
+    /// Returns what is counted of all peers together.
+    fn node_metrics<R: Wait + Clock>(&self, rt: &R) -> NodeMetrics {
+        let mut totals = Totals::none();
+        let mut active = 0u64;
+        let mut connected = 0u64;
+        let mut left = 0u64;
+        for slot in &self.node.slots {
+            let status = slot.status(rt);
+            totals = totals.plus(status.totals());
+            active = active.saturating_add(u64::from(status.state != PeerState::Down));
+            connected = connected.saturating_add(u64::from(status.connected));
+            let tables = status.tables.iter().filter(|table| table.left).count();
+            left = left.saturating_add(tables as u64);
+        }
+        NodeMetrics {
+            active_peers: active,
+            connected_peers: connected,
+            rows_learned: totals.learned,
+            rows_taught: totals.taught,
+            bytes_sent: totals.bytes_sent,
+            bytes_received: totals.bytes_received,
+            tables_left: left,
+            passed_over: totals.passed_over,
+            uptime_seconds: self.node.clock.milliseconds(rt) / 1_000,
+        }
+    }
+
+    /// Returns the page of metrics.
+    fn page<R: Wait + Clock>(&self, rt: &R) -> Result<Vec<u8>, AllocError> {
+        let alloc = self.node.alloc;
+        let metrics = Metrics {
+            section: &self.node.configuration.section,
+            tables: self.table_metrics(rt)?,
+            peers: self.peer_metrics(rt)?,
+            node: self.node_metrics(rt),
+            faults: self.node.faults.list(rt, alloc)?,
+        };
+        metrics_page(alloc, &metrics)
+    }
+}

@@ -1,0 +1,621 @@
+//! A session with a peer, from its connection to its end.
+
+use crate::clock::milliseconds;
+use crate::inbox::{Inbox, receive};
+use crate::intake::Intake;
+use crate::node::Node;
+use crate::outbox::Outbox;
+use crate::slot::Slot;
+use crate::status::{ResyncEnd, Totals};
+use crate::tables::{close, forget, number_of, reopen};
+use admin_port::{PassedOver, PeerRole, PeerState, SessionEnd};
+use node_text::push_number;
+use peers_engine::{EngineError, StandingWorker, Stood};
+use peers_hello::Hello;
+use session_core::{Controls, Session, Standing, State};
+use std::alloc::Global;
+use std::net::{Shutdown, TcpStream};
+use std::sync::Wait;
+use std::thread;
+use std::thread::{Scope, Threads};
+use std::time::Clock;
+use table_shards::Seat;
+use table_types::{Memory, Moment, Name, Roster};
+
+/// How long a worker goes on without a tick, in milliseconds.
+const TICK: u64 = 100;
+
+/// How late a tick may come, in milliseconds.
+const HELD_UP: u64 = 1_000;
+
+/// A connection, and which end made it.
+#[derive(Drop)]
+pub(crate) struct Connection {
+    pub(crate) stream: TcpStream,
+    pub(crate) role: PeerRole,
+    /// The bytes that were read from it.
+    pub(crate) bytes: Vec<u8>,
+}
+
+/// Makes the session of a connection.
+fn session_of(
+    alloc: Global,
+    node: &Node,
+    peer: &Name,
+    role: PeerRole,
+    up_to_date: bool,
+) -> Result<Session, Memory> {
+    let own = node.configuration.node.copy(alloc)?;
+    let roster = node.roster.copy(alloc)?;
+    match role {
+        PeerRole::Connect => {
+            let hello = Hello {
+                remote: peer.copy(alloc)?,
+                local: own,
+                pid: 1,
+                relative: 1,
+            };
+            Session::connect(alloc, hello, roster, up_to_date)
+        }
+        PeerRole::Accept => {
+            let mut peers = Vec::new(alloc);
+            peers.push(peer.copy(alloc)?)?;
+            Session::accept(alloc, own, peers, roster, up_to_date)
+        }
+    }
+}
+
+/// Makes the worker of a connection, or gives the seat back.
+fn worker_of(
+    node: &Node,
+    peer: usize,
+    seat: Seat,
+    role: PeerRole,
+    up_to_date: bool,
+    now: Moment,
+) -> Result<StandingWorker, Seat> {
+    let alloc = node.alloc;
+    let Some(named) = node.configuration.peers.get(peer) else {
+        return Err(seat);
+    };
+    let Ok(session) = session_of(alloc, node, &named.name, role, up_to_date) else {
+        return Err(seat);
+    };
+    let Ok(standing) = Standing::new(alloc, session, now) else {
+        return Err(seat);
+    };
+    match StandingWorker::new(alloc, standing, seat, number_of(peer), &node.roster) {
+        Ok(worker) => Ok(worker),
+        Err((_, seat)) => Err(seat),
+    }
+}
+
+/// The work with a session that stands.
+#[derive(Drop)]
+struct Work<'a, N> {
+    rt: &'a N,
+    node: &'a Node,
+    /// The index of the peer.
+    peer: usize,
+    slot: &'a Slot,
+    inbox: &'a Inbox,
+    from: Intake<'a, N>,
+    to: Outbox<'a, N>,
+    worker: StandingWorker,
+    role: PeerRole,
+    /// Whether the session knows that the node is up to date.
+    up_to_date: bool,
+    /// Whether the session's hello was over.
+    begun: bool,
+    /// The control messages received before the resync request that is under way, if one is.
+    asking: Option<Controls>,
+    /// The rows that were learned and taught before the resync that isn't over.
+    rows: (u64, u64),
+    /// Whether the session was teaching in a resync.
+    teaching: bool,
+    /// The turns in a row in which there was nothing to do.
+    idle: usize,
+    /// When the next tick is due.
+    tick: u64,
+    /// The tables that the session has left, as far as the log says so.
+    left: Vec<u64>,
+    /// Whether the log says that a table was passed over.
+    passes_over: bool,
+}
+
+impl<'a, N: Wait + Clock> Work<'a, N> {
+    /// Works until the session ends, and returns why it did.
+    fn work(&mut self) -> SessionEnd {
+        let rt = self.rt;
+        let tables = self.node.roster.tables().len();
+        let mut seen = 0;
+        for _ in rt.forever() {
+            if self.idle == 0 {
+                seen = self.slot.bell.rings(rt);
+            }
+            if let Some(end) = self.step() {
+                return self.interruption().unwrap_or(end);
+            }
+            if let Some(end) = self.interruption() {
+                return end;
+            }
+            if self.idle >= tables {
+                self.idle = 0;
+                self.report();
+                let now = self.node.clock.milliseconds(rt);
+                let time = self.tick.saturating_sub(now).max(1);
+                self.slot.bell.wait(rt, seen, milliseconds(time));
+            }
+        }
+        unreachable!()
+    }
+
+    /// Returns why the session is to end, whatever it does itself, if it is.
+    fn interruption(&self) -> Option<SessionEnd> {
+        if self.slot.has_arrival(self.rt) {
+            Some(SessionEnd::Replaced)
+        } else if self.node.stops() || self.node.is_paused() {
+            Some(SessionEnd::End)
+        } else {
+            None
+        }
+    }
+
+    /// Returns whether a tick is due. One that is late by more than `HELD_UP` is put off by as much: this node was held up, so what
+    /// has arrived since is to be read before the session judges that nothing came.
+    fn is_tick_due(&mut self) -> bool {
+        let now = self.node.clock.milliseconds(self.rt);
+        if now < self.tick {
+            return false;
+        }
+        let is_held_up = now.saturating_sub(self.tick) > HELD_UP;
+        self.tick = now.saturating_add(if is_held_up { HELD_UP } else { TICK });
+        !is_held_up
+    }
+
+    /// Takes a tick if one is due, and a turn. Returns why the session ended, if it did.
+    fn step(&mut self) -> Option<SessionEnd> {
+        if self.is_tick_due() {
+            if let Some(end) = self.take_tick() {
+                return Some(end);
+            }
+        }
+        let now = self.node.clock.now(self.rt);
+        let turned = self.worker.turn(
+            self.rt,
+            self.node.alloc,
+            &mut self.from,
+            &mut self.to,
+            &self.node.shards,
+            now,
+        );
+        self.idle = match &turned {
+            Ok(Stood::Idled) => self.idle.saturating_add(1),
+            _ => 0,
+        };
+        match turned {
+            Ok(Stood::Worked | Stood::Idled) => self.look(now),
+            Ok(Stood::Closed) => Some(self.closed()),
+            Err(error) => Some(end_of(error)),
+        }
+    }
+
+    /// Takes a tick, and does what else is to be done now and then. Returns why the session ended, if it did.
+    fn take_tick(&mut self) -> Option<SessionEnd> {
+        let now = self.node.clock.now(self.rt);
+        let ticked = self.worker.tick(
+            self.rt,
+            self.node.alloc,
+            &mut self.to,
+            &self.node.shards,
+            now,
+        );
+        self.look_at_left();
+        self.look_at_passed_over();
+        self.report();
+        for table in self.node.roster.tables() {
+            forget(&mut self.worker.seat, table.id());
+        }
+        match ticked {
+            Ok(Stood::Worked | Stood::Idled) => None,
+            Ok(Stood::Closed) => Some(SessionEnd::Silent),
+            Err(error) => Some(end_of(error)),
+        }
+    }
+
+    /// Notes how the session went on, and asks for a resync if it is this peer's turn. Returns why the session ended, if it did.
+    fn look(&mut self, now: Moment) -> Option<SessionEnd> {
+        match self.worker.session.state() {
+            State::New | State::Hello | State::Ended => return None,
+            State::Ready | State::Teaching => self.begin(),
+        }
+        self.look_at_teaching();
+        self.look_at_asking();
+        self.catch_up();
+        if self.up_to_date
+            || self.asking.is_some()
+            || !self.node.catching_up.asks(self.rt, self.peer)
+        {
+            return None;
+        }
+        self.begin_asking();
+        match self.worker.request(&mut self.to, now) {
+            Ok(_) => None,
+            Err(error) => Some(end_of(error)),
+        }
+    }
+
+    /// Has the session's resyncs end as finished once the node is up to date. One that is under way still ends as partial, since it
+    /// doesn't teach what the node has learned since it began.
+    fn catch_up(&mut self) {
+        if !self.up_to_date && !self.teaching && self.node.catching_up.is_up_to_date(self.rt) {
+            self.up_to_date = true;
+            self.worker.session.catch_up();
+        }
+    }
+
+    /// Notes that the session's hello is over.
+    fn begin(&mut self) {
+        if self.begun {
+            return;
+        }
+        self.begun = true;
+        let now = self.node.clock.milliseconds(self.rt);
+        let mut status = self.slot.status(self.rt);
+        status.begin(now);
+        drop(status);
+        self.log(&[b"up", role_name(self.role).as_bytes()]);
+    }
+
+    /// Adds a line about the peer to the log.
+    fn log(&self, words: &[&[u8]]) {
+        if let Some(peer) = self.node.configuration.peers.get(self.peer) {
+            self.node.log.line(self.rt, &peer.name, words);
+        }
+    }
+
+    /// Adds a line about the peer to the log that ends with a number.
+    fn log_number(&self, words: &[&[u8]], number: u64) {
+        let mut digits = Vec::new(self.node.alloc);
+        let mut line = Vec::new(self.node.alloc);
+        if line.extend_from_slice(words).is_ok()
+            && push_number(&mut digits, number).is_ok()
+            && line.push(digits.as_slice()).is_ok()
+        {
+            self.log(line.as_slice());
+        }
+    }
+
+    /// Notes the state that the session is in.
+    fn set_state(&mut self) {
+        let state = if self.asking.is_some() {
+            PeerState::Asking
+        } else if self.teaching {
+            PeerState::Teaching
+        } else {
+            PeerState::Ready
+        };
+        let mut status = self.slot.status(self.rt);
+        status.state = state;
+    }
+
+    /// Notes whether the session has begun or ended a resync as the teacher.
+    fn look_at_teaching(&mut self) {
+        let teaching = self.worker.session.state() == State::Teaching;
+        if teaching == self.teaching {
+            return;
+        }
+        self.teaching = teaching;
+        self.set_state();
+        if teaching {
+            self.rows.1 = self.worker.tally.taught;
+            self.log(&[b"resync", b"teacher", b"begun"]);
+        } else {
+            let left = self.worker.tally.tables.iter().any(|table| table.left);
+            self.end_teaching(if self.up_to_date && !left {
+                ResyncEnd::Finished
+            } else {
+                ResyncEnd::Partial
+            });
+        }
+    }
+
+    /// Adds a line to the log for each table that the session has left since the last tick.
+    fn look_at_left(&mut self) {
+        for index in 0..self.worker.tally.tables.len() {
+            let Some(tally) = self.worker.tally.tables.get(index) else {
+                return;
+            };
+            let table = tally.table;
+            if tally.left && !self.left.contains(&table) {
+                let _noted = self.left.push(table);
+                self.log_number(&[b"left", b"table"], table);
+            }
+        }
+    }
+
+    /// Notes how a resync ended in which the node was the teacher.
+    fn end_teaching(&mut self, end: ResyncEnd) {
+        let mut status = self.slot.status(self.rt);
+        status.end_teaching(end);
+        drop(status);
+        let rows = self.worker.tally.taught.saturating_sub(self.rows.1);
+        self.log_number(
+            &[b"resync", b"teacher", end.name().as_bytes(), b"rows"],
+            rows,
+        );
+    }
+
+    /// Notes that the session is asked for a resync.
+    fn begin_asking(&mut self) {
+        self.asking = Some(self.worker.session.controls());
+        self.rows.0 = self.worker.tally.learned;
+        self.set_state();
+        self.log(&[b"resync", b"learner", b"begun"]);
+    }
+
+    /// Notes how a resync ended in which the node was the learner.
+    fn end_learning(&mut self, end: ResyncEnd) {
+        self.asking = None;
+        let mut status = self.slot.status(self.rt);
+        status.end_learning(end);
+        drop(status);
+        let rows = self.worker.tally.learned.saturating_sub(self.rows.0);
+        self.log_number(
+            &[b"resync", b"learner", end.name().as_bytes(), b"rows"],
+            rows,
+        );
+    }
+
+    /// Notes whether the resync that the session was asked for is over.
+    fn look_at_asking(&mut self) {
+        let Some(before) = self.asking else {
+            return;
+        };
+        let controls = self.worker.session.controls();
+        if controls.finished > before.finished {
+            self.node.catching_up.finish(self.rt, self.peer);
+            self.node.changed.ring(self.rt);
+            self.end_learning(ResyncEnd::Finished);
+            self.set_state();
+        } else if controls.partial > before.partial {
+            let now = self.node.clock.milliseconds(self.rt);
+            self.node.catching_up.give_up(self.rt, self.peer, now);
+            self.end_learning(ResyncEnd::Partial);
+            self.set_state();
+        }
+    }
+
+    /// Returns what the session did so far.
+    fn totals(&self) -> Totals {
+        Totals {
+            learned: self.worker.tally.learned,
+            taught: self.worker.tally.taught,
+            heartbeats_sent: self.worker.tally.heartbeats,
+            heartbeats_received: self.worker.session.controls().heartbeats,
+            bytes_sent: self.to.total,
+            bytes_received: self.inbox.total(self.rt),
+            passed_over: self.passed_over(),
+        }
+    }
+
+    /// Returns what was passed over so far.
+    fn passed_over(&self) -> PassedOver {
+        let counts = self.from.passed_over();
+        PassedOver {
+            definition: counts.definition,
+            value: counts.value,
+            slot: counts.slot,
+            data_type: counts.data_type,
+        }
+    }
+
+    /// Adds a line to the log if a table was passed over, once for the session.
+    fn look_at_passed_over(&mut self) {
+        let counts = self.from.passed_over();
+        if !self.passes_over && (counts.definition > 0 || counts.data_type > 0) {
+            self.passes_over = true;
+            self.log(&[b"table", b"passed", b"over"]);
+        }
+    }
+
+    /// Has what the session did so far be seen.
+    fn report(&mut self) {
+        let totals = self.totals();
+        let mut status = self.slot.status(self.rt);
+        let _noted = status.note(totals, &self.worker.tally);
+    }
+
+    /// Returns the name of the remote peer's fault that ended the session, if one did.
+    fn fault(&self) -> Option<&'static str> {
+        match self.worker.session.fault() {
+            Some(fault) => Some(fault.name()),
+            None if self.worker.session.is_ahead() => Some("AckAhead"),
+            None => None,
+        }
+    }
+
+    /// Returns why a session is over that no error ended.
+    fn closed(&self) -> SessionEnd {
+        if let Some(fault) = self.fault() {
+            self.node.faults.count(self.rt, fault);
+            self.log(&[b"fault", fault.as_bytes()]);
+            SessionEnd::Fault
+        } else if self.from.ended {
+            SessionEnd::End
+        } else {
+            SessionEnd::Error
+        }
+    }
+
+    /// Notes that the session is over, and what it leaves undone.
+    fn end(&mut self, end: SessionEnd) {
+        if self.teaching {
+            self.end_teaching(ResyncEnd::Broken);
+        }
+        let now = self.node.clock.milliseconds(self.rt);
+        if self.asking.is_some() {
+            self.node.catching_up.give_up(self.rt, self.peer, now);
+            self.end_learning(ResyncEnd::Broken);
+        }
+        self.report();
+        let mut status = self.slot.status(self.rt);
+        status.end(end, now);
+        drop(status);
+        if self.begun {
+            self.log(&[b"down", end.name().as_bytes()]);
+        }
+    }
+}
+
+/// Returns how many lines come before the messages of a connection: the three of a hello, or the one of a status.
+fn lines_of(role: PeerRole) -> u32 {
+    match role {
+        PeerRole::Connect => 1,
+        PeerRole::Accept => 3,
+    }
+}
+
+/// Returns the word for the end that connected.
+fn role_name(role: PeerRole) -> &'static str {
+    match role {
+        PeerRole::Connect => "connect",
+        PeerRole::Accept => "accept",
+    }
+}
+
+/// Returns why a session ended that an error ended.
+fn end_of(error: EngineError) -> SessionEnd {
+    match error {
+        EngineError::Read | EngineError::Write { sent: _ } => SessionEnd::Device,
+        EngineError::Session(_) | EngineError::Memory | EngineError::Strange => SessionEnd::Error,
+    }
+}
+
+/// Holds a session over a connection until it ends, and gives the seat back.
+pub(crate) fn hold<N: Threads + Wait + Clock + Sync>(
+    rt: &N,
+    node: &Node,
+    slot: &Slot,
+    peer: usize,
+    mut seat: Seat,
+    connection: Connection,
+) -> Seat {
+    let number = number_of(peer);
+    let mut seat = if reopen(rt, node, &mut seat, number) {
+        hold_open(rt, node, slot, peer, seat, connection)
+    } else {
+        seat
+    };
+    close(rt, node, &mut seat, number);
+    seat
+}
+
+/// Holds a session that is open in each table, and gives the seat back.
+fn hold_open<N: Threads + Wait + Clock + Sync>(
+    rt: &N,
+    node: &Node,
+    slot: &Slot,
+    peer: usize,
+    seat: Seat,
+    connection: Connection,
+) -> Seat {
+    let Connection {
+        stream,
+        role,
+        bytes,
+    } = connection;
+    let Ok(roster) = node.roster.copy(node.alloc) else {
+        return seat;
+    };
+    let up_to_date = node.catching_up.is_up_to_date(rt);
+    let now = node.clock.now(rt);
+    match worker_of(node, peer, seat, role, up_to_date, now) {
+        Ok(worker) => {
+            let inbox = Inbox::new(bytes);
+            slot.set_present(rt, stream.try_clone().ok());
+            let worker = hold_over(
+                &*rt, &*node, &*slot, &inbox, &stream, peer, role, roster, worker,
+            );
+            slot.set_present(rt, None);
+            let StandingWorker { seat, .. } = worker;
+            seat
+        }
+        Err(seat) => seat,
+    }
+}
+
+/// Holds a session over a connection that is open in each table, and gives its worker back.
+fn hold_over<'a, N: Threads + Wait + Clock + Sync>(
+    rt: &'a N,
+    node: &'a Node,
+    slot: &'a Slot,
+    inbox: &'a Inbox,
+    stream: &'a TcpStream,
+    peer: usize,
+    role: PeerRole,
+    roster: Roster,
+    worker: StandingWorker,
+) -> StandingWorker {
+    let mut status = slot.status(rt);
+    status.connect(role);
+    drop(status);
+    let mut work = Work {
+        rt,
+        node,
+        peer,
+        slot,
+        inbox,
+        from: Intake::new(rt, node.alloc, inbox, roster, lines_of(role)),
+        to: Outbox::new(rt, node.clock, stream),
+        worker,
+        role,
+        up_to_date: false,
+        begun: false,
+        asking: None,
+        rows: (0, 0),
+        teaching: false,
+        idle: 0,
+        tick: node.clock.milliseconds(rt),
+        left: Vec::new(node.alloc),
+        passes_over: false,
+    };
+    work.catch_up();
+    work_and_read(rt, &mut work, stream, inbox, slot);
+    let Work { worker, .. } = work;
+    worker
+}
+
+/// Works with a session while a thread reads its connection.
+fn work_and_read<'a, N: Threads + Wait + Clock + Sync>(
+    rt: &N,
+    work: &mut Work<'a, N>,
+    stream: &TcpStream,
+    inbox: &Inbox,
+    slot: &Slot,
+) {
+    thread::scope(thread::scope_env(), rt, |scope| {
+        work_in(rt, scope, work, stream, inbox, slot)
+    })
+}
+
+/// Starts the thread that reads a connection, works with its session, and has the thread end with it.
+fn work_in<'s, 'a, E: 's, N: Threads + Wait + Clock + Sync>(
+    rt: &'s N,
+    scope: &'s Scope<'s, E>,
+    work: &mut Work<'a, N>,
+    stream: &'s TcpStream,
+    inbox: &'s Inbox,
+    slot: &'s Slot,
+) {
+    match scope.spawn(move || receive(rt, stream, inbox, &slot.bell)) {
+        Ok(reader) => {
+            let end = work.work();
+            work.end(end);
+            inbox.close(rt);
+            let _shut = stream.shutdown(Shutdown::Both);
+            reader.join(rt);
+        }
+        Err(_) => work.end(SessionEnd::Error),
+    }
+}

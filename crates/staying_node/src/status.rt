@@ -1,0 +1,239 @@
+//! What is known of a peer, for those who ask.
+
+use admin_port::{PassedOver, PeerRole, PeerState, ResyncsEnded, SessionEnd, SessionsEnded};
+use peers_engine::{TableTally, Tally};
+use std::alloc::{AllocError, Global};
+
+/// A minute, in milliseconds.
+const MINUTE: u64 = 60_000;
+
+/// What sessions did, counted. A count that is full stays as it is.
+#[derive(Clone, Copy, Debug)]
+pub(crate) struct Totals {
+    pub(crate) learned: u64,
+    pub(crate) taught: u64,
+    pub(crate) heartbeats_sent: u64,
+    pub(crate) heartbeats_received: u64,
+    pub(crate) bytes_sent: u64,
+    pub(crate) bytes_received: u64,
+    pub(crate) passed_over: PassedOver,
+}
+
+/// Returns the sums of both.
+fn sums(one: PassedOver, other: PassedOver) -> PassedOver {
+    PassedOver {
+        definition: one.definition.saturating_add(other.definition),
+        value: one.value.saturating_add(other.value),
+        slot: one.slot.saturating_add(other.slot),
+        data_type: one.data_type.saturating_add(other.data_type),
+    }
+}
+
+impl Totals {
+    /// Returns what no session did.
+    pub(crate) fn none() -> Totals {
+        Totals {
+            learned: 0,
+            taught: 0,
+            heartbeats_sent: 0,
+            heartbeats_received: 0,
+            bytes_sent: 0,
+            bytes_received: 0,
+            passed_over: PassedOver {
+                definition: 0,
+                value: 0,
+                slot: 0,
+                data_type: 0,
+            },
+        }
+    }
+
+    /// Returns the sums of both.
+    pub(crate) fn plus(self, other: Totals) -> Totals {
+        Totals {
+            learned: self.learned.saturating_add(other.learned),
+            taught: self.taught.saturating_add(other.taught),
+            heartbeats_sent: self.heartbeats_sent.saturating_add(other.heartbeats_sent),
+            heartbeats_received: self
+                .heartbeats_received
+                .saturating_add(other.heartbeats_received),
+            bytes_sent: self.bytes_sent.saturating_add(other.bytes_sent),
+            bytes_received: self.bytes_received.saturating_add(other.bytes_received),
+            passed_over: sums(self.passed_over, other.passed_over),
+        }
+    }
+}
+
+/// How a resync ended.
+#[derive(Clone, Copy, Debug, PartialEq, Eq)]
+pub(crate) enum ResyncEnd {
+    /// All rows were taught.
+    Finished,
+    /// Not all rows were taught.
+    Partial,
+    /// The session ended first.
+    Broken,
+}
+
+impl ResyncEnd {
+    /// Returns the word for it.
+    pub(crate) fn name(self) -> &'static str {
+        match self {
+            ResyncEnd::Finished => "finished",
+            ResyncEnd::Partial => "partial",
+            ResyncEnd::Broken => "broken",
+        }
+    }
+}
+
+/// What is known of a peer.
+#[derive(Drop)]
+pub(crate) struct PeerStatus {
+    pub(crate) state: PeerState,
+    /// Whether there is a connection.
+    pub(crate) connected: bool,
+    pub(crate) role: Option<PeerRole>,
+    /// When the session began or the last one ended, in milliseconds since the node began.
+    pub(crate) since: u64,
+    pub(crate) sessions: u64,
+    pub(crate) faults: u64,
+    /// When the last three sessions ended by a fault, the latest first, in milliseconds since the node began.
+    pub(crate) faulted: [Option<u64>; 3],
+    pub(crate) last_end: Option<SessionEnd>,
+    /// What the sessions that ended did.
+    pub(crate) before: Totals,
+    /// What the session that stands did.
+    pub(crate) present: Totals,
+    /// What the session that stands did in each table.
+    pub(crate) tables: Vec<TableTally>,
+    pub(crate) ended: SessionsEnded,
+    pub(crate) resyncs_taught: ResyncsEnded,
+    pub(crate) resyncs_learned: ResyncsEnded,
+}
+
+/// Returns the counts of no resync.
+fn no_resyncs() -> ResyncsEnded {
+    ResyncsEnded {
+        finished: 0,
+        partial: 0,
+        broken: 0,
+    }
+}
+
+/// Counts the end of a resync.
+fn count_resync(resyncs: &mut ResyncsEnded, end: ResyncEnd) {
+    let count = match end {
+        ResyncEnd::Finished => &mut resyncs.finished,
+        ResyncEnd::Partial => &mut resyncs.partial,
+        ResyncEnd::Broken => &mut resyncs.broken,
+    };
+    *count = count.saturating_add(1);
+}
+
+impl PeerStatus {
+    /// Returns what is known of a peer with which there was no session.
+    pub(crate) fn new(alloc: Global) -> PeerStatus {
+        PeerStatus {
+            state: PeerState::Down,
+            connected: false,
+            role: None,
+            since: 0,
+            sessions: 0,
+            faults: 0,
+            faulted: [None; 3],
+            last_end: None,
+            before: Totals::none(),
+            present: Totals::none(),
+            tables: Vec::new(alloc),
+            ended: SessionsEnded {
+                end: 0,
+                silent: 0,
+                fault: 0,
+                replaced: 0,
+                device: 0,
+                error: 0,
+            },
+            resyncs_taught: no_resyncs(),
+            resyncs_learned: no_resyncs(),
+        }
+    }
+
+    /// Returns what all sessions did.
+    pub(crate) fn totals(&self) -> Totals {
+        self.before.plus(self.present)
+    }
+
+    /// Returns until when no attempt to connect is made: for a minute after a fault, if it was the third within one.
+    pub(crate) fn rests_until(&self) -> u64 {
+        match (self.faulted[0], self.faulted[2]) {
+            (Some(last), Some(first)) if last.saturating_sub(first) < MINUTE => {
+                last.saturating_add(MINUTE)
+            }
+            _ => 0,
+        }
+    }
+
+    /// Notes that a connection is there.
+    pub(crate) fn connect(&mut self, role: PeerRole) {
+        self.connected = true;
+        self.role = Some(role);
+        self.present = Totals::none();
+    }
+
+    /// Notes that the session's hello is over.
+    pub(crate) fn begin(&mut self, now: u64) {
+        self.since = now;
+        self.sessions = self.sessions.saturating_add(1);
+        self.state = PeerState::Ready;
+    }
+
+    /// Notes what the session that stands did so far.
+    pub(crate) fn note(&mut self, present: Totals, tally: &Tally) -> Result<(), AllocError> {
+        self.present = present;
+        self.tables.clear();
+        self.tables.extend_from_slice(tally.tables.as_slice())
+    }
+
+    /// Notes that a resync ended in which the node was the teacher.
+    pub(crate) fn end_teaching(&mut self, end: ResyncEnd) {
+        count_resync(&mut self.resyncs_taught, end);
+    }
+
+    /// Notes that a resync ended in which the node was the learner.
+    pub(crate) fn end_learning(&mut self, end: ResyncEnd) {
+        count_resync(&mut self.resyncs_learned, end);
+    }
+
+    /// Notes that the connection ended, and counts that, unless it was given up before a session began.
+    pub(crate) fn end(&mut self, end: SessionEnd, now: u64) {
+        let begun = self.state != PeerState::Down;
+        self.state = PeerState::Down;
+        self.connected = false;
+        self.role = None;
+        self.before = self.before.plus(self.present);
+        self.present = Totals::none();
+        self.tables.clear();
+        if begun || end != SessionEnd::Replaced {
+            self.count(end, now);
+        }
+    }
+
+    /// Counts the end of a session.
+    fn count(&mut self, end: SessionEnd, now: u64) {
+        self.since = now;
+        self.last_end = Some(end);
+        let count = match end {
+            SessionEnd::End => &mut self.ended.end,
+            SessionEnd::Silent => &mut self.ended.silent,
+            SessionEnd::Fault => &mut self.ended.fault,
+            SessionEnd::Replaced => &mut self.ended.replaced,
+            SessionEnd::Device => &mut self.ended.device,
+            SessionEnd::Error => &mut self.ended.error,
+        };
+        *count = count.saturating_add(1);
+        if end == SessionEnd::Fault {
+            self.faults = self.faults.saturating_add(1);
+            self.faulted = [Some(now), self.faulted[0], self.faulted[1]];
+        }
+    }
+}

@@ -1,0 +1,129 @@
+//! Calls on the tables that no session asks for.
+
+use crate::node::Node;
+use std::sync::{MutexGuard, Wait};
+use std::time::Clock;
+use table_cell::TableCell;
+use table_shards::held::lent;
+use table_shards::{Locked, Seat};
+use table_types::Moment;
+
+/// The events of a table's history, and the receipts of a seat, from which on they are dropped.
+pub(crate) const MANY: u64 = 1_024;
+
+/// The next number of a table from which on it gets new ones.
+const RENEWAL: u64 = 1 << 31;
+
+/// Returns the later of `now` and the table's latest moment.
+pub(crate) fn not_before_latest(locked: &Locked, now: Moment) -> Moment {
+    let latest = locked.cell().latest();
+    if latest.milliseconds() < now.milliseconds() {
+        now
+    } else {
+        latest
+    }
+}
+
+/// Waits for the lock of a table and takes it.
+pub(crate) fn lock<'a, R: Wait>(
+    rt: &R,
+    node: &'a Node,
+    table: u64,
+) -> Option<MutexGuard<'a, Locked>> {
+    match node.shards.cell(table) {
+        Some(cell) => Some(cell.lock(rt)),
+        None => None,
+    }
+}
+
+/// Returns the number of events in the table's history.
+fn history(cell: &TableCell) -> u64 {
+    cell.events().saturating_sub(cell.dropped())
+}
+
+/// Drops the history of a table if it is long, but for the latest batch of each session.
+pub(crate) fn slide(locked: &mut Locked, seat: &Seat, table: u64) {
+    if history(locked.cell()) >= MANY {
+        let _dropped = lent::slide(locked, seat, table);
+    }
+}
+
+/// Drops the receipts of a seat if there are many.
+pub(crate) fn forget(seat: &mut Seat, table: u64) {
+    if seat.receipts(table).len() as u64 >= MANY {
+        seat.forget(table);
+    }
+}
+
+/// Returns whether most numbers of a table are assigned, so that it is to get new ones.
+fn is_spent(locked: &Locked) -> bool {
+    locked.cell().next_number() >= RENEWAL
+}
+
+/// Gives a table new numbers if most are assigned. Returns whether that has still to be done, since a session is open in the table.
+fn renumber(locked: &mut Locked, seat: &Seat, table: u64) -> bool {
+    is_spent(locked) && lent::renumber(locked, seat, table).is_err()
+}
+
+/// Purges a table if a row of it has ended.
+fn purge(locked: &mut Locked, seat: &mut Seat, table: u64, now: Moment) {
+    let now = not_before_latest(locked, now);
+    let Some(end) = locked.cell().next_end() else {
+        return;
+    };
+    if end.milliseconds() <= now.milliseconds() {
+        let _purged = lent::purge(locked, seat, table, now);
+    }
+}
+
+/// Drops what is no longer needed of each table's history, and the rows that have ended if `purges`. Gives a table new numbers once most
+/// are assigned, for which all sessions end.
+pub(crate) fn keep<R: Wait + Clock>(rt: &R, node: &Node, seat: &mut Seat, purges: bool) {
+    let now = node.clock.now(rt);
+    let mut waits = false;
+    for table in node.roster.tables() {
+        let id = table.id();
+        if let Some(mut locked) = lock(rt, node, id) {
+            slide(&mut locked, seat, id);
+            if purges {
+                purge(&mut locked, seat, id, now);
+            }
+            waits = renumber(&mut locked, seat, id) || waits;
+        }
+        forget(seat, id);
+    }
+    node.set_paused(rt, waits);
+}
+
+/// Closes a session in each table.
+pub(crate) fn close<R: Wait>(rt: &R, node: &Node, seat: &mut Seat, session: u32) {
+    for table in node.roster.tables() {
+        let id = table.id();
+        if let Some(mut locked) = lock(rt, node, id) {
+            let _closed = lent::close_session(&mut locked, seat, id, session);
+        }
+    }
+}
+
+/// Closes a session in each table and opens it anew. Returns whether it is open in each.
+pub(crate) fn reopen<R: Wait>(rt: &R, node: &Node, seat: &mut Seat, session: u32) -> bool {
+    close(rt, node, seat, session);
+    for table in node.roster.tables() {
+        let id = table.id();
+        let Some(mut locked) = lock(rt, node, id) else {
+            return false;
+        };
+        if lent::open_session(&mut locked, seat, id, session).is_err() {
+            return false;
+        }
+    }
+    true
+}
+
+/// Returns the number of the session with a peer in the tables, by the peer's index.
+pub(crate) fn number_of(peer: usize) -> u32 {
+    match u32::try_from(peer) {
+        Ok(index) => index.saturating_add(1),
+        Err(_) => u32::MAX,
+    }
+}
