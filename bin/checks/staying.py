@@ -30,8 +30,6 @@ LIMIT = 600
 LONGEST = """million-changes haproxy-starts-again haproxy-that-connects haproxy-that-is-connected-to deaf stops-beside-the-deaf
     heartbeats heartbeats-of-a-connector three-faults bytes-are-enough silent silent-to-a-connector two-of-three-killed
     killed-and-started-again stopped-and-started-again no-answer-to-a-hello refused-by-a-status""".split()
-# What takes long, and is tried only by its name.
-LONG = ('million-changes',)
 
 
 trials = []
@@ -75,7 +73,6 @@ def run(program, names):
     ports, counts = Ports(), dict.fromkeys(('passed', 'FAILED', 'skipped'), 0)
     begun = time.monotonic()
     pool = ThreadPoolExecutor(AT_ONCE)
-    names = [name for name in names if len(names) == 1 or name not in LONG]
     running = [(name, pool.submit(tried, program, ports, CHECKS[name])) for name in in_order(names)]
     again = []
     for name, check in running:
