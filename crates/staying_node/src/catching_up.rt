@@ -1,4 +1,4 @@
-//! Who teaches the node every row after its start.
+//! Whom the node asks for all rows after its start.
 
 ghost use Rattle.std.specs.Prelude.{◌≡◌};
 ghost use Rattle.staying_node.specs.CatchingUp.{Asks, finished, given_up, is_alone, is_asked, passed};
@@ -48,7 +48,7 @@ impl Asking {
         true
     }
 
-    /// Notes that the peer with this index, if it is being asked, has taught the node every row.
+    /// Notes that the peer with this index, if it is being asked, has ended its resync as finished.
     fn finish(&mut self, peer: usize)
         ensures { self.new ≡ finished self.old peer }
     {
@@ -58,7 +58,7 @@ impl Asking {
         }
     }
 
-    /// Notes that the peer with this index, if it is being asked, teaches nothing more.
+    /// Notes that the peer with this index, if it is being asked, won't end its resync as finished.
     fn give_up(&mut self, peer: usize, now: u64)
         ensures { self.new ≡ given_up self.old peer now }
     {
@@ -83,8 +83,8 @@ impl Asking {
     }
 }
 
-/// How a node catches up. It asks one peer at a time, and each peer once. It is up to date once one of them taught it every
-/// row, or nobody could be asked for `ALONE`.
+/// How a node catches up. It asks one peer at a time, and each peer once. It is up to date once one of them has ended its resync
+/// as finished, or the node has had nobody to ask for `ALONE`.
 #[derive(Drop)]
 pub(crate) struct CatchingUp {
     asking: Mutex<Asking>,
@@ -119,13 +119,13 @@ impl CatchingUp {
         asking.ask(peer)
     }
 
-    /// Notes that the peer with this index, if it is being asked, has taught the node every row.
+    /// Notes that the peer with this index, if it is being asked, has ended its resync as finished.
     pub(crate) fn finish<R: Wait>(&self, rt: &R, peer: usize) {
         let mut asking = self.asking.lock(rt);
         asking.finish(peer);
     }
 
-    /// Notes that the peer with this index, if it is being asked, teaches nothing more.
+    /// Notes that the peer with this index, if it is being asked, won't end its resync as finished.
     pub(crate) fn give_up<R: Wait>(&self, rt: &R, peer: usize, now: u64) {
         let mut asking = self.asking.lock(rt);
         asking.give_up(peer, now);

@@ -36,7 +36,7 @@ impl NodeClock {
     }
 }
 
-/// Returns so many milliseconds.
+/// Returns the duration of `count` milliseconds.
 pub(crate) fn milliseconds(count: u64) -> Duration {
     Duration::from_millis(count)
 }

@@ -31,7 +31,7 @@ const LOOK: u64 = 50;
 /// How often a door looks for a connection, in milliseconds.
 const POLL: u64 = 20;
 
-/// How long a door waits whether the connection stays, if a session with its peer stands, in milliseconds.
+/// How long a door watches whether a connection stays, if a session with its peer stands, in milliseconds.
 const STAY: u64 = 300;
 
 /// The doors of a node. One free door at a time waits for the next connection. While none is free, the one whose connection
@@ -54,7 +54,7 @@ fn is_later(own: u64, since: Option<u64>) -> bool
     }
 }
 
-/// Returns whether each door is such.
+/// Returns whether no door is free, and no connection has been silent for longer than since `own`.
 fn are_later(own: u64, silent: &[Option<u64>]) -> bool
     ensures { result ≡ list_all (is_later own) silent.now }
 {
@@ -111,7 +111,7 @@ enum Found {
     Peer(Name),
     /// Another connection, for which the door closes its own.
     Other(TcpStream),
-    /// Nothing that the door goes on with.
+    /// Nothing to hand over: the hello was refused, wasn't whole in time, or the connection ended.
     Nothing,
 }
 

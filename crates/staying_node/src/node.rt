@@ -15,7 +15,7 @@ use table_cell::TableCell;
 use table_shards::{Seat, Shards};
 use table_types::{Memory, Name, Roster};
 
-/// The threads that answer requests.
+/// How many threads answer requests.
 pub(crate) const MOST_REQUESTERS: u32 = 32;
 
 /// What the threads of a node share.

@@ -21,21 +21,21 @@ use table_shards::held::lent;
 use table_shards::{Seat, ShardError};
 use table_types::{Change, Key, Memory, Row, TableDef};
 
-/// How many bytes of answers are written before further requests are answered.
+/// A requester that has this many bytes of answers writes them before it answers the next request.
 const MANY_ANSWERS: usize = 65_536;
 
-/// What was read of a connection: the beginning of a line, and the answers to the lines before it.
+/// What a client sent: the beginning of a line, and the answers to the lines before it.
 #[derive(Drop)]
 pub(crate) struct Reading {
     alloc: Global,
     line: Vec<u8>,
     answers: Vec<u8>,
-    /// A page that was asked for by HTTP; it is answered once the head of the request is over.
+    /// The page that the client requests by HTTP. The requester answers it once it has read the head of the request.
     page: Option<Request>,
 }
 
 impl Reading {
-    /// Returns what was read of a new connection.
+    /// Returns what a client has sent that has just connected.
     pub(crate) fn new(alloc: Global) -> Reading {
         Reading {
             alloc,
@@ -69,7 +69,7 @@ enum After {
 pub(crate) struct Requester<'a> {
     node: &'a Node,
     seat: Seat,
-    /// Whether keys were tracked of which the peers weren't told.
+    /// Whether this requester has tracked keys since it last woke the peers' workers.
     tracked: bool,
 }
 

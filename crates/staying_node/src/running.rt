@@ -211,7 +211,8 @@ fn run_node<
 
 /// Reads a configuration from `input`, and runs its node until a request stops it. Writes its log on `errors`, and nothing else.
 ///
-/// Ends with `Device` if a port or a thread can't be had, before any connection is made, or if the log can't be written.
+/// Ends with `Device` if a port can't be opened, a thread can't be started or the log can't be written. It opens the ports and
+/// starts the threads of the tables and of the admin port before it connects to a peer.
 pub fn run<
     N: Net<Listener = TcpListener, Stream = TcpStream> + Threads + Wait + Clock + Sync,
     I: Read + Faults,

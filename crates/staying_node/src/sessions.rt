@@ -150,7 +150,7 @@ impl<'a, N: Wait + Clock> Work<'a, N> {
         unreachable!()
     }
 
-    /// Returns why the session is to end, whatever it does itself, if it is.
+    /// Returns why the worker ends the session, if it does: the peer has connected again, the node stops, or a table gets new numbers.
     fn interruption(&self) -> Option<SessionEnd> {
         if self.slot.has_arrival(self.rt) {
             Some(SessionEnd::Replaced)
@@ -419,7 +419,7 @@ impl<'a, N: Wait + Clock> Work<'a, N> {
         }
     }
 
-    /// Has what the session did so far be seen.
+    /// Notes what the session did so far, for those who ask.
     fn report(&mut self) {
         let totals = self.totals();
         let mut status = self.slot.status(self.rt);
@@ -448,7 +448,7 @@ impl<'a, N: Wait + Clock> Work<'a, N> {
         }
     }
 
-    /// Notes that the session is over, and what it leaves undone.
+    /// Notes that the session is over, and that a resync under way is broken.
     fn end(&mut self, end: SessionEnd) {
         if self.teaching {
             self.end_teaching(ResyncEnd::Broken);

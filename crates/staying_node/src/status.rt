@@ -76,7 +76,7 @@ pub(crate) enum ResyncEnd {
 }
 
 impl ResyncEnd {
-    /// Returns the word for it.
+    /// Returns the word for this end.
     pub(crate) fn name(self) -> &'static str {
         match self {
             ResyncEnd::Finished => "finished",
@@ -163,7 +163,7 @@ impl PeerStatus {
         self.before.plus(self.present)
     }
 
-    /// Returns until when no attempt to connect is made: for a minute after a fault, if it was the third within one.
+    /// Returns the time until which the node doesn't connect to the peer: a minute after a fault that was the third within one.
     pub(crate) fn rests_until(&self) -> u64 {
         match (self.faulted[0], self.faulted[2]) {
             (Some(last), Some(first)) if last.saturating_sub(first) < MINUTE => {

@@ -8,7 +8,7 @@ use table_shards::held::lent;
 use table_shards::{Locked, Seat};
 use table_types::Moment;
 
-/// The events of a table's history, and the receipts of a seat, from which on they are dropped.
+/// A history with this many events slides, and a seat with this many receipts of a table drops them.
 pub(crate) const MANY: u64 = 1_024;
 
 /// The next number of a table from which on it gets new ones.

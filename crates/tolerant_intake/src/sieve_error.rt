@@ -13,8 +13,8 @@ pub enum SieveError {
     /// Out of memory.
     #[error("memory")]
     Memory,
-    /// The peer defines a table under a further id, although 1,024 ids stand for tables (profile). The peer is answered
-    /// by the error message "size limit" (doc/peers-v2.0.txt, "Error Messages").
+    /// The peer has defined 1,024 tables and defines one under another id (profile). The session answers with the error
+    /// message "size limit" (doc/peers-v2.0.txt, "Error Messages").
     #[error("a peer has defined as many tables as it may")]
     SizeLimit,
 }
