@@ -2,7 +2,6 @@
 use Rattle.std.proofs.Common.{◌≡◌, ℕ, Bool, true, false, ◌&&◌, ◌||◌, ◌==◌, List, [], ◌∷◌, Option, Some, None, refl, sym, ap, ◌∙◌, subst, inl, inr, cond}
 use Rattle.std.specs.Prelude.{is_some}
 use Rattle.std.proofs.lemmas.Bool.{cases_eq, ne_eqb, false≢true}
-use Rattle.std.proofs.lemmas.List.Folds.{list_any-append}
 use Rattle.table_types.specs.Tables.{Definition}
 use Rattle.session_core.specs.declared.action.Action.{Action}
 use Rattle.session_core.specs.declared.event.Event.{Event}
@@ -12,16 +11,15 @@ use Rattle.session_core.specs.declared.pace.Task.TheVariants as tasks
 use Rattle.session_core.specs.declared.share.Share.{Share}
 use Rattle.session_core.specs.Phases.{Phase}
 use Rattle.session_core.specs.Phases as phases
-use Rattle.session_core.specs.Shares.{is_out, all_quiet, next_table}
-use Rattle.session_core.specs.Actions.{reopens}
-use Rattle.session_core.specs.Courses.{Course, teaching_anew, table_to_ask}
-use Rattle.session_core.specs.Sessions.{SessionState, GoesIn, Turns}
-use Rattle.session_core.specs.Standing.{StandingState, finished_if, finishing, begun_resync, Does, task_at, TakesTurn, Stands}
-use Rattle.session_core.specs.Runs.{is_copy_of, copies}
+use Rattle.session_core.specs.Shares.{is_out, next_table}
+use Rattle.session_core.specs.Courses.{Course, table_to_ask}
+use Rattle.session_core.specs.Sessions.{GoesIn}
+use Rattle.session_core.specs.Standing.{StandingState, Does, task_at, TakesTurn, Stands}
+use Rattle.session_core.specs.Runs.{copies}
 use Rattle.session_core.specs.StandingRuns.{Happening, Lasts, BeginsToStay, handed}
 use Rattle.session_core.specs.StandingSteps.{is_quiet}
 use Rattle.session_core.proofs.ShareLemmas.{ids_of, shares_in, IsFree, next_free}
-use Rattle.session_core.proofs.EndLemmas.{plain_reopens}
+use Rattle.session_core.proofs.NamesKept.{copied_is_asked, copies_begun}
 use Rattle.session_core.proofs.RunLemmas.{IsKeptIn, IsSound}
 use Rattle.session_core.proofs.StandingEnds.{rest_after, lasts_kept, begun_kept}
 use Rattle.session_core.proofs.OnlyTurnsCopy.{only_turns_copy}
@@ -59,15 +57,6 @@ free_in t teaching ids out quiet (not_out, unquiet) = (none_out t ids out quiet 
 
 -- ---- a turn copies from the table to ask
 
-copied_is_asked : (o : Option ℕ) (s e : SessionState) (c : Course) (acts : List Action) (table : ℕ) → Turns o s c acts e → copies table acts ≡ true → o ≡ Some table
-copied_is_asked None s e c acts table turns is = absurd (false≢true (sym (ap (copies table) turns.0) ∙ is))
-copied_is_asked (Some other) s e c acts table turns is = elim (cases_eq other table) [
-  | inl same ↦ ap (λ (n : ℕ). Some n) same
-  | inr apart ↦
-      let none : copies table acts ≡ false = ap (copies table) turns.0 ∙ rw (ne_eqb other table apart) refl in
-      absurd (false≢true (sym none ∙ is))
-]
-
 asked_next : (waits : Bool) (o : Option ℕ) (t : ℕ) → cond waits None o ≡ Some t → o ≡ Some t
 asked_next true o t is = absurd (false≢true (ap (λ (x : Option ℕ). is_some x) is))
 asked_next false o t is = is
@@ -76,16 +65,6 @@ next_is_free : (t : ℕ) (steps : List (Event × List Action)) (ids : List ℕ) 
 next_is_free t steps ids c (out, quiet, flags, sound) next =
     let next_in : next_table c.teaching c.asked (shares_in ids out quiet) ≡ Some t = subst (λ (ss : List Share). next_table c.teaching c.asked ss ≡ Some t) flags.0 next in
     subst (IsFreeIn t c.teaching) (sym flags.0) (free_in t c.teaching ids out quiet (next_free c.teaching c.asked out quiet ids t next_in))
-
-copies_end : (table : ℕ) (b : Bool) (c : Course) → copies table (finished_if b c).0 ≡ false
-copies_end table true c = refl
-copies_end table false c = refl
-
-copies_begun : (table : ℕ) (c : Course) → copies table (begun_resync c).0 ≡ false
-copies_begun table c =
-    let d : Course = teaching_anew c in
-    list_any-append (is_copy_of table) (reopens c.shares) (finishing d).0
-    ∙ rw ((plain_reopens table c.shares).1, copies_end table (d.teaching && all_quiet d.shares) d) refl
 
 free_does : (task : Task) (ids : List ℕ) (steps : List (Event × List Action)) (s e : StandingState) (c : Course) (now : ℕ) (acts : List Action) (table : ℕ) → s.session.phase ≡ phases.Open c → IsSound ids steps c → Does task s c now acts e → copies table acts ≡ true → IsFreeIn table c.teaching c.shares
 free_does tasks.Copy ids steps s e c now acts table stands sound does copied =

@@ -23,7 +23,7 @@ use Rattle.session_core.proofs.EndLemmas.{plain_reopens}
 
 -- ---- a turn copies from the table to ask, which awaits no names
 
-copied_is_asked : (o : Option ℕ) (s e : SessionState) (c : Course) (acts : List Action) (table : ℕ) → Turns o s c acts e → copies table acts ≡ true → o ≡ Some table
+pub copied_is_asked : (o : Option ℕ) (s e : SessionState) (c : Course) (acts : List Action) (table : ℕ) → Turns o s c acts e → copies table acts ≡ true → o ≡ Some table
 copied_is_asked None s e c acts table turns is = absurd (false≢true (sym (ap (copies table) turns.0) ∙ is))
 copied_is_asked (Some other) s e c acts table turns is = elim (cases_eq other table) [
   | inl same ↦ ap (λ (n : ℕ). Some n) same
@@ -36,7 +36,7 @@ copies_end : (table : ℕ) (b : Bool) (c : Course) → copies table (finished_if
 copies_end table true c = refl
 copies_end table false c = refl
 
-copies_begun : (table : ℕ) (c : Course) → copies table (begun_resync c).0 ≡ false
+pub copies_begun : (table : ℕ) (c : Course) → copies table (begun_resync c).0 ≡ false
 copies_begun table c =
     let d : Course = teaching_anew c in
     list_any-append (is_copy_of table) (reopens c.shares) (finishing d).0
