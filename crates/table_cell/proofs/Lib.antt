@@ -5,6 +5,8 @@ pub mod SessionLaws
 pub mod CellLaws
 pub mod StockLaws
 pub mod StockSteps
+pub mod EndLaws
+pub mod IndexLaws
 pub mod StepLaws
 pub mod RefusalLaws
 pub mod UnackedLaws

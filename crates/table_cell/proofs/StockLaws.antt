@@ -8,13 +8,13 @@ use Rattle.std.specs.BTreeMap.{insert_entry}
 use Rattle.std.specs.Cmp.{eq_by_cmp_equiv}
 use Rattle.std.specs.declared.cmp.Ordering.{Ordering}
 use Rattle.std.specs.declared.cmp.Ordering.TheVariants.{Less, Equal, Greater}
-use Rattle.std.specs.Ordering.{is_eq, is_gt, ordering_reverse}
+use Rattle.std.specs.Ordering.{is_eq, ordering_reverse}
 use Rattle.table_types.specs.declared.key.Key.{Key}
 use Rattle.table_types.specs.Keys.{key_cmp}
 use Rattle.table_types.specs.KeyOrder.{key_cmp_total}
 use Rattle.table_types.specs.Rows.{StoredRow}
 use Rattle.table_types.proofs.EqualKeysAreOne.{exact_keys, key_cmp-same, one_key}
-use Rattle.table_rows.specs.Rows.{AreLive, IsFirstToEnd, end_cmp, is_live, row_at, rows_without}
+use Rattle.table_rows.specs.Rows.{row_at, rows_without}
 use Rattle.update_numbers.specs.Numbers.{without as numbers_without, above}
 use Rattle.table_cell.specs.Machine.{without}
 use Rattle.table_cell.specs.Soundness.{KeysDiffer}
@@ -224,22 +224,6 @@ module _ (content : List (Key × StoredRow)) (pairs : List (ℕ × Key)) (rows :
 
   pub seen_stock : (next : ℕ) → stocked next (rows_of content pairs) ≡ stocked next rows
   seen_stock next = ap (stocked next) seen
-
-  -- what holds of each row by key holds of each row by number
-  pub all_rows : (T : Key × StoredRow → Type 0) → AllByRecursion T content → AllByRecursion T rows
-  all_rows T all = all_found rows differ T (λ k row at. found_in content T all k row (tied.same k ∙ at))
-
-  pub first_row : (key : Key) → IsFirstToEnd content key → IsFirstToEnd rows key
-  first_row key (row, at, all) = (row, sym (tied.same key) ∙ at, all_rows (λ e. is_gt (end_cmp (key, row) e) ≡ false) all)
-
-  pub live_rows : (now : ℕ) → AreLive now content → AreLive now rows
-  live_rows now all = all_rows (λ e. is_live now e.1 ≡ true) all
-
-pub no_rows : (content : List (Key × StoredRow)) (pairs : List (ℕ × Key)) (rows : List (Key × StoredRow)) → AreTied content pairs rows → content ≡ [] → rows ≡ []
-no_rows content pairs [] tied none = refl
-no_rows content pairs (e ∷ es) tied none =
-    let there : row_at e.0 (e ∷ es) ≡ Some e.1 = rw (key-same e.0) refl in
-    absurd (some_none e.1 (sym there ∙ sym (tied.same e.0) ∙ ap (row_at e.0) none))
 
 -- ---- what is put and removed
 

@@ -1,5 +1,5 @@
 -- What the calls of a stock do to the rows by key and to their numbers.
-use Rattle.std.proofs.Common.{◌≡◌, ℕ, ◌+◌, ◌<◌, ◌≤◌, ◌^◌, Bool, true, false, not, List, [], ◌∷◌, ◌++◌, length, Option, Some, None, IfSome, IfNone, refl, sym, ap, ◌∙◌, subst, append-nil, arith}
+use Rattle.std.proofs.Common.{◌≡◌, ℕ, ◌+◌, ◌<◌, ◌≤◌, ◌^◌, Bool, true, false, not, List, [], ◌∷◌, ◌++◌, length, Option, Some, None, IfSome, refl, sym, ap, ◌∙◌, subst, append-nil, arith}
 use Rattle.std.specs.Prelude.{cond, filter, is_some, map, nat_lt}
 use Rattle.std.specs.List.{AllByRecursion}
 use Rattle.std.specs.List.Sorted.{IsStrictlySortedBy}
@@ -19,17 +19,7 @@ use Rattle.table_cell.specs.Machine.{without}
 use Rattle.table_cell.specs.Soundness.{KeysDiffer, NumbersRise}
 use Rattle.table_cell.specs.Stock.{AreKept, AreTied, HaveRows, IsStock, Stocked, leave, left_for, number_of, numbered, rows_of, stocked}
 use Rattle.table_cell.proofs.RowsLaws.{all_filter, none_parts, rise_each, some_none}
-use Rattle.table_cell.proofs.StockLaws.{all_found, are_kept, as_many, found_in, live_rows, numbered-above, numbered-without, put_sound, put_tied, rows_again, same_row, seen_stock, taken_sound, taken_tied}
-
--- ---- results
-
-pub if_some : {A : Type 0} (P Q : A → Type 0) → ((a : A) → P a → Q a) → (o : Option A) → IfSome o P → IfSome o Q
-if_some P Q f (Some a) p = f a p
-if_some P Q f None p = p
-
-pub if_none : {A : Type 0} {P Q : Type 0} → (P → Q) → (o : Option A) → IfNone o P → IfNone o Q
-if_none f (Some a) p = p
-if_none f None p = f p
+use Rattle.table_cell.proofs.StockLaws.{all_found, are_kept, as_many, found_in, numbered-above, numbered-without, put_sound, put_tied, rows_again, same_row, seen_stock, taken_sound, taken_tied}
 
 -- ---- no rows yet
 
@@ -43,7 +33,7 @@ new_kept content numbers first none is least most =
 
 -- ---- lists
 
-without_absent : (key : Key) (es : List (Key × StoredRow)) → row_at key es ≡ None → without key es ≡ es
+pub without_absent : (key : Key) (es : List (Key × StoredRow)) → row_at key es ≡ None → without key es ≡ es
 without_absent key [] none = refl
 without_absent key (e ∷ es) none =
     let parts = none_parts key e es none in
@@ -238,9 +228,6 @@ module _ (content : List (Key × StoredRow)) (numbers : Numbering) (kept : AreKe
         ∙ ap (numbering (numbers.next + 1)) (pair_gone key row ((numbers.next, key) ∷ []) (sym at))
     given_so None none after stays =
         stays ∙ is ∙ ap (λ (ps : List (ℕ × Key)). numbering (numbers.next + 1) (ps ++ (numbers.next, key) ∷ [])) (sym (no_pair key (sym none)))
-
-  pub all_live : (now : ℕ) → AreLive now content → filter (λ e. is_live now e.1) rows ≡ rows
-  all_live now live = filter_live now rows (live_rows content numbers.pairs rows kept.tied kept.sound.keys now live)
 
   -- the row of a key was stored
   module _ (key : Key) (row : StoredRow) (is : row.number ≡ numbers.next) (left : numbers.next < 2 ^ 32) (content_after : List (Key × StoredRow)) (numbers_after : Numbering) (numbered_so : numbers_after ≡ given key numbers) (put : content_after ≡ insert_entry key_cmp content key row) where

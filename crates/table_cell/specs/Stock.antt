@@ -1,11 +1,13 @@
 -- What a stock holds: the rows of a table by key, and the next number to assign.
-use Rattle.std.specs.Prelude.{◌≡◌, ◌≤◌, ◌^◌, ℕ, List, [], ◌∷◌, cond, is_some, map, Option, Some, None}
-use Rattle.std.specs.List.{AllByRecursion}
+use Rattle.std.specs.Prelude.{◌≡◌, ◌≤◌, ◌<◌, ◌^◌, ℕ, Bool, false, List, [], ◌∷◌, cond, is_some, map, Option, Some, None, IfSome}
+use Rattle.std.specs.List.{AllByRecursion, list_any}
 use Rattle.std.specs.List.Sorted.{IsStrictlySortedBy}
 use Rattle.std.specs.Map.{keys_of}
 use Rattle.table_types.specs.declared.key.Key.{Key}
 use Rattle.table_types.specs.Keys.{key_cmp}
 use Rattle.table_types.specs.Rows.{StoredRow}
+use Rattle.table_rows.specs.declared.row_end.RowEnd.{RowEnd}
+use Rattle.table_rows.specs.Endings.{are_same, ending_of, is_among}
 use Rattle.table_rows.specs.Rows.{row_at}
 use Rattle.table_cell.specs.Machine.{without}
 use Rattle.table_cell.specs.Soundness.{NumbersRise, KeysDiffer}
@@ -34,7 +36,7 @@ left_for key leaving rows = cond (is_some (row_at key rows)) rows (leave leaving
 abbrev pub AreInRisingKey : List (Key × StoredRow) → List (Key × StoredRow) → Type 0
 AreInRisingKey rows list = IsStrictlySortedBy key_cmp (keys_of list) × ((key : Key) → row_at key list ≡ row_at key rows)
 
--- ---- how a stock keeps its rows: by key, with the keys in ascending order of number beside them
+-- ---- how a stock keeps its rows: by key, with the keys in ascending order of number and the ends beside them
 
 -- the number and the key of a row
 abbrev pub numbered : Key × StoredRow → ℕ × Key
@@ -68,6 +70,25 @@ pub record AreTied (content : List (Key × StoredRow)) (pairs : List (ℕ × Key
 pub record AreKept (content : List (Key × StoredRow)) (pairs : List (ℕ × Key)) (next : ℕ) : Type 0 where
   pub tied : AreTied content pairs (rows_of content pairs)
   pub sound : IsStock (stocked next (rows_of content pairs))
+
+-- one of the rows has this end and this number
+abbrev pub has_end : List (Key × StoredRow) → RowEnd → Bool
+has_end rows end = list_any (λ e. are_same (ending_of e.1) end) rows
+
+-- whether an end is among others that `among` tells, without that of a row, if one is given
+abbrev pub is_among_without : Option StoredRow → (RowEnd → Bool) → RowEnd → Bool
+is_among_without None among end = among end
+is_among_without (Some row) among end = cond (are_same (ending_of row) end) false (among end)
+
+-- the ends are those of the rows, each with its row's number, and no others; and each is below the value for no end
+pub record AreEnds (rows : List (Key × StoredRow)) (ends : List RowEnd) : Type 0 where
+  pub exactly : (end : RowEnd) → is_among ends end ≡ has_end rows end
+  pub within : AllByRecursion (λ e. IfSome e.1.ends (λ end. end < 2 ^ 63)) rows
+
+-- the rows are kept that way, and so are their ends
+pub record AreIndexed (content : List (Key × StoredRow)) (pairs : List (ℕ × Key)) (next : ℕ) (endings : List RowEnd) : Type 0 where
+  pub kept : AreKept content pairs next
+  pub ends : AreEnds (rows_of content pairs) endings
 
 -- the key of a pair has a row
 abbrev pub HasRow : List (Key × StoredRow) → ℕ × Key → Type 0

@@ -13,11 +13,11 @@ const BLOCK_LENGTH: usize = 1_024;
 /// How many full blocks a list may have at most.
 const MOST_BLOCKS: usize = 1 << 50;
 
-/// A list in blocks of `BLOCK_LENGTH` items. Only the first block grows, by doubling, so that a short list is small. Each
-/// later block is allocated whole, and no item of a list of more than one block is moved. So each call takes constant time,
-/// but for the list of the blocks.
-#[derive(Drop)]
-pub(crate) struct Blocks<T> {
+/// A list in blocks of 1,024 items. Only the first block grows, by doubling, so that a short list is small. Each later block
+/// is allocated whole, and no item of a list of more than one block is moved. So each call takes constant time, but for the
+/// list of the blocks.
+#[derive(Debug, Drop)]
+pub struct Blocks<T> {
     /// The full blocks.
     full: Vec<Vec<T>>,
     /// The items after those of the full blocks.
@@ -36,7 +36,7 @@ impl<T> Model for Blocks<T> {
 
 impl<T> Blocks<T> {
     /// Makes an empty list. Doesn't allocate.
-    pub(crate) fn new(alloc: Global) -> Blocks<T>
+    pub fn new(alloc: Global) -> Blocks<T>
         ensures { result.items ≡ [] }
     {
         Blocks {
@@ -46,14 +46,14 @@ impl<T> Blocks<T> {
     }
 
     /// Returns the number of items.
-    pub(crate) fn len(&self) -> usize
+    pub fn len(&self) -> usize
         ensures { result ≡ length self.now.items }
     {
         self.full.len() * BLOCK_LENGTH + self.last.len()
     }
 
     /// Returns the item at `index`, or `None` if there is none.
-    pub(crate) fn get(&self, index: usize) -> Option<&T>
+    pub fn get(&self, index: usize) -> Option<&T>
         ensures { option_copied result ≡ slice_get self.now.items index }
     {
         match self.full.get(index / BLOCK_LENGTH) {
@@ -62,8 +62,8 @@ impl<T> Blocks<T> {
         }
     }
 
-    /// Makes room for one more item, which changes no item. Fails if memory runs out, or if `MOST_BLOCKS` blocks are full.
-    pub(crate) fn reserve_one(&mut self) -> Result<(), Memory>
+    /// Makes room for one more item, which changes no item. Fails if memory runs out, or if 2^50 blocks are full.
+    pub fn reserve_one(&mut self) -> Result<(), Memory>
         ensures room { OnOk result (self.new.has_room ≡ true) }
         ensures stays { self.new.items ≡ self.old.items }
     {
@@ -80,8 +80,8 @@ impl<T> Blocks<T> {
         Ok(())
     }
 
-    /// Adds an item at the end.
-    pub(crate) fn push_reserved(&mut self, item: T)
+    /// Adds an item at the end, for which there is room. Doesn't allocate.
+    pub fn push_reserved(&mut self, item: T)
         requires { self.old.has_room ≡ true }
         ensures { self.new.items ≡ self.old.items ++ item ∷ [] }
     {

@@ -27,6 +27,7 @@ mod stock;
 mod table;
 mod tracking;
 
+pub use blocks::Blocks;
 pub use cell::TableCell;
 pub use checkpoints::Dropped;
 pub use entry::Entry;

@@ -1,21 +1,25 @@
 //! The rows of a table with their numbers.
 
-ghost use Rattle.std.specs.Prelude.{◌≡◌, ◌≤◌, ◌<◌, ◌+◌, ◌-◌, ◌^◌, [], ◌∷◌, ◌++◌, nat_lt, not, filter, length, IfNone, IfOk, IfSome, OnErr, OnOk, option_copied};
+ghost use Rattle.std.specs.Prelude.{◌≡◌, ◌≤◌, ◌<◌, ◌+◌, ◌-◌, ◌^◌, [], ◌∷◌, ◌++◌, cond, false, nat_lt, not, filter, length, true, IfNone, IfOk, IfSome, OnErr, OnOk, Some, option_copied};
 ghost use Rattle.std.specs.Bool.{OnFalse, OnTrue};
 ghost use Rattle.std.specs.List.Sorted.{IsStrictlySortedBy};
+ghost use Rattle.std.specs.BTreeMap.{insert_entry};
 ghost use Rattle.std.specs.Map.{keys_of};
 ghost use Rattle.table_types.specs.declared.key.Key.{Key};
 ghost use Rattle.table_types.specs.Keys.{key_cmp};
-ghost use Rattle.table_rows.specs.Rows.{IsFirstToEnd, is_live, row_at};
-ghost use Rattle.update_numbers.specs.Numbers.{Numbering, pairs_without, pushed};
+ghost use Rattle.table_rows.specs.declared.row_end.RowEnd.{RowEnd};
+ghost use Rattle.table_rows.specs.Endings.{are_same, ending_of, is_among};
+ghost use Rattle.table_rows.specs.Rows.{IsFirstToEnd, is_live, row_at, rows_without};
+ghost use Rattle.update_numbers.specs.Numbers.{Numbering, key_at, pairs_without, pushed};
 ghost use Rattle.table_cell.specs.Machine.{without};
 ghost use Rattle.table_cell.specs.Renumbering.{numbered_from};
-ghost use Rattle.table_cell.specs.Stock.{IsStock, left_for, number_of};
+ghost use Rattle.table_cell.specs.Stock.{IsStock, is_among_without, left_for, number_of};
 
 use crate::above::Above;
 use std::alloc::Global;
+use std::collections::BTreeSet;
 use std::marker::Model;
-use table_rows::{Rows, is_live};
+use table_rows::{RowEnd, Rows, is_live};
 use table_types::{Key, Memory, Moment, Row};
 use update_numbers::Numbers;
 
@@ -25,24 +29,62 @@ pub(crate) struct Stock<R: Rows> {
     alloc: Global,
     rows: R,
     numbers: Numbers,
+    /// The end of each row. The numbers of the rows differ, and `numbers` has the key of each.
+    ends: BTreeSet<RowEnd>,
 }
 
 impl<R: Rows> Model for Stock<R> {
-    ghost use Rattle.table_cell.specs.Stock.{AreKept, Stocked, rows_of, stocked};
+    ghost use Rattle.table_cell.specs.Stock.{AreIndexed, Stocked, rows_of, stocked};
 
     ghost Value = { Stocked };
 
     ghost view = { λ a. stocked a.numbers.next (rows_of (R.content a.rows) a.numbers.pairs) };
 
-    ghost invariant = { λ a. AreKept (R.content a.rows) a.numbers.pairs a.numbers.next };
+    ghost invariant = { λ a. AreIndexed (R.content a.rows) a.numbers.pairs a.numbers.next a.ends.keys };
 }
 
-/// Removes the number of `row`, if there is one. Doesn't allocate.
-fn drop_number(numbers: &mut Numbers, row: Option<Row>)
-    ensures { numbers.new ≡ record { pairs = pairs_without (number_of row) numbers.old.pairs; next = numbers.old.next } }
+/// Puts `row` in place of the key's, and adds its end. If memory runs out, the rows are as before, and so are the ends,
+/// if the end is a new one.
+fn put_row<R: Rows>(
+    rows: &mut R,
+    ends: &mut BTreeSet<RowEnd>,
+    key: Key,
+    row: Row,
+) -> Result<Option<Row>, Memory>
+    ensures before { IfOk result (λ before. before ≡ row_at key (R.content rows.old)) }
+    ensures put { OnOk result (R.content rows.new ≡ insert_entry key_cmp (R.content rows.old) key row) }
+    ensures added { OnOk result ((end : RowEnd) → is_among ends.new.keys end ≡ cond (are_same (ending_of row) end) true (is_among ends.old.keys end)) }
+    ensures within { IfSome row.ends (λ end. end < 2 ^ 63) }
+    ensures stays { OnErr result (R.content rows.new ≡ R.content rows.old) }
+    ensures as_before { OnErr result (is_among ends.old.keys (ending_of row) ≡ false → (end : RowEnd) → is_among ends.new.keys end ≡ is_among ends.old.keys end) }
+{
+    let end = RowEnd::of(&row);
+    ends.insert(end)?;
+    let Ok(before) = rows.put(key, row) else {
+        ends.remove(&end);
+        return Err(Memory);
+    };
+    Ok(before)
+}
+
+/// Removes the number and the end of `row`, if there is one. Doesn't allocate.
+fn forget_row(numbers: &mut Numbers, ends: &mut BTreeSet<RowEnd>, row: Option<Row>)
+    ensures numbers { numbers.new ≡ record { pairs = pairs_without (number_of row) numbers.old.pairs; next = numbers.old.next } }
+    ensures ends { (end : RowEnd) → is_among ends.new.keys end ≡ is_among_without row (is_among ends.old.keys) end }
 {
     if let Some(row) = row {
         numbers.remove(row.number());
+        ends.remove(&RowEnd::of(&row));
+    }
+}
+
+/// Removes `number`, and the row of the key that has it. Doesn't allocate.
+fn take_numbered<R: Rows>(rows: &mut R, numbers: &mut Numbers, number: u32)
+    ensures number { numbers.new ≡ record { pairs = pairs_without (Some number) numbers.old.pairs; next = numbers.old.next } }
+    ensures row { (key : Key) → key_at numbers.old.pairs number ≡ Some key → R.content rows.new ≡ rows_without key (R.content rows.old) }
+{
+    if let Some(key) = numbers.remove(number) {
+        rows.take(&key);
     }
 }
 
@@ -64,6 +106,7 @@ impl<R: Rows> Stock<R> {
             alloc,
             rows,
             numbers: Numbers::new(alloc, first),
+            ends: BTreeSet::new(alloc),
         }
     }
 
@@ -101,7 +144,10 @@ impl<R: Rows> Stock<R> {
         ensures first { IfSome result (λ key. IsFirstToEnd self.now.rows key.now) }
         ensures none { IfNone result (self.now.rows ≡ []) }
     {
-        self.rows.first_to_end()
+        match self.ends.last() {
+            Some(first) => self.numbers.key_at(first.number),
+            None => None,
+        }
     }
 
     /// Stores `row`, which has the next number, in place of the key's. If memory runs out, nothing has changed.
@@ -112,11 +158,11 @@ impl<R: Rows> Stock<R> {
         ensures stays { OnErr result (self.new ≡ self.old) }
     {
         self.numbers.push(key.copy(self.alloc)?)?;
-        let Ok(older) = self.rows.put(key, row) else {
+        let Ok(older) = put_row(&mut self.rows, &mut self.ends, key, row) else {
             take_back(&mut self.numbers);
             return Err(Memory);
         };
-        drop_number(&mut self.numbers, older);
+        forget_row(&mut self.numbers, &mut self.ends, older);
         Ok(())
     }
 
@@ -125,7 +171,7 @@ impl<R: Rows> Stock<R> {
         ensures { self.new ≡ record { rows = without key.now self.old.rows; next = self.old.next } }
     {
         let row = self.rows.take(key);
-        drop_number(&mut self.numbers, row);
+        forget_row(&mut self.numbers, &mut self.ends, row);
     }
 
     /// Stores `row`, which has the next number, in place of the key's. If the key had none, removes the row of
@@ -155,10 +201,17 @@ impl<R: Rows> Stock<R> {
         ensures one { OnTrue result (length self.new.rows + 1 ≡ length self.old.rows) }
         ensures none { OnFalse result (filter (λ e. is_live now e.1) self.new.rows ≡ self.new.rows) }
     {
-        let Some((_, ended)) = self.rows.take_ended(now) else {
+        let soonest = match self.ends.last() {
+            Some(first) => first.end,
+            None => return false,
+        };
+        if soonest > now.milliseconds() {
+            return false;
+        }
+        let Some(ended) = self.ends.pop_last() else {
             return false;
         };
-        drop_number(&mut self.numbers, Some(ended));
+        take_numbered(&mut self.rows, &mut self.numbers, ended.number);
         true
     }
 

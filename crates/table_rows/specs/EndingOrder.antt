@@ -1,15 +1,13 @@
 -- The order of row ends is total, and row ends that compare as equal are equal. The laws of `Ord` cite these.
-use Rattle.std.proofs.Common.{◌≡◌, Bool, refl, ap, ◌∙◌, ◌&&◌}
-use Rattle.std.specs.Ordering.{eq_by_cmp, is_eq, nat_cmp, ordering_then}
+use Rattle.std.proofs.Common.{◌≡◌, Bool, refl, ◌∙◌, ◌&&◌}
+use Rattle.std.specs.Ordering.{eq_by_cmp, nat_cmp}
 use Rattle.std.specs.Cmp.{IsTotalOrder, back_total, eq_by_cmp_equiv, nat_cmp_total, on_total, then_total, tied_then, unsigned_ties}
-use Rattle.table_types.specs.Keys.{key_cmp}
-use Rattle.table_types.specs.KeyOrder.{key_cmp_ties, key_cmp_total}
 use Rattle.table_rows.specs.declared.row_end.RowEnd.{RowEnd}
 use Rattle.table_rows.specs.contracts.row_end.RowEndPartialEq.TheImpl as ending_eq
 use Rattle.table_rows.specs.Endings.{ending_cmp, later_cmp}
 
 pub ending_cmp_total : IsTotalOrder ending_cmp
-ending_cmp_total = then_total (on_total (λ (e : RowEnd). e.end) nat_cmp_total) (then_total (on_total (λ (e : RowEnd). e.number) nat_cmp_total) (on_total (λ (e : RowEnd). e.key) key_cmp_total))
+ending_cmp_total = then_total (on_total (λ (e : RowEnd). e.end) nat_cmp_total) (on_total (λ (e : RowEnd). e.number) nat_cmp_total)
 
 -- the order is total
 pub later_cmp_total : IsTotalOrder later_cmp
@@ -18,14 +16,13 @@ later_cmp_total = back_total ending_cmp_total
 abbrev are_equal : RowEnd → RowEnd → Bool
 are_equal = (ending_eq.ghosts).eq
 
-all_same : (p q r s t u : Bool) → p ≡ s → q ≡ t → r ≡ u → (p && (q && r)) ≡ (s && (t && u))
-all_same p q r s t u one two three = rw (one, two, three) refl
+both_same : (p q r s : Bool) → p ≡ r → q ≡ s → (p && q) ≡ (r && s)
+both_same p q r s one two = rw (one, two) refl
 
 equal_endings : (a b : RowEnd) → are_equal a b ≡ eq_by_cmp ending_cmp a b
 equal_endings a b =
-    all_same _ _ _ _ _ _ (unsigned_ties a.end b.end) (unsigned_ties a.number b.number) (key_cmp_ties a.key b.key)
-    ∙ ap (λ (rest : Bool). is_eq (nat_cmp a.end b.end) && rest) (tied_then (nat_cmp a.number b.number) (key_cmp a.key b.key))
-    ∙ tied_then (nat_cmp a.end b.end) (ordering_then (nat_cmp a.number b.number) (key_cmp a.key b.key))
+    both_same _ _ _ _ (unsigned_ties a.end b.end) (unsigned_ties a.number b.number)
+    ∙ tied_then (nat_cmp a.end b.end) (nat_cmp a.number b.number)
 
 -- row ends are equal exactly if they compare as equal
 pub later_cmp_ties : (a b : RowEnd) → are_equal a b ≡ eq_by_cmp later_cmp a b

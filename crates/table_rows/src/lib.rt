@@ -1,4 +1,4 @@
-//! The rows of a stick table by key, which of them is the first to end, and the collections that hold them.
+//! The rows of a stick table by key, the collections that hold them, and the order in which rows end.
 #![tactic(auto)]
 
 mod list_rows;
@@ -8,4 +8,5 @@ mod rows;
 
 pub use list_rows::ListRows;
 pub use map_rows::MapRows;
+pub use row_end::RowEnd;
 pub use rows::{Rows, is_live};

@@ -1,15 +1,14 @@
 //! Rows in a list.
 
-ghost use Rattle.std.specs.Prelude.{◌≡◌, [], IfErr, IfNone, IfOk, IfSome};
-ghost use Rattle.table_rows.specs.Rows.{end_cmp, ends_cmp};
-ghost use Rattle.table_rows.specs.Places.{IsFirstAt, IsGap, IsThere};
+ghost use Rattle.std.specs.Prelude.{◌≡◌, [], IfErr, IfOk};
+ghost use Rattle.table_rows.specs.Places.{IsGap, IsThere};
 
-use crate::rows::{Rows, is_live};
+use crate::rows::Rows;
 use std::alloc::Global;
 use std::cmp::Ordering;
 use std::marker::Model;
 use std::mem;
-use table_types::{Key, Memory, Moment, Row};
+use table_types::{Key, Memory, Row};
 
 /// The rows of a table in a list, in ascending order of key. Each call but `len` may go over the whole list.
 #[derive(Drop)]
@@ -47,43 +46,6 @@ fn place(rows: &[(Key, Row)], key: &Key) -> Result<usize, usize>
         }
     }
     Err(rows.len())
-}
-
-/// Compares the ends of two rows: a row without an end comes last.
-fn compare_ends(a: &Row, b: &Row) -> Ordering
-    ensures { result ≡ ends_cmp a.now.ends b.now.ends }
-{
-    match (a.ends(), b.ends()) {
-        (Some(a), Some(b)) => a.milliseconds().cmp(&b.milliseconds()),
-        (Some(_), None) => Ordering::Less,
-        (None, Some(_)) => Ordering::Greater,
-        (None, None) => Ordering::Equal,
-    }
-}
-
-/// Compares two rows in the order in which rows end, as in `Rows::first_to_end`.
-fn compare(a: &(Key, Row), b: &(Key, Row)) -> Ordering
-    ensures { result ≡ end_cmp a.now b.now }
-{
-    let numbers = a.1.number().cmp(&b.1.number());
-    compare_ends(&a.1, &b.1).then(numbers.then(a.0.cmp(&b.0)))
-}
-
-/// Returns the index of the first row to end, or `None` if there are no rows.
-fn first_place(rows: &[(Key, Row)]) -> Option<usize>
-    ensures first { IfSome result (IsFirstAt rows.now) }
-    ensures none { IfNone result (rows.now ≡ []) }
-{
-    if rows.is_empty() {
-        return None;
-    }
-    let mut first = 0;
-    for index in 0..rows.len() {
-        if compare(&rows[index], &rows[first]).is_lt() {
-            first = index;
-        }
-    }
-    Some(first)
 }
 
 impl ListRows {
@@ -140,23 +102,6 @@ impl Rows for ListRows {
             }
             Err(_) => None,
         }
-    }
-
-    fn first_to_end(&self) -> Option<&Key> {
-        match first_place(&self.rows) {
-            Some(index) => Some(&self.rows[index].0),
-            None => None,
-        }
-    }
-
-    fn take_ended(&mut self, now: Moment) -> Option<(Key, Row)> {
-        let Some(index) = first_place(&self.rows) else {
-            return None;
-        };
-        if is_live(&self.rows[index].1, now) {
-            return None;
-        }
-        Some(self.rows.remove(index))
     }
 
     fn len(&self) -> usize {

@@ -7,21 +7,21 @@ ghost use Rattle.table_rows.specs.Endings.{end_or_last, ending_of, later_cmp};
 ghost use Rattle.table_rows.specs.EndingOrder.{later_cmp_ties, later_cmp_total};
 
 use std::cmp::Ordering;
-use table_types::{Key, Row};
+use table_types::Row;
 
-/// Where the row of a key stands in the order in which rows end. The last to end comes first: a new row mostly ends
-/// after all others, so a search that begins at the front finds its place at once.
-#[derive(Debug, Drop, PartialEq, Eq)]
+/// Where a row stands in the order in which the rows of a table end: by its end, and then by its number, which no other
+/// row has. The last to end comes first: a new row mostly ends after all others, so a search that begins at the front
+/// finds its place at once.
+#[derive(Clone, Copy, Debug, PartialEq, Eq)]
 pub struct RowEnd {
     /// The moment at which the row ends, in milliseconds, or `u64::MAX` if it never expires.
     pub end: u64,
     /// The number of the row's last update.
     pub number: u32,
-    pub key: Key,
 }
 
 /// Returns the moment at which `row` ends, in milliseconds, or `u64::MAX` if it never expires.
-pub fn end_of(row: &Row) -> u64
+fn end_of(row: &Row) -> u64
     ensures end { result ≡ end_or_last row.now.ends }
     ensures within { IfSome row.now.ends (λ end. end < 2 ^ 63) }
 {
@@ -32,15 +32,14 @@ pub fn end_of(row: &Row) -> u64
 }
 
 impl RowEnd {
-    /// Returns where `row`, the row of `key`, stands in that order.
-    pub fn of(key: Key, row: &Row) -> RowEnd
-        ensures ending { result ≡ ending_of key row.now }
+    /// Returns where `row` stands in that order.
+    pub fn of(row: &Row) -> RowEnd
+        ensures ending { result ≡ ending_of row.now }
         ensures within { IfSome row.now.ends (λ end. end < 2 ^ 63) }
     {
         RowEnd {
             end: end_of(row),
             number: row.number(),
-            key,
         }
     }
 }
@@ -67,10 +66,7 @@ impl Ord for RowEnd {
     #[inline(always)]
     fn cmp(&self, other: &Self) -> Ordering {
         match other.end.cmp(&self.end) {
-            Ordering::Equal => match other.number.cmp(&self.number) {
-                Ordering::Equal => other.key.cmp(&self.key),
-                order => order,
-            },
+            Ordering::Equal => other.number.cmp(&self.number),
             order => order,
         }
     }

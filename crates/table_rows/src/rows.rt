@@ -1,13 +1,13 @@
 //! Collections of a table's rows.
 
-ghost use Rattle.std.specs.Prelude.{◌≡◌, [], false, IfOk, IfNone, IfSome, List, OnErr, OnOk, length, option_copied};
+ghost use Rattle.std.specs.Prelude.{◌≡◌, IfOk, List, OnErr, OnOk, length, option_copied};
 ghost use Rattle.std.specs.BTreeMap.{insert_entry};
 ghost use Rattle.std.specs.List.Sorted.{IsStrictlySortedBy};
 ghost use Rattle.std.specs.Map.{keys_of};
 ghost use Rattle.table_types.specs.declared.key.Key.{Key};
 ghost use Rattle.table_types.specs.Keys.{key_cmp};
 ghost use Rattle.table_types.specs.Rows.{StoredRow};
-ghost use Rattle.table_rows.specs.Rows.{AreLive, IsFirstToEnd, is_live, row_at, rows_without};
+ghost use Rattle.table_rows.specs.Rows.{is_live, row_at, rows_without};
 
 use table_types::{Key, Memory, Moment, Row};
 
@@ -40,22 +40,6 @@ pub trait Rows: Drop {
     fn take(&mut self, key: &Key) -> Option<Row>
         ensures taken { result ≡ row_at key.now (content self.old) }
         ensures others { content self.new ≡ rows_without key.now (content self.old) };
-
-    /// Returns the key of the first row to end, or `None` if there are no rows. A row without an end comes last. Of
-    /// rows that end together, the one with the least number comes first, and then the one with the least key.
-    fn first_to_end(&self) -> Option<&Key>
-        ensures first { IfSome result (λ key. IsFirstToEnd (content self.now) key.now) }
-        ensures none { IfNone result (content self.now ≡ []) };
-
-    /// Removes the first row to end, and returns it with its key, if it isn't live at `now`; `None` if all rows are
-    /// live. Doesn't allocate.
-    fn take_ended(&mut self, now: Moment) -> Option<(Key, Row)>
-        ensures first { IfSome result (λ ended. IsFirstToEnd (content self.old) ended.0) }
-        ensures taken { IfSome result (λ ended. row_at ended.0 (content self.old) ≡ Some ended.1) }
-        ensures ended { IfSome result (λ ended. is_live now ended.1 ≡ false) }
-        ensures others { IfSome result (λ ended. content self.new ≡ rows_without ended.0 (content self.old)) }
-        ensures live { IfNone result (AreLive now (content self.old)) }
-        ensures stays { IfNone result (content self.new ≡ content self.old) };
 
     /// Returns the number of rows.
     fn len(&self) -> usize

@@ -1,15 +1,15 @@
 -- Counting receipts by their places.
-use Rattle.std.proofs.Common.{◌≡◌, ◌≢◌, ℕ, zero, suc, ◌+◌, ◌-◌, ◌<◌, ◌≤◌, ◌==◌, ◌↔◌, Bool, true, false, true≢false, cond, leb, leb-true, leb-false, List, [], ◌∷◌, length, get_or, set, take, drop, refl, sym, ap, ◌∙◌, arith, inl, inr, eq-eqb, ne_eqb, slice_index}
+use Rattle.std.proofs.Common.{◌≡◌, ◌≢◌, ℕ, zero, suc, ◌+◌, ◌-◌, ◌<◌, ◌≤◌, ◌==◌, ◌↔◌, Bool, true, false, true≢false, cond, leb, leb-true, leb-false, le-leb, List, [], ◌∷◌, length, get_or, set, take, drop, refl, sym, ap, subst, ◌∙◌, arith, inl, inr, eq-eqb, ne_eqb, slice_index}
 use Rattle.std.specs.Prelude.{EachIndex, IsTrue}
 use Rattle.std.specs.Bool.{MatchBool}
 use Rattle.std.specs.List.{AllWithin}
-use Rattle.std.proofs.lemmas.Bool.{cases_Bool, cases_eq}
-use Rattle.std.proofs.lemmas.List.{drop_more, get_or-set_other, get_or-set_same, get_or-take, length-take-le}
+use Rattle.std.proofs.lemmas.Bool.{cases_Bool, cases_eq, lt-leb}
+use Rattle.std.proofs.lemmas.List.{drop-drop, get_or-set_other, get_or-set_same, get_or-take, length-take-le}
 use Rattle.std.proofs.lemmas.List.Sums.{sum_by-cons}
-use Rattle.table_shards.specs.Counts.{AreAdded, AreCounts, AreOnce}
+use Rattle.table_shards.specs.Counts.{AreAdded, AreCounts, AreOnce, RiseAfter}
 use Rattle.table_shards.specs.Receipts.{ReceiptState, SeatState, PlacesRise, all_receipts, times}
 use Rattle.table_shards.proofs.PageLaws.{eqb_is}
-use Rattle.table_shards.proofs.ReceiptLaws.{rise_low, times_above, times_here, times_other}
+use Rattle.table_shards.proofs.ReceiptLaws.{rise_order, times_above, times_here, times_other}
 
 -- ---- ascending places
 
@@ -53,22 +53,38 @@ times_later place from (r ∷ rs) (suc i) less le early =
     let whole : times place (drop i rs) ≡ times place (r ∷ rs) = omega (arith, other, rest) in
     whole
 
--- a place before that of a receipt isn't among the receipts from that one on
-late : (place before seen : ℕ) (rs : List ReceiptState) (i : ℕ) (d : ReceiptState) → PlacesRise before rs seen → i < length rs → place < (get_or rs i d).place → times place (drop i rs) ≡ 0
-late place before seen [] i d rise lt less = absurd (omega (arith, lt))
-late place before seen (r ∷ rs) zero d (first, rest) lt less =
-    let none : times place rs ≡ 0 = times_above place r.place seen rs rest (omega (arith, less)) in
-    let other = times_other place r rs (ne_eqb r.place place (λ is. absurd (omega (arith, less, is)))) in
-    let whole : times place (r ∷ rs) ≡ 0 = omega (arith, other, none) in
-    whole
-late place before seen (r ∷ rs) (suc i) d (first, rest) lt less = late place r.place seen rs i d rest (omega (arith, lt)) less
+-- receipts that ascend after a place also ascend after an earlier one
+pub earlier : (a b seen : ℕ) (rs : List ReceiptState) → a ≤ b → PlacesRise b rs seen → PlacesRise a rs seen
+earlier a b seen [] le rise = omega (arith, le, rise)
+earlier a b seen (r ∷ rs) le (first, rest) = (omega (arith, le, first), rest)
 
--- a receipt, and those after it
-one_less : (place : ℕ) (rs : List ReceiptState) (i : ℕ) (r : ReceiptState) → i < length rs → r ≡ get_or rs i r → times place (drop i rs) ≡ cond (r.place == place) 1 0 + times place (drop (i + 1) rs)
-one_less place rs i r lt is =
-    ap (λ (xs : List ReceiptState). times place xs) (drop_more rs i r lt)
-    ∙ sum_by-cons (λ (q : ReceiptState). cond (q.place == place) 1 0) (get_or rs i r) (drop (i + 1) rs)
-    ∙ ap (λ (x : ReceiptState). cond (x.place == place) 1 0 + times place (drop (i + 1) rs)) (sym is)
+-- if a receipt is of a place up to `from`, so is each one before it
+pub early_to : (from seen : ℕ) (rs : List ReceiptState) (i : ℕ) → PlacesRise 0 rs seen → i < length rs → ((d : ReceiptState) → true ≡ leb (get_or rs i d).place from) → AllWithin (λ r. leb r.place from ≡ true) rs 0 (i + 1)
+early_to from seen rs i rise lt is k d low high =
+    let order = rise_order 0 seen rs k i d rise (omega (arith, high)) lt in
+    let up_to = leb-true (get_or rs i d).place from (sym (is d)) in
+    le-leb (get_or rs k d).place from (omega (arith, order, up_to))
+
+-- if a receipt is of a later place, so is each one after it
+pub late_from : (from seen : ℕ) (rs : List ReceiptState) (i : ℕ) → PlacesRise 0 rs seen → i < length rs → ((d : ReceiptState) → false ≡ leb (get_or rs i d).place from) → AllWithin (λ r. leb r.place from ≡ false) rs i (length rs)
+late_from from seen rs i rise lt is k d low high =
+    let order = rise_order 0 seen rs i k d rise low high in
+    let over = leb-false (get_or rs i d).place from (sym (is d)) in
+    lt-leb (get_or rs k d).place from (omega (arith, order, over))
+
+-- those that are left after the first `next`, without the first `count` of them
+left_after : (next count : ℕ) (rs left : List ReceiptState) → drop next rs ≡ left → drop (next + count) rs ≡ drop count left
+left_after next count rs left is = sym (drop-drop count next rs) ∙ ap (λ (xs : List ReceiptState). drop count xs) is
+
+pub later_rise : (from seen next count : ℕ) (rs left : List ReceiptState) → drop next rs ≡ left → PlacesRise 0 left seen → AllWithin (λ r. leb r.place from ≡ false) left count (length left) → RiseAfter from (drop (next + count) rs)
+later_rise from seen next count rs left is rise late =
+    (from + seen, subst (λ (xs : List ReceiptState). PlacesRise from xs (from + seen)) (sym (left_after next count rs left is)) (rise_later from 0 seen left count rise late))
+
+pub later_times : (from place next count : ℕ) (rs left : List ReceiptState) → drop next rs ≡ left → from < place → count ≤ length left → AllWithin (λ r. leb r.place from ≡ true) left 0 count → times place (drop (next + count) rs) ≡ times place left
+later_times from place next count rs left is over within early = ap (λ (xs : List ReceiptState). times place xs) (left_after next count rs left is) ∙ times_later place from left count over within early
+
+one_less : (place : ℕ) (r : ReceiptState) (rest : List ReceiptState) → times place (r ∷ rest) ≡ cond (r.place == place) 1 0 + times place rest
+one_less place r rest = sum_by-cons (λ (q : ReceiptState). cond (q.place == place) 1 0) r rest
 
 is_counted : (place : ℕ) (r : ReceiptState) → r.place ≡ place → ◌≡◌ {A = ℕ} (cond (r.place == place) 1 0) 1
 is_counted place r here = let same : (r.place == place) ≡ true = eq-eqb r.place place here in rw same refl
@@ -78,47 +94,40 @@ is_not_counted place r away = let other : (r.place == place) ≡ false = ne_eqb 
 
 -- ---- counting the receipts of a seat
 
--- the counts so far, and the receipts from an index on, are the counts before and all receipts
-abbrev pub AreCountedTo : ℕ → List ReceiptState → List ℕ → List ℕ → ℕ → Type 0
-AreCountedTo from rs olds counts i =
-    (index : ℕ) → index < 512 → slice_index counts index + times (from + 1 + index) (drop i rs) ≡ slice_index olds index + times (from + 1 + index) rs
+-- the counts so far, and the receipts that are left, are the counts before and all receipts
+abbrev pub AreCountedBut : ℕ → List ReceiptState → List ReceiptState → List ℕ → List ℕ → Type 0
+AreCountedBut from left rs olds counts =
+    (index : ℕ) → index < 512 → slice_index counts index + times (from + 1 + index) left ≡ slice_index olds index + times (from + 1 + index) rs
 
-pub one_counted : (from : ℕ) (olds counts : List ℕ) (rs : List ReceiptState) (i j count : ℕ) (r : ReceiptState) → length counts ≡ 512 → i < length rs → r ≡ get_or rs i r → j < 512 → r.place ≡ from + 1 + j
-    → count ≡ slice_index counts j + 1 → AreCountedTo from rs olds counts i → AreCountedTo from rs olds (set counts j count) (i + 1)
-one_counted from olds counts rs i j count r long lt is within at so counted index below = elim (cases_eq index j) [
+pub one_counted : (from : ℕ) (olds counts : List ℕ) (rs rest : List ReceiptState) (j count : ℕ) (r : ReceiptState) → length counts ≡ 512 → j < 512 → r.place ≡ from + 1 + j
+    → count ≡ slice_index counts j + 1 → AreCountedBut from (r ∷ rest) rs olds counts → AreCountedBut from rest rs olds (set counts j count)
+one_counted from olds counts rs rest j count r long within at so counted index below = elim (cases_eq index j) [
   | inl same ↦
       let one = is_counted (from + 1 + index) r (omega (arith, at, same)) in
       let new : slice_index (set counts j count) j ≡ count = get_or-set_same counts j count 0 (omega (arith, within, long)) in
       let moved : slice_index (set counts j count) index ≡ slice_index (set counts j count) j = ap (λ (k : ℕ). slice_index (set counts j count) k) same in
       let old : slice_index counts index ≡ slice_index counts j = ap (λ (k : ℕ). slice_index counts k) same in
-      omega (arith, counted index below, one_less (from + 1 + index) rs i r lt is, one, new, moved, old, so)
+      omega (arith, counted index below, one_less (from + 1 + index) r rest, one, new, moved, old, so)
   | inr apart ↦
       let none = is_not_counted (from + 1 + index) r (λ here. absurd (omega (arith, at, here, apart))) in
       let still : slice_index (set counts j count) index ≡ slice_index counts index = get_or-set_other counts j index count 0 apart in
-      omega (arith, counted index below, one_less (from + 1 + index) rs i r lt is, none, still)
+      omega (arith, counted index below, one_less (from + 1 + index) r rest, none, still)
 ]
 
--- each receipt is of a later place
-pub is_above : (from seen : ℕ) (rs : List ReceiptState) (i : ℕ) (r : ReceiptState) → PlacesRise from rs seen → i < length rs → r ≡ get_or rs i r → from < r.place
-is_above from seen rs i r rise lt is =
-    let low = rise_low from seen rs i r rise lt in
-    let same : (get_or rs i r).place ≡ r.place = ap (λ (q : ReceiptState). q.place) (sym is) in
-    omega (arith, low, same)
-
 -- a count has room: the receipt is the only one of its place
-pub has_room : (from seen : ℕ) (olds counts : List ℕ) (rs : List ReceiptState) (i j : ℕ) (r : ReceiptState) → PlacesRise from rs seen → i < length rs → r ≡ get_or rs i r → j < 512 → r.place ≡ from + 1 + j
-    → AreCountedTo from rs olds counts i → slice_index counts j ≤ slice_index olds j
-has_room from seen olds counts rs i j r rise lt is within at counted =
+pub has_room : (from seen : ℕ) (olds counts : List ℕ) (rs rest : List ReceiptState) (j : ℕ) (r : ReceiptState) → PlacesRise from rs seen → j < 512 → r.place ≡ from + 1 + j
+    → AreCountedBut from (r ∷ rest) rs olds counts → slice_index counts j ≤ slice_index olds j
+has_room from seen olds counts rs rest j r rise within at counted =
     let one = is_counted (from + 1 + j) r at in
-    omega (arith, counted j within, one_less (from + 1 + j) rs i r lt is, one, times_most (from + 1 + j) from seen rs rise)
+    omega (arith, counted j within, one_less (from + 1 + j) r rest, one, times_most (from + 1 + j) from seen rs rise)
 
 -- the next receipt is of a place beyond those that are counted
-pub none_left : (from seen : ℕ) (olds counts : List ℕ) (rs : List ReceiptState) (i : ℕ) (r : ReceiptState) → PlacesRise from rs seen → i < length rs → r ≡ get_or rs i r → from + 512 < r.place
-    → AreCountedTo from rs olds counts i → AreAdded from rs olds counts
-none_left from seen olds counts rs i r rise lt is beyond counted index below =
-    let same : (get_or rs i r).place ≡ r.place = ap (λ (q : ReceiptState). q.place) (sym is) in
-    let none : times (from + 1 + index) (drop i rs) ≡ 0 = late (from + 1 + index) from seen rs i r rise lt (omega (arith, same, beyond, below)) in
-    omega (arith, counted index below, none)
+pub none_left : (from seen : ℕ) (olds counts : List ℕ) (rs rest : List ReceiptState) (r : ReceiptState) → PlacesRise r.place rest seen → from + 512 < r.place
+    → AreCountedBut from (r ∷ rest) rs olds counts → AreAdded from rs olds counts
+none_left from seen olds counts rs rest r rise beyond counted index below =
+    let away = is_not_counted (from + 1 + index) r (λ here. absurd (omega (arith, here, beyond, below))) in
+    let none : times (from + 1 + index) rest ≡ 0 = times_above (from + 1 + index) r.place seen rest rise (omega (arith, beyond, below)) in
+    omega (arith, counted index below, one_less (from + 1 + index) r rest, away, none)
 
 -- ---- whether each count is one
 

@@ -1,8 +1,9 @@
 -- How often a place occurs among receipts.
-use Rattle.std.proofs.Common.{◌≡◌, ℕ, zero, suc, ◌+◌, ◌<◌, ◌≤◌, ◌==◌, true, false, cond, List, [], ◌∷◌, ◌++◌, length, get_or, take, drop, refl, sym, ap, ◌∙◌, subst, arith, ne_eqb, append-nil, append_assoc}
-use Rattle.std.specs.List.{AllByRecursion}
-use Rattle.std.proofs.lemmas.List.{drop_more, take_more}
+use Rattle.std.proofs.Common.{◌≡◌, ℕ, zero, suc, ◌+◌, ◌-◌, ◌<◌, ◌≤◌, ◌==◌, true, false, cond, List, [], ◌∷◌, ◌++◌, length, get_or, take, drop, Option, Some, None, refl, sym, ap, ◌∙◌, subst, arith, ne_eqb, zero-add, append-nil, append_assoc}
+use Rattle.std.specs.List.{AllByRecursion, slice_get}
+use Rattle.std.proofs.lemmas.List.{drop-drop, drop_more, length-drop, take_more}
 use Rattle.std.proofs.lemmas.List.Sums.{sum_by-cons, sum_by-append}
+use Rattle.table_shards.specs.Pages.{AreFrom}
 use Rattle.table_shards.specs.Receipts.{ReceiptState, SeatState, PlacesRise, all_receipts, receipts_of, times}
 use Rattle.table_shards.proofs.AllLaws.{all_left, all_right, all_both}
 
@@ -70,3 +71,39 @@ pub receipts_of_one : (P : ReceiptState → Type 0) (t : ℕ) (ss : List SeatSta
 receipts_of_one P t [] i d lt all = absurd (omega arith)
 receipts_of_one P t (s ∷ ss) zero d lt all = all_left P (receipts_of t s) (all_receipts t ss) all
 receipts_of_one P t (s ∷ ss) (suc i) d lt all = receipts_of_one P t ss i d (omega arith) (all_right P (receipts_of t s) (all_receipts t ss) all)
+
+-- ---- the receipts that are left
+
+pub left_over : (next end : ℕ) (rs left : List ReceiptState) → AreFrom next end rs → drop next rs ≡ left → end - next ≡ length left
+left_over next end rs left from is =
+    let whole : end ≡ length rs = from.whole in
+    let some : length (drop next rs) ≡ length rs - next = length-drop next rs in
+    let same : length (drop next rs) ≡ length left = ap (λ (xs : List ReceiptState). length xs) is in
+    omega (arith, whole, some, same)
+
+pub got_from : (rs : List ReceiptState) (next index : ℕ) → slice_get (drop next rs) index ≡ slice_get rs (next + index)
+got_from rs zero index = ap (λ (i : ℕ). slice_get rs i) (sym (zero-add index))
+got_from [] (suc next) index = refl
+got_from (r ∷ rs) (suc next) index =
+    let step : suc (next + index) ≡ suc next + index = omega arith in
+    got_from rs next index ∙ ap (λ (i : ℕ). slice_get (r ∷ rs) i) step
+
+same_receipt : (a b : ReceiptState) → ◌≡◌ {A = Option ReceiptState} (Some a) (Some b) → a ≡ b
+same_receipt a b e = cc
+
+some_left : (a : ReceiptState) → ◌≡◌ {A = Option ReceiptState} (Some a) None → ⊥
+some_left a e = cc
+
+-- the first one that is left, and those after it
+pub first_left : (rs left : List ReceiptState) (next : ℕ) (r : ReceiptState) → drop next rs ≡ left → Some r ≡ slice_get left 0 → left ≡ r ∷ drop (next + 1) rs
+first_left rs left next r is first = by left is first
+  where
+    by : (ls : List ReceiptState) → drop next rs ≡ ls → Some r ≡ slice_get ls 0 → ls ≡ r ∷ drop (next + 1) rs
+    by [] is first = absurd (some_left r first)
+    by (q ∷ qs) is first =
+        let rest : qs ≡ drop (next + 1) rs = sym (ap (λ (xs : List ReceiptState). drop 1 xs) is) ∙ drop-drop 1 next rs in
+        ap (λ (x : ReceiptState). x ∷ qs) (sym (same_receipt r q first)) ∙ ap (λ (xs : List ReceiptState). r ∷ xs) rest
+
+pub nothing_left : (left : List ReceiptState) → None ≡ slice_get left 0 → left ≡ []
+nothing_left [] none = refl
+nothing_left (q ∷ qs) none = absurd (some_left q (sym none))

@@ -8,6 +8,7 @@ ghost use Rattle.table_shards.specs.Receipts.{SeatState};
 
 use crate::counts::{are_of_round, are_once};
 use crate::receipt::{Receipt, are_same_events, are_same_replies};
+use crate::receipts::Receipts;
 use crate::seat::Seat;
 use table_cell::TableCell;
 
@@ -24,8 +25,8 @@ fn is_entry(cell: &TableCell, receipt: &Receipt) -> bool
 }
 
 /// Returns whether all the receipts are the table's events.
-fn are_entries(cell: &TableCell, receipts: &[Receipt]) -> bool
-    ensures { MatchBool result (AllByRecursion (IsEntry cell.now) receipts.now) (AllByRecursion (IsEntry cell.now) receipts.now → ⊥) }
+fn are_entries(cell: &TableCell, receipts: Receipts<'_>) -> bool
+    ensures { MatchBool result (AllByRecursion (IsEntry cell.now) receipts.entry) (AllByRecursion (IsEntry cell.now) receipts.entry → ⊥) }
 {
     for receipt in receipts {
         if !is_entry(cell, receipt) {

@@ -6,28 +6,18 @@ ghost use Rattle.std.specs.List.{AllByRecursion};
 ghost use Rattle.table_shards.specs.Counts.{AreAdded, AreCounts, AreOnce, HaveRoom, RiseAfter};
 ghost use Rattle.table_shards.specs.Receipts.{PlacesRise, all_receipts, receipts_of, seen_of, times};
 
-use crate::receipt::Receipt;
+use crate::receipts::Receipts;
 use crate::seat::Seat;
 
 /// How many places are counted at a time, so that no memory is needed for a count of each event. Each seat is searched once for
 /// each such span.
 const SPAN: usize = 512;
 
-/// Returns the receipts of places after `from`.
-fn later_than(from: u64, receipts: &[Receipt]) -> &[Receipt]
-    requires { RiseAfter 0 receipts.now }
-    ensures rising { RiseAfter from result.now }
-    ensures times { (place : ℕ) → from < place → times place result.now ≡ times place receipts.now }
-{
-    let first = receipts.partition_point(|receipt| receipt.place() <= from);
-    &receipts[first..]
-}
-
 /// Adds one to the count of each of the `SPAN` places after `from` that a receipt is of. All receipts are of places after `from`.
-fn add_places(from: u64, receipts: &[Receipt], counts: &mut [usize; SPAN])
-    requires rising { RiseAfter from receipts.now }
+fn add_places(from: u64, receipts: Receipts<'_>, counts: &mut [usize; SPAN])
+    requires rising { RiseAfter from receipts }
     requires room { HaveRoom counts.old }
-    ensures { AreAdded from receipts.now counts.old counts.new }
+    ensures { AreAdded from receipts.entry counts.old counts.new }
 {
     for receipt in receipts {
         let index = receipt.place() - from - 1;
@@ -44,7 +34,7 @@ fn add_seat(seat: &Seat, table: u64, from: u64, counts: &mut [usize; SPAN])
     ensures added { AreAdded from (receipts_of table seat.now) counts.old counts.new }
     ensures most { (index : ℕ) → index < 512 → slice_index counts.new index ≤ slice_index counts.old index + 1 }
 {
-    add_places(from, later_than(from, seat.receipts(table)), counts);
+    add_places(from, seat.receipts(table).later_than(from), counts);
 }
 
 /// Returns how many receipts of `table` the seats have of each of the `SPAN` places after `from`.
@@ -91,8 +81,8 @@ pub fn are_once(table: u64, from: u64, last: u64, seats: &[Seat]) -> bool
 }
 
 /// Returns whether all the receipts are of places after `from`.
-fn are_after(from: u64, receipts: &[Receipt]) -> bool
-    ensures { MatchBool result (AllByRecursion (λ r. from < r.place) receipts.now) (AllByRecursion (λ r. from < r.place) receipts.now → ⊥) }
+fn are_after(from: u64, receipts: Receipts<'_>) -> bool
+    ensures { MatchBool result (AllByRecursion (λ r. from < r.place) receipts.entry) (AllByRecursion (λ r. from < r.place) receipts.entry → ⊥) }
 {
     for receipt in receipts {
         if receipt.place() <= from {

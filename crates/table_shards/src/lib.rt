@@ -13,6 +13,7 @@ mod locked;
 mod next_round;
 mod pages;
 mod receipt;
+mod receipts;
 mod roll;
 mod seat;
 mod shards;
@@ -28,6 +29,7 @@ pub use laws::{
 };
 pub use locked::Locked;
 pub use receipt::Receipt;
+pub use receipts::Receipts;
 pub use seat::Seat;
 pub use shards::Shards;
 pub use unlocked::{Audit, Unlocked, UnlockedTable};

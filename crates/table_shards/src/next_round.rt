@@ -14,7 +14,7 @@ use crate::seat::Seat;
 use crate::shards::{Shard, Shards, put_under_lock};
 use crate::unlocked::{Audit, UnlockedTable};
 use std::alloc::Global;
-use table_cell::TableCell;
+use table_cell::{Blocks, TableCell};
 use table_types::Memory;
 
 /// Returns whether a batch of some open session of some table is out.
@@ -39,7 +39,7 @@ fn see(pages: &mut Vec<Page>, alloc: Global, table: u64, seen: u64) -> Result<()
     pages.push(Page {
         table,
         seen,
-        receipts: Vec::new(alloc),
+        receipts: Blocks::new(alloc),
     })?;
     Ok(())
 }

@@ -1,12 +1,13 @@
 //! What a seat has of each table.
 
-ghost use Rattle.std.specs.Prelude.{◌≡◌, ◌<◌, [], None, map, option_map, IfNone, IfOk, IfSome, OnOk, HoldsAt};
+ghost use Rattle.std.specs.Prelude.{◌≡◌, ◌<◌, [], None, map, option_map, true, IfNone, IfOk, IfSome, OnOk, HoldsAt};
 ghost use Rattle.std.specs.Vec.{vec_len, vec_capacity};
 ghost use Rattle.table_shards.specs.Receipts.{forgotten_page, page_at, page_with, pages_with};
 ghost use Rattle.table_shards.specs.Pages.{page_state, page_states, HasRoom, HasRoomIn, IsPageAt};
 
 use crate::receipt::Receipt;
 use std::alloc::Global;
+use table_cell::Blocks;
 use table_types::Memory;
 
 /// A seat's receipts of one table, in the order of their places, and the place up to which it has seen the table's
@@ -15,7 +16,7 @@ use table_types::Memory;
 pub struct Page {
     pub table: u64,
     pub seen: u64,
-    pub receipts: Vec<Receipt>,
+    pub receipts: Blocks<Receipt>,
 }
 
 /// Where there is room for one more receipt of a table.
@@ -24,7 +25,7 @@ pub enum Room {
     /// On the table's page, which is at this index.
     OnPage(usize),
     /// In this empty list, for a new page.
-    OnNewPage(Vec<Receipt>),
+    OnNewPage(Blocks<Receipt>),
 }
 
 /// Returns the page of `table`.
@@ -57,8 +58,7 @@ pub fn make_room(page: &mut Page) -> Result<(), Memory>
     ensures room { OnOk result (HasRoom page.new) }
     ensures stays { page_state page.new ≡ page_state page.old }
 {
-    page.receipts.reserve(1)?;
-    Ok(())
+    page.receipts.reserve_one()
 }
 
 /// Adds a receipt, whose place is then seen.
@@ -80,6 +80,16 @@ fn make_room_at(pages: &mut Vec<Page>, index: usize, table: u64) -> Result<(), M
     make_room(&mut pages[index])
 }
 
+/// Makes an empty list with room for a receipt.
+fn with_room(alloc: Global) -> Result<Blocks<Receipt>, Memory>
+    ensures none { IfOk result (λ receipts. receipts.items ≡ []) }
+    ensures room { IfOk result (λ receipts. receipts.has_room ≡ true) }
+{
+    let mut receipts = Blocks::new(alloc);
+    receipts.reserve_one()?;
+    Ok(receipts)
+}
+
 /// Makes room for one more receipt of `table`, which changes no page.
 pub fn make_room_for(alloc: Global, pages: &mut Vec<Page>, table: u64) -> Result<Room, Memory>
     ensures room { IfOk result (HasRoomIn table pages.new) }
@@ -92,7 +102,7 @@ pub fn make_room_for(alloc: Global, pages: &mut Vec<Page>, table: u64) -> Result
         }
         None => {
             pages.reserve(1)?;
-            Ok(Room::OnNewPage(Vec::with_capacity(alloc, 1)?))
+            Ok(Room::OnNewPage(with_room(alloc)?))
         }
     }
 }
@@ -108,10 +118,10 @@ pub fn write_at(pages: &mut Vec<Page>, index: usize, table: u64, receipt: Receip
 
 /// Adds a page with one receipt, in the list `receipts`.
 #[tactic(auto, using(crate::proofs::PageLaws::put_new))]
-fn write_page(pages: &mut Vec<Page>, receipts: Vec<Receipt>, table: u64, receipt: Receipt)
+fn write_page(pages: &mut Vec<Page>, receipts: Blocks<Receipt>, table: u64, receipt: Receipt)
     requires lacked { page_at table (page_states pages.old.items) ≡ None }
     requires none { receipts.items ≡ [] }
-    requires room { vec_len receipts < vec_capacity receipts }
+    requires room { receipts.has_room ≡ true }
     requires space { vec_len pages.old < vec_capacity pages.old }
     ensures { page_states pages.new.items ≡ pages_with table receipt (page_states pages.old.items) }
 {
@@ -141,7 +151,7 @@ fn forget_page(page: &mut Page, alloc: Global, table: u64)
     ensures { page_state page.new ≡ forgotten_page table (page_state page.old) }
 {
     if page.table == table {
-        page.receipts = Vec::new(alloc);
+        page.receipts = Blocks::new(alloc);
     }
 }
 

@@ -8,7 +8,7 @@ ghost use Rattle.table_shards.specs.Pages.{ArePages, page_states};
 use crate::answers::{Answer, Answered};
 use crate::book::Book;
 use crate::pages::{Page, page_of};
-use crate::receipt::Receipt;
+use crate::receipts::Receipts;
 use std::alloc::Global;
 use std::marker::Model;
 
@@ -78,14 +78,11 @@ impl Seat {
     }
 
     /// Returns the seat's receipts of the table, in the order of their places.
-    pub fn receipts(&self, table: u64) -> &[Receipt]
-        ensures receipts { result.now ≡ receipts_of table self.now }
+    pub fn receipts(&self, table: u64) -> Receipts<'_>
+        ensures receipts { result ≡ receipts_of table self.now }
         ensures rising { PlacesRise 0 (receipts_of table self.now) (seen_of table self.now) }
     {
-        match page_of(self.book.pages.as_slice(), table) {
-            Some(page) => page.receipts.as_slice(),
-            None => &[],
-        }
+        Receipts::of(page_of(self.book.pages.as_slice(), table))
     }
 
     /// Returns how many events of the table the seat has seen, and `events`, if it has seen more than `events`.

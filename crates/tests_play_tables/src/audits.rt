@@ -1,13 +1,13 @@
 //! Audits with seats of other tables, without a seat, and with a seat twice.
 
-use crate::seats::tracked;
+use crate::seats::{fresh, tracked, tracks};
 use crate::tracks::{count, shards, track};
 use crate::two_seats::TwoSeats;
 use std::alloc::Global;
 use std::mem;
 use std::sync::Wait;
 use table_cell::{CellEvent, CellReply};
-use table_shards::{Audit, AuditError, Receipt, Seat, Unlocked};
+use table_shards::{Audit, AuditError, Receipt, Receipts, Seat, Unlocked};
 use tests_play_data::parts::T1;
 
 /// Makes `count` seats of other tables.
@@ -24,16 +24,25 @@ fn counts_to_3(receipt: &Receipt) -> bool {
     }
 }
 
+/// Returns whether the receipts are those of three tracks.
+fn are_three_tracks(receipts: Receipts<'_>) -> bool {
+    let (Some(first), Some(second), Some(third)) = (
+        receipts.get(0),
+        receipts.get(1),
+        receipts.get(2),
+    ) else {
+        return false;
+    };
+    let places = first.place() == 1 && second.place() == 2 && third.place() == 3;
+    places && counts_to_3(third) && receipts.len() == 3
+}
+
 /// Returns whether the audit has `t1` with three events, and the seat with the receipts of its three tracks.
 fn has_receipts(audit: &Audit) -> bool {
     let ([table], [seat]) = (audit.tables(), audit.seats()) else {
         return false;
     };
-    let [first, second, third] = seat.receipts(1) else {
-        return false;
-    };
-    let places = first.place() == 1 && second.place() == 2 && third.place() == 3;
-    places && counts_to_3(third) && table.cell.events() == 3
+    are_three_tracks(seat.receipts(1)) && table.cell.events() == 3
 }
 
 /// Returns whether the audit names the seat of other tables, and returns it.
@@ -129,4 +138,29 @@ pub fn misses_one_of_two<R: Wait>(rt: &R, alloc: Global) -> Option<bool> {
     let (tables, seats) = two.unlock(alloc)?;
     let (tables, seats) = misses_the_second(alloc, tables, seats)?;
     Some(counted == Some(1) && tables.audit(seats).is_ok())
+}
+
+/// Returns whether each receipt is of the next place, from 1 on.
+fn are_in_order(receipts: Receipts<'_>) -> bool {
+    receipts
+        .enumerate()
+        .all(|(index, receipt)| receipt.place() == index as u64 + 1)
+}
+
+/// Returns whether the only seat of the audit has 1,100 receipts of `t1`, in order.
+fn has_all_receipts(audit: &Audit) -> bool {
+    let [seat] = audit.seats() else {
+        return false;
+    };
+    seat.receipts(1).len() == 1_100 && are_in_order(seat.receipts(1))
+}
+
+/// Returns whether an audit finds nothing wrong with 1,100 tracks, more than a block of receipts holds.
+pub fn audits_many_receipts<R: Wait>(rt: &R, alloc: Global) -> Option<bool> {
+    let mut round = fresh(alloc)?;
+    if !tracks(rt, &mut round, 1_100) {
+        return Some(false);
+    }
+    let audit = round.audit(alloc)?.ok()?;
+    Some(has_all_receipts(&audit))
 }

@@ -1,11 +1,12 @@
 //! The order in which rows end.
 
 use std::alloc::Global;
-use table_rows::{MapRows, Rows};
-use table_types::{Cell, Key, Memory, Moment, Row, ShortList};
+use std::collections::BTreeSet;
+use table_rows::RowEnd;
+use table_types::{Cell, Memory, Moment, Row, ShortList};
 
-/// An integer key, the number of its row, and the ms after the least moment at which the row ends, if it does.
-pub type Entry = (u32, u32, Option<u32>);
+/// The number of a row, and the ms after the least moment at which the row ends, if it does.
+pub type Entry = (u32, Option<u32>);
 
 /// Returns the moment `later` ms after the least one.
 pub(crate) fn moment(later: u32) -> Option<Moment> {
@@ -22,47 +23,23 @@ pub(crate) fn row(alloc: Global, number: u32, end: Option<u32>) -> Result<Row, M
     Ok(Row::learned_with(number, ends, cells, None))
 }
 
-/// Takes out at most `count` rows, each the first to end, and returns their keys in this order.
-fn taken_in_order<R: Rows>(rows: &mut R, alloc: Global, count: usize) -> Result<Vec<Key>, Memory> {
-    let mut taken = Vec::new(alloc);
-    for _ in 0..count {
-        let key = match rows.first_to_end() {
-            Some(key) => key.copy(alloc)?,
-            None => return Ok(taken),
-        };
-        rows.take(&key);
-        taken.push(key)?;
+fn ends_of(alloc: Global, entries: &[Entry]) -> Result<BTreeSet<RowEnd>, Memory> {
+    let mut ends = BTreeSet::new(alloc);
+    for (number, end) in entries {
+        let row = row(alloc, *number, *end)?;
+        ends.insert(RowEnd::of(&row))?;
     }
-    Ok(taken)
+    Ok(ends)
 }
 
-fn put_all(rows: &mut MapRows, alloc: Global, entries: &[Entry]) -> Result<(), Memory> {
-    for (key, number, end) in entries {
-        rows.put(Key::Int(*key), row(alloc, *number, *end)?)?;
-    }
-    Ok(())
-}
-
-/// Returns whether these are the integer keys `expected`.
-fn are_keys(keys: &[Key], expected: &[u32]) -> bool {
-    if keys.len() != expected.len() {
-        return false;
-    }
-    for (index, key) in keys.iter().enumerate() {
-        if !key.is_same(&Key::Int(expected[index])) {
-            return false;
+/// Returns whether the rows of `entries`, and no others, end in the order of `numbers`.
+pub fn end_in_order(alloc: Global, entries: &[Entry], numbers: &[u32]) -> Option<bool> {
+    let mut ends = ends_of(alloc, entries).ok()?;
+    for number in numbers {
+        match ends.pop_last() {
+            Some(end) if end.number == *number => {}
+            _ => return Some(false),
         }
     }
-    true
-}
-
-fn ends_of(rows: &mut MapRows, alloc: Global, entries: &[Entry]) -> Result<Vec<Key>, Memory> {
-    put_all(rows, alloc, entries)?;
-    taken_in_order(rows, alloc, entries.len().saturating_add(1))
-}
-
-/// Returns whether the rows of `entries`, and no others, end in the order of `keys`.
-pub fn end_in_order(alloc: Global, entries: &[Entry], keys: &[u32]) -> Option<bool> {
-    let order = ends_of(&mut MapRows::new(alloc), alloc, entries).ok()?;
-    Some(are_keys(order.as_slice(), keys))
+    Some(ends.is_empty())
 }

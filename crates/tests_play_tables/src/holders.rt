@@ -1,6 +1,6 @@
 //! One list of calls over both types that hold rows.
 
-use crate::ends::{moment, row};
+use crate::ends::row;
 use std::alloc::Global;
 use table_rows::{ListRows, MapRows, Rows};
 use table_types::{Key, Memory, Row};
@@ -12,15 +12,6 @@ enum Call {
     Put(u32, u32, Option<u32>),
     /// Takes out the row of a key.
     Take(u32),
-    /// Takes out the first row to end if it has ended this many ms after the least moment.
-    TakeEnded(u32),
-}
-
-/// What a call returns: a row, and the key of a row that was taken out besides.
-#[derive(Drop)]
-struct Reply {
-    key: Option<Key>,
-    row: Option<Row>,
 }
 
 /// Returns the call at a place of the list, which looks random. Keys are 1 to 50.
@@ -29,69 +20,26 @@ fn call_at(place: u32) -> Call {
     let key = (spread >> 16) % 50 + 1;
     let end = (spread >> 8) % 64;
     match spread >> 28 {
-        0 | 1 | 2 => Call::Take(key),
-        3 => Call::TakeEnded(end),
+        0 | 1 | 2 | 3 => Call::Take(key),
         4 | 5 => Call::Put(key, place, None),
         _ => Call::Put(key, place, Some(end)),
     }
 }
 
-/// Takes out the first row to end if 20 rows are held and `key` has none, and returns its key.
-fn make_room<R: Rows>(rows: &mut R, alloc: Global, key: &Key) -> Result<Option<Key>, Memory> {
-    if rows.len() < 20 || rows.get(key).is_some() {
-        return Ok(None);
-    }
-    let first = match rows.first_to_end() {
-        Some(first) => first.copy(alloc)?,
-        None => return Ok(None),
-    };
-    rows.take(&first);
-    Ok(Some(first))
-}
-
-fn reply_of<R: Rows>(rows: &mut R, alloc: Global, call: Call) -> Result<Reply, Memory> {
+/// Returns the row that the call returns.
+fn reply_of<R: Rows>(rows: &mut R, alloc: Global, call: Call) -> Result<Option<Row>, Memory> {
     match call {
-        Call::Put(key, number, end) => {
-            let key = Key::Int(key);
-            let left = make_room(rows, alloc, &key)?;
-            let row = rows.put(key, row(alloc, number, end)?)?;
-            Ok(Reply { key: left, row })
-        }
-        Call::Take(key) => {
-            let row = rows.take(&Key::Int(key));
-            Ok(Reply { key: None, row })
-        }
-        Call::TakeEnded(end) => {
-            let ended = match moment(end) {
-                Some(now) => rows.take_ended(now),
-                None => None,
-            };
-            match ended {
-                Some((key, row)) => Ok(Reply {
-                    key: Some(key),
-                    row: Some(row),
-                }),
-                None => Ok(Reply {
-                    key: None,
-                    row: None,
-                }),
-            }
-        }
+        Call::Put(key, number, end) => rows.put(Key::Int(key), row(alloc, number, end)?),
+        Call::Take(key) => Ok(rows.take(&Key::Int(key))),
     }
 }
 
-fn are_same_replies(one: &Reply, other: &Reply) -> bool {
-    let keys = match (&one.key, &other.key) {
+fn are_same_replies(one: &Option<Row>, other: &Option<Row>) -> bool {
+    match (one, other) {
         (Some(one), Some(other)) => one.is_same(other),
         (None, None) => true,
         _ => false,
-    };
-    let rows = match (&one.row, &other.row) {
-        (Some(one), Some(other)) => one.is_same(other),
-        (None, None) => true,
-        _ => false,
-    };
-    keys && rows
+    }
 }
 
 /// Returns whether both hold the same rows.

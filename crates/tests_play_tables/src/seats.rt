@@ -15,9 +15,9 @@ pub(crate) fn fresh(alloc: Global) -> Option<Round> {
     Round::new(alloc, &[T1])
 }
 
-/// Tracks key 7 three times. Returns whether the counts are 1, 2 and 3.
-fn tracks_thrice<R: Wait>(rt: &R, round: &mut Round) -> bool {
-    for counted in 1..=3u64 {
+/// Tracks key 7 `times` times. Returns whether the counts ascend from 1.
+pub(crate) fn tracks<R: Wait>(rt: &R, round: &mut Round, times: u64) -> bool {
+    for counted in 1..=times {
         if round.track(rt, 1, 7) != Some(counted) {
             return false;
         }
@@ -28,7 +28,7 @@ fn tracks_thrice<R: Wait>(rt: &R, round: &mut Round) -> bool {
 /// Makes a round of `t1` with three tracks of key 7.
 pub(crate) fn tracked<R: Wait>(rt: &R, alloc: Global) -> Option<Round> {
     let mut round = fresh(alloc)?;
-    if tracks_thrice(rt, &mut round) {
+    if tracks(rt, &mut round, 3) {
         Some(round)
     } else {
         None

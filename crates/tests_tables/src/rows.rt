@@ -5,17 +5,17 @@ use tests_play_tables::ends::{Entry, end_in_order};
 use tests_play_tables::holders::agree;
 
 static ENTRIES: [Entry; 6] = [
-    (1, 5, None),
-    (2, 4, Some(30)),
-    (3, 6, Some(20)),
-    (4, 3, Some(30)),
-    (5, 3, Some(30)),
-    (6, 1, None),
+    (5, None),
+    (4, Some(30)),
+    (6, Some(20)),
+    (2, Some(30)),
+    (3, Some(30)),
+    (1, None),
 ];
 
 #[test]
 fn rows_end_in_order(rt: HostRuntime) {
-    assert!(rt; end_in_order(rt.alloc(), &ENTRIES, &[3, 4, 5, 2, 6, 1]) == Some(true));
+    assert!(rt; end_in_order(rt.alloc(), &ENTRIES, &[6, 2, 3, 4, 1, 5]) == Some(true));
 }
 
 #[test]

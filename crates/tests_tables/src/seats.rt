@@ -1,7 +1,7 @@
 //! Tables under their locks, what a seat has seen, and what an audit finds.
 
 use tests_play_tables::answers::keeps_answers;
-use tests_play_tables::audits::{misses_one_of_two, wants_its_own_seats};
+use tests_play_tables::audits::{audits_many_receipts, misses_one_of_two, wants_its_own_seats};
 use tests_play_tables::locks::are_apart;
 use tests_play_tables::next_rounds::{
     begins_another, comes_back, is_missed, is_noticed, waits_for_a_batch,
@@ -33,6 +33,11 @@ fn a_seat_of_other_tables_is_ahead(rt: HostRuntime) {
 #[test]
 fn an_audit_needs_its_own_seats(rt: HostRuntime) {
     assert!(rt; wants_its_own_seats(&rt, rt.alloc()) == Some(true));
+}
+
+#[test]
+fn many_receipts_are_audited(rt: HostRuntime) {
+    assert!(rt; audits_many_receipts(&rt, rt.alloc()) == Some(true));
 }
 
 #[test]

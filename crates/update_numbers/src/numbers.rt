@@ -1,6 +1,6 @@
 //! Numbers of updates, and the keys that have them.
 
-ghost use Rattle.std.specs.Prelude.{◌≡◌, ◌↔◌, ◌≤◌, ◌<◌, ◌^◌, ◌∷◌, ◌++◌, [], Err, IfNone, IfOk, IfSome, OnOk, OnErr, Some, length, take};
+ghost use Rattle.std.specs.Prelude.{◌≡◌, ◌↔◌, ◌≤◌, ◌<◌, ◌^◌, ◌∷◌, ◌++◌, [], Err, IfNone, IfOk, IfSome, OnOk, OnErr, Some, length, option_copied, take};
 ghost use Rattle.std.specs.List.{AllByRecursion, list_any};
 ghost use Rattle.std.specs.List.Sorted.{IsStrictlySortedBy};
 ghost use Rattle.std.specs.Map.{keys_of};
@@ -80,6 +80,13 @@ impl Numbers {
         ensures { result ≡ length self.now.pairs }
     {
         self.keys.len()
+    }
+
+    /// Returns the key of `number`.
+    pub fn key_at(&self, number: u32) -> Option<&Key>
+        ensures { option_copied result ≡ key_at self.now.pairs number }
+    {
+        self.keys.get(&Reverse(number))
     }
 
     /// Assigns the next number to `key` in place of its older ones. If it fails, nothing has changed. Takes time linear in the

@@ -5,12 +5,12 @@ use Rattle.table_cell.proofs.stock.Stock.all.Goals as goal
 
 -- each key that has a number has a row
 pub new-requires : goal.new-requires
-new-requires g c = rw c.iter_above.ensures (have_above (g.R.Rows.content c.self.inside.rows) c.self.inside.numbers c.self.invariant 0)
+new-requires g c = rw c.iter_above.ensures (have_above (g.R.Rows.content c.self.inside.rows) c.self.inside.numbers c.self.invariant.kept 0)
 
 pub returns : goal.returns
 returns g c =
     let content = g.R.Rows.content c.self.inside.rows in
     let numbers = c.self.inside.numbers in
-    let kept = c.self.invariant in
+    let kept = c.self.invariant.kept in
     rw (← c.self.view_is)
     (c.new.ensures ∙ ap (rows_of content) c.iter_above.ensures ∙ seen_above content numbers kept 0 ∙ all_above 1 numbers.next (rows_of content numbers.pairs) (omega arith) kept.sound.numbers)

@@ -11,6 +11,6 @@ use Rattle.table_rows.proofs.map_rows.MapRowsRows.copy.Goals as goal
 pub loop-key-preserved : goal.loop-key-preserved
 loop-key-preserved c =
     next_copied c.args.self.now c.loop-key.copy c.next.new.self c.put_copy.new.rows _ _
-    (subst (λ (rows : List (Key × StoredRow)). IsStrictlySortedBy key_cmp (keys_of rows)) c.self.view_is c.self.invariant.rising)
+    (subst (λ (rows : List (Key × StoredRow)). IsStrictlySortedBy key_cmp (keys_of rows)) c.self.view_is c.self.invariant)
     (ap (λ (rest : List (Key × StoredRow)). c.loop-key.copy ++ rest) (sym c.in-Some.ensures.steps) ∙ c.loop-key.invariant)
     c.in_ok-put_copy.ensures

@@ -4,7 +4,7 @@ use Rattle.table_shards.specs.Pages.{seat_of}
 use Rattle.table_shards.proofs.PageLaws.{rise_of}
 use Rattle.table_shards.proofs.seat.Seat.receipts.Goals as goal
 
-pub returns-in-Some-clause-rising : goal.returns-in-Some-clause-rising
-returns-in-Some-clause-rising c =
+pub returns-clause-rising : goal.returns-clause-rising
+returns-clause-rising c =
     subst (λ (s : SeatState). PlacesRise 0 (receipts_of c.args.table s) (seen_of c.args.table s)) c.self.view_is
     (rise_of c.args.table (seat_of c.self.inside.book) c.self.invariant)
