@@ -9,6 +9,8 @@ mod devices;
 #[cfg(test)]
 mod failures;
 #[cfg(test)]
+mod far_sides;
+#[cfg(test)]
 mod gates;
 #[cfg(test)]
 mod hellos;

@@ -7,6 +7,7 @@
 pub mod cuttings;
 pub mod devices;
 pub mod failures;
+pub mod far_sides;
 pub mod fused;
 pub mod gates;
 pub mod hellos;

@@ -16,7 +16,7 @@ use table_types::{Change, DataType, Key, Moment, Row};
 
 /// A side of a session that stays: the session at work, its tables, and a seat from which keys are tracked.
 #[derive(Drop)]
-struct Stayer {
+pub(crate) struct Stayer {
     worker: StandingWorker,
     shards: Shards,
     tracker: Seat,
@@ -61,7 +61,7 @@ pub struct Stayed {
 
 impl Stayer {
     /// Makes a side.
-    fn new(alloc: Global, tables: &Tables, role: Role) -> Option<Stayer> {
+    pub(crate) fn new(alloc: Global, tables: &Tables, role: Role) -> Option<Stayer> {
         let roster = roster(alloc, tables.roster)?;
         let (session, (shards, mut seats)) = tables.session(alloc, role).zip(tables.shards(alloc))?;
         let standing = Standing::new(alloc, session, Moment::least()).ok()?;
@@ -97,7 +97,7 @@ impl Stayer {
     }
 
     /// Takes a tick, and then turns until there is nothing to do, at most `most` of them.
-    fn go_on<H: Wait>(
+    pub(crate) fn go_on<H: Wait>(
         &mut self,
         rt: &H,
         alloc: Global,
@@ -126,7 +126,7 @@ impl Stayer {
     }
 
     /// Adds 1 to gpc0 of a key, and drops what a long history has.
-    fn track<H: Wait>(&mut self, rt: &H, key: u32, now: Moment) -> Option<()> {
+    pub(crate) fn track<H: Wait>(&mut self, rt: &H, key: u32, now: Moment) -> Option<()> {
         let mut locked = self.shards.cell(1)?.lock(rt);
         let change = Change::Add(DataType::Gpc0, 1);
         lent::track(
