@@ -1,9 +1,12 @@
 -- A connection stays sound.
 use Rattle.std.proofs.Common.{◌≡◌, ◌≢◌, ◌⊎◌, ◌<◌, ◌^◌, ℕ, Bool, true, false, ◌||◌, cond, eqb, List, [], ◌∷◌, ◌++◌, length, take, drop, Option, Some, None, Result, Ok, Err, refl, sym, ap, subst, ◌∙◌, inl, inr, append_assoc, append-nil, take-append-drop}
-use Rattle.std.specs.Prelude.{filter, filter_map, fold, is_some, map, option_to_list}
+use Rattle.std.specs.Prelude.{filter_map, fold, is_some, map, option_to_list}
+use Rattle.std.specs.BTreeSet.{insert_key}
 use Rattle.std.specs.List.{AllByRecursion}
+use Rattle.std.specs.Ordering.{match_ordering, nat_cmp}
+use Rattle.std.specs.declared.cmp.Ordering.{Ordering}
+use Rattle.std.specs.declared.cmp.Ordering.TheVariants.{Less, Equal, Greater}
 use Rattle.std.proofs.lemmas.Bool.{eq-eqb, eqb-true}
-use Rattle.std.proofs.lemmas.List.Folds.{list_any-append}
 use Rattle.std.proofs.lemmas.List.Sums.{fold-append}
 use Rattle.peers_msg.specs.Integers.{IsBytes}
 use Rattle.peers_msg.specs.declared.fault.Breach.{Breach}
@@ -63,41 +66,36 @@ still_later table (u ∷ us) last is = by (eqb u.table table) (still_later table
     by true later h = h
     by false later h = later h
 
--- a table is due after an update only if it was, or the update is of it
-due_then : (selected : Option ℕ) (due : List ℕ) (table : ℕ) → is_in table (with_due selected due) ≡ true → (is_in table due ≡ true) ⊎ (selected ≡ Some table)
-due_then None due table is = inl is
-due_then (Some id) due table is = by (is_in id due) is
-  where
-    either : (a b : Bool) → (a || b) ≡ true → (a ≡ true) ⊎ (b ≡ true)
-    either true b h = inl h
-    either false b h = inr h
+either : (a b : Bool) → (a || b) ≡ true → (a ≡ true) ⊎ (b ≡ true)
+either true b h = inl h
+either false b h = inr h
 
+or_right : (a b : Bool) → b ≡ true → (a || b) ≡ true
+or_right true b h = refl
+or_right false b h = h
+
+-- an id is among due ids with one more only if it was among them, or is that one
+due_with : (id : ℕ) (due : List ℕ) (table : ℕ) → is_in table (insert_key nat_cmp due id) ≡ true → (is_in table due ≡ true) ⊎ (id ≡ table)
+due_with id [] table is = inr (eqb-true id table (or-false (eqb id table) is))
+  where
     or-false : (b : Bool) → (b || false) ≡ true → b ≡ true
     or-false true h = refl
     or-false false h = h
-
-    by : (b : Bool) → is_in table (cond b due (due ++ (id ∷ []))) ≡ true → (is_in table due ≡ true) ⊎ (Some id ≡ Some table)
-    by true h = inl h
-    by false h = elim (either (is_in table due) (is_in table (id ∷ [])) (sym (list_any-append (λ other. eqb other table) due (id ∷ [])) ∙ h)) [
-      | inl was ↦ inl was
-      | inr now ↦ inr (ap (λ (n : ℕ). Some n) (eqb-true id table (or-false (eqb id table) now)))
+due_with id (x ∷ xs) table is = by (nat_cmp id x) is (due_with id xs table)
+  where
+    by : (o : Ordering) → is_in table (match_ordering o (id ∷ (x ∷ xs)) (x ∷ xs) (x ∷ insert_key nat_cmp xs id)) ≡ true → (is_in table (insert_key nat_cmp xs id) ≡ true → (is_in table xs ≡ true) ⊎ (id ≡ table))
+        → (is_in table (x ∷ xs) ≡ true) ⊎ (id ≡ table)
+    by Less h later = elim (either (eqb id table) (is_in table (x ∷ xs)) h) [ inl here ↦ inr (eqb-true id table here) | inr was ↦ inl was ]
+    by Equal h later = inl h
+    by Greater h later = elim (either (eqb x table) (is_in table (insert_key nat_cmp xs id)) h) [
+      | inl here ↦ inl (ap (λ (b : Bool). b || is_in table xs) here)
+      | inr there ↦ elim (later there) [ inl was ↦ inl (or_right (eqb x table) (is_in table xs) was) | inr now ↦ inr now ]
     ]
 
-due_filtered : (p : ℕ → Bool) (due : List ℕ) (table : ℕ) → is_in table (filter p due) ≡ true → is_in table due ≡ true
-due_filtered p [] table is = is
-due_filtered p (id ∷ ids) table is = by (p id) (due_filtered p ids table) is
-  where
-    weaker : (a b c : Bool) → (b ≡ true → c ≡ true) → (a || b) ≡ true → (a || c) ≡ true
-    weaker true b c f h = refl
-    weaker false b c f h = f h
-
-    or-right : (a c : Bool) → c ≡ true → (a || c) ≡ true
-    or-right true c h = refl
-    or-right false c h = h
-
-    by : (b : Bool) → (is_in table (filter p ids) ≡ true → is_in table ids ≡ true) → is_in table (cond b (id ∷ filter p ids) (filter p ids)) ≡ true → (eqb id table || is_in table ids) ≡ true
-    by true f h = weaker (eqb id table) (is_in table (filter p ids)) (is_in table ids) f h
-    by false f h = or-right (eqb id table) (is_in table ids) (f h)
+-- a table is due after an update only if it was, or the update is of it
+due_then : (selected : Option ℕ) (due : List ℕ) (table : ℕ) → is_in table (with_due selected due) ≡ true → (is_in table due ≡ true) ⊎ (selected ≡ Some table)
+due_then None due table is = inl is
+due_then (Some id) due table is = elim (due_with id due table is) [ inl was ↦ inl was | inr same ↦ inr (ap (λ (n : ℕ). Some n) same) ]
 
 -- a table is due after a message only if it was, or the message carries an update of it
 abbrev IsDueBy : ℕ → List ℕ → List Update → Type 0
@@ -112,7 +110,7 @@ due_step s e (messages.Update u) us due table step is = elim (due_then s.receive
       let one : is_some (cond (eqb step.1 table) (Some step.3) None) ≡ true = rw (eq-eqb step.1 table same) refl in
       inr (ap (λ (vs : List Update). is_some (last_number_of table vs)) step.7 ∙ one)
 ]
-due_step s e (messages.Define d) us due table step is = inl (due_filtered _ due table is)
+due_step s e (messages.Define d) us due table step is = inl is
 due_step s e (messages.Control c) us due table step is = inl is
 due_step s e (messages.Error k) us due table step is = inl is
 due_step s e (messages.Switch id) us due table step is = inl is

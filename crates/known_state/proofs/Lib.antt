@@ -1,5 +1,4 @@
 pub mod StepIsDeterministic
-pub mod LastNumberPutHere
 pub mod KnowledgeFollowsUpdates
 pub mod LesserKnowledge
 pub mod ReceivedIsOwn
@@ -30,3 +29,5 @@ pub mod AcceptedIsShortest
 pub mod LinkPlaces
 pub mod NamesToKeep
 pub mod FewerNames
+pub mod LastNumbersInMap
+pub mod LostLastNumbers

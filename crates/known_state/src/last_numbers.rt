@@ -1,20 +1,22 @@
 //! The last number of each table.
 
-ghost use Rattle.std.specs.Prelude.{◌≡◌, IfOk, OnOk, OnErr, [], filter, option_copied};
+ghost use Rattle.std.specs.Prelude.{◌≡◌, ℕ, not, List, IfOk, OnOk, OnErr, [], filter, option_copied};
 ghost use Rattle.table_types.specs.Rosters.{table_at};
-ghost use Rattle.known_state.specs.LastNumbers.{last_of, set_last, keeps_last, own_last_numbers, AreRising};
+ghost use Rattle.known_state.specs.LastNumbers.{last_of, set_last, keeps_last, own_last_numbers, is_id, is_lost, table_named, AreRising};
 ghost use Rattle.peers_msg.specs.OwnTables.{is_own_one};
 ghost use Rattle.known_state.specs.Known.{last_numbers_put};
 
 use peers_msg::{Received, is_own};
 use std::alloc::Global;
+use std::collections::BTreeMap;
 use std::marker::Model;
-use table_types::{Memory, Roster, TableDef};
+use table_types::{Memory, Roster, TableDef, is_same_name};
 
-/// The number of the last update of each table id that had one, in ascending order of id.
+/// The number of the last update of each table id that had one. Each call but `of`, `own_part` and `copy` takes time
+/// logarithmic in the number of ids; so do `define` and `LostIds::at` but for the search of a table by its name.
 #[derive(Debug, Drop)]
 pub struct LastNumbers {
-    numbers: Vec<(u64, u32)>,
+    numbers: BTreeMap<u64, u32>,
 }
 
 impl Model for LastNumbers {
@@ -23,66 +25,67 @@ impl Model for LastNumbers {
 
     ghost Value = { List (ℕ × ℕ) };
 
-    ghost view = { λ a. a.numbers.items };
+    ghost view = { λ a. a.numbers.entries };
 
-    ghost invariant = { λ a. AreRising a.numbers.items };
+    ghost invariant = { λ a. AreRising a.numbers.entries };
 }
 
-fn last_of(numbers: &[(u64, u32)], id: u64) -> Option<u32>
-    ensures { result ≡ last_of numbers.now id }
+/// The ids that lose their last numbers at a definition.
+#[derive(Clone, Copy, Debug)]
+pub struct LostIds {
+    /// The defined id, if it stood for no table of the new name.
+    defined: Option<u64>,
+    /// The id of another table, of which the new one takes the name.
+    other: Option<u64>,
+}
+
+/// Returns the table with this name.
+fn table_named<'a>(tables: &'a [TableDef], name: &[u8]) -> Option<&'a TableDef>
+    ensures { option_copied result ≡ table_named tables.now name.now }
 {
-    for last in numbers {
-        if last.0 == id {
-            return Some(last.1);
+    for table in tables {
+        if is_same_name(table.name(), name) {
+            return Some(table);
         }
     }
     None
 }
 
-/// Puts a last number in its place, instead of the one that the id had.
-fn set_last(numbers: &mut Vec<(u64, u32)>, id: u64, number: u32) -> Result<(), Memory>
-    ensures set { OnOk result (numbers.new.items ≡ set_last id number numbers.old.items) }
-    ensures stays { OnErr result (numbers.new.items ≡ numbers.old.items) }
-{
-    for index in 0..numbers.len() {
-        let last = numbers[index];
-        if last.0 == id {
-            numbers[index] = (id, number);
-            return Ok(());
+impl LostIds {
+    /// Returns the ids that lose their last numbers at the definition `new`, given what was received of the tables before
+    /// it.
+    pub fn at(new: &TableDef, received: &Received) -> LostIds
+        ensures { (numbers : List (ℕ × ℕ)) → filter (λ last. not (is_lost result last.0)) numbers
+            ≡ filter (λ last. keeps_last new.now (table_at received.now.tables last.0) last.0) numbers }
+    {
+        let id = new.id();
+        let Some(table) = table_named(received.tables(), new.name()) else {
+            return LostIds {
+                defined: Some(id),
+                other: None,
+            };
+        };
+        let named = table.id();
+        if named == id {
+            return LostIds {
+                defined: None,
+                other: None,
+            };
         }
-        if id < last.0 {
-            numbers.insert(index, (id, number))?;
-            return Ok(());
+        LostIds {
+            defined: Some(id),
+            other: Some(named),
         }
-    }
-    numbers.push((id, number))?;
-    Ok(())
-}
-
-/// Returns whether an id keeps its last number at a definition: the defined id does only if the name is unchanged, and
-/// another id does unless it stood for a table of that name.
-fn keeps_last(new: &TableDef, stood_for: Option<&TableDef>, id: u64) -> bool
-    ensures { result ≡ keeps_last new.now (option_copied stood_for.entry) id }
-{
-    match stood_for {
-        None => id != new.id(),
-        Some(table) if id == new.id() => table.name() == new.name(),
-        Some(table) => table.name() != new.name(),
     }
 }
 
-fn keep_last_numbers(numbers: &mut Vec<(u64, u32)>, new: &TableDef, received: &Received)
-    ensures { numbers.new.items
-        ≡ filter (λ last. keeps_last new.now (table_at received.now.tables last.0) last.0) numbers.old.items }
+/// Removes the last number of an id, if there is an id.
+fn remove(numbers: &mut BTreeMap<u64, u32>, id: Option<u64>)
+    requires { AreRising numbers.old.entries }
+    ensures { numbers.new.entries ≡ filter (λ last. not (is_id id last.0)) numbers.old.entries }
 {
-    let mut index = 0;
-    while index < numbers.len() {
-        let id = numbers[index].0;
-        if keeps_last(new, received.table(id), id) {
-            index += 1;
-        } else {
-            numbers.remove(index);
-        }
+    if let Some(id) = id {
+        numbers.remove(&id);
     }
 }
 
@@ -102,7 +105,7 @@ impl LastNumbers {
         ensures { result ≡ [] }
     {
         LastNumbers {
-            numbers: Vec::new(alloc),
+            numbers: BTreeMap::new(alloc),
         }
     }
 
@@ -121,7 +124,7 @@ impl LastNumbers {
     pub fn last(&self, id: u64) -> Option<u32>
         ensures { result ≡ last_of self.now id }
     {
-        last_of(self.numbers.as_slice(), id)
+        self.numbers.get(&id).copied()
     }
 
     /// Makes `number` the last one of the table `id`. After `Memory` nothing has changed.
@@ -129,7 +132,8 @@ impl LastNumbers {
         ensures set { OnOk result (self.new ≡ set_last id number self.old) }
         ensures stays { OnErr result (self.new ≡ self.old) }
     {
-        set_last(&mut self.numbers, id, number)
+        self.numbers.insert(id, number)?;
+        Ok(())
     }
 
     /// Drops the last numbers that the definition `new` takes away, given what was received of the tables before it.
@@ -137,7 +141,15 @@ impl LastNumbers {
         ensures { self.new
             ≡ filter (λ last. keeps_last new.now (table_at received.now.tables last.0) last.0) self.old }
     {
-        keep_last_numbers(&mut self.numbers, new, received);
+        self.forget(LostIds::at(new, received));
+    }
+
+    /// Drops the last numbers of these ids.
+    pub fn forget(&mut self, lost: LostIds)
+        ensures { self.new ≡ filter (λ last. not (is_lost lost last.0)) self.old }
+    {
+        remove(&mut self.numbers, lost.defined);
+        remove(&mut self.numbers, lost.other);
     }
 
     /// Returns the last numbers of the roster's own tables: of the ids that stand in `received` for that very
@@ -151,21 +163,23 @@ impl LastNumbers {
         ensures part { IfOk result (λ part. part ≡ own_last_numbers roster.now received.now self.now) }
         ensures rising { AreRising self.now }
     {
-        let mut numbers = Vec::new(alloc);
-        for last in self.numbers.as_slice() {
-            if is_own_id(received, roster, last.0) {
-                numbers.push(*last)?;
+        let mut part = LastNumbers::new(alloc);
+        for (id, number) in &self.numbers {
+            if is_own_id(received, roster, *id) {
+                part.set(*id, *number)?;
             }
         }
-        Ok(LastNumbers { numbers })
+        Ok(part)
     }
 
     /// Returns equal last numbers.
     pub fn copy(&self, alloc: Global) -> Result<LastNumbers, Memory>
         ensures { IfOk result (λ copy. copy ≡ self.now) }
     {
-        Ok(LastNumbers {
-            numbers: Vec::from_slice(alloc, self.numbers.as_slice())?,
-        })
+        let mut copy = LastNumbers::new(alloc);
+        for (id, number) in &self.numbers {
+            copy.set(*id, *number)?;
+        }
+        Ok(copy)
     }
 }

@@ -13,7 +13,7 @@ ghost use Rattle.known_state.specs.declared.effect.ResolvedUpdate.{ResolvedUpdat
 ghost use Rattle.known_state.specs.declared.effect.Refusal.TheVariants as refusals;
 
 use crate::effect::{Effect, Refusal, ResolvedUpdate};
-use crate::last_numbers::LastNumbers;
+use crate::last_numbers::{LastNumbers, LostIds};
 use dict_slots::Slots;
 use peers_msg::{NameFieldRef, Received};
 use std::alloc::Global;
@@ -248,10 +248,9 @@ impl State {
         ensures made { OnOk result (self.new ≡ made self.old (effects.Define table)) }
         ensures stays { OnErr result (self.new ≡ self.old) }
     {
-        let mut last_numbers = self.last_numbers.copy(self.alloc)?;
-        last_numbers.define(&table, &self.received);
+        let lost = LostIds::at(&table, &self.received);
         self.received.define(table)?;
-        self.last_numbers = last_numbers;
+        self.last_numbers.forget(lost);
         Ok(())
     }
 

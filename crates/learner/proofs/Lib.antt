@@ -8,6 +8,7 @@ pub mod EachPieceGivesItsOwn
 pub mod StaysOnItsWay
 pub mod KnownLessons
 pub mod AcksRise
+pub mod DueAcks
 pub mod OneOutcome
 pub mod SameFaultHoweverCut
 pub mod SamePlaceHoweverCut

@@ -1,10 +1,9 @@
 -- The message at the front of the unread bytes: what it gives, and how an intake moves past it.
-use Rattle.std.specs.Prelude.{◌≡◌, ◌≤◌, ℕ, false, true, is_some, List, length, drop, filter, Option, Some, None, Result, Ok, Err}
+use Rattle.std.specs.Prelude.{◌≡◌, ◌≤◌, ℕ, false, true, List, length, drop, Option, Some, None, Result, Ok, Err}
 use Rattle.peers_msg.specs.declared.message.Message.{Message}
 use Rattle.peers_msg.specs.Reading.{message_at}
 use Rattle.peers_msg.specs.Fitting.{fits}
 use Rattle.known_state.specs.State.{State}
-use Rattle.known_state.specs.LastNumbers.{last_of}
 use Rattle.known_state.specs.Effects.{IsEffect, carried_by, made}
 use Rattle.known_state.specs.declared.effect.Effect.{Effect}
 use Rattle.known_state.specs.declared.effect.Effect.TheVariants as effects
@@ -54,7 +53,6 @@ Looks t (Err fault) = Stops t fault (stopped t fault)
 -- the ids that are due after an effect
 abbrev pub due_made : State → Effect → List ℕ → List ℕ
 due_made s (effects.Update r) due = with_due (Some r.table) due
-due_made s (effects.Define d) due = filter (λ id. is_some (last_of (made s (effects.Define d)).last_numbers id)) due
 due_made s effect due = due
 
 -- an effect is applied to the state and to what is due

@@ -1,11 +1,13 @@
 -- What an intake holds, and what it does with the bytes that it is fed (profile).
-use Rattle.std.specs.Prelude.{◌≡◌, ◌≢◌, ℕ, Bool, true, false, ◌&&◌, is_some, List, [], ◌∷◌, ◌++◌, filter, filter_map, Option, Some, None, option_map, Result, Ok, Err, if◌then◌else◌}
+use Rattle.std.specs.Prelude.{◌≡◌, ◌≢◌, ℕ, Bool, true, false, ◌&&◌, is_some, List, [], ◌∷◌, ◌++◌, filter_map, Option, Some, None, option_map, Result, Ok, Err, if◌then◌else◌}
+use Rattle.std.specs.BTreeSet.{insert_key}
+use Rattle.std.specs.Ordering.{nat_cmp}
 use Rattle.table_types.specs.declared.update.Update.{Update}
 use Rattle.table_types.specs.Tables.{Definition}
 use Rattle.peers_msg.specs.declared.message.Message.{Message}
 use Rattle.peers_msg.specs.declared.message.Message.TheVariants as messages
 use Rattle.peers_msg.specs.Reading.{message_at}
-use Rattle.known_state.specs.State.{State, Step, fresh, last_numbers_after}
+use Rattle.known_state.specs.State.{State, Step, fresh}
 use Rattle.known_state.specs.LastNumbers.{last_of}
 use Rattle.known_state.specs.Effects.{message_refusal}
 use Rattle.known_state.specs.Known.{is_in}
@@ -14,10 +16,10 @@ use Rattle.learner.specs.declared.fault.Fault.TheVariants as faults
 use Rattle.learner.specs.declared.taken.Taken.{Taken}
 use Rattle.learner.specs.declared.taken.Taken.TheVariants as taken
 use Rattle.learner.specs.Faults.{as_fault}
-use Rattle.learner.specs.LocalTables.{local_table, local_updates}
+use Rattle.learner.specs.LocalTables.{local_id, local_table, local_updates}
 
--- the local tables; the state after the messages read; the ids that had an update since the last acknowledgements; the
--- bytes that haven't been read yet; and whether there was a fault
+-- the local tables; the state after the messages read; the ids that had an update since the last acknowledgements, in
+-- ascending order; the bytes that haven't been read yet; and whether there was a fault
 pub record Taking : Type 0 where
   pub roster : List Definition
   pub state : State
@@ -43,14 +45,14 @@ shut t = record t { unread = []; closed = true }
 
 -- ---- one message
 
+-- the due ids, in ascending order, with one more
 abbrev pub with_due : Option ℕ → List ℕ → List ℕ
 with_due None due = due
-with_due (Some id) due = if is_in id due then due else due ++ (id ∷ [])
+with_due (Some id) due = insert_key nat_cmp due id
 
--- an update makes its table due, and an id that loses its last number at a definition is no longer due
+-- an update makes its table due; an id that loses its last number at a definition has nothing to acknowledge
 abbrev pub due_after : State → Message → List ℕ → List ℕ
 due_after s (messages.Update u) due = with_due s.received.selected due
-due_after s (messages.Define d) due = filter (λ id. is_some (last_of (last_numbers_after s (messages.Define d)) id)) due
 due_after s m due = due
 
 -- The message `m` is at the front and makes its step, which leads to `e`; `local` are the updates of local tables among
@@ -134,6 +136,12 @@ IntakeFeeds t piece (Err fault) e = ⊥
 abbrev pub due_ack : Taking → Definition → Option Message
 due_ack t d =
     if is_some (local_table t.roster d) && is_in d.id t.due then option_map (λ n. messages.Ack d.id n) (last_of t.state.last_numbers d.id)
+    else None
+
+-- the acknowledgement of an id: of its last number, if it stands for a local table
+abbrev pub ack_of : Taking → ℕ → Option Message
+ack_of t id =
+    if is_some (local_id t.roster t.state.received id) then option_map (λ n. messages.Ack id n) (last_of t.state.last_numbers id)
     else None
 
 -- one for each received table that has one, in ascending order of id

@@ -8,17 +8,17 @@ ghost use Rattle.known_state.specs.Effects.{IsEffect};
 ghost use Rattle.known_state.specs.declared.effect.Effect.TheVariants as effects;
 ghost use Rattle.learner.specs.LocalTables.{selected_local};
 ghost use Rattle.learner.specs.Acks.{AreRisingAcks};
-ghost use Rattle.learner.specs.Intake.{begun, shut, with_unread, IntakeFeeds, IntakeNext, IsRefused, due_ack, due_acks};
+ghost use Rattle.learner.specs.Intake.{begun, shut, with_unread, IntakeFeeds, IntakeNext, IsRefused, ack_of, due_acks};
 ghost use Rattle.learner.specs.Front.{Looks, Shows, passed, stopped, with_effect};
 
 use crate::advance::Advance;
-use crate::due::{add_due, is_ack_due, still_due};
 use crate::fault::Fault;
 use crate::local_tables::local_table;
 use crate::taken::{LocalUpdateRef, Taken, TakenRef};
 use known_state::{Effect, ResolvedUpdate, State};
 use peers_msg::{Message, MessageRef, Received, Unread, UpdateRef, front};
 use std::alloc::Global;
+use std::collections::BTreeSet;
 use std::marker::Model;
 use table_types::{Memory, Roster, TableDef};
 
@@ -29,7 +29,7 @@ pub struct Intake {
     alloc: Global,
     roster: Roster,
     state: State,
-    due: Vec<u64>,
+    due: BTreeSet<u64>,
     /// The id of the local table that the selected table stands for.
     local: Option<u64>,
     /// The bytes that were fed and not read; none once the intake is closed.
@@ -44,7 +44,7 @@ impl Model for Intake {
 
     ghost Value = { Taking };
 
-    ghost view = { λ i. record { roster = i.roster; state = i.state; due = i.due.items; unread = i.unread; closed = i.closed } };
+    ghost view = { λ i. record { roster = i.roster; state = i.state; due = i.due.keys; unread = i.unread; closed = i.closed } };
 
     ghost invariant = { λ i. i.local ≡ selected_local i.roster i.state.received };
 }
@@ -71,7 +71,7 @@ impl Intake {
             alloc,
             roster,
             state: State::new(alloc),
-            due: Vec::new(alloc),
+            due: BTreeSet::new(alloc),
             local: None,
             unread: Unread::new(alloc),
             closed: false,
@@ -232,7 +232,6 @@ impl Intake {
         ensures stays { OnErr result (self.new ≡ self.old) }
     {
         self.state.make(Effect::Define(table))?;
-        still_due(&mut self.due, self.state.last_numbers());
         self.local = selected_local(&self.roster, self.state.received());
         Ok(())
     }
@@ -252,11 +251,16 @@ impl Intake {
         ensures made { OnOk result (self.new ≡ with_effect self.old (effects.Update update)) }
         ensures stays { OnErr result (self.new ≡ self.old) }
     {
-        self.due.reserve(1)?;
         let table = update.table;
-        self.state.make(Effect::Update(update))?;
-        add_due(&mut self.due, table);
-        Ok(())
+        let is_new = self.due.insert(table)?;
+        match self.state.make(Effect::Update(update)) {
+            Ok(()) => Ok(()),
+            Err(refused) if is_new => {
+                self.due.remove(&table);
+                Err(refused)
+            }
+            Err(refused) => Err(refused),
+        }
     }
 
     /// Closes at a fault, unless it is out of memory.
@@ -289,19 +293,18 @@ impl Intake {
         }
     }
 
-    fn ack(&self, table: &TableDef) -> Option<Message>
-        ensures { result ≡ due_ack self.now table.now }
+    /// Returns the acknowledgement of an id: of its last number, if it stands for a local table.
+    fn ack(&self, id: u64) -> Option<Message>
+        ensures { result ≡ ack_of self.now id }
     {
-        if local_table(self.roster.tables(), table).is_none()
-            || !is_ack_due(self.due.as_slice(), table.id())
-        {
+        let Some(table) = self.state.received().table(id) else {
             return None;
-        }
-        match self.state.last_numbers().last(table.id()) {
-            Some(number) => Some(Message::Ack {
-                table: table.id(),
-                number,
-            }),
+        };
+        let Some(_) = local_table(self.roster.tables(), table) else {
+            return None;
+        };
+        match self.state.last_numbers().last(id) {
+            Some(number) => Some(Message::Ack { table: id, number }),
             None => None,
         }
     }
@@ -315,8 +318,10 @@ impl Intake {
         ensures stays { OnErr result (self.new ≡ self.old) }
     {
         let mut acks = Vec::new(self.alloc);
-        for table in self.state.received().tables() {
-            if let Some(ack) = self.ack(table) {
+        // They ascend by id, as those that are due do.
+        let _tables = self.state.received().tables();
+        for id in &self.due {
+            if let Some(ack) = self.ack(*id) {
                 acks.push(ack)?;
             }
         }

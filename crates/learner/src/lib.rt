@@ -2,7 +2,6 @@
 #![tactic(auto)]
 
 mod advance;
-mod due;
 mod fault;
 mod intake;
 mod keeper;

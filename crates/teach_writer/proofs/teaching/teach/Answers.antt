@@ -1,13 +1,26 @@
-use Rattle.std.proofs.Common.{◌≡◌, ℕ, List, sym, subst, ◌∙◌}
+use Rattle.std.proofs.Common.{◌≡◌, ℕ, List, length, sym, subst, ◌∙◌}
 use Rattle.peers_msg.specs.declared.message.Message.{Message}
 use Rattle.peers_msg.specs.Spelling.{stream_of}
 use Rattle.known_state.specs.Known.{KnownState}
+use Rattle.known_state.specs.Lessons.{IsLessonFor}
 use Rattle.known_state.specs.Plans.{Plan}
 use Rattle.known_state.specs.Shortest.{Shortest}
+use Rattle.price_checker.specs.Verdicts.{Says}
+use Rattle.price_checker.specs.declared.verdict.Verdict.TheVariants as verdicts
 use Rattle.teach_writer.specs.Pieces.{bytes_left}
 use Rattle.teach_writer.specs.Planning.{IsPlanFor}
 use Rattle.teach_writer.specs.Sending.{GoesThrough}
 use Rattle.teach_writer.proofs.teaching.teach.Goals as goal
+
+pub returns-clause-taught : goal.returns-clause-taught
+returns-clause-taught c =
+    let k = c.args.known.now in
+    let us = c.args.batch.now in
+    let pieces = c.in_ok-pieces.pieces in
+    let lesson = c.in_ok-lesson.lesson in
+    let same : (lesson.bytes ≡ bytes_left pieces) × (lesson.prices ≡ pieces.prices) × (lesson.known ≡ pieces.known) = c.in_ok-lesson.ensures in
+    let bytes : IsLessonFor k us lesson.bytes pieces.known = subst (λ (bs : List ℕ). IsLessonFor k us bs pieces.known) (sym same.0) c.in_ok-pieces.ensures.taught in
+    subst (λ (after : KnownState). IsLessonFor k us lesson.bytes after) (sym same.2) bytes
 
 pub returns-clause-order : goal.returns-clause-order
 returns-clause-order c =
@@ -28,3 +41,14 @@ returns-clause-shortest c =
     let same : (c.in_ok-lesson.lesson.bytes ≡ bytes_left pieces) × (c.in_ok-lesson.lesson.prices ≡ pieces.prices) × (c.in_ok-lesson.lesson.known ≡ pieces.known) = c.in_ok-lesson.ensures in
     let shortest : (ms : List Message) × (bytes_left pieces ≡ stream_of ms) × Shortest k us ms = c.in_ok-pieces.ensures.shortest in
     (shortest.0, same.0 ∙ shortest.1, shortest.2)
+
+pub returns-clause-said : goal.returns-clause-said
+returns-clause-said c =
+    let k = c.args.known.now in
+    let us = c.args.batch.now in
+    let pieces = c.in_ok-pieces.pieces in
+    let lesson = c.in_ok-lesson.lesson in
+    let same : (lesson.bytes ≡ bytes_left pieces) × (lesson.prices ≡ pieces.prices) × (lesson.known ≡ pieces.known) = c.in_ok-lesson.ensures in
+    let bytes : Says k us lesson.bytes pieces.prices (verdicts.Shortest (length lesson.bytes)) =
+        subst (λ (bs : List ℕ). Says k us bs pieces.prices (verdicts.Shortest (length bs))) (sym same.0) c.in_ok-pieces.ensures.said in
+    subst (λ (ps : List ℕ). Says k us lesson.bytes ps (verdicts.Shortest (length lesson.bytes))) (sym same.1) bytes

@@ -1,17 +1,22 @@
-use Rattle.std.proofs.Common.{◌≡◌, ℕ, ◌++◌, ◌≤◌, drop, length, List, [], sym, ap, ◌∙◌, subst, arith}
-use Rattle.std.proofs.lemmas.List.{append-nil, drop_all}
+use Rattle.std.proofs.Common.{ℕ, List, Bool, ◌++◌, sym, ap, ◌∙◌, subst}
+use Rattle.table_types.specs.Rosters.{table_at}
+use Rattle.peers_msg.specs.OwnTables.{is_own_one}
 use Rattle.known_state.specs.LastNumbers.{own_last_numbers, AreRising}
-use Rattle.known_state.proofs.LastNumbersRise.{rising-filter}
+use Rattle.known_state.proofs.LastNumbersInMap.{next_kept, next_dropped}
 use Rattle.known_state.proofs.last_numbers.LastNumbers.own_part.Goals as goal
 
-pub invariant_of-result : goal.invariant_of-result
-invariant_of-result c =
-    let whole : c.as_slice-last-items.result.now ≡ c.args.self.now = c.as_slice-last-items.ensures.value ∙ c.self.view_is in
-    let over : length c.as_slice-last-items.result.now ≤ c.loop-last.last-index = omega arith in
-    let rise : AreRising c.args.self.now = subst AreRising c.self.view_is c.self.invariant in
-    let none : drop c.loop-last.last-index c.args.self.now ≡ [] = drop_all c.loop-last.last-index c.args.self.now (subst (λ (ls : List (ℕ × ℕ)). length ls ≤ c.loop-last.last-index) whole over) in
-    let part : c.loop-last.numbers.items ≡ own_last_numbers c.args.roster.now c.args.received.now c.args.self.now =
-    sym (append-nil c.loop-last.numbers.items)
-    ∙ ap (λ (ls : List (ℕ × ℕ)). c.loop-last.numbers.items ++ own_last_numbers c.args.roster.now c.args.received.now ls) (sym none)
-    ∙ c.loop-last.invariant in
-    subst AreRising (sym part) (rising-filter _ c.args.self.now rise)
+pub loop-id-preserved-in-Continue-1 : goal.loop-id-preserved-in-Continue-1
+loop-id-preserved-in-Continue-1 c =
+    next_kept (λ last. is_own_one c.args.roster.now (table_at c.args.received.now.tables last.0)) c.args.self.now c.loop-id.part c.next.new.self c.in-Some.id.now c.in-Some.number.now
+    (subst AreRising c.self.view_is c.self.invariant)
+    (ap (λ (rest : List (ℕ × ℕ)). c.loop-id.part ++ own_last_numbers c.args.roster.now c.args.received.now rest) (sym c.in-Some.ensures.steps) ∙ c.loop-id.invariant)
+    c.set.new.self
+    (sym c.is_own_id.ensures ∙ c.if-is_own_id.true)
+    c.in_ok-set.ensures.set
+
+pub loop-id-preserved : goal.loop-id-preserved
+loop-id-preserved c =
+    next_dropped (λ last. is_own_one c.args.roster.now (table_at c.args.received.now.tables last.0)) c.args.self.now c.loop-id.part c.next.new.self c.in-Some.id.now c.in-Some.number.now
+    (subst AreRising c.self.view_is c.self.invariant)
+    (ap (λ (rest : List (ℕ × ℕ)). c.loop-id.part ++ own_last_numbers c.args.roster.now c.args.received.now rest) (sym c.in-Some.ensures.steps) ∙ c.loop-id.invariant)
+    (sym c.is_own_id.ensures ∙ c.if-is_own_id.false)

@@ -1,6 +1,6 @@
-use Rattle.std.proofs.Common.{◌≡◌, ◌++◌, drop}
+use Rattle.std.proofs.Common.{◌≡◌, ◌++◌}
 use Rattle.known_state.specs.LastNumbers.{own_last_numbers}
 use Rattle.known_state.proofs.last_numbers.LastNumbers.own_part.Given as goal
 
-abbrev pub invariant-loop-last : goal.invariant-loop-last
-invariant-loop-last l = l.numbers.items ++ own_last_numbers l.roster l.received (drop l.last-index l.self) ≡ own_last_numbers l.roster l.received l.self
+abbrev pub invariant-loop-id : goal.invariant-loop-id
+invariant-loop-id l = l.part ++ own_last_numbers l.roster l.received l.id-iterator ≡ own_last_numbers l.roster l.received l.self

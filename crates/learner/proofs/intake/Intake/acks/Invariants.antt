@@ -1,7 +1,7 @@
-use Rattle.std.proofs.Common.{◌≡◌, ◌++◌, drop}
+use Rattle.std.proofs.Common.{◌≡◌, ◌++◌}
 use Rattle.std.specs.Prelude.{filter_map}
-use Rattle.learner.specs.Intake.{due_ack}
+use Rattle.learner.specs.Intake.{ack_of}
 use Rattle.learner.proofs.intake.Intake.acks.Given as goal
 
-abbrev pub invariant-loop-table : goal.invariant-loop-table
-invariant-loop-table l = l.acks.items ++ filter_map (due_ack l.fn.self) (drop l.table-index l.table-items) ≡ filter_map (due_ack l.fn.self) l.table-items
+abbrev pub invariant-loop-id : goal.invariant-loop-id
+invariant-loop-id l = l.acks.items ++ filter_map (ack_of l.fn.self) l.id-iterator ≡ filter_map (ack_of l.fn.self) l.fn.self.due

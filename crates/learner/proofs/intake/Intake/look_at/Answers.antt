@@ -11,7 +11,7 @@ use Rattle.learner.proofs.intake.Intake.look_at.Goals as goal
 
 pub returns-in-Err-shown : goal.returns-in-Err-shown
 returns-in-Err-shown c =
-    let before : Taking = record { roster = c.self.inside.roster; state = c.self.inside.state; due = c.self.inside.due.items; unread = c.args.bytes.now; closed = c.self.inside.closed } in
+    let before : Taking = record { roster = c.self.inside.roster; state = c.self.inside.state; due = c.self.inside.due.keys; unread = c.args.bytes.now; closed = c.self.inside.closed } in
     let m : Message = owned_message c.in-Ok-Some.message in
     let used : ℕ = c.in-Ok-Some.used in
     let bytes : List ℕ = c.args.bytes.now in
