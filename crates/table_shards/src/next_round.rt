@@ -1,10 +1,10 @@
 //! Another round with the tables and seats of an audited one.
 
-ghost use Rattle.std.specs.Prelude.{◌≡◌, ◌≤◌, [], IfErr, IfOk, OnOk, false, length, map};
+ghost use Rattle.std.specs.Prelude.{◌≡◌, ◌≤◌, [], IfErr, IfOk, false, length, map};
 ghost use Rattle.std.specs.Vec.{vec_capacity};
 ghost use Rattle.table_cell.specs.Histories.{begun_anew};
 ghost use Rattle.table_cell.specs.Machine.{is_any_out};
-ghost use Rattle.table_shards.specs.Anew.{pages_anew, pages_seeing, seat_anew};
+ghost use Rattle.table_shards.specs.Anew.{pages_anew, seat_anew};
 ghost use Rattle.table_shards.specs.NextRounds.{AreSeatsAnew, HasNoRound, has_batch_out, round_anew};
 ghost use Rattle.table_shards.specs.Pages.{page_states};
 
@@ -29,21 +29,6 @@ fn has_batch_out(tables: &[UnlockedTable]) -> bool
     false
 }
 
-/// Adds a page without receipts, on which the first `seen` events of `table` are seen, unless there is a page of the table.
-fn see(pages: &mut Vec<Page>, alloc: Global, table: u64, seen: u64) -> Result<(), Memory>
-    ensures { OnOk result (page_states pages.new.items ≡ pages_seeing table seen (page_states pages.old.items)) }
-{
-    if page_of(pages.as_slice(), table).is_some() {
-        return Ok(());
-    }
-    pages.push(Page {
-        table,
-        seen,
-        receipts: Blocks::new(alloc),
-    })?;
-    Ok(())
-}
-
 /// Makes a page for each table, without receipts, and with all its events seen.
 #[tactic(auto, using(crate::proofs::NextLaws::one_page_more))]
 fn pages_anew(alloc: Global, tables: &[UnlockedTable]) -> Result<Vec<Page>, Memory>
@@ -51,7 +36,13 @@ fn pages_anew(alloc: Global, tables: &[UnlockedTable]) -> Result<Vec<Page>, Memo
 {
     let mut pages = Vec::new(alloc);
     for table in tables {
-        see(&mut pages, alloc, table.table, table.cell.events())?;
+        if page_of(pages.as_slice(), table.table).is_none() {
+            pages.push(Page {
+                table: table.table,
+                seen: table.cell.events(),
+                receipts: Blocks::new(alloc),
+            })?;
+        }
     }
     Ok(pages)
 }

@@ -80,16 +80,6 @@ fn make_room_at(pages: &mut Vec<Page>, index: usize, table: u64) -> Result<(), M
     make_room(&mut pages[index])
 }
 
-/// Makes an empty list with room for a receipt.
-fn with_room(alloc: Global) -> Result<Blocks<Receipt>, Memory>
-    ensures none { IfOk result (λ receipts. receipts.items ≡ []) }
-    ensures room { IfOk result (λ receipts. receipts.has_room ≡ true) }
-{
-    let mut receipts = Blocks::new(alloc);
-    receipts.reserve_one()?;
-    Ok(receipts)
-}
-
 /// Makes room for one more receipt of `table`, which changes no page.
 pub fn make_room_for(alloc: Global, pages: &mut Vec<Page>, table: u64) -> Result<Room, Memory>
     ensures room { IfOk result (HasRoomIn table pages.new) }
@@ -102,7 +92,9 @@ pub fn make_room_for(alloc: Global, pages: &mut Vec<Page>, table: u64) -> Result
         }
         None => {
             pages.reserve(1)?;
-            Ok(Room::OnNewPage(with_room(alloc)?))
+            let mut receipts = Blocks::new(alloc);
+            receipts.reserve_one()?;
+            Ok(Room::OnNewPage(receipts))
         }
     }
 }

@@ -1,7 +1,7 @@
 //! A thread's seat: its number, and its receipts.
 
 ghost use Rattle.std.specs.Prelude.{◌≡◌, ◌≢◌, ℕ, [], None};
-ghost use Rattle.table_shards.specs.Receipts.{PlacesRise, ahead_of, forgotten, fresh_seat, receipts_of, seen_of};
+ghost use Rattle.table_shards.specs.Receipts.{PlacesRise, ahead_of, forgotten, receipts_of, seen_of};
 ghost use Rattle.table_shards.specs.Noting.{noted};
 ghost use Rattle.table_shards.specs.Pages.{ArePages, page_states};
 
@@ -32,21 +32,6 @@ impl Model for Seat {
 }
 
 impl Seat {
-    /// Makes a seat that has seen nothing yet. Doesn't allocate.
-    pub(crate) fn fresh(alloc: Global, number: u32) -> Seat
-        ensures { result ≡ fresh_seat number }
-    {
-        Seat {
-            book: Book {
-                alloc,
-                number,
-                pages: Vec::new(alloc),
-                answers: 0,
-                latest: None,
-            },
-        }
-    }
-
     /// Makes a seat with these pages. Doesn't allocate.
     pub(crate) fn with_pages(alloc: Global, number: u32, pages: Vec<Page>) -> Seat
         requires { ArePages (page_states pages.items) }

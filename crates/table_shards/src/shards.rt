@@ -1,11 +1,10 @@
 //! Tables under their locks.
 
-ghost use Rattle.std.specs.Prelude.{◌≡◌, ◌≤◌, ◌==◌, [], IfErr, IfOk, is_some, length, map};
-ghost use Rattle.std.specs.Vec.{vec_capacity};
+ghost use Rattle.std.specs.Prelude.{◌≡◌, ◌==◌, IfErr, IfOk, is_some};
 ghost use Rattle.std.specs.List.{list_any};
 ghost use Rattle.table_shards.specs.Agreement.{id_of};
-ghost use Rattle.table_shards.specs.Audits.{round_of_unlocked, table_rounds};
-ghost use Rattle.table_shards.specs.Rounds.{begun, fresh_seats, round_of_shards};
+ghost use Rattle.table_shards.specs.Audits.{round_of_unlocked};
+ghost use Rattle.table_shards.specs.Rounds.{fresh_seats, round_of_shards};
 
 use crate::locked::Locked;
 use crate::seat::Seat;
@@ -57,18 +56,6 @@ impl Model for Shards {
     ghost view = { λ a. record { seats = a.seats; cells = a.shards.items } };
 }
 
-/// Returns the lock of `table`.
-fn lock_of(shards: &[Shard], table: u64) -> Option<&Mutex<Locked>>
-    ensures { is_some result ≡ list_any (λ c. id_of c == table) shards.now }
-{
-    for shard in shards {
-        if shard.table == table {
-            return Some(&shard.cell);
-        }
-    }
-    None
-}
-
 /// Puts a table under a lock.
 pub(crate) fn put_under_lock(cell: TableCell) -> Shard
     ensures { result ≡ cell }
@@ -81,57 +68,10 @@ pub(crate) fn put_under_lock(cell: TableCell) -> Shard
     }
 }
 
-/// Puts each table under a lock.
-fn lock_all(alloc: Global, cells: Vec<TableCell>) -> Result<Vec<Shard>, Memory>
-    ensures { IfOk result (λ shards. shards.items ≡ cells.items) }
-{
-    let mut shards = Vec::new(alloc);
-    for cell in cells {
-        shards.push(put_under_lock(cell))?;
-    }
-    Ok(shards)
-}
-
-/// Makes the seats 1 to `seats`.
-#[tactic(auto, using(crate::proofs::RoundLaws::one_seat_more))]
-fn seat_all(alloc: Global, seats: u32) -> Result<Vec<Seat>, Memory>
-    ensures { IfOk result (λ made. made.items ≡ fresh_seats seats) }
-{
-    let mut made = Vec::new(alloc);
-    for before in 0..seats {
-        made.push(Seat::fresh(alloc, before + 1))?;
-    }
-    Ok(made)
-}
-
-/// Takes a table out of its lock.
-fn take_from_lock(shard: Shard) -> UnlockedTable
-    ensures { (result.table, result.began) ≡ begun shard }
-{
-    UnlockedTable {
-        table: shard.table,
-        began: shard.began,
-        cell: shard.cell.into_inner().cell,
-    }
-}
-
-/// Takes the tables out of their locks, into a list with room for them.
-#[tactic(auto, using(crate::proofs::RoundLaws::one_unlocked))]
-fn unlock_all(shards: Vec<Shard>, tables: Vec<UnlockedTable>) -> Vec<UnlockedTable>
-    requires none { tables.items ≡ [] }
-    requires room { length shards.items ≤ vec_capacity tables }
-    ensures { table_rounds result.items ≡ map begun shards.items }
-{
-    let mut done = tables;
-    for shard in shards {
-        done.push_reserved(take_from_lock(shard));
-    }
-    done
-}
-
 impl Shards {
     /// Puts each table under a lock, and makes the seats 1 to `seats`, in this order. The tables have distinct ids;
     /// there are 1 to 64 tables, and 1 to 64 seats. If memory runs out, the tables are dropped.
+    #[tactic(auto, using(crate::proofs::RoundLaws::one_seat_more))]
     pub fn new(
         alloc: Global,
         cells: Vec<TableCell>,
@@ -140,8 +80,14 @@ impl Shards {
         ensures shards { IfOk result (λ made. made.0 ≡ record { seats = seats; cells = cells.items }) }
         ensures seats { IfOk result (λ made. made.1.items ≡ fresh_seats seats) }
     {
-        let shards = lock_all(alloc, cells)?;
-        let made = seat_all(alloc, seats)?;
+        let mut shards = Vec::new(alloc);
+        for cell in cells {
+            shards.push(put_under_lock(cell))?;
+        }
+        let mut made = Vec::new(alloc);
+        for before in 0..seats {
+            made.push(Seat::with_pages(alloc, before + 1, Vec::new(alloc)))?;
+        }
         Ok((Shards { seats, shards }, made))
     }
 
@@ -156,17 +102,30 @@ impl Shards {
     pub fn cell(&self, table: u64) -> Option<&Mutex<Locked>>
         ensures { is_some result ≡ list_any (λ c. id_of c == table) self.now.cells }
     {
-        lock_of(self.shards.as_slice(), table)
+        for shard in &self.shards {
+            if shard.table == table {
+                return Some(&shard.cell);
+            }
+        }
+        None
     }
 
     /// Takes the tables out of their locks. If memory runs out, returns them as they were.
+    #[tactic(auto, using(crate::proofs::RoundLaws::one_unlocked))]
     pub fn unlock(self, alloc: Global) -> Result<Unlocked, (Memory, Shards)>
         ensures unlocked { IfOk result (λ unlocked. round_of_unlocked unlocked ≡ round_of_shards self) }
         ensures refused { IfErr result (λ back. back.1 ≡ self) }
     {
-        let Ok(tables) = Vec::with_capacity(alloc, self.shards.len()) else {
+        let Ok(mut tables) = Vec::with_capacity(alloc, self.shards.len()) else {
             return Err((Memory, self));
         };
-        Ok(Unlocked::of(self.seats, unlock_all(self.shards, tables)))
+        for shard in self.shards {
+            tables.push_reserved(UnlockedTable {
+                table: shard.table,
+                began: shard.began,
+                cell: shard.cell.into_inner().cell,
+            });
+        }
+        Ok(Unlocked::of(self.seats, tables))
     }
 }
