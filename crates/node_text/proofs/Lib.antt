@@ -1,5 +1,7 @@
+mod ChangesRead
 mod LessonLines
 mod LineNumbers
 mod Numerals
 mod ReadAgain
+mod TypeNames
 pub mod WorldTables

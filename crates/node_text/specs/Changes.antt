@@ -30,3 +30,7 @@ IsChange words (changes.Put t number) = IsNumberChange (codes "put") (2 ^ 64 - 1
 IsChange words (changes.AddRate t number) = IsNumberChange (codes "rate") (2 ^ 32 - 1) t number words
 IsChange words (changes.SetName None) = words ≡ codes "name" ∷ codes "-" ∷ []
 IsChange words (changes.SetName (Some name)) = (words ≡ codes "name" ∷ name ∷ []) × (is_name name ≡ true) × (may_name name ≡ true)
+
+-- the words write no change
+abbrev pub IsNoChange : List (List ℕ) → Type 0
+IsNoChange words = (change : Change) → IsChange words change → ⊥

@@ -1,7 +1,7 @@
 //! Changes of rows.
-ghost use Rattle.std.specs.Prelude.{◌≡◌, ◌++◌, ◌∷◌, [], IfOk, IfSome, OnOk, map};
+ghost use Rattle.std.specs.Prelude.{◌≡◌, ◌++◌, ◌∷◌, [], Err, IfOk, IfSome, None, OnOk, map};
 ghost use Rattle.table_types.specs.DataTypes.{name_of};
-ghost use Rattle.node_text.specs.Changes.{IsChange, change_text};
+ghost use Rattle.node_text.specs.Changes.{IsChange, IsNoChange, change_text};
 ghost use Rattle.node_text.specs.Numbers.{spaced};
 
 use crate::error::LineError;
@@ -12,8 +12,10 @@ use std::alloc::{AllocError, Global};
 use table_types::{Change, DataType};
 
 /// Reads a change: `add TYPE N`, `take TYPE N`, `put TYPE N`, `rate TYPE N` or `name NAME`.
+#[tactic(auto, using(crate::proofs::ChangesRead::other_count))]
 pub fn change_of(alloc: Global, words: &[&[u8]]) -> Result<Change, LineError>
-    ensures { IfOk result (IsChange (map (λ word. word.now) words.now)) }
+    ensures written { IfOk result (IsChange (map (λ word. word.now) words.now)) }
+    ensures refused { result ≡ Err LineError.Refused → IsNoChange (map (λ word. word.now) words.now) }
 {
     match words {
         [kind, word] => name_change(alloc, kind, word),
@@ -23,8 +25,10 @@ pub fn change_of(alloc: Global, words: &[&[u8]]) -> Result<Change, LineError>
 }
 
 /// Reads a change of the name; `-` stands for none.
+#[tactic(auto, using(crate::proofs::ChangesRead::no_name))]
 fn name_change(alloc: Global, kind: &[u8], word: &[u8]) -> Result<Change, LineError>
-    ensures { IfOk result (IsChange (kind.now ∷ word.now ∷ [])) }
+    ensures written { IfOk result (IsChange (kind.now ∷ word.now ∷ [])) }
+    ensures refused { result ≡ Err LineError.Refused → IsNoChange (kind.now ∷ word.now ∷ []) }
 {
     match (kind, word) {
         (b"name", b"-") => Ok(Change::SetName(None)),
@@ -34,8 +38,10 @@ fn name_change(alloc: Global, kind: &[u8], word: &[u8]) -> Result<Change, LineEr
 }
 
 /// Reads a change of the value of a data type.
+#[tactic(auto, using(crate::proofs::ChangesRead::no_number))]
 fn number_change(kind: &[u8], data_type: &[u8], word: &[u8]) -> Option<Change>
-    ensures { IfSome result (IsChange (kind.now ∷ data_type.now ∷ word.now ∷ [])) }
+    ensures written { IfSome result (IsChange (kind.now ∷ data_type.now ∷ word.now ∷ [])) }
+    ensures refused { result ≡ None → IsNoChange (kind.now ∷ data_type.now ∷ word.now ∷ []) }
 {
     let data_type = type_named(data_type)?;
     match kind {

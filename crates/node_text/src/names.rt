@@ -1,5 +1,5 @@
 //! Names of tables and servers.
-ghost use Rattle.std.specs.Prelude.{◌≡◌, ◌++◌, IfOk, OnOk, option_copied, true};
+ghost use Rattle.std.specs.Prelude.{◌≡◌, ◌++◌, Err, IfOk, OnOk, option_copied, true};
 ghost use Rattle.table_types.specs.Names.{is_name};
 ghost use Rattle.node_text.specs.Names.{is_plain, may_name, name_text, stored_text};
 
@@ -21,7 +21,8 @@ pub(crate) fn may_name(word: &[u8]) -> bool
 
 /// Reads a name: a text of 1 to 255 bytes that isn't `-`.
 pub fn name(alloc: Global, word: &[u8]) -> Result<Name, LineError>
-    ensures { IfOk result (λ name. (name ≡ word.now) × (is_name name ≡ true) × (may_name name ≡ true)) }
+    ensures written { IfOk result (λ name. (name ≡ word.now) × (is_name name ≡ true) × (may_name name ≡ true)) }
+    ensures refused { result ≡ Err LineError.Refused → is_name word.now ≡ true → may_name word.now ≡ true → ⊥ }
 {
     if !may_name(word) {
         return Err(LineError::Refused);

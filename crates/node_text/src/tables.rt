@@ -1,6 +1,7 @@
 //! Definitions of tables.
-ghost use Rattle.std.specs.Prelude.{◌≡◌, IfOk, IfSome, true};
+ghost use Rattle.std.specs.Prelude.{◌≡◌, IfOk, IfSome, Some, true};
 ghost use Rattle.table_types.specs.DataTypes.{name_of};
+ghost use Rattle.table_types.specs.declared.data_type.DataType.{DataType};
 ghost use Rattle.node_text.specs.Names.{may_name};
 ghost use Rattle.node_text.specs.Worlds.{are_alike};
 
@@ -60,7 +61,11 @@ fn type_of(word: &[u8]) -> Option<(DataType, Option<u32>)> {
 
 /// Returns the data type of this name.
 pub(crate) fn type_named(name: &[u8]) -> Option<DataType>
-    ensures { IfSome result (λ data_type. name_of data_type ≡ name.now) }
+    ensures name { IfSome result (λ data_type. name_of data_type ≡ name.now) }
+    ensures exactly { (data_type : DataType) → name_of data_type ≡ name.now → result ≡ Some data_type }
 {
-    DataType::from_name(str::from_utf8(name).ok()?)
+    match str::from_utf8(name) {
+        Ok(name) => DataType::from_name(name),
+        Err(_) => None,
+    }
 }
