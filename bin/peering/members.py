@@ -3,15 +3,18 @@
 The table `ints` belongs to the peers section, and its name on the wire is `/ints`; `names` belongs to a backend, with the name of a
 server for each key."""
 
+import bisect
 import os
 import re
 import signal
 import socket
 import subprocess
+import threading
 import time
 
 from peering.node import Admin, fields
-from peering.trial import Wrong, wait
+from peering.records import Lesson, Process, Sighting
+from peering.trial import Wrong, require, wait
 
 EXPIRE = 600
 NODE_TABLES = ('table 1 /ints integer 4 %d000 gpc0 http_req_rate:10000\n'
@@ -34,7 +37,7 @@ frontend load
     bind 127.0.0.1:{load}
     http-request track-sc0 req.fhdr(x-key) table mesh/ints if {{ path /count }}
     http-request sc-inc-gpc0(0) if {{ path /count }}
-    http-request return status 200 if {{ path /count }}
+    http-request return status 200 hdr x-count %[sc0_get_gpc0] if {{ path /count }}
     default_backend names
 backend names
     stick-table type string len 32 size 100k expire {expire}s peers mesh
@@ -49,7 +52,8 @@ SERVERS = 5
 
 
 class Member:
-    """What every member has. `troubles` are the moments at which it was disturbed, and `wrongs` what it did wrong."""
+    """What every member has. `starts` are the moments when its processes were started, `blows` those that struck it, `sightings` what was
+    seen of it, and `wrongs` what it did wrong."""
 
     def __init__(self, name, folder, port):
         self.name = name
@@ -58,8 +62,9 @@ class Member:
         self.child = None
         self.client = None
         self.is_stale = False
-        self.troubles = []
-        self.blows = {}
+        self.starts = []
+        self.blows = []
+        self.sightings = []
         self.wrongs = []
 
     def file(self, ending):
@@ -67,10 +72,6 @@ class Member:
 
     def runs(self):
         return self.child is not None and self.child.poll() is None
-
-    def disturbed(self, blow):
-        self.troubles.append(time.monotonic())
-        self.blows[blow] = self.blows.get(blow, 0) + 1
 
     def drop(self):
         """Drops the connection over which it is loaded."""
@@ -80,7 +81,6 @@ class Member:
         self.is_stale = False
 
     def kill(self):
-        self.disturbed('kill')
         if not self.runs():
             self.wrongs.append('it had ended with status %s' % self.child.returncode)
         self.child.kill()
@@ -88,11 +88,9 @@ class Member:
 
     def pause(self, seconds):
         """Stops its process for a while."""
-        self.disturbed('pause')
         self.child.send_signal(signal.SIGSTOP)
         time.sleep(seconds)
         self.child.send_signal(signal.SIGCONT)
-        self.troubles.append(time.monotonic())
 
     def close(self):
         if self.runs():
@@ -106,12 +104,41 @@ class Member:
         return (int(re.search(r'VmRSS:\s+([0-9]+)', status)[1]), len(os.listdir('/proc/%d/fd' % self.child.pid)),
                 int(re.search(r'Threads:\s+([0-9]+)', status)[1]))
 
+    def look(self):
+        """Notes what there is to be seen of it."""
+        process = self.child.pid
+        try:
+            peers, faults, resync = self.state()
+        except Exception:  # It is down, or paused.
+            peers, faults, resync = None, {}, None
+        try:
+            memory, descriptors, _ = self.memory()
+        except (OSError, TypeError):  # Its process has ended.
+            return
+        self.sightings.append(Sighting(time.monotonic(), process, peers, faults, resync, memory, descriptors))
+
+    def process(self, moment):
+        """Returns its process that was started last before a moment."""
+        place = bisect.bisect(self.starts, moment)
+        return Process(self.starts[place - 1], self.starts[place] if place < len(self.starts) else float('inf'))
+
+    def up_to_date(self, process):
+        """Returns when one of its processes was up to date, as far as was seen, or infinity if it never was."""
+        return next((sighting.moment for sighting in self.sightings
+                     if process.begun <= sighting.moment < process.over and self.is_up_to_date(sighting)), float('inf'))
+
+    def all_faults(self):
+        """Returns its counts of faults, of all its processes together, each as it was seen last."""
+        latest = {sighting.process: sighting.faults for sighting in self.sightings if sighting.faults}
+        return {name: sum(faults[name] for faults in latest.values()) for name in self.faults_counted}
+
 
 class HAProxy(Member):
     """A HAProxy. Requests to it count a key, or stick one to a server."""
 
     kind = 'HAProxy'
     other_blow = 'reload'
+    faults_counted = ('no_hbt', 'new_conn', 'proto_err', 'coll')
 
     def __init__(self, name, folder, port, ports, binary):
         super().__init__(name, folder, port)
@@ -130,12 +157,22 @@ class HAProxy(Member):
         return subprocess.run([self.binary, '-v'], capture_output=True, text=True, check=True).stdout.split('\n')[0]
 
     def start(self, *words):
+        """Starts a process, and waits until it answers over its stats socket."""
+        self.starts.append(time.monotonic())
         with open(self.file('.log'), 'a') as log:
-            self.child = subprocess.Popen([self.binary, '-db', '-f', self.file('.cfg'), *words], stdin=subprocess.DEVNULL, stdout=log, stderr=log)
+            self.child = subprocess.Popen([self.binary, '-db', '-f', self.file('.cfg'), *words],
+                                          stdin=subprocess.DEVNULL, stdout=log, stderr=log)
+        wait(self.answers, 10, '%s answers' % self.name)
 
-    def reload(self):
-        """Starts a new process, which the old one teaches before it ends."""
-        self.disturbed('reload')
+    def answers(self):
+        require(self.runs(), '%s has ended with status %s, see %s' % (self.name, self.child.poll(), self.file('.log')))
+        peer = self.opened()
+        if peer is not None:
+            peer.close()
+        return peer is not None
+
+    def reload(self, then=lambda: None):
+        """Starts a new process, which the old one teaches before it ends; once it has ended, something else is done."""
         old = self.child
         self.start('-sf', str(old.pid))
         self.is_stale = True
@@ -144,6 +181,7 @@ class HAProxy(Member):
         except subprocess.TimeoutExpired:
             old.kill()
             old.wait()
+        then()
 
     other = reload
 
@@ -167,10 +205,27 @@ class HAProxy(Member):
             peer.close()
             return None
 
-    def connected_to(self):
-        """Returns the names of the peers with which it has a session."""
+    def state(self):
+        """Returns the names of the peers with which it has a session, its counts of faults, and the flags of its resync."""
         text = '\n'.join(self.ask('show peers'))
-        return set(re.findall(r'id=(\S+)\(remote,active\) [^\n]*last_status=ESTA', text))
+        faults = {name: sum(map(int, re.findall(r' %s=([0-9]+)' % name, text))) for name in self.faults_counted}
+        return set(re.findall(r'id=(\S+)\(remote,active\) [^\n]*last_status=ESTA', text)), faults, re.search(r' flags=(\S+)', text)[1]
+
+    def connected_to(self):
+        return self.state()[0]
+
+    def is_up_to_date(self, sighting):
+        """Whether its resync was over: neither is one from its former process pending, nor one from a peer."""
+        return sighting.resync is not None and int(sighting.resync, 16) & 3 == 3
+
+    def lesson(self, process):
+        """Returns nothing: it doesn't say who taught it."""
+
+    def has_left(self, peer, table, moment):
+        """Returns nothing: it leaves no table."""
+
+    def server(self, key):
+        """Returns nothing: which server it chooses for a key isn't known before."""
 
     def rows(self):
         """Returns what the tables have: the count of each key, and the server's name."""
@@ -182,7 +237,7 @@ class HAProxy(Member):
         return found
 
     def get(self, path, key):
-        """Makes a request, and returns whether it was answered with 200."""
+        """Makes a request, and returns the head of its answer, or nothing if it wasn't answered with 200."""
         if self.is_stale:
             self.drop()
         try:
@@ -196,33 +251,37 @@ class HAProxy(Member):
                 if not data:
                     raise ConnectionError
                 came += data
-            return b' 200 ' in came.split(b'\r\n')[0]
+            return came if b' 200 ' in came.split(b'\r\n')[0] else b''
         except OSError:
             self.drop()
-            return False
+            return b''
 
     def count(self, key):
-        return self.get(b'/count', b'%d' % key)
+        """Counts a key, and returns the value answered, or None."""
+        found = re.search(rb'\r\nx-count: ([0-9]+)\r\n', self.get(b'/count', b'%d' % key))
+        return found and int(found[1])
 
     def stick(self, key):
-        return self.get(b'/stick', key.encode())
+        """Lets a request stick to a server, and returns whether it was answered."""
+        return bool(self.get(b'/stick', key.encode()))
 
     def faults(self):
-        """Returns its counts of protocol errors and of collisions, of its present process."""
-        text = '\n'.join(self.ask('show peers'))
-        return {name: sum(map(int, re.findall(r' %s=([0-9]+)' % name, text))) for name in ('no_hbt', 'new_conn', 'proto_err', 'coll')}
+        """Returns the counts of faults of its present process."""
+        return self.state()[1]
 
 
 class NodeMember(Member):
-    """A node that stays."""
+    """A node that stays. `said` are the lines of its log, each with the moment when it came."""
 
     kind = 'node'
     other_blow = 'stop'
+    faults_counted = ('faults',)
 
     def __init__(self, name, folder, port, ports, program):
         super().__init__(name, folder, port)
         self.program = program
         self.admin_port = ports.next()
+        self.said = []
 
     def configure(self, peers):
         with open(self.file('.conf'), 'w') as file:
@@ -234,9 +293,40 @@ class NodeMember(Member):
         return self.program
 
     def start(self):
-        with open(self.file('.conf')) as given, open(self.file('.log'), 'a') as log:
-            self.child = subprocess.Popen([self.program, 'run'], stdin=given, stdout=log, stderr=log)
+        self.starts.append(time.monotonic())
+        with open(self.file('.conf')) as given:
+            self.child = subprocess.Popen([self.program, 'run'], stdin=given, stdout=subprocess.PIPE, stderr=subprocess.STDOUT)
+        threading.Thread(target=self.note, args=(self.child.stdout,), daemon=True).start()
         wait(self.opened, 10, '%s listens' % self.name)
+
+    def note(self, output):
+        """Notes each line that a process of it writes, until that ends."""
+        with output, open(self.file('.log'), 'ab') as log:
+            for line in output:
+                self.said.append((time.monotonic(), line.decode('latin-1').rstrip()))
+                log.write(b'%.3f %s' % (self.said[-1][0], line))
+                log.flush()
+
+    def lesson(self, process):
+        """Returns when, and by which peer, a resync of one of its processes was finished; or None if none was."""
+        for moment, line in self.said:
+            match = re.fullmatch(r'peer (\S+) resync learner finished .*', line)
+            if match and process.begun <= moment < process.over:
+                return Lesson(moment, match[1])
+        return None
+
+    def has_left(self, peer, table, moment):
+        """Whether it had left a table on its connection with a peer at a moment."""
+        words = ('peer %s up' % peer, 'peer %s left table %d' % (peer, {'ints': 1, 'names': 2}[table]))
+        lines = [line for said, line in self.said if said <= moment and line.startswith(words)]
+        return bool(lines) and lines[-1] == words[1]
+
+    def is_up_to_date(self, sighting):
+        return sighting.resync == 'yes'
+
+    def up_to_date(self, process):
+        lesson = self.lesson(process)
+        return min(super().up_to_date(process), lesson.moment if lesson else float('inf'))
 
     def opened(self):
         """Whether it takes requests."""
@@ -254,9 +344,8 @@ class NodeMember(Member):
         finally:
             admin.close()
 
-    def other(self):
-        """Stops it by a request, and starts it again."""
-        self.disturbed('stop')
+    def other(self, then=lambda: None):
+        """Stops it by a request, does something else, and starts it again."""
         try:
             self.ask('stop')
             if self.child.wait(10) != 0:
@@ -265,11 +354,18 @@ class NodeMember(Member):
             self.wrongs.append('stop: %s' % error)
             self.child.kill()
             self.child.wait()
+        then()
         self.start()
 
+    def state(self):
+        """Returns the names of the peers with which it has a session, its count of faults, and whether it is up to date."""
+        head, *lines = self.ask('show peers')
+        peers = {line.split(' ')[1]: fields(line) for line in lines if line.startswith('peer ')}
+        faults = {'faults': sum(int(peer['faults']) for peer in peers.values())}
+        return {name for name, peer in peers.items() if peer['state'] != 'down'}, faults, fields(head)['up_to_date']
+
     def connected_to(self):
-        lines = [line for line in self.ask('show peers') if line.startswith('peer ')]
-        return {line.split(' ')[1] for line in lines if fields(line)['state'] != 'down'}
+        return self.state()[0]
 
     def rows(self):
         found = {}
@@ -282,26 +378,34 @@ class NodeMember(Member):
         return found
 
     def tracked(self, *requests):
-        """Makes changes, and returns whether all were answered with a row."""
+        """Makes changes, and returns the answers if all are a reply with a row, or nothing."""
+        answers = []
         try:
             if self.client is None:
                 self.client = Admin(self.admin_port)
             for request in requests:
-                answer = self.client.ask(request)
-                if not (answer or '').startswith('reply '):
+                answers.append(self.client.ask(request) or '')
+                if not answers[-1].startswith('reply '):
                     self.drop()
-                    return False
-            return True
+                    return []
+            return answers
         except Exception:  # The node was killed meanwhile, or is paused.
             self.drop()
-            return False
+            return []
 
     def count(self, key):
-        return self.tracked('track mesh/ints %d add gpc0 1' % key)
+        """Counts a key, and returns the value answered, or None."""
+        answers = self.tracked('track mesh/ints %d add gpc0 1' % key)
+        return int(answers[0].split(' ')[4]) if answers else None
+
+    def server(self, key):
+        """Returns the name of the server that it tracks for a key."""
+        return 's%d' % (1 + sum(key.encode()) % SERVERS)
 
     def stick(self, key):
-        server = 1 + sum(key.encode()) % SERVERS
-        return self.tracked('track names =%s put server_id %d' % (key, server), 'track names =%s name s%d' % (key, server))
+        """Tracks a server for a key, and returns whether it was answered."""
+        server = self.server(key)
+        return bool(self.tracked('track names =%s put server_id %s' % (key, server[1:]), 'track names =%s name %s' % (key, server)))
 
     def faults(self):
-        return {'faults': sum(int(fields(line).get('faults', 0)) for line in self.ask('show peers') if line.startswith('peer '))}
+        return self.state()[1]

@@ -48,7 +48,11 @@ class Admin:
 
     def lines(self):
         """Returns the lines of an answer that ends with a full stop, without that."""
-        return list(iter(self.line, '.'))
+        found = []
+        while (line := self.line()) != '.':
+            require(line is not None, 'the connection is over before the end of an answer')
+            found.append(line)
+        return found
 
     def ask(self, request):
         """Returns the answer to a request: a line, or the lines of one that begins with `show`."""
