@@ -6,29 +6,22 @@ names the lists of a case from which parts may be left out, and `loose` those wh
 import random as chances
 from collections import namedtuple
 
-from fuzzing import lessons, scripts, sessions, worlds
+from fuzzing import configurations, doors, guests, lessons, requests, scripts, sessions, worlds
+from fuzzing.lines import spoil_line
 from fuzzing.messages import framed
-from fuzzing.programs import differing, fault_of, refused_line, require
+from fuzzing.programs import differing, fault_of, refused_line, require, text
 from fuzzing.received import Learner, learned, spelled
-from fuzzing.rows import read_learned, read_rows, without_moments
+from fuzzing.rows import learner_scene, read_learned, read_rows, without_moments
 from fuzzing.streams import Talk, cut, random_moment, spoilt, with_other_expires
 from fuzzing.tables import FIRST_MOMENT, TYPES, Table, random_roster, table_line
 
 Kind = namedtuple('Kind', 'name weight make judge shrinks loose')
-
-
-def text(lines):
-    return b''.join(line + b'\n' for line in lines)
+# How often a stream comes at most, and how many bytes that are then, unless it has more than half as many itself.
+MOST_TIMES, MOST_REPEATED = 100, 1 << 19
 
 
 def tables_of(case):
     return [Table(*table) for table in case['tables']]
-
-
-def learner_scene(roster, moment, pieces):
-    """Returns the scene of a learner that is fed pieces of a stream."""
-    return text([table_line(table) for table in roster] + [b'moment %d' % moment]
-                + [b'stream ' + piece.hex().encode() for piece in pieces if piece])
 
 
 # --- learn: streams of which all is known, up to a message that isn't
@@ -61,8 +54,9 @@ def judge_learn(program, case):
     other = learn([b''.join([spelled(said, tables) for said in others])])
     require(other == whole, 'another expire', 'in the definitions changes rows:', differing(other.output, whole.output), other.errors, whole.errors)
     if learner.sure and learner.fault is None:
-        twice = learn([stream, stream], 2)
-        require(twice == whole, 'a stream', 'that comes twice leaves other rows:', differing(twice.output, whole.output), twice.errors)
+        times = random.choice((2, min(MOST_TIMES, max(2, MOST_REPEATED // max(1, len(stream))))))
+        again = learn([stream] * times, times)
+        require(again == whole, 'a stream', 'that comes %d times leaves other rows:' % times, differing(again.output, whole.output), again.errors)
         begun = learn([stream, b'\x0A'])
         require(begun == whole, 'a message', 'that is not whole changes something:', differing(begun.output, whole.output), begun.errors)
 
@@ -198,38 +192,6 @@ def make_lines(random):
     for _ in range(random.choice((1, 1, 2, 5))):
         spoil_line(random, lines)
     return {'what': what, 'lines': lines, 'end': b'' if random.random() < 0.05 else b'\n'}
-
-
-def spoil_line(random, lines):
-    """Changes a line, or moves it, or leaves it out."""
-    at = random.randrange(len(lines))
-    words = lines[at].split(b' ')
-    place = random.randrange(len(words))
-    what = random.randrange(9)
-    if what == 0:
-        line = bytearray(lines[at] or b'\0')
-        line[random.randrange(len(line))] = random.getrandbits(8)
-        lines[at] = bytes(line)
-    elif what == 1:
-        lines.insert(random.randint(0, len(lines)), random.choice((lines[at], b'', b'#', b'# \xFF', b'table', b' ', b'\0', b'x' * 5000)))
-    elif what == 2:
-        lines.insert(random.randint(0, len(lines)), lines.pop(at))
-    elif what == 3:
-        lines[at] = b' '.join(words[:place] + words[place + 1:])
-    elif what == 4:
-        words.insert(place, random.choice(words + [b'', b'0', b'-', b'=']))
-        lines[at] = b' '.join(words)
-    elif what == 5:
-        words[place] = random.choice((b'0', b'00', b'4294967295', b'4294967296', b'18446744073709551616', b'9' * 3000, b'-', b'-1', b'+1', b'1.5',
-                                      b'=', b'~', b'0x1', b'', b'\xC3\xA9', b'integer', b'gpc0', b'gpc0_rate:0', b'1/2/3', b'n' * 256))
-        lines[at] = b' '.join(words)
-    elif what == 6:
-        words[place] += random.choice((b'0', b' ', b'\r', b'\t', b'\0', b'x', words[place]))
-        lines[at] = b' '.join(words)
-    elif what == 7:
-        lines[at] = lines[at].swapcase()
-    elif what == 8 and len(lines) > 1:
-        del lines[at]
 
 
 def judge_lines(program, case):
@@ -393,5 +355,9 @@ ALL = (
     Kind('world', 12, make_world, judge_world, ('lines', 'options'), ()),
     Kind('words', 3, make_words, judge_words, ('words',), ()),
     Kind('session', 30, make_session, judge_session, ('acts', 'updates'), ('acts',)),
+    Kind('configuration', 6, configurations.make, configurations.judge, (), ()),
+    Kind('door', 1, doors.make, doors.judge, ('acts', 'tables'), ('acts',)),
+    Kind('peer', 2, guests.make, guests.judge, ('acts', 'more'), ('acts',)),
+    Kind('request', 1, requests.make, requests.judge, ('acts', 'more'), ('acts',)),
 )
 BY_NAME = {kind.name: kind for kind in ALL}

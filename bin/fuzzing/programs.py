@@ -30,6 +30,10 @@ def require(holds, what, text, *shown):
         raise Complaint(what, ' '.join([text] + [short(part) for part in shown]))
 
 
+def text(lines):
+    return b''.join(line + b'\n' for line in lines)
+
+
 def short(part):
     """Returns a part of a complaint's text, cut to a length that can be read."""
     text = part.decode('latin-1') if isinstance(part, bytes) else str(part)

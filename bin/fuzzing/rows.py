@@ -2,8 +2,8 @@
 
 import re
 
-from fuzzing.programs import require
-from fuzzing.tables import GREATEST, RATES, counted, greatest, has_names
+from fuzzing.programs import require, text
+from fuzzing.tables import GREATEST, RATES, counted, greatest, has_names, table_line
 
 NUMBER = rb'(?:0|[1-9][0-9]*)'
 KEYS = {
@@ -15,6 +15,12 @@ KEYS = {
 }
 NAME = rb'-|(?!-[ \n]|~)[!-~]+|~(?:[0-9A-F]{2})+'
 ACK_LINE = re.compile(rb'ack (%s) (%s)' % (NUMBER, NUMBER))
+
+
+def learner_scene(roster, moment, pieces):
+    """Returns the scene of a learner that is fed pieces of a stream."""
+    return text([table_line(table) for table in roster] + [b'moment %d' % moment]
+                + [b'stream ' + piece.hex().encode() for piece in pieces if piece])
 
 
 def row_pattern(table, before, after=b''):

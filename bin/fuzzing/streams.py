@@ -42,6 +42,8 @@ class Talk:
         self.roster = len(roster)
         self.state = Learner(self.tables, self.roster, FIRST_MOMENT)
         self.faults = faults
+        # How often the table changes: mostly seldom, and now and then so often that several are acknowledged at once.
+        self.changes = random.choice((0.02, 0.02, 0.15))
         self.ids = [table.id for table in roster] + random.sample(range(1, 300), 3) + [GREATEST]
         many = random.random() < 0.1
         self.keys = [[random_key(random, table) for _ in range(2000 if many else 30)] for table in self.tables]
@@ -49,6 +51,12 @@ class Talk:
         self.names = [random_name(random) if random.random() < 0.9 else bytes(random.randint(1, 255) for _ in range(random.randint(1, 9)))
                       for _ in range(random.choice((2, 20, 200)))]
         self.messages = []
+
+    def begin_again(self):
+        """Begins another stream of the same tables, keys and names."""
+        self.state = Learner(self.tables, self.roster, FIRST_MOMENT)
+        self.messages = []
+        return self
 
     def grow(self, count):
         """Adds messages, up to `count` of them in all or a fault; fewer if keys may be very long."""
@@ -61,13 +69,13 @@ class Talk:
 
     def next(self):
         chance = self.random.random()
-        if self.state.selected is None or chance < 0.02:
+        if self.state.selected is None or chance < self.changes:
             return self.a_definition()
-        if chance < 0.06:
+        if chance > 1 - 2 * self.changes:
             return 'switch', self.random.choice(list(self.state.defined))
-        if chance < 0.09:
+        if chance < self.changes + 0.03:
             return self.another()
-        if chance < 0.09 + self.faults:
+        if chance < self.changes + 0.03 + self.faults:
             return self.a_fault()
         return self.an_update()
 

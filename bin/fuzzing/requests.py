@@ -1,0 +1,300 @@
+"""Clients of the admin port of a node that stays (docs/FORMATS.md, section 14).
+
+  ask LINES PIECES      requests over one connection, one after another, in so many pieces; each has its answer
+  long LENGTH           a request of so many bytes
+  half BYTES            the beginning of a request, over a connection that stays
+  crowd COUNT           connections at once
+  deaf LINE TIMES       requests, over a connection that doesn't read and stays
+  page BYTES            a request by HTTP
+  rubbish BYTES         bytes, and then the end of the input"""
+
+import re
+import select
+import socket
+import time
+
+from fuzzing.lines import spoil_line
+from fuzzing.programs import require, short
+from fuzzing.rows import NUMBER, row_pattern
+from fuzzing.scripts import REFUSALS, change_words, short_keys
+from fuzzing.standing import MARK, Stand, random_local_roster, random_rounds, stood
+from fuzzing.tables import Table
+from peering.far import kept_open
+
+LONGEST = 32768
+MOST_CLIENTS = 32
+WORDS = ('reply row none refused NoTable WrongKey ' + REFUSALS['track']).split()
+LINE = re.compile(rb'[ -~]*')
+PAGE = re.compile(rb'HTTP/1\.[01] (200|404)[ -~]*\r\n(?:[ -~]+\r\n)*?Content-Length: ([0-9]+)\r\n(?:[ -~]+\r\n)*\r\n', re.IGNORECASE)
+
+
+# --- Random cases
+
+def request(random, tables, keys):
+    """Returns a request that is answered with a row, a refusal of its table, or `none`."""
+    at = random.randrange(len(tables))
+    table = tables[at]
+    if random.random() < 0.3:
+        return b' '.join((b'get', table.name, random.choice(keys[at])))
+    return b' '.join([b'track', table.name] + change_words(random, table, keys[at]))
+
+
+def random_line(random, tables, keys):
+    """Returns a line, which is mostly a request."""
+    chance = random.random()
+    if chance < 0.75:
+        return request(random, tables, keys)
+    if chance < 0.85:
+        return random.choice((b'show table', b'show peers', b'show rows', b'show table ' + random.choice(tables).name, b'show', b'show ' + MARK))
+    lines = [random.choice((request(random, tables, keys), b'show table', b'get %s =%s' % (MARK, MARK)))]
+    spoil_line(random, lines)
+    return (lines or [b'']).pop().replace(b'\n', b' ')
+
+
+def random_lines(random, tables, keys):
+    lines = [random_line(random, tables, keys)[:LONGEST] for _ in range(random.choice((1, 5, 40, 400)))]
+    return [line for line in lines if line != b'stop' and not line.startswith(b'GET ')]
+
+
+def random_page(random):
+    return random.choice((b'GET /metrics HTTP/1.1\r\nHost: n\r\n\r\n', b'GET /metrics HTTP/1.0\n\n', b'GET /%s HTTP/1.1\r\n\r\n' % MARK,
+                          b'GET /metrics HTTP/1.1\r\n' + b'X: %s\r\n' % MARK * random.choice((1, 3000)) + b'\r\n',
+                          b'GET  HTTP/1.1\r\n\r\n', b'GET /metrics HTTP/2.0\r\n\r\n', b'POST /metrics HTTP/1.1\r\n\r\n',
+                          b'GET /metrics HTTP/1.1\r\n' + MARK * random.choice((1, 6000)), b'GET /%s HTTP/1.1\r\n\r\n' % (MARK * 4000)))
+
+
+def random_act(random, tables, keys):
+    what = random.randrange(10)
+    if what < 4:
+        return 'ask', random_lines(random, tables, keys), random.choice((1, 1, 3, 20))
+    if what == 4:
+        return 'long', random.choice((LONGEST - 1, LONGEST, LONGEST + 1, 200000)), random.random() < 0.7
+    if what == 5:
+        return 'half', random.choice((b'', b'track', request(random, tables, keys), MARK * 3000))
+    if what == 6:
+        return 'crowd', random.choice((3, 33, 60))
+    if what == 7:
+        return 'deaf', random.choice((b'show rows', b'show peers', b'show table', request(random, tables, keys), b'?')), random.choice((10, 3000))
+    if what == 8:
+        return 'page', random_page(random)
+    return 'rubbish', random.choice((b'', b'\n' * 50, MARK + bytes(random.getrandbits(8) for _ in range(random.choice((1, 300, 20000)))).replace(b'stop', b'')))
+
+
+def make(random):
+    tables = [table._replace(length=min(table.length, 33), name=table.name[:20]) for table in random_local_roster(random)]
+    keys = [short_keys(random, table) for table in tables]
+    acts = [random_act(random, tables, keys) for _ in range(random.choice((1, 3, 8)))]
+    more = ['size %d %d' % (table.id, random.choice((1, 10, 1000))) for table in tables if random.random() < 0.5]
+    return {'tables': tables, 'more': more, 'acts': acts, 'rounds': random_rounds(random, acts)}
+
+
+# --- Clients
+
+class Reader:
+    """A connection to the admin port, read line by line."""
+
+    def __init__(self, client):
+        self.client = client
+        self.peer = kept_open(('127.0.0.1', client.stand.node.admin_port))
+        self.left, self.is_over = b'', False
+
+    def more(self, seconds):
+        """Reads what comes. Returns whether something did in time, or the connection is over."""
+        self.peer.settimeout(max(0.001, seconds))
+        try:
+            data = self.peer.recv(1 << 16)
+        except socket.timeout:
+            return False
+        except OSError:
+            data = b''
+        self.is_over = not data
+        self.left += data
+        return True
+
+    def line(self):
+        """Returns the next line, or None if the connection is over before it ends."""
+        latest = time.monotonic() + self.client.limit
+        while b'\n' not in self.left and not self.is_over:
+            require(self.more(latest - time.monotonic()), 'slow', 'a request is not answered in %g s' % self.client.limit)
+        if b'\n' not in self.left:
+            return None
+        line, _, self.left = self.left.partition(b'\n')
+        require(LINE.fullmatch(line), 'an answer', 'has other bytes than those from 32 to 126:', line)
+        return line
+
+    def rest(self):
+        """Returns all that comes until the connection is over."""
+        latest = time.monotonic() + self.client.limit
+        while not self.is_over:
+            require(self.more(latest - time.monotonic()), 'slow', 'the admin port keeps a connection for %g s' % self.client.limit)
+        return self.left
+
+    def send(self, data):
+        """Sends bytes, if the other end takes them."""
+        try:
+            self.peer.settimeout(self.client.limit)
+            self.peer.sendall(data)
+        except OSError:
+            pass
+
+    def close(self):
+        self.peer.close()
+
+
+class Client:
+    """Clients of an admin port. `rows` are the latest rows that changes were answered with, by table and key."""
+
+    def __init__(self, stand, tables, more):
+        self.stand, self.limit = stand, stand.program.patience
+        self.tables = {table.name: table for table in tables}
+        self.patterns = {table.name: (row_pattern(table, b'reply (%s)' % NUMBER, b' local'), row_pattern(table, b'row %d' % table.id)) for table in tables}
+        self.small = {int(line.split()[1]) for line in more}
+        self.rows, self.numbers, self.held = {}, {}, 0
+
+    def act(self, act):
+        getattr(self, act[0])(*act[1:])
+
+    def end(self):
+        """However the port was disturbed, a client is answered, once a connection is free."""
+        self.wait_for_room()
+
+    def opened(self):
+        return self.stand.trial.closes(Reader(self))
+
+    def ask(self, lines, pieces):
+        reader = self.opened()
+        data = b''.join(line + b'\n' for line in lines)
+        for at in range(pieces):
+            reader.send(data[at * len(data) // pieces:(at + 1) * len(data) // pieces])
+            if pieces > 1:
+                time.sleep(0.002)
+        for line in lines:
+            answer = reader.line()
+            if answer == b'busy' and self.held:
+                break
+            require(answer is not None, 'an answer', 'is missing, to:', line)
+            if line.split(b' ')[0] == b'show':
+                while answer != b'.':
+                    answer = reader.line()
+                    require(answer is not None, 'an answer', 'has no end, to:', line)
+            else:
+                self.judge(line, answer)
+        reader.close()
+
+    def judge(self, line, answer):
+        """An answer of one line is one to its request."""
+        words, said = line.split(b' '), answer.split(b' ')
+        require(said[0].decode() in WORDS, 'an answer', 'is none that there is:', line, answer)
+        if said[0] == b'reply':
+            self.judge_reply(words, said, answer)
+        elif said[0] == b'row':
+            self.judge_row(words, said, answer)
+        elif said[0] == b'none' and len(words) == 3:
+            before = self.rows.get((words[1], words[2]))
+            require(before is None or before[1] != b'-' or self.is_small(words[1]), 'a row', 'that does not end is gone:', line, before)
+
+    def is_small(self, name):
+        return self.tables[name].id in self.small
+
+    def judge_reply(self, words, said, answer):
+        """A change is answered with the row of its key, under the table's next number."""
+        require(words[0] == b'track' and words[1] in self.patterns, 'an answer', 'to another request:', words, answer)
+        match = self.patterns[words[1]][0].fullmatch(answer)
+        require(match, 'a row', 'is not written as one of its table:', answer)
+        before = self.numbers.get(words[1])
+        require(before is None or int(said[1]) == before + 1, 'numbers', 'do not ascend by one:', before, answer)
+        self.numbers[words[1]] = int(said[1])
+        if said[3] == words[2]:
+            self.rows[words[1], words[2]] = said[1:-1]
+
+    def judge_row(self, words, said, answer):
+        """A row that is got is the one that the latest change of its key was answered with."""
+        require(words[0] == b'get' and words[1] in self.patterns, 'an answer', 'to another request:', words, answer)
+        require(self.patterns[words[1]][1].fullmatch(answer), 'a row', 'is not written as one of its table:', answer)
+        before = self.rows.get((words[1], words[2]))
+        require(before is None or before[1:] == said[2:], 'a row', 'is not that of the latest change:', answer, before)
+
+    def long(self, length, ends):
+        reader = self.opened()
+        reader.send(b'get %s =' % MARK + b'x' * (length - 6 - len(MARK)) + b'\n' * ends)
+        if not self.held and (ends or length > LONGEST):
+            answer = reader.line()
+            wanted = b'NoTable' if length <= LONGEST else b'refused'
+            require(answer == wanted, 'an answer', 'to a request of %d bytes:' % length, answer)
+            require(length <= LONGEST or reader.rest() == b'', 'an answer', 'behind a request that is too long', reader.left)
+        reader.close()
+
+    def half(self, data):
+        self.held += 1
+        self.opened().send(data)
+
+    def crowd(self, count):
+        """As many as there is room for are answered, and the others are told that there is none."""
+        readers = [self.opened() for _ in range(count)]
+        for reader in readers:
+            reader.send(b'get %s 7\n' % MARK)
+        answers = [reader.line() for reader in readers]
+        require(all(answer in (b'NoTable', b'busy', None) for answer in answers), 'an answer', 'to one of a crowd:', answers)
+        require(answers.count(b'NoTable') < MOST_CLIENTS, 'a crowd', 'is served by more than there are:', answers)
+        require(self.held or count > 20 or answers.count(b'NoTable') == count, 'a crowd', 'is not served:', answers)
+        for reader in readers:
+            reader.close()
+        self.wait_for_room()
+
+    def wait_for_room(self):
+        """Waits until a connection is free, unless those that stay may have taken all."""
+        latest = time.monotonic() + self.limit
+        while not self.held:
+            reader = self.opened()
+            reader.send(b'get %s 7\n' % MARK)
+            answer = reader.line()
+            reader.close()
+            if answer == b'NoTable':
+                return
+            require(time.monotonic() < latest, 'the admin port', 'is busy although all have left')
+            time.sleep(0.02)
+
+    def deaf(self, line, times):
+        """Requests whose answers nobody reads, as many as the node takes for now."""
+        self.held += 1
+        peer = self.opened().peer
+        peer.setblocking(False)
+        left = memoryview((line + b'\n') * times)
+        while left and select.select([], [peer], [], 0.05)[1]:
+            try:
+                left = left[peer.send(left):]
+            except OSError:
+                return
+
+    def page(self, data):
+        reader = self.opened()
+        reader.send(data)
+        latest = time.monotonic() + 0.3
+        while not reader.is_over and time.monotonic() < latest:
+            reader.more(latest - time.monotonic())
+        if reader.left.startswith(b'HTTP'):
+            head = PAGE.match(reader.left)
+            require(head, 'a page', 'has no head:', reader.left[:300])
+            length = len(reader.rest()) - head.end()
+            require(length == int(head[2]), 'a page', 'has another length than it says:', length, head[0])
+        else:
+            require(set(reader.left.split(b'\n')) <= {b'', b'refused', b'busy', b'none', b'NoTable'}, 'an answer', 'to HTTP:', short(reader.left))
+        reader.close()
+
+    def rubbish(self, data):
+        """What no client says. Each line is answered, and the connection closed at the end of the input."""
+        reader = self.opened()
+        reader.send(data)
+        try:
+            reader.peer.shutdown(socket.SHUT_WR)
+        except OSError:
+            return
+        came = reader.rest()
+        require(came[-1:] in (b'', b'\n') and all(LINE.fullmatch(line) for line in came.split(b'\n')), 'an answer', 'to rubbish:', short(came))
+        reader.close()
+
+
+def judge(program, case):
+    tables = [Table(*table) for table in case['tables']]
+    stand = Stand(program, tables, case['more'])
+    stood(stand, Client(stand, tables, case['more']), dict(case, acts=[tuple(act) for act in case['acts']]))
