@@ -112,7 +112,7 @@ written_in phases.Ended s known acts e goes = absurd goes
 
 -- ---- the answers of actions
 
-abbrev is_answered : Option Event → Bool
+abbrev pub is_answered : Option Event → Bool
 is_answered None = true
 is_answered (Some event) = is_answer event
 
@@ -122,7 +122,7 @@ is_last None = true
 is_last (Some (events.Written known)) = true
 is_last (Some event) = false
 
-done_answered : (n now : ℕ) (k : KnownState) (s t : SeatState) (act : Action) (out : List ℕ) (answer : Option Event) → Done n now k s act out answer t → is_answered answer ≡ true
+pub done_answered : (n now : ℕ) (k : KnownState) (s t : SeatState) (act : Action) (out : List ℕ) (answer : Option Event) → Done n now k s act out answer t → is_answered answer ≡ true
 done_answered n now k s t (actions.Send bytes) out answer (written, none, same) = ap is_answered none
 done_answered n now k s t (actions.Learn u) out answer (written, none, learned) = ap is_answered none
 done_answered n now k s t (actions.Ack table number) out answer (none, inl (settled, is, call)) = ap is_answered is

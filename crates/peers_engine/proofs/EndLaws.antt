@@ -1,5 +1,5 @@
 -- How a session ends.
-use Rattle.std.proofs.Common.{◌≡◌, ℕ, List, sym}
+use Rattle.std.proofs.Common.{◌≡◌, ℕ, List, refl, sym}
 use Rattle.std.proofs.lemmas.Bool.{false≢true}
 use Rattle.std.specs.Prelude.{Bool, true, false, [], Option, Some, None}
 use Rattle.std.specs.Io.KnownBytes.{Consumes, Keeps}
@@ -9,6 +9,7 @@ use Rattle.session_core.specs.declared.event.Event.TheVariants as events
 use Rattle.session_core.specs.Phases.{Phase}
 use Rattle.session_core.specs.Phases as phases
 use Rattle.session_core.specs.Sessions.{SessionState, Goes, GoesIn, ended}
+use Rattle.session_core.specs.Standing.{StandingState, Stands}
 
 -- the events after which every session is over
 abbrev pub closes : Event → Bool
@@ -55,6 +56,9 @@ closed_in phases.Ended s event acts e is goes = absurd goes
 
 pub closed : (s : SessionState) (event : Event) (acts : List Action) (e : SessionState) → closes event ≡ true → Goes s event acts e → e ≡ ended s
 closed s event acts e is goes = closed_in s.phase s event acts e is goes
+
+pub stands_closed : (s e : StandingState) (now : ℕ) (acts : List Action) → Stands s now events.End acts e → e.session ≡ ended s.session
+stands_closed s e now acts (goes, pace) = closed s.session events.End acts e.session refl goes
 
 -- a call that keeps the known bytes consumes none
 pub nothing_consumed : (old new : Option (List ℕ)) → Keeps old new → Consumes old new []

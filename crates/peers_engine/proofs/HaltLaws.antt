@@ -24,7 +24,7 @@ use Rattle.peers_engine.proofs.RunLaws.{acts_run, runs_on}
 
 -- ---- what was asked for
 
-asked_on : (first rest : List (Event × List Action)) → asked (first ++ rest) ≡ asked first ++ asked rest
+pub asked_on : (first rest : List (Event × List Action)) → asked (first ++ rest) ≡ asked first ++ asked rest
 asked_on first rest = flat_map-append (λ (step : Event × List Action). step.1) first rest
 
 -- ---- one action
@@ -43,7 +43,7 @@ pub act_stops : (s mid : Worker) (seat : SeatState) (all before rest : List Acti
 act_stops s mid seat all before rest act error answers first last is acted fails =
     (before, act ∷ rest, first, last, mid, is, acted, inl (inl fails), refl, refl)
 
-more_answers : (answers : List (Event × List Action)) (step : Event × List Action) → (answers ++ (step ∷ [])) ≢ []
+pub more_answers : (answers : List (Event × List Action)) (step : Event × List Action) → (answers ++ (step ∷ [])) ≢ []
 more_answers [] step is = cc is
 more_answers (one ∷ answers) step is = cc is
 
@@ -82,7 +82,7 @@ cut_more s seat [] more answers error out (inl cut) = absurd cut
 cut_more s seat (act ∷ rest) more answers error out (inl cut) = inl cut
 cut_more s seat rest more answers error out (inr lost) = inr lost
 
-after_nothing : (first rest : List (Event × List Action)) → rest ≢ [] → (first ++ rest) ≢ []
+pub after_nothing : (first rest : List (Event × List Action)) → rest ≢ [] → (first ++ rest) ≢ []
 after_nothing [] rest some is = some is
 after_nothing (step ∷ first) rest some is = cc is
 

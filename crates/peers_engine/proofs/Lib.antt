@@ -7,6 +7,8 @@ mod HaltLaws
 mod OneActionLaws
 mod PiecesLaws
 mod RunLaws
+mod StayCalmLaws
 mod StayLaws
 mod TakenLaws
 mod TurnLaws
+mod UntilLaws

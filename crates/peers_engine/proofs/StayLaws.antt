@@ -21,6 +21,7 @@ use Rattle.peers_engine.specs.Reading.{IsRead}
 use Rattle.peers_engine.specs.Staying.{AreReopened, IsPerformed, IsTold, IsToldIn, Performs, Responds, RespondsTo, StandingWorker, TakesStandingTurn, TakesTick, as_standing, standing_kind, stays, without_request}
 use Rattle.peers_engine.specs.Turns.{first_event}
 use Rattle.peers_engine.proofs.AnswerLaws.{copy_done, learn_done, send_done}
+use Rattle.peers_engine.proofs.StayCalmLaws.{tick_ends}
 use Rattle.peers_engine.proofs.TurnLaws.{OneDone}
 
 -- ---- one action
@@ -72,19 +73,24 @@ told_in states.Hello s e now event acts going stands = (acts, stands, refl)
 told_in states.Ready s e now event acts going stands = (acts, stands, refl)
 told_in states.Teaching s e now event acts going stands = (acts, stands, refl)
 
+pub told_some : (s e : StandingState) (now : ℕ) (answer : Option Event) (event : Event) (acts : List Action) → answer ≡ Some event → state_of s.session.phase ≢ states.Ended → Stands s now event acts e
+    → IsTold s now answer ((event, acts) ∷ []) e
+told_some s e now answer event acts is going stands =
+    subst (λ (x : Option Event). IsTold s now x ((event, acts) ∷ []) e) (sym is) (told_in (state_of s.session.phase) s e now event acts going stands)
+
 -- the session receives it, and asks for more
 pub told : (s e : StandingState) (now : ℕ) (answer : Option Event) (event : Event) (given more : List Action) → answer ≡ Some event → state_of s.session.phase ≢ states.Ended
     → ((acts : List Action) × Stands s now event acts e × (more ≡ given ++ acts))
     → (steps : List (Event × List Action)) × IsTold s now answer steps e × (more ≡ given ++ asked steps)
 told s e now answer event given more is going (acts, stands, kept) = (
   (event, acts) ∷ [],
-  subst (λ (x : Option Event). IsTold s now x ((event, acts) ∷ []) e) (sym is) (told_in (state_of s.session.phase) s e now event acts going stands),
+  told_some s e now answer event acts is going stands,
   kept ∙ ap (λ (x : List Action). given ++ x) (sym (append-nil acts)),
 )
 
 -- ---- one action after another
 
-performs_on : (w mid e : StandingWorker) (before after : List Action) (answers more : List (Event × List Action)) (out rest : List ℕ)
+pub performs_on : (w mid e : StandingWorker) (before after : List Action) (answers more : List (Event × List Action)) (out rest : List ℕ)
     → Performs w before answers out mid → Performs mid after more rest e → Performs w (before ++ after) (answers ++ more) (out ++ rest) e
 performs_on w mid e [] after answers more out rest (none, nothing, same) second =
     subst (λ (t : List (Event × List Action)). Performs w after (t ++ more) (out ++ rest) e) (sym none)
@@ -105,6 +111,12 @@ performs_on w mid e (act ∷ acts) after answers more out rest (bytes, then, ans
   rw written (append_assoc bytes then rest),
 )
 
+-- one action, and its answer received
+pub one_performed : (w : StandingWorker) (e : StandingState) (seat : SeatState) (act : Action) (answer : Option Event) (steps : List (Event × List Action)) (bytes : List ℕ)
+    → IsPerformed w act bytes answer seat → IsTold w.session w.now answer steps e → Performs w (act ∷ []) steps bytes (stays w e seat)
+one_performed w e seat act answer steps bytes done told =
+    (bytes, [], answer, steps, [], seat, e, done, told, (refl, refl, refl), sym (append-nil steps), sym (append-nil bytes))
+
 -- the actions are performed, their answers are received, what those ask for is `given`, and the bytes are written
 abbrev pub AllPerformed : StandingWorker → List Action → List Action → StandingWorker → Option (List ℕ) → Option (List ℕ) → Type 0
 AllPerformed w acts given e old new =
@@ -114,15 +126,13 @@ pub one_more_performed : (w mid : StandingWorker) (e : StandingState) (seat : Se
     → AllPerformed w before given mid a b → HasPerformed mid act answer seat b d
     → ((steps : List (Event × List Action)) × IsTold mid.session mid.now answer steps e × (more ≡ given ++ asked steps))
     → AllPerformed w (before ++ (act ∷ [])) more (stays mid e seat) a d
-one_more_performed w mid e seat before given more act answer a b d (answers, out, performed, kept, appended) (bytes, done, then) (steps, told, is) =
-    let one : Performs mid (act ∷ []) steps bytes (stays mid e seat) =
-    (bytes, [], answer, steps, [], seat, e, done, told, (refl, refl, refl), sym (append-nil steps), sym (append-nil bytes)) in (
-      answers ++ steps,
-      out ++ bytes,
-      performs_on w mid (stays mid e seat) before (act ∷ []) answers steps out bytes performed one,
-      is ∙ (ap (λ (x : List Action). x ++ asked steps) kept ∙ sym (flat_map-append (λ (step : Event × List Action). step.1) answers steps)),
-      Appends-trans a b d out bytes appended then,
-    )
+one_more_performed w mid e seat before given more act answer a b d (answers, out, performed, kept, appended) (bytes, done, then) (steps, told, is) = (
+  answers ++ steps,
+  out ++ bytes,
+  performs_on w mid (stays mid e seat) before (act ∷ []) answers steps out bytes performed (one_performed mid e seat act answer steps bytes done told),
+  is ∙ (ap (λ (x : List Action). x ++ asked steps) kept ∙ sym (flat_map-append (λ (step : Event × List Action). step.1) answers steps)),
+  Appends-trans a b d out bytes appended then,
+)
 
 -- ---- a turn
 
@@ -182,7 +192,7 @@ reopened_first n s mid t tables index default within reopened rest =
     subst (λ (x : List ℕ). AreReopened n s x t) (sym (drop_more tables index default within)) (mid, reopened, rest)
 
 pub ticked : (w e : StandingWorker) (mid : StandingState) (seat : SeatState) (left : List ℕ) (acts rest : List Action) (a b : Option (List ℕ))
-    → Ticks w.session w.now left acts mid → AreReopened w.number w.seat left seat → AllPerformed (stays w mid seat) acts rest e a b → rest ≡ []
+    → Ticks w.session w.now left acts mid → AreReopened w.number w.seat left seat → AllPerformed (stays w mid seat) acts rest e a b
     → (out : List ℕ) × TakesTick w out e × Appends a b out
-ticked w e mid seat left acts rest a b ticks reopened (answers, out, performed, kept, appended) none =
-    (out, (left, acts, answers, mid, seat, ticks, reopened, performed, sym kept ∙ none), appended)
+ticked w e mid seat left acts rest a b ticks reopened (answers, out, performed, kept, appended) =
+    (out, (left, acts, answers, mid, seat, ticks, reopened, performed, tick_ends w e mid seat left acts answers out ticks performed), appended)

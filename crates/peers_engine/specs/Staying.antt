@@ -1,23 +1,28 @@
 -- A session that stays at work. Its turns differ from those of any other in three ways: a call on a table comes at the turn's
 -- moment, or later if the table has a later one; a resync copies up to its session's bound; and the session requests no
 -- resync by itself.
-use Rattle.std.specs.Prelude.{◌≡◌, ◌≤◌, ℕ, nat_eq, Bool, true, false, List, [], ◌∷◌, ◌++◌, Option, Some, None, if◌then◌else◌}
+use Rattle.std.specs.Prelude.{◌≡◌, ◌⊎◌, ◌≤◌, ℕ, nat_eq, Bool, true, false, List, [], ◌∷◌, ◌++◌, map, Option, Some, None, if◌then◌else◌}
 use Rattle.std.specs.Cmp.Lexicographic.{pointwise}
 use Rattle.table_types.specs.declared.copies.CopyKind.{CopyKind}
 use Rattle.table_types.specs.declared.copies.CopyKind.TheVariants as copies
 use Rattle.peers_msg.specs.declared.control.Control.TheVariants as controls
+use Rattle.peers_msg.specs.declared.control.ErrorKind.TheVariants as kinds
 use Rattle.table_shards.specs.Receipts.{SeatState}
 use Rattle.session_core.specs.declared.action.Action.{Action}
 use Rattle.session_core.specs.declared.action.Action.TheVariants as actions
 use Rattle.session_core.specs.declared.event.Event.{Event}
+use Rattle.session_core.specs.declared.event.Event.TheVariants as events
 use Rattle.session_core.specs.declared.state.State.{State}
 use Rattle.session_core.specs.declared.state.State.TheVariants as states
 use Rattle.session_core.specs.Actions.{control_text}
-use Rattle.session_core.specs.Sessions.{state_of}
+use Rattle.session_core.specs.Sessions.{SessionState, ended, state_of}
 use Rattle.session_core.specs.Standing.{StandingState, Stands, Ticks, sent_at}
-use Rattle.peers_engine.specs.Acting.{asked}
+use Rattle.peers_engine.specs.declared.errors.EngineError.{EngineError}
+use Rattle.peers_engine.specs.declared.errors.EngineError.TheVariants as errors
+use Rattle.peers_engine.specs.Acting.{IsCut, IsLost, IsRefused, asked, worker}
 use Rattle.peers_engine.specs.Calls.{IsReopened}
-use Rattle.peers_engine.specs.Doing.{Done}
+use Rattle.peers_engine.specs.Doing.{Done, Fails, IsLeft, IsRefusal}
+use Rattle.peers_engine.specs.Reading.{IsUnread}
 use Rattle.peers_engine.specs.Turns.{first_event}
 
 -- A session that stays, at work: its state, the seat from which it calls the tables, its number in them, and the moment of
@@ -87,6 +92,38 @@ Performs w (act ∷ acts) answers out e =
     × (answers ≡ first ++ rest)
     × (out ≡ bytes ++ more)
 
+-- ---- what is performed up to an error
+
+-- an action fails, as a session that stays performs it, at the turn's moment or later
+abbrev pub IsFailed : StandingWorker → Action → EngineError → List ℕ → SeatState → Type 0
+IsFailed w act error out seat =
+    (at : ℕ) × (w.now ≤ at) × Fails w.number at w.session.session.known w.seat (as_standing act) error out seat
+
+-- the session refuses the event; or receives it, and memory runs out for what it asks for
+abbrev pub DoesNotStay : StandingState → ℕ → Event → EngineError → StandingState → Type 0
+DoesNotStay s now event error e =
+    (IsRefused s.session event error × (e.session ≡ ended s.session))
+    ⊎ ((acts : List Action) × Stands s now event acts e × (error ≡ errors.Memory))
+
+-- The first of the remaining actions was the last, as in any other session that does in its place what one that stays does,
+-- at the turn's moment or later.
+abbrev pub IsCutLate : StandingWorker → List Action → EngineError → List ℕ → SeatState → Type 0
+IsCutLate w acts error out seat =
+    (at : ℕ) × (w.now ≤ at) × IsCut (worker w.session.session w.seat w.number at) (map as_standing acts) error out seat
+
+-- The actions up to one were performed, and then an error came: the answers received, what was written, the session, except
+-- that it is then over, and the seat as it is then.
+abbrev pub PerformsUntil : StandingWorker → List Action → EngineError → List (Event × List Action) → List ℕ → SessionState → SeatState → Type 0
+PerformsUntil w acts error answers out e seat =
+    (before rest : List Action)
+    × (first last : List ℕ)
+    × (mid : StandingWorker)
+    × (acts ≡ before ++ rest)
+    × Performs w before answers first mid
+    × (IsCutLate mid rest error last seat ⊎ (IsLost answers error last × (seat ≡ mid.seat)))
+    × (out ≡ first ++ last)
+    × (ended e ≡ ended mid.session.session)
+
 -- ---- a turn
 
 -- The session receives an event. What it asks for is performed in order, then what the answers ask for, and then what
@@ -119,6 +156,55 @@ TakesStandingTurn w received out e =
     × RespondsTo mid received rest e
     × (out ≡ first ++ rest)
 
+-- ---- a turn up to an error
+
+-- the session refuses the event, and nothing is done
+abbrev pub IsRefusedAt : StandingWorker → Event → EngineError → List ℕ → SessionState → SeatState → Type 0
+IsRefusedAt w event error out e seat =
+    IsRefused w.session.session event error × (out ≡ []) × (ended e ≡ ended w.session.session) × (seat ≡ w.seat)
+
+-- What the event and the answers asked for is performed, but for the error message with which the session parts when a table
+-- refuses an acknowledgement that no message brought.
+abbrev pub LeavesPart : StandingWorker → Event → EngineError → List ℕ → SessionState → SeatState → Type 0
+LeavesPart w event error out e seat =
+    (acts : List Action)
+    × (answers last : List (Event × List Action))
+    × (mid : StandingState)
+    × (end : StandingWorker)
+    × Stands w.session w.now event acts mid
+    × Performs (stays w mid w.seat) (acts ++ asked answers) (answers ++ last) out end
+    × (asked last ≡ actions.Part kinds.Protocol ∷ [])
+    × (state_of end.session.session.phase ≡ states.Ended)
+    × (error ≡ errors.Strange)
+    × (ended e ≡ ended end.session.session)
+    × (seat ≡ end.seat)
+
+-- the session refuses the event; or receives it, and what it asks for is performed up to an error, or but for an error message
+abbrev pub RespondsUntil : StandingWorker → Event → EngineError → List ℕ → SessionState → SeatState → Type 0
+RespondsUntil w event error out e seat =
+    IsRefusedAt w event error out e seat
+    ⊎ (((acts : List Action)
+    × (answers : List (Event × List Action))
+    × (mid : StandingState)
+    × Stands w.session w.now event acts mid
+    × PerformsUntil (stays w mid w.seat) (acts ++ asked answers) error answers out e seat)
+    ⊎ LeavesPart w event error out e seat)
+
+-- the event of a read, if there was one; otherwise the read failed
+abbrev pub RespondsToUntil : StandingWorker → Option Event → EngineError → List ℕ → SessionState → SeatState → Type 0
+RespondsToUntil w None error out e seat = IsUnread error × (out ≡ []) × (ended e ≡ ended w.session.session) × (seat ≡ w.seat)
+RespondsToUntil w (Some event) error out e seat = RespondsUntil w event error out e seat
+
+-- A turn stops at its first event, and leaves the reader alone; or after it, in reading or at the event of that read.
+abbrev pub StopsStandingTurn : Type 0 → StandingWorker → Option Event → EngineError → List ℕ → SessionState → SeatState → Type 0
+StopsStandingTurn untouched w received error out e seat =
+    (untouched × (received ≡ None) × RespondsUntil w (first_event (state_of w.session.session.phase)) error out e seat)
+    ⊎ ((mid : StandingWorker)
+    × (first rest : List ℕ)
+    × Responds w (first_event (state_of w.session.session.phase)) first mid
+    × RespondsToUntil mid received error rest e seat
+    × (out ≡ first ++ rest))
+
 -- ---- a tick
 
 -- the session is closed in these tables and opened anew, one after another
@@ -139,6 +225,27 @@ TakesTick w out e =
     × AreReopened w.number w.seat left seat
     × Performs (stays w mid seat) acts answers out e
     × (asked answers ≡ [])
+
+-- one of these tables isn't reopened, and those before it are
+abbrev pub FailsToReopen : ℕ → SeatState → List ℕ → SeatState → Type 0
+FailsToReopen n s [] t = ⊥
+FailsToReopen n s (table ∷ tables) t =
+    IsLeft n s (actions.Reopen table) t ⊎ ((mid : SeatState) × IsReopened n s table mid × FailsToReopen n mid tables t)
+
+-- The session refuses the tick as it refuses a turn; or a table that it leaves isn't reopened, and nothing is written; or what
+-- it asks for is performed up to an error.
+abbrev pub StopsTick : StandingWorker → EngineError → List ℕ → SessionState → SeatState → Type 0
+StopsTick w error out e seat =
+    IsRefusedAt w events.Turn error out e seat
+    ⊎ ((left : List ℕ)
+    × (acts : List Action)
+    × (mid : StandingState)
+    × Ticks w.session w.now left acts mid
+    × ((IsRefusal error × FailsToReopen w.number w.seat left seat × (out ≡ []) × (ended e ≡ ended mid.session))
+    ⊎ ((answers : List (Event × List Action))
+    × (next : SeatState)
+    × AreReopened w.number w.seat left next
+    × PerformsUntil (stays w mid next) acts error answers out e seat)))
 
 -- ---- a request
 

@@ -7,13 +7,16 @@ mod turning;
 ghost use Rattle.std.specs.Prelude.{◌≡◌, ◌≢◌, ◌↔◌, ℕ, List, Option, Err, IfErr, IfOk, OnErr, OnOk};
 ghost use Rattle.std.specs.Io.KnownBytes.{Appends, Consumes, IsAtEnd};
 ghost use Rattle.peers_devices.specs.Failures.{Rose};
+ghost use Rattle.peers_msg.specs.declared.control.Control.TheVariants as controls;
 ghost use Rattle.session_core.specs.declared.event.Event.{Event};
 ghost use Rattle.session_core.specs.declared.state.State.TheVariants as states;
-ghost use Rattle.session_core.specs.Sessions.{state_of};
+ghost use Rattle.session_core.specs.Actions.{control_text};
+ghost use Rattle.session_core.specs.Sessions.{ended, state_of};
 ghost use Rattle.peers_engine.specs.declared.errors.EngineError.TheVariants as errors;
 ghost use Rattle.peers_engine.specs.declared.staying.Stood.TheVariants as stands;
+ghost use Rattle.peers_engine.specs.Doing.{Falls};
 ghost use Rattle.peers_engine.specs.Reading.{IsRead};
-ghost use Rattle.peers_engine.specs.Staying.{TakesStandingTurn, TakesTick, after_request, can_request, request_text, standing_worker};
+ghost use Rattle.peers_engine.specs.Staying.{StopsStandingTurn, StopsTick, TakesStandingTurn, TakesTick, after_request, can_request, request_text, standing_worker};
 
 use crate::context::Context;
 use crate::errors::EngineError;
@@ -106,7 +109,8 @@ impl StandingWorker {
     /// resync by itself: `request` does that.
     ///
     /// Holds a table's lock for one call at a time, and none while it plans or writes a lesson. After an error the session is
-    /// over, and the seat has the receipts of what was done. A read that fails without being counted gives nothing.
+    /// over; what was done before it is written, and the seat has its receipts. A read that fails without being counted gives
+    /// nothing.
     pub fn turn<H: Wait, R: Read + Faults, W: Write + Faults>(
         &mut self,
         rt: &H,
@@ -122,6 +126,10 @@ impl StandingWorker {
             × Appends (W.contents output.old) (W.contents output.new) out) }
         ensures closed { IfOk result (λ stood. (stood ≡ stands.Closed) ↔ (state_of self.new.session.session.phase ≡ states.Ended)) }
         ensures ended { OnErr result (state_of self.new.session.session.phase ≡ states.Ended) }
+        ensures stopped { IfErr result (λ e. (received : Option Event) × (read out : List ℕ) × IsRead (IsAtEnd (R.remaining input.new)) received read
+            × StopsStandingTurn (input.new ≡ input.old) (standing_worker self.old.session self.old.seat self.old.number now) received e out self.new.session.session self.new.seat
+            × Consumes (R.remaining input.old) (R.remaining input.new) read
+            × Appends (W.contents output.old) (W.contents output.new) out) }
         ensures read { result ≡ Err errors.Read → Rose (R.failed input.old) (R.failed input.new) }
         ensures seat { self.new.seat.number ≡ self.old.seat.number }
         ensures number { self.new.number ≡ self.old.number }
@@ -151,7 +159,7 @@ impl StandingWorker {
     }
 
     /// Takes a tick of the session: reopens the session in the tables that it leaves, and performs what it asks for. Doesn't read.
-    /// After an error the session is over.
+    /// After an error the session is over, as after one of a turn.
     pub fn tick<H: Wait, W: Write + Faults>(
         &mut self,
         rt: &H,
@@ -164,6 +172,8 @@ impl StandingWorker {
             × Appends (W.contents output.old) (W.contents output.new) out) }
         ensures closed { IfOk result (λ stood. (stood ≡ stands.Closed) ↔ (state_of self.new.session.session.phase ≡ states.Ended)) }
         ensures ended { OnErr result (state_of self.new.session.session.phase ≡ states.Ended) }
+        ensures stopped { IfErr result (λ e. (out : List ℕ) × StopsTick (standing_worker self.old.session self.old.seat self.old.number now) e out self.new.session.session self.new.seat
+            × Appends (W.contents output.old) (W.contents output.new) out) }
         ensures unread { IfErr result (λ e. e ≢ errors.Read) }
         ensures seat { self.new.seat.number ≡ self.old.seat.number }
         ensures number { self.new.number ≡ self.old.number }
@@ -192,7 +202,7 @@ impl StandingWorker {
     }
 
     /// Requests a resync if the session is open, and returns whether it did: no other session has anything to request. After
-    /// an error the session is over.
+    /// an error, which is a write, the session is over.
     pub fn request<W: Write + Faults>(
         &mut self,
         output: &mut W,
@@ -202,6 +212,8 @@ impl StandingWorker {
         ensures written { IfOk result (λ done. Appends (W.contents output.old) (W.contents output.new) (request_text done)) }
         ensures session { IfOk result (λ done. self.new.session ≡ after_request done now self.old.session) }
         ensures ended { OnErr result (state_of self.new.session.session.phase ≡ states.Ended) }
+        ensures stopped { IfErr result (λ e. Falls (control_text controls.ResyncRequest) e (W.contents output.old) (W.contents output.new)
+            × (self.new.session.session ≡ ended self.old.session.session)) }
         ensures seat { self.new.seat ≡ self.old.seat }
         ensures number { self.new.number ≡ self.old.number }
     {

@@ -1,6 +1,6 @@
 //! Performing the actions of a session that stays.
 
-ghost use Rattle.std.specs.Prelude.{◌≡◌, ◌≢◌, ◌↔◌, ◌++◌, ℕ, true, List, Option, IfErr, IfOk, OnOk};
+ghost use Rattle.std.specs.Prelude.{◌≡◌, ◌≢◌, ◌↔◌, ◌++◌, ℕ, true, List, Option, Some, IfErr, IfOk, OnOk};
 ghost use Rattle.std.specs.Io.KnownBytes.{Appends};
 ghost use Rattle.session_core.specs.declared.action.Action.{Action};
 ghost use Rattle.session_core.specs.declared.event.Event.{Event};
@@ -9,7 +9,8 @@ ghost use Rattle.session_core.specs.Sessions.{state_of};
 ghost use Rattle.session_core.specs.Standing.{Stands};
 ghost use Rattle.peers_engine.specs.declared.errors.EngineError.TheVariants as errors;
 ghost use Rattle.peers_engine.specs.Acting.{asked};
-ghost use Rattle.peers_engine.specs.Staying.{IsPerformed, IsTold, Performs, is_request, standing_kind, standing_worker, without_request};
+ghost use Rattle.peers_engine.specs.Doing.{Falls};
+ghost use Rattle.peers_engine.specs.Staying.{DoesNotStay, IsFailed, IsPerformed, IsTold, Performs, PerformsUntil, is_request, standing_kind, standing_worker, without_request};
 
 use crate::context::Context;
 use crate::doing::{part, send, teach_batch};
@@ -53,6 +54,7 @@ fn send_bytes<W: Write + Faults>(
     bytes: &[u8],
 ) -> Result<(), EngineError>
     ensures sent { OnOk result (Appends (W.contents output.old) (W.contents output.new) (without_request bytes.now)) }
+    ensures failed { IfErr result (λ e. Falls (without_request bytes.now) e (W.contents output.old) (W.contents output.new)) }
     ensures unread { IfErr result (λ e. e ≢ errors.Read) }
 {
     if is_request(bytes) {
@@ -77,6 +79,9 @@ fn perform<H: Wait, G: Gate, W: Write + Faults>(
     ensures seat { seat.new.number ≡ seat.old.number }
     ensures done { IfOk result (λ answer. (out : List ℕ)
         × IsPerformed (standing_worker session.now seat.old context.now.number context.now.moment) action out answer seat.new
+        × Appends (W.contents output.old) (W.contents output.new) out) }
+    ensures failed { IfErr result (λ e. (out : List ℕ)
+        × IsFailed (standing_worker session.now seat.old context.now.number context.now.moment) action e out seat.new
         × Appends (W.contents output.old) (W.contents output.new) out) }
     ensures unread { IfErr result (λ e. e ≢ errors.Read) }
 {
@@ -126,6 +131,7 @@ fn tell_event(
 ) -> Result<(), EngineError>
     ensures stands { OnOk result ((acts : List Action) × Stands session.old now event acts session.new
         × (given.new.items ≡ given.old.items ++ acts)) }
+    ensures stuck { IfErr result (λ e. DoesNotStay session.old now event e session.new) }
     ensures unread { IfErr result (λ e. e ≢ errors.Read) }
 {
     let mut more = session.on(event, now)?;
@@ -152,6 +158,8 @@ fn tell(
 ) -> Result<(), EngineError>
     ensures told { OnOk result ((steps : List (Event × List Action)) × IsTold session.old now answer steps session.new
         × (given.new.items ≡ given.old.items ++ asked steps)) }
+    ensures stuck { IfErr result (λ e. (event : Event) × (answer ≡ Some event) × (state_of session.old.session.phase ≢ states.Ended)
+        × DoesNotStay session.old now event e session.new) }
     ensures unread { IfErr result (λ e. e ≢ errors.Read) }
 {
     let Some(event) = answer else {
@@ -176,6 +184,9 @@ pub(crate) fn perform_all<H: Wait, G: Gate, W: Write + Faults>(
     ensures done { IfOk result (λ given. (answers : List (Event × List Action)) × (out : List ℕ)
         × Performs (standing_worker session.old seat.old context.now.number context.now.moment) actions.items answers out (standing_worker session.new seat.new context.now.number context.now.moment)
         × (given.items ≡ asked answers)
+        × Appends (W.contents output.old) (W.contents output.new) out) }
+    ensures failed { IfErr result (λ e. (answers : List (Event × List Action)) × (out : List ℕ)
+        × PerformsUntil (standing_worker session.old seat.old context.now.number context.now.moment) actions.items e answers out session.new.session seat.new
         × Appends (W.contents output.old) (W.contents output.new) out) }
     ensures unread { IfErr result (λ e. e ≢ errors.Read) }
 {

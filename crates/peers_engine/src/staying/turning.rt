@@ -1,17 +1,17 @@
 //! Turns and ticks of a session that stays.
 
-ghost use Rattle.std.specs.Prelude.{◌≡◌, ◌≢◌, [], ℕ, List, Option, Err, IfErr, OnOk};
+ghost use Rattle.std.specs.Prelude.{◌≡◌, ◌≢◌, [], ℕ, List, Option, Err, IfErr, OnErr, OnOk};
 ghost use Rattle.std.specs.Io.KnownBytes.{Appends, Consumes, IsAtEnd};
 ghost use Rattle.peers_devices.specs.Failures.{Rose};
 ghost use Rattle.peers_msg.specs.declared.control.Control.TheVariants as controls;
 ghost use Rattle.session_core.specs.declared.event.Event.{Event};
 ghost use Rattle.session_core.specs.declared.state.State.TheVariants as states;
 ghost use Rattle.session_core.specs.Actions.{control_text};
-ghost use Rattle.session_core.specs.Sessions.{state_of};
+ghost use Rattle.session_core.specs.Sessions.{ended, state_of};
 ghost use Rattle.peers_engine.specs.declared.errors.EngineError.TheVariants as errors;
-ghost use Rattle.peers_engine.specs.Doing.{IsRefusal};
+ghost use Rattle.peers_engine.specs.Doing.{Falls, IsRefusal};
 ghost use Rattle.peers_engine.specs.Reading.{IsRead};
-ghost use Rattle.peers_engine.specs.Staying.{AreReopened, Responds, RespondsTo, TakesStandingTurn, TakesTick, standing_worker};
+ghost use Rattle.peers_engine.specs.Staying.{AreReopened, FailsToReopen, Responds, RespondsTo, RespondsToUntil, RespondsUntil, StopsStandingTurn, StopsTick, TakesStandingTurn, TakesTick, standing_worker};
 
 use crate::context::Context;
 use crate::doing::send;
@@ -32,6 +32,7 @@ use table_types::Moment;
 /// Fails with `Strange` if there is more to do.
 fn check_done(rest: &[Action]) -> Result<(), EngineError>
     ensures done { OnOk result (rest.now ≡ []) }
+    ensures strange { IfErr result (λ e. (rest.now ≢ []) × (e ≡ errors.Strange)) }
     ensures unread { IfErr result (λ e. e ≢ errors.Read) }
 {
     if rest.is_empty() {
@@ -44,8 +45,9 @@ fn check_done(rest: &[Action]) -> Result<(), EngineError>
 /// Gives the session an event, performs what it asks for, and then what the answers ask for, and their answers. Returns whether
 /// there was nothing to do: no action, or only copies of this node's own rows from tables that had nothing to teach.
 ///
-/// Fails with `Strange` if the session asks for more than that. It never does: a turn asks for a copy, its answer for a lesson,
-/// and the end of the lesson at most for an acknowledgement to be passed on.
+/// Fails with `Strange` if the session asks for more than that. A turn asks for a copy, its answer for a lesson, and the end of
+/// the lesson at most for an acknowledgement to be passed on. So more is asked for only if a table refuses that acknowledgement,
+/// and it is an error message then.
 fn respond<H: Wait, G: Gate, W: Write + Faults>(
     context: &Context<H, G>,
     session: &mut Standing,
@@ -56,6 +58,8 @@ fn respond<H: Wait, G: Gate, W: Write + Faults>(
 ) -> Result<bool, EngineError>
     ensures seat { seat.new.number ≡ seat.old.number }
     ensures done { OnOk result ((out : List ℕ) × Responds (standing_worker session.old seat.old context.now.number context.now.moment) event out (standing_worker session.new seat.new context.now.number context.now.moment)
+        × Appends (W.contents output.old) (W.contents output.new) out) }
+    ensures failed { IfErr result (λ e. (out : List ℕ) × RespondsUntil (standing_worker session.old seat.old context.now.number context.now.moment) event e out session.new.session seat.new
         × Appends (W.contents output.old) (W.contents output.new) out) }
     ensures unread { IfErr result (λ e. e ≢ errors.Read) }
 {
@@ -81,6 +85,10 @@ fn receive<H: Wait, G: Gate, R: Read + Faults, W: Write + Faults>(
     ensures seat { seat.new.number ≡ seat.old.number }
     ensures done { OnOk result ((received : Option Event) × (read out : List ℕ) × IsRead (IsAtEnd (R.remaining input.new)) received read
         × RespondsTo (standing_worker session.old seat.old context.now.number context.now.moment) received out (standing_worker session.new seat.new context.now.number context.now.moment)
+        × Consumes (R.remaining input.old) (R.remaining input.new) read
+        × Appends (W.contents output.old) (W.contents output.new) out) }
+    ensures failed { IfErr result (λ e. (received : Option Event) × (read out : List ℕ) × IsRead (IsAtEnd (R.remaining input.new)) received read
+        × RespondsToUntil (standing_worker session.old seat.old context.now.number context.now.moment) received e out session.new.session seat.new
         × Consumes (R.remaining input.old) (R.remaining input.new) read
         × Appends (W.contents output.old) (W.contents output.new) out) }
     ensures read { result ≡ Err errors.Read → Rose (R.failed input.old) (R.failed input.new) }
@@ -109,6 +117,10 @@ pub(crate) fn take_turn<H: Wait, G: Gate, R: Read + Faults, W: Write + Faults>(
         × TakesStandingTurn (standing_worker session.old seat.old context.now.number context.now.moment) received out (standing_worker session.new seat.new context.now.number context.now.moment)
         × Consumes (R.remaining input.old) (R.remaining input.new) read
         × Appends (W.contents output.old) (W.contents output.new) out) }
+    ensures failed { IfErr result (λ e. (received : Option Event) × (read out : List ℕ) × IsRead (IsAtEnd (R.remaining input.new)) received read
+        × StopsStandingTurn (input.new ≡ input.old) (standing_worker session.old seat.old context.now.number context.now.moment) received e out session.new.session seat.new
+        × Consumes (R.remaining input.old) (R.remaining input.new) read
+        × Appends (W.contents output.old) (W.contents output.new) out) }
     ensures read { result ≡ Err errors.Read → Rose (R.failed input.old) (R.failed input.new) }
 {
     let event = first_event(session.state());
@@ -128,6 +140,7 @@ fn reopen_all<H: Wait, G>(
     ensures seat { seat.new.number ≡ seat.old.number }
     ensures reopened { OnOk result (AreReopened context.now.number seat.old tables.now seat.new) }
     ensures refused { IfErr result IsRefusal }
+    ensures left { OnErr result (FailsToReopen context.now.number seat.old tables.now seat.new) }
 {
     for table in tables {
         reopen(context, seat, *table)?;
@@ -135,8 +148,8 @@ fn reopen_all<H: Wait, G>(
     Ok(())
 }
 
-/// Takes a tick, but leaves it to the caller to end the session after an error. Returns whether there was nothing to do. Fails
-/// with `Strange` if there is more to do after that; a tick asks for nothing that has an answer.
+/// Takes a tick, but leaves it to the caller to end the session after an error. Returns whether there was nothing to do. A tick
+/// asks for nothing that has an answer, so nothing is left to do after that.
 pub(crate) fn take_tick<H: Wait, G: Gate, W: Write + Faults>(
     context: &Context<H, G>,
     session: &mut Standing,
@@ -147,27 +160,30 @@ pub(crate) fn take_tick<H: Wait, G: Gate, W: Write + Faults>(
     ensures seat { seat.new.number ≡ seat.old.number }
     ensures done { OnOk result ((out : List ℕ) × TakesTick (standing_worker session.old seat.old context.now.number context.now.moment) out (standing_worker session.new seat.new context.now.number context.now.moment)
         × Appends (W.contents output.old) (W.contents output.new) out) }
+    ensures failed { IfErr result (λ e. (out : List ℕ) × StopsTick (standing_worker session.old seat.old context.now.number context.now.moment) e out session.new.session seat.new
+        × Appends (W.contents output.old) (W.contents output.new) out) }
     ensures unread { IfErr result (λ e. e ≢ errors.Read) }
 {
     let Ticked { left, actions } = session.tick(context.moment)?;
     let is_idle = left.is_empty() && actions.is_empty();
     tally.note_left(left.as_slice());
     reopen_all(context, seat, left.as_slice())?;
-    let rest = perform_all(context, session, output, seat, tally, actions)?;
-    check_done(rest.as_slice())?;
+    perform_all(context, session, output, seat, tally, actions)?;
     Ok(is_idle)
 }
 
 /// Writes a resync request.
 pub(crate) fn request<W: Write + Faults>(output: &mut W) -> Result<(), EngineError>
-    ensures { OnOk result (Appends (W.contents output.old) (W.contents output.new) (control_text controls.ResyncRequest)) }
+    ensures ok { OnOk result (Appends (W.contents output.old) (W.contents output.new) (control_text controls.ResyncRequest)) }
+    ensures failed { IfErr result (λ e. Falls (control_text controls.ResyncRequest) e (W.contents output.old) (W.contents output.new)) }
 {
     send(output, &[0, 0])
 }
 
 /// Ends the session after an error.
 pub(crate) fn end(session: &mut Standing, now: Moment)
-    ensures { state_of session.new.session.phase ≡ states.Ended }
+    ensures over { state_of session.new.session.phase ≡ states.Ended }
+    ensures ended { session.new.session ≡ ended session.old.session }
 {
     let _closing = session.on(Event::End, now);
 }

@@ -1,8 +1,10 @@
 use Rattle.std.proofs.Common.{Some, None, refl}
+use Rattle.std.proofs.lemmas.Result.{err_from_is_err_and}
 use Rattle.session_core.specs.declared.action.Action.TheVariants as actions
 use Rattle.peers_engine.specs.Staying.{standing_worker}
-use Rattle.peers_engine.proofs.AnswerLaws.{ack_done, close_done, part_done, reopen_done, teach_done}
+use Rattle.peers_engine.proofs.AnswerLaws.{ack_done, close_done, part_done, part_falls, reopen_done, teach_done, teach_fails}
 use Rattle.peers_engine.proofs.StayLaws.{batch_copied, bytes_sent, performed_now, row_learned}
+use Rattle.peers_engine.proofs.UntilLaws.{bytes_fall, failed_now, table_fails}
 use Rattle.peers_engine.proofs.staying.performing.perform.Goals as goal
 
 pub returns-in_ok-send_bytes-in-Send-clause-done : goal.returns-in_ok-send_bytes-in-Send-clause-done
@@ -55,3 +57,52 @@ returns-in-Close-clause-done g c =
     let known = g.W.Write.contents c.args.output.now in
     performed_now (standing_worker c.args.session.now c.args.seat.now c.args.context.now.number c.args.context.now.moment) c.args.seat.now c.args.action actions.Close None known known c.in-Close.is
     (close_done c.args.context.now.number c.args.context.now.moment c.args.session.now.session.known c.args.seat.now actions.Close known refl)
+
+pub returns-in_err-send_bytes-in-Send-clause-failed : goal.returns-in_err-send_bytes-in-Send-clause-failed
+returns-in_err-send_bytes-in-Send-clause-failed g c =
+    let p = err_from_is_err_and c.from_residual.result c.from_residual.ensures.1 in
+    rw (p.1, p.2)
+    (bytes_fall (standing_worker c.args.session.now c.args.seat.now c.args.context.now.number c.args.context.now.moment) c.args.action c.in-Send.bytes c.as_slice.result.now c.in_err-send_bytes-in-Send.field-0.0
+    (g.W.Write.contents c.args.output.now) (g.W.Write.contents c.send_bytes.new.output) c.in-Send.is c.as_slice.ensures c.in_err-send_bytes-in-Send.ensures.failed)
+
+pub returns-in_err-learn_late-in-Learn-clause-failed : goal.returns-in_err-learn_late-in-Learn-clause-failed
+returns-in_err-learn_late-in-Learn-clause-failed g c =
+    let p = err_from_is_err_and c.from_residual-in_err-learn_late-in-Learn.result c.from_residual-in_err-learn_late-in-Learn.ensures.1 in
+    rw (p.1, p.2)
+    (table_fails (standing_worker c.args.session.now c.args.seat.now c.args.context.now.number c.args.context.now.moment) c.learn_late.new.seat c.args.action (actions.Learn c.in-Learn.update) c.in_err-learn_late-in-Learn.field-0.0
+    (g.W.Write.contents c.args.output.now) c.in-Learn.is tt c.in_err-learn_late-in-Learn.ensures.refused c.in_err-learn_late-in-Learn.ensures.stays)
+
+pub returns-in_err-answer-in-Ack-clause-failed : goal.returns-in_err-answer-in-Ack-clause-failed
+returns-in_err-answer-in-Ack-clause-failed g c =
+    let p = err_from_is_err_and c.from_residual-in_err-answer-in-Ack.result c.from_residual-in_err-answer-in-Ack.ensures.1 in
+    rw (p.1, p.2)
+    (table_fails (standing_worker c.args.session.now c.args.seat.now c.args.context.now.number c.args.context.now.moment) c.acknowledge.new.seat c.args.action (actions.Ack c.in-Ack.table c.in-Ack.number) c.in_err-answer-in-Ack.field-0.0
+    (g.W.Write.contents c.args.output.now) c.in-Ack.is tt c.in_err-answer-in-Ack.ensures.refused c.in_err-answer-in-Ack.ensures.stays)
+
+pub returns-in_err-reopen-in-Reopen-clause-failed : goal.returns-in_err-reopen-in-Reopen-clause-failed
+returns-in_err-reopen-in-Reopen-clause-failed g c =
+    let p = err_from_is_err_and c.from_residual-in_err-reopen-in-Reopen.result c.from_residual-in_err-reopen-in-Reopen.ensures.1 in
+    rw (p.1, p.2)
+    (table_fails (standing_worker c.args.session.now c.args.seat.now c.args.context.now.number c.args.context.now.moment) c.reopen.new.seat c.args.action (actions.Reopen c.in-Reopen.table) c.in_err-reopen-in-Reopen.field-0.0
+    (g.W.Write.contents c.args.output.now) c.in-Reopen.is tt c.in_err-reopen-in-Reopen.ensures.refused c.in_err-reopen-in-Reopen.ensures.left)
+
+pub returns-in_err-answer-in-Copy-clause-failed : goal.returns-in_err-answer-in-Copy-clause-failed
+returns-in_err-answer-in-Copy-clause-failed g c =
+    let p = err_from_is_err_and c.from_residual-in_err-answer-in-Copy.result c.from_residual-in_err-answer-in-Copy.ensures.1 in
+    rw (p.1, p.2)
+    (table_fails (standing_worker c.args.session.now c.args.seat.now c.args.context.now.number c.args.context.now.moment) c.copy_late.new.seat c.args.action (actions.Copy c.in-Copy.table c.in-Copy.kind) c.in_err-answer-in-Copy.field-0.0
+    (g.W.Write.contents c.args.output.now) c.in-Copy.is tt c.in_err-answer-in-Copy.ensures.refused c.in_err-answer-in-Copy.ensures.stays)
+
+pub returns-in_err-answer-in-Teach-clause-failed : goal.returns-in_err-answer-in-Teach-clause-failed
+returns-in_err-answer-in-Teach-clause-failed g c =
+    let p = err_from_is_err_and c.from_residual-in_err-answer-in-Teach.result c.from_residual-in_err-answer-in-Teach.ensures.1 in
+    rw (p.1, p.2)
+    (failed_now (standing_worker c.args.session.now c.args.seat.now c.args.context.now.number c.args.context.now.moment) c.teach_batch.new.seat c.args.action (actions.Teach c.in-Teach.batch) c.in_err-answer-in-Teach.field-0.0 (g.W.Write.contents c.args.output.now) (g.W.Write.contents c.teach_batch.new.output) c.in-Teach.is
+    (teach_fails c.args.context.now.number c.args.context.now.moment c.known.result.now c.args.session.now.session.known c.args.seat.now c.teach_batch.new.seat (actions.Teach c.in-Teach.batch) c.in-Teach.batch (g.W.Write.contents c.args.output.now) (g.W.Write.contents c.teach_batch.new.output) c.in_err-answer-in-Teach.field-0.0 refl c.known.ensures c.in_err-answer-in-Teach.ensures.failed))
+
+pub returns-in_err-part-in-Part-clause-failed : goal.returns-in_err-part-in-Part-clause-failed
+returns-in_err-part-in-Part-clause-failed g c =
+    let p = err_from_is_err_and c.from_residual-in_err-part-in-Part.result c.from_residual-in_err-part-in-Part.ensures.1 in
+    rw (p.1, p.2)
+    (failed_now (standing_worker c.args.session.now c.args.seat.now c.args.context.now.number c.args.context.now.moment) c.args.seat.now c.args.action (actions.Part c.in-Part.kind) c.in_err-part-in-Part.field-0.0 (g.W.Write.contents c.args.output.now) (g.W.Write.contents c.part.new.output) c.in-Part.is
+    (part_falls c.args.context.now.number c.args.context.now.moment c.args.session.now.session.known c.args.seat.now (actions.Part c.in-Part.kind) c.in-Part.kind c.in_err-part-in-Part.field-0.0 (g.W.Write.contents c.args.output.now) (g.W.Write.contents c.part.new.output) refl c.in_err-part-in-Part.ensures.failed))

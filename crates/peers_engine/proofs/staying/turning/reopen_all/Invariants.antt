@@ -1,11 +1,12 @@
 use Rattle.std.proofs.Common.{◌≡◌, drop}
 use Rattle.table_shards.specs.Receipts.{SeatState}
-use Rattle.peers_engine.specs.Staying.{AreReopened}
+use Rattle.peers_engine.specs.Staying.{AreReopened, FailsToReopen}
 use Rattle.peers_engine.proofs.staying.turning.reopen_all.Given as goal
 
--- once the session is reopened in the tables that are left, it is in all
+-- once the session is reopened in the tables that are left, it is in all; if it isn't in one of those, it isn't in one of all
 abbrev pub invariant-loop-table : goal.invariant-loop-table
 invariant-loop-table g l = record {
   reopened : (t : SeatState) → AreReopened l.context.number l.seat (drop l.table-index l.tables) t → AreReopened l.context.number l.fn.seat l.tables t;
+  left : (t : SeatState) → FailsToReopen l.context.number l.seat (drop l.table-index l.tables) t → FailsToReopen l.context.number l.fn.seat l.tables t;
   seat : l.seat.number ≡ l.fn.seat.number;
 }

@@ -1,6 +1,9 @@
-use Rattle.std.proofs.Common.{◌∙◌, ℕ, List, sym, subst}
-use Rattle.peers_engine.specs.Staying.{AreReopened, standing_worker}
+use Rattle.std.proofs.Common.{ℕ, List, refl, subst}
+use Rattle.std.proofs.lemmas.Result.{err_from_is_err_and}
+use Rattle.peers_engine.specs.declared.errors.EngineError.TheVariants as errors
+use Rattle.peers_engine.specs.Staying.{AreReopened, FailsToReopen, standing_worker}
 use Rattle.peers_engine.proofs.StayLaws.{ticked}
+use Rattle.peers_engine.proofs.UntilLaws.{tick_fails, tick_left, tick_refused}
 use Rattle.peers_engine.proofs.staying.turning.take_tick.Goals as goal
 
 pub returns-clause-done : goal.returns-clause-done
@@ -8,8 +11,35 @@ returns-clause-done g c =
     let contents = g.W.Write.contents in
     let given = c.in_ok-left.field-0 in
     ticked (standing_worker c.args.session.now c.args.seat.now c.args.context.now.number c.args.context.now.moment) (standing_worker c.perform_all.new.session c.perform_all.new.seat c.args.context.now.number c.args.context.now.moment)
-    c.tick.new.self c.reopen_all.new.seat given.left.items given.actions.items c.in_ok-rest.rest.items
+    c.tick.new.self c.reopen_all.new.seat given.left.items given.actions.items c.in_ok-perform_all.field-0.items
     (contents c.args.output.now) (contents c.perform_all.new.output)
     c.in_ok-left.ensures.ticks
     (subst (λ (x : List ℕ). AreReopened c.args.context.now.number c.args.seat.now x c.reopen_all.new.seat) c.as_slice-2.ensures.value c.in_ok-reopen_all.ensures.reopened)
-    c.in_ok-rest.ensures.done (sym c.as_slice-3.ensures.value ∙ c.in_ok-check_done.ensures.done)
+    c.in_ok-perform_all.ensures.done
+
+pub returns-in_err-left-clause-failed : goal.returns-in_err-left-clause-failed
+returns-in_err-left-clause-failed g c =
+    let p = err_from_is_err_and c.from_residual.result c.from_residual.ensures.1 in
+    rw (p.1, p.2)
+    (tick_refused (standing_worker c.args.session.now c.args.seat.now c.args.context.now.number c.args.context.now.moment) c.tick.new.self.session (errors.Session c.in_err-left.field-0.0) (g.W.Write.contents c.args.output.now) (c.in_err-left.field-0.0, c.in_err-left.ensures.refused, refl) c.in_err-left.ensures.ended)
+
+pub returns-in_err-reopen_all-clause-failed : goal.returns-in_err-reopen_all-clause-failed
+returns-in_err-reopen_all-clause-failed g c =
+    let given = c.in_ok-left.field-0 in
+    let p = err_from_is_err_and c.from_residual-in_err-reopen_all.result c.from_residual-in_err-reopen_all.ensures.1 in
+    rw (p.1, p.2)
+    (tick_left (standing_worker c.args.session.now c.args.seat.now c.args.context.now.number c.args.context.now.moment) c.tick.new.self c.reopen_all.new.seat given.left.items given.actions.items c.in_err-reopen_all.field-0.0 (g.W.Write.contents c.args.output.now)
+    c.in_ok-left.ensures.ticks c.in_err-reopen_all.ensures.refused
+    (subst (λ (x : List ℕ). FailsToReopen c.args.context.now.number c.args.seat.now x c.reopen_all.new.seat) c.as_slice-2.ensures.value c.in_err-reopen_all.ensures.left))
+
+pub returns-in_err-perform_all-clause-failed : goal.returns-in_err-perform_all-clause-failed
+returns-in_err-perform_all-clause-failed g c =
+    let contents = g.W.Write.contents in
+    let given = c.in_ok-left.field-0 in
+    let p = err_from_is_err_and c.from_residual-in_err-perform_all.result c.from_residual-in_err-perform_all.ensures.1 in
+    rw (p.1, p.2)
+    (tick_fails (standing_worker c.args.session.now c.args.seat.now c.args.context.now.number c.args.context.now.moment) c.tick.new.self c.perform_all.new.session.session c.reopen_all.new.seat c.perform_all.new.seat given.left.items given.actions.items c.in_err-perform_all.field-0.0
+    (contents c.args.output.now) (contents c.perform_all.new.output)
+    c.in_ok-left.ensures.ticks
+    (subst (λ (x : List ℕ). AreReopened c.args.context.now.number c.args.seat.now x c.reopen_all.new.seat) c.as_slice-2.ensures.value c.in_ok-reopen_all.ensures.reopened)
+    c.in_err-perform_all.ensures.failed)
