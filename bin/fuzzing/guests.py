@@ -143,7 +143,8 @@ class Guest(Far):
 
 
 class Visitor:
-    """A peer of a node that stays: it connects, or is connected to, as often as its acts need it. `has_asked` is whether a resync was the last."""
+    """A peer of a node that stays: it connects, or is connected to, as often as its acts need it. `has_asked` is whether its last
+    act asked for a resync."""
 
     def __init__(self, stand, case, listener):
         self.stand, self.case, self.listener = stand, case, listener

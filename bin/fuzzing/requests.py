@@ -1,7 +1,7 @@
 """Clients of the admin port of a node that stays (docs/FORMATS.md, section 14).
 
   ask LINES PIECES      requests over one connection, one after another, in so many pieces; each has its answer
-  long LENGTH           a request of so many bytes
+  long LENGTH ENDS      a request of so many bytes, and its line feed if it ends
   half BYTES            the beginning of a request, over a connection that stays
   crowd COUNT           connections at once
   deaf LINE TIMES       requests, over a connection that doesn't read and stays
@@ -282,7 +282,7 @@ class Client:
         reader.close()
 
     def rubbish(self, data):
-        """What no client says. Each line is answered, and the connection closed at the end of the input."""
+        """What no client says. What comes back is whole lines, and the connection is closed at the end of the input."""
         reader = self.opened()
         reader.send(data)
         try:

@@ -30,7 +30,7 @@ PAUSE = 0.02
 # second half of many rounds. With another patience than 5 s, which is for a program built without proof, each is as much more.
 ANSWERED, MOST_GROWTH, MOST_LEVEL = 0.1, 64, 16
 USUAL_PATIENCE = 5
-# How many acts a case with several rounds has in all.
+# How many acts a case with several rounds plays at most, over all rounds.
 MOST_ACTS = 30
 LOG_LINE = re.compile(rb'peer [bcd](?: [ -~]+)?')
 
