@@ -28,7 +28,7 @@ AT_ONCE = 20
 LIMIT = 600
 # Those that take longest, which begin first.
 LONGEST = """million-changes haproxy-starts-again haproxy-that-connects haproxy-that-is-connected-to deaf stops-beside-the-deaf
-    heartbeats heartbeats-of-a-connector three-faults bytes-are-enough silent silent-to-a-connector two-of-three-killed
+    heartbeats heartbeats-of-a-connector idle three-faults bytes-are-enough silent silent-to-a-connector two-of-three-killed
     killed-and-started-again stopped-and-started-again no-answer-to-a-hello refused-by-a-status""".split()
 
 

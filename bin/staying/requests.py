@@ -246,6 +246,34 @@ def stops(trial):
 
 
 @check
+def stop_teaches_first(trial):
+    """stop ends a session once its peer has acknowledged what was answered before"""
+    node = node_of_b(trial, tables=(T1,))
+    far = connected(trial, node)
+    up_to_date(node)
+    time.sleep(0.5)
+    admin = node.admin()
+    admin.send(''.join('track t1 %d add gpc0 1\n' % key for key in range(2000)))
+    answered = sum(admin.line(5).startswith('reply') for _ in range(2000))
+    equal(answered, 2000, 'answers')
+    between(0, node.stop(), 2, 'seconds until it has ended')
+    for key in (0, 1000, 1999):
+        far.gets_row('t1', key, (1,), 1)
+
+
+@check
+def stop_waits_a_second(trial):
+    """stop waits for a peer that doesn't acknowledge, but not for long"""
+    node = node_of_b(trial, tables=(T1,))
+    far = connected(trial, node, manners=Manners(acks='none'))
+    up_to_date(node)
+    node.ask('track t1 7 add gpc0 1')
+    far.gets_row('t1', 7, (1,))
+    between(0.9, node.stop(), 3, 'seconds until it has ended')
+    far.ends(1)
+
+
+@check
 def stops_beside_the_deaf(trial):
     """stop ends a node also while a client and a peer don't read"""
     node = node_of_b(trial, peers=('b', 'c'), tables=('table 1 long string 8192 0 gpc0',))

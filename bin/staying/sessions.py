@@ -1,5 +1,6 @@
 """Sessions of a node that stays: how they begin, what keeps them up, and how they end."""
 
+import os
 import time
 
 from fuzzing.messages import acknowledgement
@@ -131,6 +132,33 @@ def heartbeats_of_a_connector(trial):
     door, node = node_with_door(trial)
     beats(door.far())
     between(3, int(node.peer('b')['heartbeats_sent']), 6, 'heartbeats sent')
+
+
+def wakes(node):
+    """Returns how often the threads of a node have waited for something so far."""
+    tasks, count = '/proc/%d/task' % node.child.pid, 0
+    for task in os.listdir(tasks):
+        with open('%s/%s/status' % (tasks, task)) as file:
+            count += next(int(line.split()[1]) for line in file if line.startswith('voluntary_ctxt_switches:'))
+    return count
+
+
+@check
+def idle(trial):
+    """a node with 15 peers that have nothing to say sleeps most of the time"""
+    names = ['b%d' % place for place in range(15)]
+    node = Node(trial, peers=names).start()
+    fars = [connected(trial, node, name) for name in names]
+    up_to_date(node)
+    time.sleep(4)
+    before, begun = wakes(node), time.monotonic()
+    time.sleep(8)
+    between(1, (wakes(node) - before) / (time.monotonic() - begun), 80, 'wakes a second')
+    for far in fars:
+        far.stands()
+    node.ask('track t1 7 add gpc0 1')
+    for far in fars:
+        far.gets_row('t1', 7, (1,), 1)
 
 
 @check

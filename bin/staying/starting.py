@@ -1,12 +1,14 @@
 """How a node that stays starts: its configuration, its ports, its command line."""
 
+import os
 import socket
 import subprocess
+import sys
 import time
 
 from peering.far import Door
 from peering.node import T1, Node, address
-from peering.trial import PATIENCE, check, equal, require
+from peering.trial import PATIENCE, Skipped, check, equal, require
 
 NEEDED = b'node n\nlisten 127.0.0.1:%d\n' + T1.encode() + b'\n'
 
@@ -73,6 +75,44 @@ def taken_port(trial):
 def foreign_address(trial):
     """an address that isn't this host's can't be had"""
     port_taken(trial, b'node n\nlisten 203.0.113.1:%d\n' % trial.ports.next())
+
+
+# Runs a program as another user, who may have only so many threads; root may have any number.
+FEW_THREADS = '''
+import os, resource, sys
+user, threads = int(sys.argv[1]), int(sys.argv[2])
+os.setgid(user)
+os.setuid(user)
+resource.setrlimit(resource.RLIMIT_NPROC, (threads, threads))
+os.execv(sys.argv[3], sys.argv[3:])
+'''
+
+
+@check
+def too_few_threads(trial):
+    """a thread that can't be started, whichever it is, is a device fault before any connection is made"""
+    if os.getuid() != 0:
+        raise Skipped('not root')
+    door = Door(trial)
+    peers = b''.join(b'peer b%d %s\n' % (place, address(door.port).encode()) for place in range(15))
+    text = NEEDED % trial.ports.next() + peers
+
+    def run(threads, *words):
+        """Runs the program with at most so many threads, as a user who has no other process."""
+        command = [sys.executable, '-c', FEW_THREADS, str(60_000 + door.port), str(threads), trial.program, 'run', *words]
+        try:
+            run = subprocess.run(command, input=text, capture_output=True, timeout=PATIENCE, check=False)
+        except subprocess.TimeoutExpired:
+            require(False, 'it does not end with %d threads' % threads)
+        return run.returncode, run.stdout, run.stderr
+
+    if run(9, '--check') != (0, b'', b''):
+        raise Skipped('another user cannot run the program')
+    # One thread keeps the log, one the tables, fifteen the peers, and four the doors.
+    for threads in (1, 2, 3, 10, 17, 18, 19, 20):
+        equal(run(threads), (4, b'', b'device\n'), 'the end with %d threads' % threads)
+    time.sleep(0.3)
+    equal(door.tries, [], 'connections of a node that could not start')
 
 
 @check

@@ -22,11 +22,19 @@ const WRITE_TIMEOUT: u64 = 4_000;
 /// The size of one read.
 const PIECE: usize = 16_384;
 
-/// How long a connection to this node's own admin port takes at most, in milliseconds.
+/// How long a connection to a port of this node takes at most, in milliseconds.
 const WAKING: u64 = 100;
 
 /// How long the port waits after a connection couldn't be accepted, in milliseconds.
 const PAUSE: u64 = 20;
+
+/// Connects to a port of this node, so that the thread that accepts connections there wakes.
+pub(crate) fn wake<N: Net<Listener = TcpListener, Stream = TcpStream>>(
+    rt: &N,
+    address: &SocketAddr,
+) {
+    let _woken = TcpStream::connect_timeout(rt, address, milliseconds(WAKING));
+}
 
 /// The clients' connections.
 #[derive(Drop)]
@@ -159,7 +167,7 @@ impl AdminPort {
     /// that accepts connections wakes.
     pub(crate) fn end<N: Net<Listener = TcpListener, Stream = TcpStream> + Wait>(&self, rt: &N) {
         self.clients.end(rt);
-        let _woken = TcpStream::connect_timeout(rt, &self.address, milliseconds(WAKING));
+        wake(rt, &self.address);
     }
 }
 

@@ -14,6 +14,7 @@ use peers_hello::{Answer, Hello};
 use std::alloc::Global;
 use std::io::{Read, Write};
 use std::net::{TcpListener, TcpStream};
+use std::os::fd::OwnedFd;
 use std::sync::{Mutex, Wait};
 use std::time::Clock;
 use std::{io, thread};
@@ -28,8 +29,8 @@ const HELLO: u64 = 5_000;
 /// How long a read waits before a door looks around, in milliseconds.
 const LOOK: u64 = 50;
 
-/// How often a door looks for a connection, in milliseconds.
-const POLL: u64 = 20;
+/// How long a door waits for a connection before it looks around, in milliseconds.
+const ACCEPT: u64 = 100;
 
 /// How long a door watches whether a connection stays, if a session with its peer stands, in milliseconds.
 const STAY: u64 = 300;
@@ -172,9 +173,15 @@ fn stays(stream: &TcpStream) -> bool {
     }
 }
 
+/// Has each door that accepts a connection wait for at most `ACCEPT`. The system counts that as the timeout of a read of the
+/// listening socket, which another handle of the socket can set.
+pub(crate) fn limit_accepts(listener: &TcpListener) -> io::Result<()> {
+    let socket = TcpStream::from(OwnedFd::from(listener.try_clone()?));
+    socket.set_read_timeout(Some(milliseconds(ACCEPT)))
+}
+
 /// Prepares a connection for its hello.
 fn greeted(stream: TcpStream) -> io::Result<TcpStream> {
-    stream.set_nonblocking(false)?;
     stream.set_read_timeout(Some(milliseconds(LOOK)))?;
     stream.set_write_timeout(Some(milliseconds(HELLO)))?;
     Ok(stream)
@@ -191,11 +198,16 @@ struct Door<'a, R> {
 }
 
 impl<'a, R: Wait + Clock> Door<'a, R> {
-    /// Returns a connection that waits, if there is one.
-    fn waiting(&self) -> Option<TcpStream> {
+    /// Waits for a connection, for at most `ACCEPT`, and returns it.
+    fn accept(&self) -> Option<TcpStream> {
         match self.listener.accept() {
             Ok((stream, _)) => greeted(stream).ok(),
-            Err(_) => None,
+            Err(error) => {
+                if !is_pause(error.kind()) {
+                    thread::sleep(self.rt, milliseconds(ACCEPT));
+                }
+                None
+            }
         }
     }
 
@@ -207,10 +219,9 @@ impl<'a, R: Wait + Clock> Door<'a, R> {
             if self.node.stops() {
                 return None;
             }
-            if let Some(stream) = self.waiting() {
+            if let Some(stream) = self.accept() {
                 return Some(stream);
             }
-            thread::sleep(rt, milliseconds(POLL));
         }
         unreachable!()
     }
@@ -240,7 +251,7 @@ impl<'a, R: Wait + Clock> Door<'a, R> {
         if !self.doors.is_first(self.rt, self.index) {
             return None;
         }
-        let other = self.waiting()?;
+        let other = self.accept()?;
         Some(Found::Other(other))
     }
 
@@ -294,8 +305,11 @@ impl<'a, R: Wait + Clock> Door<'a, R> {
         }
     }
 
-    /// Takes connections for as long as the node runs.
+    /// Takes connections for as long as the node runs, from when its threads have started.
     fn keep(&self) {
+        if !self.node.wait_to_connect(self.rt) {
+            return;
+        }
         let mut next = None;
         for _ in self.rt.forever() {
             let stream = match next {

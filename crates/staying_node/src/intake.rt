@@ -32,6 +32,8 @@ pub(crate) struct Intake<'a, R> {
     /// How many bytes of it were read.
     taken: usize,
     failures: u64,
+    /// The bytes that were taken from the inbox.
+    pub(crate) total: u64,
     /// Whether the end of the input was read.
     pub(crate) ended: bool,
 }
@@ -53,6 +55,7 @@ impl<'a, R> Intake<'a, R> {
             sifted: Vec::new(alloc),
             taken: 0,
             failures: 0,
+            total: 0,
             ended: false,
         }
     }
@@ -116,6 +119,7 @@ impl<'a, R: Wait> Intake<'a, R> {
             self.ended = true;
             return Ok(false);
         }
+        self.total = self.total.saturating_add(count as u64);
         match self.sift(&piece[..count]) {
             Ok(()) => Ok(true),
             Err(_) => Err(ErrorKind::OutOfMemory.into()),

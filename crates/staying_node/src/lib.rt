@@ -22,5 +22,6 @@ mod sessions;
 mod slot;
 mod status;
 mod tables;
+mod ticks;
 
 pub use running::run;

@@ -1,5 +1,6 @@
 //! The node's log.
 
+use crate::bell::Bell;
 use std::alloc::{AllocError, Global};
 use std::sync::{Mutex, Wait};
 use table_types::Name;
@@ -11,6 +12,8 @@ const MOST_BYTES: usize = 65_536;
 #[derive(Drop)]
 pub(crate) struct Log {
     alloc: Global,
+    /// Rings at each line, and when the node stops.
+    pub(crate) bell: Bell,
     lines: Mutex<Vec<u8>>,
 }
 
@@ -19,6 +22,7 @@ impl Log {
     pub(crate) fn new(alloc: Global) -> Log {
         Log {
             alloc,
+            bell: Bell::new(),
             lines: Mutex::new(Vec::new(alloc)),
         }
     }
@@ -33,6 +37,8 @@ impl Log {
         if push_line(&mut lines, peer, words).is_err() {
             lines.truncate(before);
         }
+        drop(lines);
+        self.bell.ring(rt);
     }
 
     /// Takes the lines that wait.

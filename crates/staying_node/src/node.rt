@@ -18,6 +18,15 @@ use table_types::{Memory, Name, Roster};
 /// How many threads answer requests.
 pub(crate) const MOST_REQUESTERS: u32 = 32;
 
+/// How long a thread that waits for a bell waits at most, in milliseconds.
+pub(crate) const REST: u64 = 5_000;
+
+/// How long a node that stops waits for its peers, in milliseconds.
+const LAST: u64 = 1_000;
+
+/// How often it looks meanwhile whether a session stands, in milliseconds.
+const ENDING: u64 = 10;
+
 /// What the threads of a node share.
 #[derive(Drop)]
 pub(crate) struct Node {
@@ -34,8 +43,10 @@ pub(crate) struct Node {
     pub(crate) catching_up: CatchingUp,
     pub(crate) log: Log,
     pub(crate) faults: FaultCounts,
-    /// Rings when the node is up to date, and when it stops.
+    /// Rings when all threads of the node have started, when the node is up to date, and when it stops.
     pub(crate) changed: Bell,
+    /// Whether all threads of the node have started.
+    started: AtomicBool,
     stopped: AtomicBool,
     /// Whether requests to track keys no longer wait.
     tracks: AtomicBool,
@@ -149,6 +160,7 @@ impl Node {
             log: Log::new(alloc),
             faults: FaultCounts::new(alloc),
             changed: Bell::new(),
+            started: AtomicBool::new(false),
             stopped: AtomicBool::new(false),
             tracks: AtomicBool::new(false),
             paused: AtomicBool::new(false),
@@ -156,16 +168,53 @@ impl Node {
         Ok((node, seats))
     }
 
+    /// Lets connections begin, since all threads of the node have started.
+    pub(crate) fn start<R: Wait>(&self, rt: &R) {
+        self.started.store(true, Ordering::SeqCst);
+        self.changed.ring(rt);
+    }
+
+    /// Waits until connections may begin: until all threads of the node have started. Returns `false` if the node stops, as it does
+    /// if one can't be started.
+    pub(crate) fn wait_to_connect<R: Wait + Clock>(&self, rt: &R) -> bool {
+        for _ in rt.forever() {
+            let seen = self.changed.rings(rt);
+            if self.stops() {
+                return false;
+            }
+            if self.started.load(Ordering::SeqCst) {
+                return true;
+            }
+            self.changed.wait(rt, seen, milliseconds(REST));
+        }
+        unreachable!()
+    }
+
     /// Returns whether the node stops.
     pub(crate) fn stops(&self) -> bool {
         self.stopped.load(Ordering::SeqCst)
     }
 
-    /// Stops the node: wakes all its threads, which then end.
+    /// Stops the node: wakes all its threads, which then end. A session ends once its peer has acknowledged what the node had to
+    /// teach.
     pub(crate) fn stop<R: Wait>(&self, rt: &R) {
         self.stopped.store(true, Ordering::SeqCst);
         self.changed.ring(rt);
+        self.log.bell.ring(rt);
         self.ring_all(rt);
+    }
+
+    /// Waits until no session stands, for `LAST` at most, and then shuts down the connections of those that do.
+    pub(crate) fn end_sessions<R: Wait + Clock>(&self, rt: &R) {
+        let until = self.clock.milliseconds(rt).saturating_add(LAST);
+        for _ in rt.forever() {
+            let seen = self.changed.rings(rt);
+            let now = self.clock.milliseconds(rt);
+            if now >= until || !self.slots.iter().any(|slot| slot.has_session(rt)) {
+                break;
+            }
+            self.changed.wait(rt, seen, milliseconds(ENDING));
+        }
         self.shut_all(rt);
     }
 
@@ -190,6 +239,12 @@ impl Node {
         for slot in &self.slots {
             slot.shut(rt);
         }
+    }
+
+    /// Wakes all whom it concerns whether the node is up to date, and which peer is being asked.
+    pub(crate) fn tell_of_catching_up<R: Wait>(&self, rt: &R) {
+        self.changed.ring(rt);
+        self.ring_all(rt);
     }
 
     /// Rings the bell of each peer.

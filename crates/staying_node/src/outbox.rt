@@ -19,6 +19,8 @@ pub(crate) struct Outbox<'a, R> {
     failures: u64,
     /// Whether the last write waited as long as a write may.
     slow: bool,
+    /// When the last write began, in milliseconds since the node did; 0 before any.
+    pub(crate) begun: u64,
     /// The bytes that were written.
     pub(crate) total: u64,
 }
@@ -32,6 +34,7 @@ impl<'a, R> Outbox<'a, R> {
             stream,
             failures: 0,
             slow: false,
+            begun: 0,
             total: 0,
         }
     }
@@ -46,11 +49,11 @@ impl<'a, R: Clock> Outbox<'a, R> {
         if self.slow {
             return Err(ErrorKind::TimedOut.into());
         }
-        let begun = self.clock.milliseconds(self.rt);
+        self.begun = self.clock.milliseconds(self.rt);
         let mut to = self.stream;
         let written = to.write(bytes);
         let now = self.clock.milliseconds(self.rt);
-        self.slow = now.saturating_sub(begun) >= WRITE_TIMEOUT;
+        self.slow = now.saturating_sub(self.begun) >= WRITE_TIMEOUT;
         written
     }
 }

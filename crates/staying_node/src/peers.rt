@@ -1,8 +1,8 @@
 //! The worker of a peer: it connects, takes connections of the peer, and holds its sessions.
 
 use crate::clock::milliseconds;
-use crate::node::Node;
-use crate::sessions::{Connection, hold};
+use crate::node::{Node, REST};
+use crate::sessions::{Connection, Place, hold};
 use crate::slot::{Arrival, Slot};
 use admin_port::PeerRole;
 use std::io;
@@ -21,9 +21,6 @@ const PAUSE: u64 = 2_000;
 
 /// How long a write waits for the remote peer to read, in milliseconds.
 pub(crate) const WRITE_TIMEOUT: u64 = 10_000;
-
-/// How long a worker with nothing to do waits at most, in milliseconds.
-const REST: u64 = 500;
 
 /// Has a connection send at once what is written, and give up writing after `WRITE_TIMEOUT`.
 pub(crate) fn prepared(stream: TcpStream) -> io::Result<TcpStream> {
@@ -89,12 +86,21 @@ fn next_connection<N: Net<Listener = TcpListener, Stream = TcpStream> + Wait>(
     })
 }
 
-/// Keeps a session with a peer for as long as the node runs.
+/// Keeps a session with a peer for as long as the node runs, from when its threads have started.
 pub(crate) fn keep_peer<
     N: Net<Listener = TcpListener, Stream = TcpStream> + Threads + Wait + Clock + Sync,
 >(rt: &N, node: &Node, peer: usize, mut seat: Seat) {
     let Some(slot) = node.slots.get(peer) else {
         return;
+    };
+    if !node.wait_to_connect(rt) {
+        return;
+    }
+    let place = Place {
+        rt,
+        node,
+        slot,
+        peer,
     };
     let mut attempt = 0;
     for _ in rt.forever() {
@@ -110,7 +116,7 @@ pub(crate) fn keep_peer<
         let attempts = now >= attempt;
         match next_connection(rt, node, slot, peer, attempts) {
             Some(connection) => {
-                seat = hold(rt, node, slot, peer, seat, connection);
+                seat = hold(&place, seat, connection);
                 attempt = next_attempt(rt, slot, node.clock.milliseconds(rt));
             }
             None => {

@@ -304,7 +304,7 @@ impl<'a> Requester<'a> {
         let now = not_before_latest(&locked, self.node.clock.now(rt));
         let tracked = lent::track_with_reply(&mut locked, &mut self.seat, id, key, change, now);
         if self.seat.receipts(id).len() as u64 >= MANY {
-            slide(&mut locked, &self.seat, id);
+            let _long = slide(&mut locked, &self.seat, id);
         }
         drop(locked);
         forget(&mut self.seat, id);

@@ -1,9 +1,9 @@
 //! The subcommand `run`.
 
-use crate::admin::{AdminPort, accept_clients, serve_clients};
+use crate::admin::{AdminPort, accept_clients, serve_clients, wake};
 use crate::clock::{NodeClock, milliseconds};
-use crate::doors::{DOORS, Doors, keep_door};
-use crate::node::{Node, Seats};
+use crate::doors::{DOORS, Doors, keep_door, limit_accepts};
+use crate::node::{Node, REST, Seats};
 use crate::peers::keep_peer;
 use crate::tables::keep;
 use admin_text::Configuration;
@@ -18,8 +18,11 @@ use std::{io, thread};
 use table_shards::Seat;
 use text_commands::{Ending, configuration_of};
 
-/// How often the node's tables are looked after, in milliseconds.
+/// How soon the node's tables are looked after again while there is much to do, in milliseconds.
 const KEEPING: u64 = 50;
+
+/// How soon they are otherwise, in milliseconds.
+const IDLING: u64 = 200;
 
 /// How often rows that have ended are purged, in milliseconds.
 const PURGING: u64 = 1_000;
@@ -40,7 +43,7 @@ fn ports_of<N: Net<Listener = TcpListener, Stream = TcpStream>>(
     doors: Doors,
 ) -> io::Result<Ports> {
     let peers = TcpListener::bind(rt, configuration.listen)?;
-    peers.set_nonblocking(true)?;
+    limit_accepts(&peers)?;
     let admin = match configuration.admin {
         Some(address) => Some(AdminPort::open(rt, alloc, address)?),
         None => None,
@@ -65,11 +68,12 @@ fn keep_tables<N: Wait + Clock>(rt: &N, node: &Node, mut seat: Seat) {
         if purges {
             purge = now.saturating_add(PURGING);
         }
-        keep(rt, node, &mut seat, purges);
+        let soon = keep(rt, node, &mut seat, purges);
         if node.catching_up.pass(rt, now) {
-            node.changed.ring(rt);
+            node.tell_of_catching_up(rt);
         }
-        node.changed.wait(rt, seen, milliseconds(KEEPING));
+        let time = if soon { KEEPING } else { IDLING };
+        node.changed.wait(rt, seen, milliseconds(time));
     }
 }
 
@@ -84,14 +88,14 @@ fn write_log<N: Wait, E: Write + Faults>(rt: &N, node: &Node, errors: &mut E) ->
 /// Writes the log until the node stops, or the log can't be written.
 fn keep_log<N: Wait + Clock, E: Write + Faults>(rt: &N, node: &Node, errors: &mut E) -> Ending {
     for _ in rt.forever() {
-        let seen = node.changed.rings(rt);
+        let seen = node.log.bell.rings(rt);
         if write_log(rt, node, errors) == Ending::Device {
             return Ending::Device;
         }
         if node.stops() {
             return Ending::Done;
         }
-        node.changed.wait(rt, seen, milliseconds(KEEPING));
+        node.log.bell.wait(rt, seen, milliseconds(REST));
     }
     unreachable!()
 }
@@ -138,7 +142,7 @@ fn start_peers<
     true
 }
 
-/// Starts the threads of a node, those that connect last. Returns whether all could be started.
+/// Starts the threads of a node. Returns whether all could be started; only then do those that keep sessions begin.
 fn start_all<
     's,
     E: 's,
@@ -154,7 +158,11 @@ fn start_all<
         Some(port) => keeps && start_admin(rt, scope, node, port, requesters),
         None => keeps,
     };
-    serves && start_peers(rt, scope, node, ports, peers)
+    let starts = serves && start_peers(rt, scope, node, ports, peers);
+    if starts {
+        node.start(rt);
+    }
+    starts
 }
 
 /// Runs the threads of a node until it stops.
@@ -180,6 +188,8 @@ fn run_in<
     if let Some(port) = &ports.admin {
         port.end(rt);
     }
+    wake(rt, &node.configuration.listen);
+    node.end_sessions(rt);
     ending
 }
 
@@ -211,8 +221,8 @@ fn run_node<
 
 /// Reads a configuration from `input`, and runs its node until a request stops it. Writes its log on `errors`, and nothing else.
 ///
-/// Ends with `Device` if a port can't be opened, a thread can't be started or the log can't be written. It opens the ports and
-/// starts the threads of the tables and of the admin port before it connects to a peer.
+/// Ends with `Device` if a port can't be opened, a thread can't be started or the log can't be written. It opens all ports and starts
+/// all threads but the readers of connections before it connects to a peer, or takes a connection of one.
 pub fn run<
     N: Net<Listener = TcpListener, Stream = TcpStream> + Threads + Wait + Clock + Sync,
     I: Read + Faults,

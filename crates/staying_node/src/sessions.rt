@@ -8,6 +8,7 @@ use crate::outbox::Outbox;
 use crate::slot::Slot;
 use crate::status::{ResyncEnd, Totals};
 use crate::tables::{close, forget, number_of, reopen};
+use crate::ticks::{Ticks, Traffic};
 use admin_port::{PassedOver, PeerRole, PeerState, SessionEnd};
 use node_text::push_number;
 use peers_engine::{EngineError, StandingWorker, Stood};
@@ -22,11 +23,15 @@ use std::time::Clock;
 use table_shards::Seat;
 use table_types::{Memory, Moment, Name, Roster};
 
-/// How long a worker goes on without a tick, in milliseconds.
-const TICK: u64 = 100;
-
-/// How late a tick may come, in milliseconds.
-const HELD_UP: u64 = 1_000;
+/// A peer's place in a node that runs.
+#[derive(Drop)]
+pub(crate) struct Place<'a, N> {
+    pub(crate) rt: &'a N,
+    pub(crate) node: &'a Node,
+    pub(crate) slot: &'a Slot,
+    /// The index of the peer.
+    pub(crate) peer: usize,
+}
 
 /// A connection, and which end made it.
 #[derive(Drop)]
@@ -115,8 +120,7 @@ struct Work<'a, N> {
     teaching: bool,
     /// The turns in a row in which there was nothing to do.
     idle: usize,
-    /// When the next tick is due.
-    tick: u64,
+    ticks: Ticks,
     /// The tables that the session has left, as far as the log says so.
     left: Vec<u64>,
     /// Whether the log says that a table was passed over.
@@ -134,7 +138,7 @@ impl<'a, N: Wait + Clock> Work<'a, N> {
                 seen = self.slot.bell.rings(rt);
             }
             if let Some(end) = self.step() {
-                return self.interruption().unwrap_or(end);
+                return self.last_end(end);
             }
             if let Some(end) = self.interruption() {
                 return end;
@@ -143,39 +147,65 @@ impl<'a, N: Wait + Clock> Work<'a, N> {
                 self.idle = 0;
                 self.report();
                 let now = self.node.clock.milliseconds(rt);
-                let time = self.tick.saturating_sub(now).max(1);
+                let time = self.ticks.rest(now);
                 self.slot.bell.wait(rt, seen, milliseconds(time));
             }
         }
         unreachable!()
     }
 
-    /// Returns why the worker ends the session, if it does: the peer has connected again, the node stops, or a table gets new numbers.
+    /// Returns whether there was nothing to do in the last turns, and the peer has acknowledged what it was taught of each table that
+    /// it has.
+    fn is_settled(&self) -> bool {
+        let tables = self.worker.tally.tables.as_slice();
+        self.idle >= tables.len()
+            && tables
+                .iter()
+                .all(|table| table.left || table.taught == table.acknowledged)
+    }
+
+    /// Returns why the worker ends the session, if it does: the peer has connected again, a table gets new numbers, or the node stops
+    /// and nothing is left to teach.
     fn interruption(&self) -> Option<SessionEnd> {
         if self.slot.has_arrival(self.rt) {
             Some(SessionEnd::Replaced)
-        } else if self.node.stops() || self.node.is_paused() {
+        } else if self.node.is_paused() || (self.node.stops() && self.is_settled()) {
             Some(SessionEnd::End)
         } else {
             None
         }
     }
 
-    /// Returns whether a tick is due. One that is late by more than `HELD_UP` is put off by as much: this node was held up, so what
-    /// has arrived since is to be read before the session judges that nothing came.
-    fn is_tick_due(&mut self) -> bool {
-        let now = self.node.clock.milliseconds(self.rt);
-        if now < self.tick {
-            return false;
+    /// Returns why a session that is over ended, given what a turn or a tick of it came to.
+    fn last_end(&self, end: SessionEnd) -> SessionEnd {
+        match self.interruption() {
+            Some(interruption) => interruption,
+            None if self.node.stops() => SessionEnd::End,
+            None => end,
         }
-        let is_held_up = now.saturating_sub(self.tick) > HELD_UP;
-        self.tick = now.saturating_add(if is_held_up { HELD_UP } else { TICK });
-        !is_held_up
+    }
+
+    /// Notes what went over the connection.
+    fn note_traffic(&mut self) {
+        let controls = self.worker.session.controls();
+        let traffic = Traffic {
+            sent: self.to.total,
+            received: self.from.total,
+            heartbeats: self
+                .worker
+                .tally
+                .heartbeats
+                .wrapping_add(controls.heartbeats),
+            sent_at: self.to.begun,
+        };
+        let now = self.node.clock.milliseconds(self.rt);
+        self.ticks.note(now, traffic);
     }
 
     /// Takes a tick if one is due, and a turn. Returns why the session ended, if it did.
     fn step(&mut self) -> Option<SessionEnd> {
-        if self.is_tick_due() {
+        let begun = self.node.clock.milliseconds(self.rt);
+        if self.ticks.is_due(begun) {
             if let Some(end) = self.take_tick() {
                 return Some(end);
             }
@@ -189,6 +219,7 @@ impl<'a, N: Wait + Clock> Work<'a, N> {
             &self.node.shards,
             now,
         );
+        self.note_traffic();
         self.idle = match &turned {
             Ok(Stood::Idled) => self.idle.saturating_add(1),
             _ => 0,
@@ -375,12 +406,13 @@ impl<'a, N: Wait + Clock> Work<'a, N> {
         let controls = self.worker.session.controls();
         if controls.finished > before.finished {
             self.node.catching_up.finish(self.rt, self.peer);
-            self.node.changed.ring(self.rt);
+            self.node.tell_of_catching_up(self.rt);
             self.end_learning(ResyncEnd::Finished);
             self.set_state();
         } else if controls.partial > before.partial {
             let now = self.node.clock.milliseconds(self.rt);
             self.node.catching_up.give_up(self.rt, self.peer, now);
+            self.node.tell_of_catching_up(self.rt);
             self.end_learning(ResyncEnd::Partial);
             self.set_state();
         }
@@ -456,6 +488,7 @@ impl<'a, N: Wait + Clock> Work<'a, N> {
         let now = self.node.clock.milliseconds(self.rt);
         if self.asking.is_some() {
             self.node.catching_up.give_up(self.rt, self.peer, now);
+            self.node.tell_of_catching_up(self.rt);
             self.end_learning(ResyncEnd::Broken);
         }
         self.report();
@@ -494,32 +527,30 @@ fn end_of(error: EngineError) -> SessionEnd {
 
 /// Holds a session over a connection until it ends, and gives the seat back.
 pub(crate) fn hold<N: Threads + Wait + Clock + Sync>(
-    rt: &N,
-    node: &Node,
-    slot: &Slot,
-    peer: usize,
+    place: &Place<'_, N>,
     mut seat: Seat,
     connection: Connection,
 ) -> Seat {
-    let number = number_of(peer);
-    let mut seat = if reopen(rt, node, &mut seat, number) {
-        hold_open(rt, node, slot, peer, seat, connection)
+    let number = number_of(place.peer);
+    let mut seat = if reopen(place.rt, place.node, &mut seat, number) {
+        hold_open(place, seat, connection)
     } else {
         seat
     };
-    close(rt, node, &mut seat, number);
+    close(place.rt, place.node, &mut seat, number);
     seat
 }
 
 /// Holds a session that is open in each table, and gives the seat back.
 fn hold_open<N: Threads + Wait + Clock + Sync>(
-    rt: &N,
-    node: &Node,
-    slot: &Slot,
-    peer: usize,
+    place: &Place<'_, N>,
     seat: Seat,
     connection: Connection,
 ) -> Seat {
+    let rt = place.rt;
+    let node = place.node;
+    let slot = place.slot;
+    let peer = place.peer;
     let Connection {
         stream,
         role,
@@ -534,9 +565,13 @@ fn hold_open<N: Threads + Wait + Clock + Sync>(
         Ok(worker) => {
             let inbox = Inbox::new(bytes);
             slot.set_present(rt, stream.try_clone().ok());
-            let worker = hold_over(
-                &*rt, &*node, &*slot, &inbox, &stream, peer, role, roster, worker,
-            );
+            let here = Place {
+                rt: &*rt,
+                node: &*node,
+                slot: &*slot,
+                peer,
+            };
+            let worker = hold_over(here, &inbox, &stream, role, roster, worker);
             slot.set_present(rt, None);
             let StandingWorker { seat, .. } = worker;
             seat
@@ -547,16 +582,19 @@ fn hold_open<N: Threads + Wait + Clock + Sync>(
 
 /// Holds a session over a connection that is open in each table, and gives its worker back.
 fn hold_over<'a, N: Threads + Wait + Clock + Sync>(
-    rt: &'a N,
-    node: &'a Node,
-    slot: &'a Slot,
+    place: Place<'a, N>,
     inbox: &'a Inbox,
     stream: &'a TcpStream,
-    peer: usize,
     role: PeerRole,
     roster: Roster,
     worker: StandingWorker,
 ) -> StandingWorker {
+    let Place {
+        rt,
+        node,
+        slot,
+        peer,
+    } = place;
     let mut status = slot.status(rt);
     status.connect(role);
     drop(status);
@@ -576,7 +614,7 @@ fn hold_over<'a, N: Threads + Wait + Clock + Sync>(
         rows: (0, 0),
         teaching: false,
         idle: 0,
-        tick: node.clock.milliseconds(rt),
+        ticks: Ticks::new(node.clock.milliseconds(rt)),
         left: Vec::new(node.alloc),
         passes_over: false,
     };

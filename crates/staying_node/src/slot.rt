@@ -69,6 +69,12 @@ impl Slot {
         drop(former);
     }
 
+    /// Returns whether a session stands.
+    pub(crate) fn has_session<R: Wait>(&self, rt: &R) -> bool {
+        let present = self.present.lock(rt);
+        present.is_some()
+    }
+
     /// Shuts down the connection of the session that stands, so that nothing waits for it.
     pub(crate) fn shut<R: Wait>(&self, rt: &R) {
         let present = self.present.lock(rt);

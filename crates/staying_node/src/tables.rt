@@ -41,11 +41,13 @@ fn history(cell: &TableCell) -> u64 {
     cell.events().saturating_sub(cell.dropped())
 }
 
-/// Drops the history of a table if it is long, but for the latest batch of each session.
-pub(crate) fn slide(locked: &mut Locked, seat: &Seat, table: u64) {
-    if history(locked.cell()) >= MANY {
+/// Drops the history of a table if it is long, but for the latest batch of each session. Returns whether it was long.
+pub(crate) fn slide(locked: &mut Locked, seat: &Seat, table: u64) -> bool {
+    let long = history(locked.cell()) >= MANY;
+    if long {
         let _dropped = lent::slide(locked, seat, table);
     }
+    long
 }
 
 /// Drops the receipts of a seat if there are many.
@@ -77,14 +79,16 @@ fn purge(locked: &mut Locked, seat: &mut Seat, table: u64, now: Moment) {
 }
 
 /// Drops what is no longer needed of each table's history, and the rows that have ended if `purges`. Gives a table new numbers once most
-/// are assigned, for which all sessions end.
-pub(crate) fn keep<R: Wait + Clock>(rt: &R, node: &Node, seat: &mut Seat, purges: bool) {
+/// are assigned, for which all sessions end. Returns whether it is to be called again soon: a history was long, or a table has still
+/// to get new numbers.
+pub(crate) fn keep<R: Wait + Clock>(rt: &R, node: &Node, seat: &mut Seat, purges: bool) -> bool {
     let now = node.clock.now(rt);
+    let mut long = false;
     let mut waits = false;
     for table in node.roster.tables() {
         let id = table.id();
         if let Some(mut locked) = lock(rt, node, id) {
-            slide(&mut locked, seat, id);
+            long = slide(&mut locked, seat, id) || long;
             if purges {
                 purge(&mut locked, seat, id, now);
             }
@@ -93,6 +97,7 @@ pub(crate) fn keep<R: Wait + Clock>(rt: &R, node: &Node, seat: &mut Seat, purges
         forget(seat, id);
     }
     node.set_paused(rt, waits);
+    long || waits
 }
 
 /// Closes a session in each table.
