@@ -2,6 +2,7 @@
 use denote.Param.Send.{IsSend, sendable, view_send}
 use denote.Param.SendFields.{declared_send}
 use Rattle.std.proofs.Crossing.{crosses, frees, send, sync}
+use Rattle.std.proofs.MapsCrossingOver.{crosses as sets}
 use Rattle.bytes.proofs.unique.BytesMut.TheSendSync as buffer
 use Rattle.table_types.specs.contracts.roster.Roster as Roster
 use Rattle.known_state.specs.contracts.state.State as State
@@ -17,7 +18,7 @@ use Rattle.session_core.specs.contracts.session.Session as Session
 use Rattle.peers_engine.specs.contracts.worker.Worker as Worker
 use Rattle.table_shards.proofs.Crosses.{seat_send}
 use Rattle.node_commands.specs.contracts.node.sharing.Task as Task
-use Rattle.node_commands.proofs.Crosses.{known_send}
+use Rattle.node_commands.proofs.Crosses.{known_send, numbers_send}
 
 hello_send : IsSend (Hello.the_field).row
 hello_send = search (sendable, crosses) depth 80 fits 20000
@@ -26,13 +27,13 @@ roster_send : IsSend (Roster.the_field).row
 roster_send = search (sendable, crosses) depth 80 fits 20000
 
 state_send : IsSend (State.the_field).row
-state_send = search (sendable, crosses) depth 80 fits 20000
+state_send = search (numbers_send, sendable, crosses) depth 80 fits 20000
 
 unread_send : IsSend (Unread.the_field).row
 unread_send = view_send _ _ _ _ _ (declared_send unread.the_type (buffer.the_send _ _ send sync frees, tt))
 
 intake_send : IsSend (Intake.the_field).row
-intake_send = search (roster_send, state_send, unread_send, sendable, crosses) depth 80 fits 20000
+intake_send = search (roster_send, state_send, unread_send, sendable, crosses, sets) depth 80 fits 20000
 
 greeter_send : IsSend (Greeter.the_field).row
 greeter_send = search (sendable, crosses) depth 80 fits 20000

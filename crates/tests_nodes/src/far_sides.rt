@@ -16,7 +16,7 @@ const EMPTY: Tables = Tables {
 /// The hello of `a` to `b`.
 const HELLO: &[u8] = b"HAProxyS 2.1\nb\na 1 1\n";
 
-/// A far side that acknowledges no number twice in a row, as HAProxy does, and another one late.
+/// A far side that, as HAProxy does, doesn't acknowledge again at once the number that it acknowledged last, and does so late.
 static SAME_NUMBER: FarSide = FarSide {
     tables: EMPTY,
     steps: &[
