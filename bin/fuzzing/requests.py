@@ -22,9 +22,13 @@ from fuzzing.tables import Table
 from peering.far import kept_open
 
 LONGEST = 32768
-MOST_CLIENTS = 32
+# How many connections the port serves at once, and how many of these belong to the stand for as long as the node runs.
+MOST_CLIENTS, STANDING = 32, 2
+# For how long nothing may come that answers an incomplete request.
+QUIET = 0.3
 WORDS = ('reply row none refused NoTable WrongKey ' + REFUSALS['track']).split()
 LINE = re.compile(rb'[ -~]*')
+GET = re.compile(rb'GET [!-~]+ HTTP/1\.[0-9]\r?')
 PAGE = re.compile(rb'HTTP/1\.[01] (200|404)[ -~]*\r\n(?:[ -~]+\r\n)*?Content-Length: ([0-9]+)\r\n(?:[ -~]+\r\n)*\r\n', re.IGNORECASE)
 
 
@@ -88,6 +92,25 @@ def make(random):
     return {'tables': tables, 'more': more, 'acts': acts, 'rounds': random_rounds(random, acts)}
 
 
+# --- What is due
+
+def due_for(data):
+    """Returns how many lines of a request by HTTP are refused, and what becomes of the connection: it stays `open`, or it is `closed`, or
+    it is closed behind a page of status `200` or `404`."""
+    refused, status = 0, None
+    *lines, rest = data.split(b'\n')
+    for line in lines:
+        if len(line) > LONGEST:
+            return refused + 1, 'closed'
+        if status is None and GET.fullmatch(line):
+            status = '200' if line.split(b' ')[1] == b'/metrics' else '404'
+        elif status is None:
+            refused += 1
+        elif line in (b'', b'\r'):
+            return refused, status
+    return (refused + 1, 'closed') if len(rest) > LONGEST else (refused, 'open')
+
+
 # --- Clients
 
 class Reader:
@@ -111,11 +134,15 @@ class Reader:
         self.left += data
         return True
 
-    def line(self):
-        """Returns the next line, or None if the connection is over before it ends."""
+    def wait(self):
+        """Waits until the next line has come, or the connection is over."""
         latest = time.monotonic() + self.client.limit
         while b'\n' not in self.left and not self.is_over:
             require(self.more(latest - time.monotonic()), 'slow', 'a request is not answered in %g s' % self.client.limit)
+
+    def line(self):
+        """Returns the next line, or None if the connection is over before it ends."""
+        self.wait()
         if b'\n' not in self.left:
             return None
         line, _, self.left = self.left.partition(b'\n')
@@ -129,11 +156,14 @@ class Reader:
             require(self.more(latest - time.monotonic()), 'slow', 'the admin port keeps a connection for %g s' % self.client.limit)
         return self.left
 
-    def send(self, data):
-        """Sends bytes, if the other end takes them."""
+    def send(self, data, pieces=1):
+        """Sends bytes in so many pieces, if the other end takes them."""
         try:
             self.peer.settimeout(self.client.limit)
-            self.peer.sendall(data)
+            for at in range(pieces):
+                self.peer.sendall(data[at * len(data) // pieces:(at + 1) * len(data) // pieces])
+                if pieces > 1:
+                    time.sleep(0.002)
         except OSError:
             pass
 
@@ -142,7 +172,9 @@ class Reader:
 
 
 class Client:
-    """Clients of an admin port. `rows` are the latest rows that changes were answered with, by table and key."""
+    """Clients of an admin port. `rows` are the latest rows that changes were answered with, by table and key; `held` is how many
+    connections were opened that stay. The node may have closed some of these, so `free` is the least number that it has to serve.
+    `unsettled` are the names of tables that a client still changes of which nothing is read."""
 
     def __init__(self, stand, tables, more):
         self.stand, self.limit = stand, stand.program.patience
@@ -150,28 +182,43 @@ class Client:
         self.patterns = {table.name: (row_pattern(table, b'reply (%s)' % NUMBER, b' local'), row_pattern(table, b'row %d' % table.id)) for table in tables}
         self.small = {int(line.split()[1]) for line in more}
         self.rows, self.numbers, self.held = {}, {}, 0
+        self.unsettled = set()
 
     def act(self, act):
         getattr(self, act[0])(*act[1:])
 
     def end(self):
-        """However the port was disturbed, a client is answered, once a connection is free."""
-        self.wait_for_room()
+        """However the port was disturbed, as many clients as there is room for are served at once."""
+        self.crowd(self.free())
+
+    def free(self):
+        return max(0, MOST_CLIENTS - STANDING - self.held)
 
     def opened(self):
         return self.stand.trial.closes(Reader(self))
 
+    def served(self, data, pieces=1):
+        """Returns a connection over which a request was sent, once an answer other than `busy` comes: a client that has left may still
+        count for a moment. Returns None if the port is busy and those that stay may have taken all connections."""
+        latest = time.monotonic() + self.limit
+        while True:
+            reader = self.opened()
+            reader.send(data, pieces)
+            reader.wait()
+            if not reader.left.startswith(b'busy\n'):
+                return reader
+            reader.close()
+            if not self.free():
+                return None
+            require(time.monotonic() < latest, 'the admin port', 'is busy, with %d connections free' % self.free())
+            time.sleep(0.02)
+
     def ask(self, lines, pieces):
-        reader = self.opened()
-        data = b''.join(line + b'\n' for line in lines)
-        for at in range(pieces):
-            reader.send(data[at * len(data) // pieces:(at + 1) * len(data) // pieces])
-            if pieces > 1:
-                time.sleep(0.002)
+        reader = self.served(b''.join(line + b'\n' for line in lines), pieces) if lines else None
+        if reader is None:
+            return
         for line in lines:
             answer = reader.line()
-            if answer == b'busy' and self.held:
-                break
             require(answer is not None, 'an answer', 'is missing, to:', line)
             if line.split(b' ')[0] == b'show':
                 while answer != b'.':
@@ -197,13 +244,15 @@ class Client:
         return self.tables[name].id in self.small
 
     def judge_reply(self, words, said, answer):
-        """A change is answered with the row of its key, under the table's next number."""
+        """A change is answered with the row of its key, under the table's next number, or a later one if another client changes it too."""
         require(words[0] == b'track' and words[1] in self.patterns, 'an answer', 'to another request:', words, answer)
         match = self.patterns[words[1]][0].fullmatch(answer)
         require(match, 'a row', 'is not written as one of its table:', answer)
         before = self.numbers.get(words[1])
-        require(before is None or int(said[1]) == before + 1, 'numbers', 'do not ascend by one:', before, answer)
-        self.numbers[words[1]] = int(said[1])
+        number = int(said[1])
+        is_next = before is None or number == before + 1 or number > before and words[1] in self.unsettled
+        require(is_next, 'numbers', 'do not ascend by one:', before, answer)
+        self.numbers[words[1]] = number
         if said[3] == words[2]:
             self.rows[words[1], words[2]] = said[1:-1]
 
@@ -212,16 +261,32 @@ class Client:
         require(words[0] == b'get' and words[1] in self.patterns, 'an answer', 'to another request:', words, answer)
         require(self.patterns[words[1]][1].fullmatch(answer), 'a row', 'is not written as one of its table:', answer)
         before = self.rows.get((words[1], words[2]))
-        require(before is None or before[1:] == said[2:], 'a row', 'is not that of the latest change:', answer, before)
+        is_latest = before is None or before[1:] == said[2:] or words[1] in self.unsettled
+        require(is_latest, 'a row', 'is not that of the latest change:', answer, before)
 
     def long(self, length, ends):
+        data = b'get %s =' % MARK + b'x' * (length - 6 - len(MARK)) + b'\n' * ends
+        if not ends and length <= LONGEST:
+            self.incomplete(data)
+            return
+        reader = self.served(data)
+        if reader is None:
+            return
+        answer = reader.line()
+        wanted = b'NoTable' if length <= LONGEST else b'refused'
+        require(answer == wanted, 'an answer', 'to a request of %d bytes:' % length, answer)
+        require(length <= LONGEST or reader.rest() == b'', 'an answer', 'behind a request that is too long', reader.left)
+        reader.close()
+
+    def incomplete(self, data):
+        """An incomplete request has no answer, and its connection stays open, unless there is none for it."""
         reader = self.opened()
-        reader.send(b'get %s =' % MARK + b'x' * (length - 6 - len(MARK)) + b'\n' * ends)
-        if not self.held and (ends or length > LONGEST):
-            answer = reader.line()
-            wanted = b'NoTable' if length <= LONGEST else b'refused'
-            require(answer == wanted, 'an answer', 'to a request of %d bytes:' % length, answer)
-            require(length <= LONGEST or reader.rest() == b'', 'an answer', 'behind a request that is too long', reader.left)
+        reader.send(data)
+        latest = time.monotonic() + QUIET
+        while not reader.is_over and time.monotonic() < latest:
+            reader.more(latest - time.monotonic())
+        is_right = reader.left == b'busy\n' if reader.is_over else reader.left in (b'', b'busy\n')
+        require(is_right, 'an incomplete request', 'is answered, or its connection closed:', data, reader.left)
         reader.close()
 
     def half(self, data):
@@ -229,34 +294,31 @@ class Client:
         self.opened().send(data)
 
     def crowd(self, count):
-        """As many as there is room for are answered, and the others are told that there is none."""
+        """As many as there is room for are served at once, and the others are told that there is none. Those that have just left may
+        still count for a moment."""
+        wanted, latest = min(count, self.free()), time.monotonic() + self.limit
+        while (served := self.crowded(count)) < wanted:
+            require(time.monotonic() < latest, 'a crowd', 'of %d is not served, with %d connections free:' % (count, self.free()), served)
+            time.sleep(0.05)
+
+    def crowded(self, count):
+        """Returns how many of so many clients are served at once."""
         readers = [self.opened() for _ in range(count)]
         for reader in readers:
             reader.send(b'get %s 7\n' % MARK)
         answers = [reader.line() for reader in readers]
+        served = answers.count(b'NoTable')
         require(all(answer in (b'NoTable', b'busy', None) for answer in answers), 'an answer', 'to one of a crowd:', answers)
-        require(answers.count(b'NoTable') < MOST_CLIENTS, 'a crowd', 'is served by more than there are:', answers)
-        require(self.held or count > 20 or answers.count(b'NoTable') == count, 'a crowd', 'is not served:', answers)
+        require(served <= MOST_CLIENTS - STANDING, 'a crowd', 'is served by more than there are:', answers)
         for reader in readers:
             reader.close()
-        self.wait_for_room()
-
-    def wait_for_room(self):
-        """Waits until a connection is free, unless those that stay may have taken all."""
-        latest = time.monotonic() + self.limit
-        while not self.held:
-            reader = self.opened()
-            reader.send(b'get %s 7\n' % MARK)
-            answer = reader.line()
-            reader.close()
-            if answer == b'NoTable':
-                return
-            require(time.monotonic() < latest, 'the admin port', 'is busy although all have left')
-            time.sleep(0.02)
+        return served
 
     def deaf(self, line, times):
         """Requests whose answers nobody reads, as many as the node takes for now."""
         self.held += 1
+        if line.startswith(b'track '):
+            self.unsettled.add(line.split(b' ')[1])
         peer = self.opened().peer
         peer.setblocking(False)
         left = memoryview((line + b'\n') * times)
@@ -267,19 +329,33 @@ class Client:
                 return
 
     def page(self, data):
-        reader = self.opened()
-        reader.send(data)
-        latest = time.monotonic() + 0.3
-        while not reader.is_over and time.monotonic() < latest:
-            reader.more(latest - time.monotonic())
-        if reader.left.startswith(b'HTTP'):
-            head = PAGE.match(reader.left)
-            require(head, 'a page', 'has no head:', reader.left[:300])
-            length = len(reader.rest()) - head.end()
-            require(length == int(head[2]), 'a page', 'has another length than it says:', length, head[0])
+        """Lines of HTTP: a complete request for a page has that page, each other line is refused, and an incomplete request waits."""
+        refused, ending = due_for(data)
+        if (refused, ending) == (0, 'open'):
+            self.incomplete(data)
+            return
+        reader = self.served(data)
+        if reader is None:
+            return
+        answers = [reader.line() for _ in range(refused)]
+        require(answers == [b'refused'] * refused, 'an answer', 'to HTTP:', data, answers)
+        if ending == 'open':
+            require(not reader.left and not reader.is_over, 'an answer', 'behind refused lines of HTTP:', data, reader.left)
         else:
-            require(set(reader.left.split(b'\n')) <= {b'', b'refused', b'busy', b'none', b'NoTable'}, 'an answer', 'to HTTP:', short(reader.left))
+            self.judge_page(data, reader.rest(), ending)
         reader.close()
+
+    def judge_page(self, data, came, status):
+        """A page has its status, is as long as it says, and the one with status 200 has metrics. A refused request has none."""
+        if status == 'closed':
+            require(not came, 'an answer', 'behind a request that is too long:', came)
+            return
+        head = PAGE.match(came)
+        require(head, 'a page', 'has no head:', data, came[:300])
+        require(head[1] == status.encode(), 'a page', 'has another status than %s:' % status, data, head[0])
+        length = len(came) - head.end()
+        require(length == int(head[2]), 'a page', 'has another length than it says:', length, head[0])
+        require(status != '200' or b'\ndigbaro_uptime_seconds ' in came, 'a page', 'has no metrics:', came)
 
     def rubbish(self, data):
         """What no client says. What comes back is whole lines, and the connection is closed at the end of the input."""

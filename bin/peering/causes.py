@@ -8,13 +8,16 @@ what it tracked, so a count has to be in doubt at a restart of the writer, and t
 - `apart`: it ended later, and no member had the count, since none was connected with the writer long enough to get it: for UNPUSHED seconds
   at a stretch, between the answer, or the member's own last restart if that is later, and the end of the process.
 - `taught without it`: some member had the count, but the writer was taught anew by one that lacked it for a reason above, or that was
-  restarted and taught by one that lacked it.
+  restarted and taught by one that lacked it. A node says who taught it; who taught a HAProxy isn't known, so it may have been any other.
 - `beside its resync`: the writer tracks from its sixth second on, and its resync wasn't over yet. It then counts without what it had
   before, and the resync replaces what it counted. Likewise the resync of a member replaces what is pushed to it meanwhile.
-- `not taught`: no member finished teaching the writer's new process.
+- `not taught`: no member finished teaching the new process of a node.
 - `left`: the writer had left the table, since the member acknowledged nothing of it on that connection.
 
-What a member was taught it doesn't push on, and so it makes no difference to others that a further one has it."""
+What a member was taught it doesn't push on, and so it makes no difference to others that a further one has it.
+
+`apart`, `beside its resync` and `not taught` go by what the members show. How long that may last after a blow is limited in limits.py.
+The rows of a member that didn't answer are unknown: they show neither that it lacked a row nor that it had it."""
 
 from collections import namedtuple
 
@@ -60,6 +63,47 @@ def lacks(key, row, wanted):
     return (row or 0) < wanted if key[0] == 'ints' else row != wanted
 
 
+def lacked(blow, name, key, wanted):
+    """Whether a member is known to have lacked a row when a blow ended a process of another one."""
+    return name in blow.tables and lacks(key, blow.tables[name].get(key), wanted)
+
+
+# --- Who taught a member
+
+def taught_without(records, key, wanted, member, blow, writer=None):
+    """Whether a member that a blow restarted was taught by one that lacked a row: by the one that its log names, or else by any that isn't
+    the writer."""
+    lesson = member.lesson(member.process(blow.over))
+    if lesson is None:
+        return member.kind != 'node' and any(lacked(blow, name, key, wanted) for name in blow.tables if name != writer)
+    return lacked(blow, lesson.teacher, key, wanted) or was_replaced(records, key, wanted, lesson.teacher, blow.begun, lesson.moment)
+
+
+def was_replaced(records, key, wanted, teacher, begin, end):
+    """Whether a teacher was restarted between two moments, and there is a reason why it wasn't taught the row."""
+    member = records.member(teacher)
+    return any(why_not_taught(records, key, wanted, member, blow) for blow in records.restarts(member, begin, end))
+
+
+def is_untaught(member, blow):
+    """Whether a node that a blow restarted was taught by nobody."""
+    return member.kind == 'node' and member.lesson(member.process(blow.over)) is None
+
+
+def why_not_taught(records, key, wanted, member, blow, writer=None):
+    """Returns why a member that a blow restarted wasn't taught a row, or None if there is no reason."""
+    if is_untaught(member, blow):
+        return 'not taught', 'restarted at %.1f, no lesson was finished' % records.shown(blow.begun)
+    if taught_without(records, key, wanted, member, blow, writer):
+        return 'taught without it', 'restarted at %.1f, %s lacked it' % (records.shown(blow.begun), shown_teacher(member, blow))
+    return None
+
+
+def shown_teacher(member, blow):
+    lesson = member.lesson(member.process(blow.over))
+    return 'its teacher %s, or the teacher of that,' % lesson.teacher if lesson else 'another'
+
+
 # --- Why a member other than the writer lacks a row
 
 def why_lacking(records, key, wanted, written, member, moment):
@@ -68,14 +112,17 @@ def why_lacking(records, key, wanted, written, member, moment):
     ended = next((blow for blow in records.ends(records.writer(key), written) if blow.begun <= moment), None)
     if ended is None:
         return why_unpushed(records, key, wanted, written, member, moment)
-    if lacks(key, ended.tables.get(member.name, {}).get(key), wanted):
+    if member.name not in ended.tables:
+        return None, 'it did not say what it had when the writer ended at %.1f' % records.shown(ended.begun)
+    if lacked(ended, member.name, key, wanted):
         if ended.begun - written < UNPUSHED:
             word = {'kill': 'killed'}.get(ended.kind, 'stopped')
             return word + ' before it was pushed', '%d ms after it' % (1000 * (ended.begun - written))
         return why_unpushed(records, key, wanted, written, member, ended.begun)
     for blow in records.restarts(member, ended.begun, moment):
-        if any(lacks(key, rows.get(key), wanted) for rows in blow.tables.values()):
-            return 'taught without it', 'restarted at %.1f, others lacked it' % records.shown(blow.begun)
+        found = why_not_taught(records, key, wanted, member, blow)
+        if found:
+            return found
     return None, 'it had the row when the writer ended at %.1f' % records.shown(ended.begun)
 
 
@@ -83,8 +130,9 @@ def why_unpushed(records, key, wanted, written, member, end):
     """Returns why a process that wrote a row, and ran until some moment, didn't push it to a member, or why the row didn't last there."""
     writer = records.writer(key)
     own = records.restarts(member, written, end)
-    if own and any(lacks(key, rows.get(key), wanted) for name, rows in own[-1].tables.items() if name != writer.name):
-        return 'taught without it', 'restarted at %.1f, others lacked it' % records.shown(own[-1].begun)
+    found = why_not_taught(records, key, wanted, member, own[-1], writer.name) if own else None
+    if found:
+        return found
     learned = learned_at(member, written)
     if not own and written < learned:
         return 'beside its resync', 'the resync of %s was over at %.1f' % (member.name, records.shown(learned))
@@ -145,27 +193,21 @@ def cause_at(records, key, wanted, written, blow):
     """Returns why a row was gone after a restart of its writer, or None in the place of the cause if there was no reason; or None if the
     writer got the row back."""
     writer = records.writer(key)
-    lacking = [member for member in records.members
-               if member is not writer and lacks(key, blow.tables.get(member.name, {}).get(key), wanted)]
+    others = [member for member in records.members if member is not writer]
+    lacking = [member for member in others if lacked(blow, member.name, key, wanted)]
     whys = {member.name: why_lacking(records, key, wanted, written, member, blow.begun) for member in lacking}
     lesson = writer.lesson(writer.process(blow.over))
     shown = '%s at %.1f, the others had %s, %s; taught by %s' % (
         blow.kind, records.shown(blow.begun), {name: rows.get(key) for name, rows in blow.tables.items()}, whys, lesson and lesson.teacher)
     if any(why[0] is None for why in whys.values()):
         return None, 'connected, and not pushed: ' + shown
-    if lacking and len(lacking) == len(blow.tables):
+    if lacking and len(lacking) == len(others):
         return next(iter(whys.values()))[0], shown
     if lesson is None:
         return ('not taught' if writer.kind == 'node' else None), shown
     if lesson.teacher in whys or was_replaced(records, key, wanted, lesson.teacher, blow.begun, lesson.moment):
         return 'taught without it', shown
     return None
-
-
-def was_replaced(records, key, wanted, teacher, begin, end):
-    """Whether a teacher was restarted between two moments, and others lacked the row then."""
-    member = next(member for member in records.members if member.name == teacher)
-    return any(lacks(key, rows.get(key), wanted) for blow in records.restarts(member, begin, end) for rows in blow.tables.values())
 
 
 # --- Why members differ

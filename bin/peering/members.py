@@ -16,7 +16,8 @@ from peering.node import Admin, fields
 from peering.records import Lesson, Process, Sighting
 from peering.trial import Wrong, require, wait
 
-EXPIRE = 600
+# Rows live longer than bin/interop runs, in seconds: what is gone then was lost.
+EXPIRE = 7200
 NODE_TABLES = ('table 1 /ints integer 4 %d000 gpc0 http_req_rate:10000\n'
                'table 2 names string 33 %d000 server_id server_key\n'
                'size 1 102400\nsize 2 102400\n' % (EXPIRE, EXPIRE))
@@ -53,7 +54,7 @@ SERVERS = 5
 
 class Member:
     """What every member has. `starts` are the moments when its processes were started, `blows` those that struck it, `sightings` what was
-    seen of it, and `wrongs` what it did wrong."""
+    seen of it, `said` the lines of its log, each with the moment when it came, and `wrongs` what it did wrong."""
 
     def __init__(self, name, folder, port):
         self.name = name
@@ -65,6 +66,7 @@ class Member:
         self.starts = []
         self.blows = []
         self.sightings = []
+        self.said = []
         self.wrongs = []
 
     def file(self, ending):
@@ -80,9 +82,13 @@ class Member:
             self.client = None
         self.is_stale = False
 
-    def kill(self):
+    def has_to_run(self):
+        """Notes it as wrong if its process has ended."""
         if not self.runs():
             self.wrongs.append('it had ended with status %s' % self.child.returncode)
+
+    def kill(self):
+        self.has_to_run()
         self.child.kill()
         self.child.wait()
 
@@ -127,6 +133,10 @@ class Member:
         return next((sighting.moment for sighting in self.sightings
                      if process.begun <= sighting.moment < process.over and self.is_up_to_date(sighting)), float('inf'))
 
+    def ends(self, peer, begin, end):
+        """Returns what it said of the ends of its sessions with a peer from one moment to another, each with its moment."""
+        return [(moment, line) for moment, line in self.said if begin <= moment < end and line.startswith('peer %s down' % peer)]
+
     def all_faults(self):
         """Returns its counts of faults, of all its processes together, each as it was seen last."""
         latest = {sighting.process: sighting.faults for sighting in self.sightings if sighting.faults}
@@ -134,7 +144,7 @@ class Member:
 
 
 class HAProxy(Member):
-    """A HAProxy. Requests to it count a key, or stick one to a server."""
+    """A HAProxy. Requests to it count a key, or stick one to a server. What it says isn't noted."""
 
     kind = 'HAProxy'
     other_blow = 'reload'
@@ -173,11 +183,13 @@ class HAProxy(Member):
 
     def reload(self, then=lambda: None):
         """Starts a new process, which the old one teaches before it ends; once it has ended, something else is done."""
+        self.has_to_run()
         old = self.child
         self.start('-sf', str(old.pid))
         self.is_stale = True
         try:
-            old.wait(15)
+            if old.wait(15) != 0:
+                self.wrongs.append('a process that was reloaded ended with status %d' % old.returncode)
         except subprocess.TimeoutExpired:
             old.kill()
             old.wait()
@@ -223,6 +235,7 @@ class HAProxy(Member):
 
     def has_left(self, peer, table, moment):
         """Returns nothing: it leaves no table."""
+
 
     def server(self, key):
         """Returns nothing: which server it chooses for a key isn't known before."""
@@ -271,7 +284,7 @@ class HAProxy(Member):
 
 
 class NodeMember(Member):
-    """A node that stays. `said` are the lines of its log, each with the moment when it came."""
+    """A node that stays."""
 
     kind = 'node'
     other_blow = 'stop'
@@ -281,7 +294,6 @@ class NodeMember(Member):
         super().__init__(name, folder, port)
         self.program = program
         self.admin_port = ports.next()
-        self.said = []
 
     def configure(self, peers):
         with open(self.file('.conf'), 'w') as file:
@@ -406,6 +418,3 @@ class NodeMember(Member):
         """Tracks a server for a key, and returns whether it was answered."""
         server = self.server(key)
         return bool(self.tracked('track names =%s put server_id %s' % (key, server[1:]), 'track names =%s name %s' % (key, server)))
-
-    def faults(self):
-        return self.state()[1]

@@ -19,7 +19,8 @@ Lesson = namedtuple('Lesson', 'moment teacher')
 
 
 class Blow:
-    """What befell a member from one moment to another. If a process of it ended, `tables` has the rows that each other member had then."""
+    """What befell a member from one moment to another. If a process of it ended, `tables` has the rows that the other members had then, as
+    far as they answered."""
 
     def __init__(self, kind):
         self.kind = kind
@@ -36,11 +37,13 @@ class Blow:
 
 
 class Records:
-    """The records of a run. `members` have blows, sightings, and, if they are nodes, what they said; `cuts` are moments and pairs of names,
-    `tables` moments and the rows that the members had then, by their names."""
+    """The records of a run, which goes from `began` to `over`. `members` have blows, sightings, and, if they are nodes, what they said; `cuts`
+    are moments and pairs of names, `tables` moments and the rows that those members had then which answered, by their names."""
 
-    def __init__(self, members):
+    def __init__(self, members, began):
         self.members = members
+        self.began = began
+        self.over = float('inf')
         self.cuts = []
         self.tables = []
         self.tracks = {}
@@ -62,6 +65,9 @@ class Records:
         return self.members[(name if kind == 'ints' else int(name[1:])) % len(self.members)]
 
     # --- Members
+
+    def member(self, name):
+        return next(member for member in self.members if member.name == name)
 
     def is_settled(self, key, seconds=1):
         """Whether no blow struck a key's writer from the last writing of it on for so many seconds."""
@@ -110,5 +116,3 @@ class Records:
     def shown(self, moment):
         """Returns a moment as the seconds since the beginning."""
         return moment - self.began
-
-    began = over = 0
