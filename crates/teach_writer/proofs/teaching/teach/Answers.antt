@@ -50,5 +50,5 @@ returns-clause-said c =
     let lesson = c.in_ok-lesson.lesson in
     let same : (lesson.bytes ≡ bytes_left pieces) × (lesson.prices ≡ pieces.prices) × (lesson.known ≡ pieces.known) = c.in_ok-lesson.ensures in
     let bytes : Says k us lesson.bytes pieces.prices (verdicts.Shortest (length lesson.bytes)) =
-        subst (λ (bs : List ℕ). Says k us bs pieces.prices (verdicts.Shortest (length bs))) (sym same.0) c.in_ok-pieces.ensures.said in
+    subst (λ (bs : List ℕ). Says k us bs pieces.prices (verdicts.Shortest (length bs))) (sym same.0) c.in_ok-pieces.ensures.said in
     subst (λ (ps : List ℕ). Says k us lesson.bytes ps (verdicts.Shortest (length lesson.bytes))) (sym same.1) bytes
