@@ -307,7 +307,8 @@ class NodeMember(Member):
     def start(self):
         self.starts.append(time.monotonic())
         with open(self.file('.conf')) as given:
-            self.child = subprocess.Popen([self.program, 'run'], stdin=given, stdout=subprocess.PIPE, stderr=subprocess.STDOUT)
+            self.child = subprocess.Popen([self.program, 'run'], stdin=given, stdout=subprocess.PIPE, stderr=subprocess.STDOUT,
+                                          env={**os.environ, 'MALLOC_ARENA_MAX': '2'})  # As digbaro.service has it.
         threading.Thread(target=self.note, args=(self.child.stdout,), daemon=True).start()
         wait(self.opened, 10, '%s listens' % self.name)
 
