@@ -1,2 +1,5 @@
 mod Chains
 mod LineWords
+mod NoRequests
+mod OneRequest
+mod Words

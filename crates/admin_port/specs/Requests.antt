@@ -79,3 +79,17 @@ IsRequest section tables words requests.OtherPage =
 abbrev pub IsRequestLine : Option (List ℕ) → List Definition → List ℕ → Request → Type 0
 IsRequestLine section tables line request =
     (list_all is_word (line_words line) ≡ true) × IsRequest section tables (line_words line) request
+
+-- ---- lines that are no requests
+
+-- no table with a key of it
+unfoldable pub IsNoRow : Option (List ℕ) → List Definition → List ℕ → List ℕ → Type 0
+IsNoRow section tables table word = (id : Option ℕ) (key : Key) → IsRow section tables table word id key → ⊥
+
+-- the words write no request
+abbrev pub IsNoRequest : Option (List ℕ) → List Definition → List (List ℕ) → Type 0
+IsNoRequest section tables words = (request : Request) → IsRequest section tables words request → ⊥
+
+-- the line of no request
+abbrev pub IsNoRequestLine : Option (List ℕ) → List Definition → List ℕ → Type 0
+IsNoRequestLine section tables line = (request : Request) → IsRequestLine section tables line request → ⊥

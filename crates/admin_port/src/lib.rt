@@ -3,6 +3,7 @@
 #![tactic(auto)]
 
 mod answers;
+mod laws;
 mod lines;
 mod metric_families;
 mod metrics_pages;
@@ -18,6 +19,7 @@ mod table_metrics;
 mod table_names;
 
 pub use answers::{Answer, push_answer, push_found, push_refused, push_rows, push_tracked};
+pub use laws::one_request;
 pub use metrics_pages::{FaultCount, Metrics, NodeMetrics, PassedOver, metrics_page};
 pub use pages::{push_missing_page, push_page};
 pub use peer_metrics::{PeerMetrics, ResyncsEnded, SessionsEnded};

@@ -1,7 +1,9 @@
 //! Requests, one on a line.
-ghost use Rattle.std.specs.Prelude.{◌≡◌, ◌∷◌, [], IfOk, IfSome, IsTrue, codes, map};
-ghost use Rattle.admin_port.specs.Requests.{IsPage, IsRequest, IsRequestLine, IsRow, IsTable, IsVersion, is_metrics};
+ghost use Rattle.std.specs.Prelude.{◌≡◌, ◌∷◌, ℕ, [], Err, IfOk, IfSome, IsTrue, List, None, Option, codes, false, map};
+ghost use Rattle.admin_port.specs.Requests.{IsNoRequest, IsNoRequestLine, IsNoRow, IsPage, IsRequest, IsRequestLine, IsRow, IsTable, IsVersion, is_metrics};
 ghost use Rattle.admin_text.specs.TableSettings.{definitions};
+ghost use Rattle.node_text.specs.Words.{is_text};
+ghost use Rattle.table_types.specs.Tables.{Definition};
 
 use crate::request_words::request_words;
 use crate::table_names::table_named;
@@ -48,28 +50,32 @@ pub enum Request {
 /// The greatest number of bytes of a request's line, without its LF.
 pub const MOST_REQUEST: usize = 32_768;
 
-/// Reads the request of a line, which is given without its LF. `tables` are those of the node, and `section` the name of the
-/// peers section, if it has one.
+/// Reads the request of a line, which is given without its LF. It refuses a line only if that is the line of no request.
+/// `tables` are those of the node, and `section` the name of the peers section, if it has one.
+#[tactic(auto, using(crate::proofs::NoRequests::empty_word, crate::proofs::NoRequests::no_request_words))]
 pub fn read_request(
     alloc: Global,
     section: &Option<Name>,
     tables: &[TableSetting],
     line: &[u8],
 ) -> Result<Request, LineError>
-    ensures { IfOk result (IsRequestLine section.now (definitions tables.now) line.now) }
+    ensures read { IfOk result (IsRequestLine section.now (definitions tables.now) line.now) }
+    ensures refused { result ≡ Err LineError.Refused → IsNoRequestLine section.now (definitions tables.now) line.now }
 {
     let words = request_words(alloc, line)?;
     request_of(alloc, section, tables, words.as_slice())
 }
 
 /// Reads a request from its words.
+#[tactic(auto, using(crate::proofs::NoRequests::no_words))]
 fn request_of(
     alloc: Global,
     section: &Option<Name>,
     tables: &[TableSetting],
     words: &[&[u8]],
 ) -> Result<Request, LineError>
-    ensures { IfOk result (IsRequest section.now (definitions tables.now) (map (λ word. word.now) words.now)) }
+    ensures read { IfOk result (IsRequest section.now (definitions tables.now) (map (λ word. word.now) words.now)) }
+    ensures refused { result ≡ Err LineError.Refused → IsNoRequest section.now (definitions tables.now) (map (λ word. word.now) words.now) }
 {
     match words {
         [kind, words @ ..] => request_of_kind(alloc, section, tables, kind, words),
@@ -78,6 +84,7 @@ fn request_of(
 }
 
 /// Reads a request, from its first word and those after it.
+#[tactic(auto, using(crate::proofs::NoRequests::no_kind))]
 fn request_of_kind(
     alloc: Global,
     section: &Option<Name>,
@@ -85,28 +92,39 @@ fn request_of_kind(
     kind: &[u8],
     words: &[&[u8]],
 ) -> Result<Request, LineError>
-    ensures { IfOk result (IsRequest section.now (definitions tables.now) (kind.now ∷ map (λ word. word.now) words.now)) }
+    ensures read { IfOk result (IsRequest section.now (definitions tables.now) (kind.now ∷ map (λ word. word.now) words.now)) }
+    ensures refused { result ≡ Err LineError.Refused → IsNoRequest section.now (definitions tables.now) (kind.now ∷ map (λ word. word.now) words.now) }
 {
-    match (kind, words) {
-        (b"track", [table, key, change @ ..]) => {
-            track_of(alloc, section, tables, table, key, change)
-        }
-        (b"get", [table, key]) => get_of(alloc, section, tables, table, key),
-        (b"show", words) => show_of(section, tables, words).ok_or(LineError::Refused),
-        (b"stop", []) => Ok(Request::Stop),
-        (b"GET", [path, version]) if is_page(path, version) => {
-            if is_metrics(path) {
-                Ok(Request::Metrics)
-            } else {
-                Ok(Request::OtherPage)
-            }
-        }
+    match kind {
+        b"track" => track_of(alloc, section, tables, words),
+        b"get" => get_of(alloc, section, tables, words),
+        b"show" => show_of(section, tables, words).ok_or(LineError::Refused),
+        b"stop" => stop_of(words).ok_or(LineError::Refused),
+        b"GET" => page_of(words).ok_or(LineError::Refused),
         _ => Err(LineError::Refused),
     }
 }
 
-/// Reads a request `track TABLE KEY` and a change.
+/// Reads a request `track TABLE KEY` and a change, from the words after the first.
+#[tactic(auto, using(crate::proofs::NoRequests::few_to_track))]
 fn track_of(
+    alloc: Global,
+    section: &Option<Name>,
+    tables: &[TableSetting],
+    words: &[&[u8]],
+) -> Result<Request, LineError>
+    ensures read { IfOk result (IsRequest section.now (definitions tables.now) (codes "track" ∷ map (λ word. word.now) words.now)) }
+    ensures refused { result ≡ Err LineError.Refused → IsNoRequest section.now (definitions tables.now) (codes "track" ∷ map (λ word. word.now) words.now) }
+{
+    let [table, key, change @ ..] = words else {
+        return Err(LineError::Refused);
+    };
+    change_of_row(alloc, section, tables, table, key, change)
+}
+
+/// Reads a request `track`, from the words of its table and its key, and from those of its change.
+#[tactic(auto, using(crate::proofs::NoRequests::no_row_to_track, crate::proofs::NoRequests::no_change_to_track))]
+fn change_of_row(
     alloc: Global,
     section: &Option<Name>,
     tables: &[TableSetting],
@@ -114,43 +132,127 @@ fn track_of(
     key: &[u8],
     change: &[&[u8]],
 ) -> Result<Request, LineError>
-    ensures { IfOk result (IsRequest section.now (definitions tables.now) (codes "track" ∷ table.now ∷ key.now ∷ map (λ word. word.now) change.now)) }
+    ensures read { IfOk result (IsRequest section.now (definitions tables.now) (codes "track" ∷ table.now ∷ key.now ∷ map (λ word. word.now) change.now)) }
+    ensures refused { result ≡ Err LineError.Refused → IsNoRequest section.now (definitions tables.now) (codes "track" ∷ table.now ∷ key.now ∷ map (λ word. word.now) change.now) }
 {
     let (table, key) = row_of(alloc, section, tables, table, key)?;
     let change = change_of(alloc, change)?;
     Ok(Request::Track { table, key, change })
 }
 
-/// Reads a request `get TABLE KEY`.
+/// Reads a request `get TABLE KEY`, from the words after the first.
+#[tactic(auto, using(crate::proofs::NoRequests::other_to_get))]
 fn get_of(
+    alloc: Global,
+    section: &Option<Name>,
+    tables: &[TableSetting],
+    words: &[&[u8]],
+) -> Result<Request, LineError>
+    ensures read { IfOk result (IsRequest section.now (definitions tables.now) (codes "get" ∷ map (λ word. word.now) words.now)) }
+    ensures refused { result ≡ Err LineError.Refused → IsNoRequest section.now (definitions tables.now) (codes "get" ∷ map (λ word. word.now) words.now) }
+{
+    let [table, key] = words else {
+        return Err(LineError::Refused);
+    };
+    row_to_get(alloc, section, tables, table, key)
+}
+
+/// Reads a request `get`, from the words of its table and its key.
+#[tactic(auto, using(crate::proofs::NoRequests::no_get))]
+fn row_to_get(
     alloc: Global,
     section: &Option<Name>,
     tables: &[TableSetting],
     table: &[u8],
     key: &[u8],
 ) -> Result<Request, LineError>
-    ensures { IfOk result (IsRequest section.now (definitions tables.now) (codes "get" ∷ table.now ∷ key.now ∷ [])) }
+    ensures read { IfOk result (IsRequest section.now (definitions tables.now) (codes "get" ∷ table.now ∷ key.now ∷ [])) }
+    ensures refused { result ≡ Err LineError.Refused → IsNoRequest section.now (definitions tables.now) (codes "get" ∷ table.now ∷ key.now ∷ []) }
 {
     let (table, key) = row_of(alloc, section, tables, table, key)?;
     Ok(Request::Get { table, key })
 }
 
+/// Reads a request `stop`, from the words after the first.
+#[tactic(auto, using(crate::proofs::NoRequests::some_to_stop))]
+fn stop_of(words: &[&[u8]]) -> Option<Request>
+    ensures read { (section : Option (List ℕ)) (tables : List Definition) → IfSome result (IsRequest section tables (codes "stop" ∷ map (λ word. word.now) words.now)) }
+    ensures refused { (section : Option (List ℕ)) (tables : List Definition) → result ≡ None → IsNoRequest section tables (codes "stop" ∷ map (λ word. word.now) words.now) }
+{
+    if words.is_empty() {
+        Some(Request::Stop)
+    } else {
+        None
+    }
+}
+
+/// Reads a request for a page by HTTP, from the words after `GET`.
+#[tactic(auto, using(crate::proofs::NoRequests::other_to_page, crate::proofs::NoRequests::no_page))]
+fn page_of(words: &[&[u8]]) -> Option<Request>
+    ensures read { (section : Option (List ℕ)) (tables : List Definition) → IfSome result (IsRequest section tables (codes "GET" ∷ map (λ word. word.now) words.now)) }
+    ensures refused { (section : Option (List ℕ)) (tables : List Definition) → result ≡ None → IsNoRequest section tables (codes "GET" ∷ map (λ word. word.now) words.now) }
+{
+    let [path, version] = words else {
+        return None;
+    };
+    if !is_page(path, version) {
+        return None;
+    }
+    if is_metrics(path) {
+        Some(Request::Metrics)
+    } else {
+        Some(Request::OtherPage)
+    }
+}
+
 /// Reads a request `show`, from the words after the first.
+#[tactic(auto, using(crate::proofs::NoRequests::other_to_show))]
 fn show_of(section: &Option<Name>, tables: &[TableSetting], words: &[&[u8]]) -> Option<Request>
-    ensures { IfSome result (IsRequest section.now (definitions tables.now) (codes "show" ∷ map (λ word. word.now) words.now)) }
+    ensures read { IfSome result (IsRequest section.now (definitions tables.now) (codes "show" ∷ map (λ word. word.now) words.now)) }
+    ensures refused { result ≡ None → IsNoRequest section.now (definitions tables.now) (codes "show" ∷ map (λ word. word.now) words.now) }
 {
     match words {
-        [b"table"] => Some(Request::ShowTables),
-        [b"rows"] => Some(Request::ShowRows),
-        [b"peers"] => Some(Request::ShowPeers),
-        [b"table", table] => Some(Request::ShowTable(table_of(section, tables, table)?)),
+        [word] => list_of(word),
+        [word, table] => list_of_table(section, tables, word, table),
+        _ => None,
+    }
+}
+
+/// Reads a request `show` with one word.
+#[tactic(auto, using(crate::proofs::NoRequests::no_show_word))]
+fn list_of(word: &[u8]) -> Option<Request>
+    ensures read { (section : Option (List ℕ)) (tables : List Definition) → IfSome result (IsRequest section tables (codes "show" ∷ word.now ∷ [])) }
+    ensures refused { (section : Option (List ℕ)) (tables : List Definition) → result ≡ None → IsNoRequest section tables (codes "show" ∷ word.now ∷ []) }
+{
+    match word {
+        b"table" => Some(Request::ShowTables),
+        b"rows" => Some(Request::ShowRows),
+        b"peers" => Some(Request::ShowPeers),
+        _ => None,
+    }
+}
+
+/// Reads a request `show` with two words, of which the second names a table.
+#[tactic(auto, using(crate::proofs::NoRequests::no_show_table))]
+fn list_of_table(
+    section: &Option<Name>,
+    tables: &[TableSetting],
+    word: &[u8],
+    table: &[u8],
+) -> Option<Request>
+    ensures read { IfSome result (IsRequest section.now (definitions tables.now) (codes "show" ∷ word.now ∷ table.now ∷ [])) }
+    ensures refused { result ≡ None → IsNoRequest section.now (definitions tables.now) (codes "show" ∷ word.now ∷ table.now ∷ []) }
+{
+    match word {
+        b"table" => Some(Request::ShowTable(table_of(section, tables, table)?)),
         _ => None,
     }
 }
 
 /// Reads a table: its id if it is there.
 fn table_of(section: &Option<Name>, tables: &[TableSetting], word: &[u8]) -> Option<Option<u64>>
-    ensures { IfSome result (IsTable section.now (definitions tables.now) word.now) }
+    ensures read { IfSome result (IsTable section.now (definitions tables.now) word.now) }
+    ensures refused { result ≡ None → is_text word.now ≡ false }
 {
     if !is_text(word) {
         return None;
@@ -162,6 +264,7 @@ fn table_of(section: &Option<Name>, tables: &[TableSetting], word: &[u8]) -> Opt
 }
 
 /// Reads a table and a key. The key of a table that isn't there is read as one of bytes, so that no key of another kind is refused.
+#[tactic(auto, using(crate::proofs::NoRequests::no_key, crate::proofs::NoRequests::no_text))]
 fn row_of(
     alloc: Global,
     section: &Option<Name>,
@@ -169,7 +272,8 @@ fn row_of(
     table: &[u8],
     key: &[u8],
 ) -> Result<(Option<u64>, Key), LineError>
-    ensures { IfOk result (λ row. IsRow section.now (definitions tables.now) table.now key.now row.0 row.1) }
+    ensures read { IfOk result (λ row. IsRow section.now (definitions tables.now) table.now key.now row.0 row.1) }
+    ensures refused { result ≡ Err LineError.Refused → IsNoRow section.now (definitions tables.now) table.now key.now }
 {
     if !is_text(table) {
         return Err(LineError::Refused);
@@ -188,15 +292,19 @@ fn is_metrics(path: &[u8]) -> bool
 }
 
 /// Returns whether the words after `GET` ask for a page by HTTP.
+#[tactic(auto, using(crate::proofs::NoRequests::no_page_text, crate::proofs::NoRequests::no_page_version))]
 fn is_page(path: &[u8], version: &[u8]) -> bool
-    ensures { IsTrue result → IsPage path.now version.now }
+    ensures page { IsTrue result → IsPage path.now version.now }
+    ensures other { result ≡ false → IsPage path.now version.now → ⊥ }
 {
     is_text(path) && is_version(version)
 }
 
 /// Returns whether `word` is `HTTP/1.` and a digit, with or without a CR at the end.
+#[tactic(auto, using(crate::proofs::NoRequests::no_version))]
 fn is_version(word: &[u8]) -> bool
-    ensures { IsTrue result → IsVersion word.now }
+    ensures version { IsTrue result → IsVersion word.now }
+    ensures other { result ≡ false → IsVersion word.now → ⊥ }
 {
     match word {
         [b'H', b'T', b'T', b'P', b'/', b'1', b'.', digit] => digit.is_ascii_digit(),
