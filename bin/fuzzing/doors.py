@@ -20,8 +20,6 @@ from peering.far import hello, kept_open
 
 PEERS = (b'b', b'c', b'd')
 LONGEST_LINE = 512
-# How many doors take connections: of several hellos at once, so many at least are answered.
-DOORS = 4
 THIRD = re.compile(rb'([^ \0]{1,255}) [0-9]+ [0-9]+', re.DOTALL)
 
 
@@ -50,12 +48,10 @@ def is_status(came, wanted):
     return bool(wanted) and (came == wanted or wanted == ACCEPTED and came.startswith(ACCEPTED))
 
 
-def least_answered(count, wanted):
-    """Returns how many of so many connections at once that say the same hello have to be answered. A door closes its connection for another
-    one only while no door is free, so the last ones stay. Of a peer's connections, which take each other's place, one stays."""
-    if not wanted:
-        return 0
-    return min(count, 1 if wanted == ACCEPTED else DOORS)
+def least_answered(wanted):
+    """Returns how many of several connections at once that say the same hello have to be answered. A door closes its connection for another
+    one while no door is free, as one that says its hello late under load finds out; but some connection always stays."""
+    return 1 if wanted else 0
 
 
 # --- Random cases
@@ -189,7 +185,7 @@ class Stranger:
         wanted = status_for(said)
         peers = [self.opened(said) for _ in range(count)]
         statuses = [self.burst_status(peer, wanted, said) for peer in peers]
-        least = least_answered(count, wanted)
+        least = least_answered(wanted)
         require(len(statuses) - statuses.count(b'') >= least, 'statuses', 'of %d hellos at once are fewer than %d:' % (count, least), statuses, said)
 
     def burst_status(self, peer, wanted, said):

@@ -136,6 +136,7 @@ class Far:
         self.begun = 0
         self.read_to = 0
         self.acks = []
+        self.replaced = set()
         self.lessons = bytearray()
         self.numbers = {}
         self.updates = {}
@@ -237,14 +238,22 @@ class Far:
         require(came or self.patience == IMPATIENT, what, 'does not come, and the connection is %s:' % ('over' if self.is_over else 'open'), shown())
         return came
 
+    def note_replaced(self, at, identifier):
+        """Notes the ids of which a definition takes the table. What is acknowledged of them depends on how the stream is cut into reads."""
+        held, holder = self.learner.defined.get(identifier), self.learner.ids.get(self.learner.tables[at].name)
+        self.replaced.update({identifier} if held not in (None, at) else (), {holder} - {None, identifier})
+
     def say(self, said):
+        if said[0] == 'define':
+            self.note_replaced(said[1], said[2])
         self.said += spelled(said, self.learner.tables)
         self.learner.take(said)
         if self.learner.fault is not None or not self.learner.sure:
             self.patience = min(self.patience, IMPATIENT)
 
     def sync(self, pieces):
-        """Sends what was said. The last number of each table with an update among it is acknowledged, if the table is a local one."""
+        """Sends what was said. The last number of each table with an update among it is acknowledged, if the table is a local
+        one, and no definition among it took it away."""
         before, data = len(self.acks), self.said
         self.said = b''
         if pieces == 1:
@@ -253,6 +262,8 @@ class Far:
             self.slow(data, pieces)
         due = self.learner.acks()
         self.learner.owing.difference_update(at for at, _ in due)
+        due = [ack for ack in due if ack[0] not in self.replaced]
+        self.replaced.clear()
         self.in_time(lambda: set(due) <= set(self.acks[before:]), 'an acknowledgement', lambda: (due, self.acks[before:]))
 
     def ask(self):
