@@ -120,6 +120,7 @@ class Guest(Far):
         is_small, is_sound = pieces == 1 and len(self.said) <= AT_ONCE, self.patience != IMPATIENT
         super().sync(pieces)
         if is_small and is_sound:
+            self.in_time(lambda: len(self.acks) - before >= len(due), 'an acknowledgement', lambda: (due, self.acks[before:]))
             require(self.acks[before:] == due, 'acknowledgements', 'are other than one for each table:', self.acks[before:], due)
         self.acknowledge()
 
