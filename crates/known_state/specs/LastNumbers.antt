@@ -1,11 +1,12 @@
 -- The last number of each table that had an update, and what a definition does to it (HAProxy, doc/peers-v2.0.txt,
 -- "Stick Table Messages"; which last numbers a definition drops is the profile's choice).
-use Rattle.std.specs.Prelude.{ℕ, ◌<◌, Bool, false, not, ◌||◌, ◌==◌, nat_lt, List, [], ◌∷◌, filter, Option, Some, None, if◌then◌else◌}
+use Rattle.std.specs.Prelude.{ℕ, ◌<◌, Bool, not, ◌||◌, ◌==◌, nat_lt, List, [], ◌∷◌, filter, Option, Some, None, if◌then◌else◌}
 use Rattle.std.specs.List.{AllByRecursion}
 use Rattle.table_types.specs.Tables.{Definition}
 use Rattle.table_types.specs.Rosters.{is_same_name, table_at}
 use Rattle.peers_msg.specs.Received.{Received}
 use Rattle.peers_msg.specs.OwnTables.{is_own_one}
+use Rattle.peers_msg.specs.ReceivedIndex.{is_id}
 use Rattle.known_state.specs.declared.last_numbers.LostIds.{LostIds}
 
 -- the last number of an id
@@ -25,15 +26,6 @@ set_last id number (l ∷ ls) =
 abbrev pub keeps_last : Definition → Option Definition → ℕ → Bool
 keeps_last new None id = not (id == new.id)
 keeps_last new (Some d) id = if id == new.id then is_same_name d.name new.name else not (is_same_name d.name new.name)
-
--- the table with a name
-abbrev pub table_named : List Definition → List ℕ → Option Definition
-table_named [] name = None
-table_named (d ∷ ds) name = if is_same_name d.name name then Some d else table_named ds name
-
-abbrev pub is_id : Option ℕ → ℕ → Bool
-is_id None id = false
-is_id (Some other) id = id == other
 
 -- an id loses its last number at a definition
 abbrev pub is_lost : LostIds → ℕ → Bool

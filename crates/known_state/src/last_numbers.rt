@@ -1,19 +1,20 @@
 //! The last number of each table.
 
-ghost use Rattle.std.specs.Prelude.{◌≡◌, ℕ, not, List, IfOk, OnOk, OnErr, [], filter, option_copied};
+ghost use Rattle.std.specs.Prelude.{◌≡◌, ℕ, not, List, IfOk, OnOk, OnErr, [], filter};
 ghost use Rattle.table_types.specs.Rosters.{table_at};
-ghost use Rattle.known_state.specs.LastNumbers.{last_of, set_last, keeps_last, own_last_numbers, is_id, is_lost, table_named, AreRising};
+ghost use Rattle.known_state.specs.LastNumbers.{last_of, set_last, keeps_last, own_last_numbers, is_lost, AreRising};
 ghost use Rattle.peers_msg.specs.OwnTables.{is_own_one};
+ghost use Rattle.peers_msg.specs.ReceivedIndex.{is_id};
 ghost use Rattle.known_state.specs.Known.{last_numbers_put};
 
 use peers_msg::{Received, is_own};
 use std::alloc::Global;
 use std::collections::BTreeMap;
 use std::marker::Model;
-use table_types::{Memory, Roster, TableDef, is_same_name};
+use table_types::{Memory, Roster, TableDef};
 
 /// The number of the last update of each table id that had one. Each call but `of`, `own_part` and `copy` takes time
-/// logarithmic in the number of ids; so do `define` and `LostIds::at` but for the search of a table by its name.
+/// logarithmic in the number of ids.
 #[derive(Debug, Drop)]
 pub struct LastNumbers {
     numbers: BTreeMap<u64, u32>,
@@ -39,18 +40,6 @@ pub struct LostIds {
     other: Option<u64>,
 }
 
-/// Returns the table with this name.
-fn table_named<'a>(tables: &'a [TableDef], name: &[u8]) -> Option<&'a TableDef>
-    ensures { option_copied result ≡ table_named tables.now name.now }
-{
-    for table in tables {
-        if is_same_name(table.name(), name) {
-            return Some(table);
-        }
-    }
-    None
-}
-
 impl LostIds {
     /// Returns the ids that lose their last numbers at the definition `new`, given what was received of the tables before
     /// it.
@@ -59,7 +48,7 @@ impl LostIds {
             ≡ filter (λ last. keeps_last new.now (table_at received.now.tables last.0) last.0) numbers }
     {
         let id = new.id();
-        let Some(table) = table_named(received.tables(), new.name()) else {
+        let Some(table) = received.named(new.name()) else {
             return LostIds {
                 defined: Some(id),
                 other: None,

@@ -318,8 +318,8 @@ impl Intake {
         ensures stays { OnErr result (self.new ≡ self.old) }
     {
         let mut acks = Vec::new(self.alloc);
-        // They ascend by id, as those that are due do.
-        let _tables = self.state.received().tables();
+        // The tables received ascend by id, as the ids that are due do.
+        let _count = self.state.received().count();
         for id in &self.due {
             if let Some(ack) = self.ack(*id) {
                 acks.push(ack)?;

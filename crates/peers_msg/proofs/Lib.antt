@@ -19,3 +19,7 @@ pub mod StreamRoundTrip
 pub mod SameEndHoweverCut
 pub mod CallsReadInPieces
 pub mod OneOutcome
+pub mod MapsById
+pub mod TablesByIdAndName
+pub mod NamesInMap
+pub mod DefinedInMaps

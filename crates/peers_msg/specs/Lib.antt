@@ -1,6 +1,7 @@
 pub use Rattle.peers_encint.specs.Integers
 pub mod Messages
 pub mod Received
+pub mod ReceivedIndex
 pub mod OwnTables
 pub mod Borrowed
 pub mod Spelling

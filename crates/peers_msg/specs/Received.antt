@@ -44,6 +44,11 @@ received_after h (messages.Define d) = record { tables = defined d h.tables; sel
 received_after h (messages.Switch id) = record { tables = h.tables; selected = Some id }
 received_after h m = h
 
+-- the table with a name
+abbrev pub table_named : List Definition → List ℕ → Option Definition
+table_named [] name = None
+table_named (d ∷ ds) name = if is_same_name d.name name then Some d else table_named ds name
+
 -- the selected table
 abbrev pub selected_table : Received → Option Definition
 selected_table h = option_and_then (table_at h.tables) h.selected

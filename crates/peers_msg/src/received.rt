@@ -1,70 +1,126 @@
 //! The definitions received on a stream.
 
-ghost use Rattle.std.specs.Prelude.{◌≡◌, ◌≤◌, ◌<◌, ◌+◌, IfOk, OnOk, OnErr, Some, option_copied, length, filter, insert, vec_len, vec_capacity};
-ghost use Rattle.table_types.specs.Tables.{Definition};
-ghost use Rattle.table_types.specs.Rosters.{is_same_name, table_at};
+ghost use Rattle.std.specs.Prelude.{◌≡◌, ◌==◌, ℕ, List, None, IfOk, OnOk, OnErr, IsSome, option_copied, length, if◌then◌else◌};
+ghost use Rattle.std.specs.BTreeMap.{IsOrdered, get, get_by};
+ghost use Rattle.std.specs.Cmp.Lexicographic.{slice_cmp};
+ghost use Rattle.std.specs.Map.{values_of};
+ghost use Rattle.std.specs.Ordering.{nat_cmp};
+ghost use Rattle.table_types.specs.Rosters.{table_at};
 ghost use Rattle.peers_msg.specs.declared.message.Message.TheVariants as messages;
-ghost use Rattle.peers_msg.specs.Received.{AreDistinct, nothing_received, received_after, insert_table, outlives, selected_table, resumed};
+ghost use Rattle.peers_msg.specs.Received.{AreDistinct, defined, nothing_received, received_after, selected_table, resumed, table_named};
+ghost use Rattle.peers_msg.specs.ReceivedIndex.{AreIndexed, has_that_name, is_id};
 ghost use Rattle.peers_msg.specs.OwnTables.{own_part};
 
 use crate::own_tables::is_own;
 use std::alloc::Global;
+use std::collections::BTreeMap;
 use std::marker::Model;
-use table_types::{Memory, Roster, TableDef, is_same_name, table_at};
+use table_types::{Memory, Roster, TableDef};
 
 /// The definition of each id received, and the selected id: all that a decoder needs to know of earlier messages
-/// (HAProxy, doc/peers-v2.0.txt, "Table Definition Message", "Table Switch Message").
+/// (HAProxy, doc/peers-v2.0.txt, "Table Definition Message", "Table Switch Message"). Each call but `resume`, `own_part`
+/// and `copy` takes time logarithmic in the number of tables.
 #[derive(Debug, Drop)]
 pub struct Received {
-    /// In ascending order of id, with distinct names.
-    tables: Vec<TableDef>,
+    alloc: Global,
+    /// By id, with distinct names.
+    tables: BTreeMap<u64, TableDef>,
+    /// The id of the table of each name.
+    names: BTreeMap<Vec<u8>, u64>,
     selected: Option<u64>,
 }
 
 impl Model for Received {
-    ghost use Rattle.peers_msg.specs.Received.{Received, AreDistinct};
+    ghost use Rattle.std.specs.BTreeMap.{get_by};
+    ghost use Rattle.std.specs.Cmp.Lexicographic.{slice_cmp};
+    ghost use Rattle.std.specs.Map.{values_of};
+    ghost use Rattle.std.specs.Ordering.{nat_cmp};
+    ghost use Rattle.peers_msg.specs.Received.{Received};
+    ghost use Rattle.peers_msg.specs.ReceivedIndex.{AreIndexed};
 
     ghost Value = { Received };
 
-    ghost view = { λ h. record { tables = h.tables.items; selected = h.selected } };
+    ghost view = { λ h. record { tables = values_of h.tables.entries; selected = h.selected } };
 
-    ghost invariant = { λ h. AreDistinct h.tables.items };
+    ghost invariant = { λ h. AreIndexed h.tables.entries (λ name. get_by (λ key. slice_cmp nat_cmp name key.items) h.names) };
 }
 
-fn outlives(new: &TableDef, table: &TableDef) -> bool
-    ensures { result ≡ outlives new.now table.now }
+/// Returns whether there is an id, and it is this one.
+fn is_id(one: Option<u64>, id: u64) -> bool
+    ensures { result ≡ is_id one id }
 {
-    table.id() != new.id() && !is_same_name(table.name(), new.name())
+    match one {
+        Some(other) => id == other,
+        None => false,
+    }
 }
 
-/// Removes the tables that the new definition replaces: those with its id or its name, two at most, so the rest moves
-/// up at most twice.
-fn keep_outliving(tables: &mut Vec<TableDef>, new: &TableDef)
-    ensures kept { tables.new.items ≡ filter (outlives new.now) tables.old.items }
-    ensures fewer { vec_len tables.new ≤ vec_len tables.old }
-    ensures room { vec_capacity tables.new ≡ vec_capacity tables.old }
+/// Undoes an insertion at `id`, given the table that was there before.
+fn put_back(tables: &mut BTreeMap<u64, TableDef>, id: u64, before: Option<TableDef>)
+    requires { IsSome (get nat_cmp tables.old id) }
+    ensures back { (other : ℕ) → get nat_cmp tables.new other ≡ (if other == id then before else get nat_cmp tables.old other) }
+    ensures ordered { IsOrdered nat_cmp tables.new }
 {
-    let mut index = 0;
-    while index < tables.len() {
-        if outlives(new, &tables[index]) {
-            index += 1;
-        } else {
-            tables.remove(index);
+    match before {
+        Some(table) => {
+            let _put = tables.insert(id, table);
+        }
+        None => {
+            tables.remove(&id);
         }
     }
 }
 
-/// Returns the index at which a table with the id `id` belongs among tables in ascending order of id.
-fn index_of(tables: &[TableDef], id: u64) -> usize
-    ensures within { result ≤ length tables.now }
-    ensures index { (new : Definition) → new.id ≡ id → insert tables.now result new ≡ insert_table new tables.now }
+/// Removes the table of an id, if there is an id.
+fn remove_table(tables: &mut BTreeMap<u64, TableDef>, id: Option<u64>)
+    ensures removed { (other : ℕ) → get nat_cmp tables.new other ≡ (if is_id id other then None else get nat_cmp tables.old other) }
+    ensures ordered { IsOrdered nat_cmp tables.new }
 {
-    for (index, table) in tables.iter().enumerate() {
-        if id < table.id() {
-            return index;
-        }
+    // The ids ascend, also if none is removed.
+    let _count = tables.len();
+    if let Some(id) = id {
+        tables.remove(&id);
     }
-    tables.len()
+}
+
+/// Removes the name of a table, if there is a table.
+fn remove_name(names: &mut BTreeMap<Vec<u8>, u64>, table: Option<TableDef>)
+    ensures { (name : List ℕ) → get_by (λ key. slice_cmp nat_cmp name key.items) names.new
+        ≡ (if has_that_name table name then None else get_by (λ key. slice_cmp nat_cmp name key.items) names.old) }
+{
+    if let Some(table) = table {
+        names.remove(table.name());
+    }
+}
+
+/// Sets the table of its id, and removes any other table of the same name. If memory runs out, both maps are as before.
+fn define(
+    alloc: Global,
+    tables: &mut BTreeMap<u64, TableDef>,
+    names: &mut BTreeMap<Vec<u8>, u64>,
+    table: TableDef,
+) -> Result<(), Memory>
+    requires { AreIndexed tables.old.entries (λ name. get_by (λ key. slice_cmp nat_cmp name key.items) names.old) }
+    ensures defined { OnOk result (values_of tables.new.entries ≡ defined table (values_of tables.old.entries)) }
+    ensures stays { OnErr result (tables.new.entries ≡ tables.old.entries) }
+    ensures indexed { AreIndexed tables.new.entries (λ name. get_by (λ key. slice_cmp nat_cmp name key.items) names.new) }
+{
+    let id = table.id();
+    let name = Vec::from_slice(alloc, table.name())?;
+    let before = tables.insert(id, table)?;
+    let named = match names.insert(name, id) {
+        Ok(named) => named,
+        Err(_) => {
+            put_back(tables, id, before);
+            return Err(Memory);
+        }
+    };
+    if is_id(named, id) {
+        return Ok(());
+    }
+    remove_name(names, before);
+    remove_table(tables, named);
+    Ok(())
 }
 
 impl Received {
@@ -73,7 +129,9 @@ impl Received {
         ensures { result ≡ nothing_received }
     {
         Received {
-            tables: Vec::new(alloc),
+            alloc,
+            tables: BTreeMap::new(alloc),
+            names: BTreeMap::new(alloc),
             selected: None,
         }
     }
@@ -98,12 +156,12 @@ impl Received {
         Ok(received)
     }
 
-    /// Returns the tables received, in ascending order of id, with distinct ids and distinct names.
-    pub fn tables(&self) -> &[TableDef]
-        ensures tables { result.now ≡ self.now.tables }
+    /// Returns how many tables were received.
+    pub fn count(&self) -> usize
+        ensures count { result ≡ length self.now.tables }
         ensures distinct { AreDistinct self.now.tables }
     {
-        self.tables.as_slice()
+        self.tables.len()
     }
 
     /// Returns the selected id.
@@ -117,7 +175,18 @@ impl Received {
     pub fn table(&self, id: u64) -> Option<&TableDef>
         ensures { option_copied result ≡ table_at self.now.tables id }
     {
-        table_at(self.tables.as_slice(), id)
+        self.tables.get(&id)
+    }
+
+    /// Returns the table with the name `name`.
+    pub fn named(&self, name: &[u8]) -> Option<&TableDef>
+        ensures named { option_copied result ≡ table_named self.now.tables name.now }
+        ensures distinct { AreDistinct self.now.tables }
+    {
+        match self.names.get(name) {
+            Some(id) => self.tables.get(id),
+            None => None,
+        }
     }
 
     /// Returns the selected table.
@@ -125,7 +194,7 @@ impl Received {
         ensures { option_copied result ≡ selected_table self.now }
     {
         match self.selected {
-            Some(id) => table_at(self.tables.as_slice(), id),
+            Some(id) => self.table(id),
             None => None,
         }
     }
@@ -136,11 +205,8 @@ impl Received {
         ensures received { OnOk result (self.new ≡ received_after self.old (messages.Define table)) }
         ensures stays { OnErr result (self.new ≡ self.old) }
     {
-        self.tables.reserve(1)?;
         let id = table.id();
-        keep_outliving(&mut self.tables, &table);
-        let index = index_of(self.tables.as_slice(), id);
-        self.tables.insert(index, table).unwrap();
+        define(self.alloc, &mut self.tables, &mut self.names, table)?;
         self.selected = Some(id);
         Ok(())
     }
@@ -157,16 +223,14 @@ impl Received {
     pub fn own_part(&self, alloc: Global, roster: &Roster) -> Result<Received, Memory>
         ensures { IfOk result (λ part. part ≡ own_part roster.now self.now) }
     {
-        let mut tables = Vec::new(alloc);
-        for table in self.tables.as_slice() {
+        let mut part = Received::new(alloc);
+        for (_, table) in &self.tables {
             if is_own(roster, table) {
-                tables.push(table.copy(alloc)?)?;
+                part.define(table.copy(alloc)?)?;
             }
         }
-        Ok(Received {
-            tables,
-            selected: self.own_selected(roster),
-        })
+        part.selected = self.own_selected(roster);
+        Ok(part)
     }
 
     fn own_selected(&self, roster: &Roster) -> Option<u64>
@@ -182,13 +246,11 @@ impl Received {
     pub fn copy(&self, alloc: Global) -> Result<Received, Memory>
         ensures { IfOk result (λ copy. copy ≡ self.now) }
     {
-        let mut tables = Vec::with_capacity(alloc, self.tables.len())?;
-        for table in self.tables.as_slice() {
-            tables.push(table.copy(alloc)?)?;
+        let mut copy = Received::new(alloc);
+        for (_, table) in &self.tables {
+            copy.define(table.copy(alloc)?)?;
         }
-        Ok(Received {
-            tables,
-            selected: self.selected,
-        })
+        copy.selected = self.selected;
+        Ok(copy)
     }
 }

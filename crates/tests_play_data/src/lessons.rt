@@ -30,7 +30,7 @@ fn lesson_of(alloc: Global, taught: &Taught) -> Option<Lesson> {
 /// Returns whether table `id` alone is defined, is selected and has this last number, and the slots of `held` alone hold `s1`.
 fn stands_at(known: &Known, id: u64, last: u32, held: &[u8]) -> bool {
     let received = known.received();
-    received.tables().len() == 1
+    received.count() == 1
         && received.selected() == Some(id)
         && known.last_numbers().last(id) == Some(last)
         && are_held(known.slots(), held)

@@ -11,3 +11,4 @@ pub mod StoodInFits
 pub mod StandInsStay
 pub mod NoSuchFault
 pub mod StandInsAreOthers
+pub mod FurtherIds

@@ -21,7 +21,7 @@ use crate::sieve_error::SieveError;
 use known_state::Effect;
 use peers_msg::{Breach, DefinitionRef, Message, MessageRef, append};
 use std::alloc::Global;
-use table_types::{Memory, TableDef, has_id};
+use table_types::{Memory, TableDef};
 
 /// The number of tables that a peer may have defined at once (profile).
 const MOST_TABLES: usize = 1024;
@@ -39,8 +39,8 @@ impl Sieve {
     fn is_further(&self, id: u64) -> bool
         ensures { result ≡ is_further self.now id }
     {
-        let tables = self.state.received().tables();
-        tables.len() >= MOST_TABLES && !has_id(tables, id)
+        let received = self.state.received();
+        received.count() >= MOST_TABLES && received.table(id).is_none()
     }
 
     /// Plans a definition that the strict intake can read; `came` are its bytes.

@@ -105,7 +105,7 @@ fn is_taught(known: &Known) -> bool {
         _ => false,
     };
     defined
-        && received.tables().len() == 1
+        && received.count() == 1
         && known.last_numbers().last(T1.id) == Some(1)
         && are_held(known.slots(), &[])
 }

@@ -1,6 +1,7 @@
 use Rattle.std.proofs.Common.{ℕ, List, not, ap, ◌∙◌, sym, subst}
 use Rattle.std.specs.Prelude.{filter}
-use Rattle.known_state.specs.LastNumbers.{is_id, AreRising}
+use Rattle.peers_msg.specs.ReceivedIndex.{is_id}
+use Rattle.known_state.specs.LastNumbers.{AreRising}
 use Rattle.known_state.proofs.LastNumbersInMap.{filter_both}
 use Rattle.known_state.proofs.LastNumbersRise.{rising-filter}
 use Rattle.known_state.proofs.last_numbers.LastNumbers.forget.Goals as goal

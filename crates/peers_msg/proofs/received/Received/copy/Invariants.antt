@@ -1,5 +1,6 @@
-use Rattle.std.proofs.Common.{◌≡◌, take}
+use Rattle.std.proofs.Common.{◌≡◌, ◌++◌}
+use Rattle.std.specs.Map.{values_of}
 use Rattle.peers_msg.proofs.received.Received.copy.Given as goal
 
 abbrev pub invariant-loop-table : goal.invariant-loop-table
-invariant-loop-table l = l.tables.items ≡ take l.table-index l.table-items
+invariant-loop-table l = l.copy.tables ++ values_of l.table-iterator ≡ l.self.tables

@@ -1,7 +1,8 @@
-use Rattle.std.proofs.Common.{◌≡◌, ◌++◌, drop}
+use Rattle.std.proofs.Common.{◌≡◌, ◌++◌}
 use Rattle.std.specs.Prelude.{filter}
+use Rattle.std.specs.Map.{values_of}
 use Rattle.peers_msg.specs.OwnTables.{is_own}
 use Rattle.peers_msg.proofs.received.Received.own_part.Given as goal
 
 abbrev pub invariant-loop-table : goal.invariant-loop-table
-invariant-loop-table l = l.tables.items ++ filter (is_own l.roster) (drop l.table-index l.table-items) ≡ filter (is_own l.roster) l.table-items
+invariant-loop-table l = l.part.tables ++ filter (is_own l.roster) (values_of l.table-iterator) ≡ filter (is_own l.roster) l.self.tables
