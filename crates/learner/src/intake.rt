@@ -317,9 +317,8 @@ impl Intake {
         ensures done { OnOk result (self.new ≡ record self.old { due = [] }) }
         ensures stays { OnErr result (self.new ≡ self.old) }
     {
-        let mut acks = Vec::new(self.alloc);
-        // The tables received ascend by id, as the ids that are due do.
-        let _count = self.state.received().count();
+        let most = self.due.len().min(self.state.received().count());
+        let mut acks = Vec::with_capacity(self.alloc, most)?;
         for id in &self.due {
             if let Some(ack) = self.ack(*id) {
                 acks.push(ack)?;
