@@ -8,14 +8,18 @@ use denote.Struct.Field.{row_field}
 use denote.Struct.Tuple.{TupleAt, type_at}
 use Rattle.std.proofs.Crossing.{crosses}
 use Rattle.std.proofs.MapsCrossing.{crosses as maps}
+use Rattle.peers_msg.specs.contracts.received.Received as Received
 use Rattle.known_state.specs.contracts.known.Known as Known
 use Rattle.known_state.specs.contracts.last_numbers.LastNumbers as LastNumbers
+
+pub received_send : IsSend (Received.the_field).row
+received_send = search (sendable, crosses, maps) depth 80 fits 20000
 
 pub numbers_send : IsSend (LastNumbers.the_field).row
 numbers_send = search (sendable, crosses, maps) depth 80 fits 20000
 
 pub known_send : IsSend (Known.the_field).row
-known_send = search (numbers_send, sendable, crosses) depth 80 fits 20000
+known_send = search (received_send, numbers_send, sendable, crosses) depth 80 fits 20000
 
 parts_send : (name : Sym) (As : List RattleType) → AllSend As → FieldsHave IsSend (type_at name As).parts
 parts_send name [] all = tt

@@ -18,7 +18,7 @@ use Rattle.session_core.specs.contracts.session.Session as Session
 use Rattle.peers_engine.specs.contracts.worker.Worker as Worker
 use Rattle.table_shards.proofs.Crosses.{seat_send}
 use Rattle.node_commands.specs.contracts.node.sharing.Task as Task
-use Rattle.node_commands.proofs.Crosses.{known_send, numbers_send}
+use Rattle.node_commands.proofs.Crosses.{known_send, numbers_send, received_send}
 
 hello_send : IsSend (Hello.the_field).row
 hello_send = search (sendable, crosses) depth 80 fits 20000
@@ -27,7 +27,7 @@ roster_send : IsSend (Roster.the_field).row
 roster_send = search (sendable, crosses) depth 80 fits 20000
 
 state_send : IsSend (State.the_field).row
-state_send = search (numbers_send, sendable, crosses) depth 80 fits 20000
+state_send = search (received_send, numbers_send, sendable, crosses) depth 80 fits 20000
 
 unread_send : IsSend (Unread.the_field).row
 unread_send = view_send _ _ _ _ _ (declared_send unread.the_type (buffer.the_send _ _ send sync frees, tt))
