@@ -1,7 +1,7 @@
 use Rattle.std.proofs.Common.{◌≡◌, ◌≤◌, length, option_copied, arith, rules}
 use Rattle.table_types.specs.Rosters.{table_at}
 use Rattle.tolerant_intake.proofs.FurtherIds.{further}
-use Rattle.tolerant_intake.proofs.definitions.Sieve.is_further.Goals as goal
+use Rattle.tolerant_intake.proofs.sieve.Sieve.is_further.Goals as goal
 
 pub returns-then-count-ge-MOST_TABLES : goal.returns-then-count-ge-MOST_TABLES
 returns-then-count-ge-MOST_TABLES c =
