@@ -8,6 +8,7 @@ pub mod SameHoweverCut
 pub mod NamesArrive
 pub mod SentIsTaken
 pub mod StoodInFits
+pub mod LooseTablesById
 pub mod StandInsStay
 pub mod NoSuchFault
 pub mod StandInsAreOthers

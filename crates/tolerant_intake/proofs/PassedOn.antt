@@ -54,7 +54,7 @@ loose_same t (effects.Update r) none = refl
 abbrev pub passed_to : Sifting → State → List ℕ → Sifting
 passed_to t s rest = record t { state = s; numbers = s.last_numbers; unread = rest }
 
-abbrev left : Sifting → State → List (ℕ × ℕ) → List LooseTable → List ℕ → Sifting
+abbrev left : Sifting → State → List (ℕ × ℕ) → List (ℕ × LooseTable) → List ℕ → Sifting
 left t s numbers loose rest = record t { state = s; numbers = numbers; loose = loose; unread = rest }
 
 left_so : (t : Sifting) (s : State) (effect : Effect) (rest : List ℕ) → s ≡ made t.state effect → t.loose ≡ [] → t.numbers ≡ t.state.last_numbers → passed_to t s rest ≡ record (taken t effect) { unread = rest }
@@ -62,7 +62,7 @@ left_so t s effect rest is none same =
     let ns : s.last_numbers ≡ numbers_after t effect = ap (λ (x : State). x.last_numbers) is ∙ sym (numbers_same t effect same) in
     ap (λ (x : List (ℕ × ℕ)). left t s x t.loose rest) ns
     ∙ ap (λ (x : State). left t x (numbers_after t effect) t.loose rest) is
-    ∙ ap (λ (x : List LooseTable). left t (made t.state effect) (numbers_after t effect) x rest) (sym (loose_same t effect none))
+    ∙ ap (λ (x : List (ℕ × LooseTable)). left t (made t.state effect) (numbers_after t effect) x rest) (sym (loose_same t effect none))
 
 -- ---- the passage
 

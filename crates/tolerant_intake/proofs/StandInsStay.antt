@@ -1,15 +1,20 @@
 -- Each table outside the profile keeps its stand-in.
-use Rattle.std.proofs.Common.{◌≡◌, ℕ, Bool, true, false, eqb, ltb, List, [], ◌∷◌, ◌++◌, Option, Some, None, Ok, refl, sym, ap, subst, ◌∙◌, inl, inr}
+use Rattle.std.proofs.Common.{◌≡◌, ℕ, ◌<◌, Bool, true, false, not, ◌&&◌, ◌||◌, cond, eqb, ltb, List, [], ◌∷◌, Option, Some, None, Ok, refl, sym, ap, subst, ◌∙◌, inl, inr, arith}
 use Rattle.std.specs.Prelude.{filter, option_and_then}
 use Rattle.std.specs.List.{AllByRecursion}
-use Rattle.std.proofs.lemmas.Bool.{cases_Bool, eqb-true, ne_eqb}
+use Rattle.std.specs.BTreeMap.{insert_entry}
+use Rattle.std.specs.Cmp.{nat_cmp_is}
+use Rattle.std.specs.Ordering.{nat_cmp}
+use Rattle.std.specs.declared.cmp.Ordering.TheVariants.{Less, Equal, Greater}
+use Rattle.std.proofs.lemmas.Bool.{cases_Bool, cases_eq, cases_lt, eqb-true, ne_eqb}
 use Rattle.table_types.specs.declared.key.KeyKind.TheVariants as kinds
 use Rattle.table_types.specs.Tables.{Definition, is_definition}
-use Rattle.table_types.specs.Rosters.{table_at}
+use Rattle.table_types.specs.Rosters.{is_same_name, table_at}
 use Rattle.peers_msg.specs.declared.message.Message.{Message}
 use Rattle.peers_msg.specs.declared.message.Message.TheVariants as messages
 use Rattle.peers_msg.specs.Received.{insert_table, outlives, defined, selected_table}
 use Rattle.peers_msg.specs.Fitting.{fits}
+use Rattle.peers_msg.proofs.MapsById.{tested}
 use Rattle.peers_msg.proofs.MessageRoundTrip.{shape}
 use Rattle.peers_msg.proofs.ReceivedTablesRise.{lives_apart}
 use Rattle.known_state.specs.Effects.{IsEffect}
@@ -74,21 +79,35 @@ table_stays new d ds id e out =
 
 -- ---- stand-ins
 
-stood_for_still : (new : Definition) (ds : List Definition) (l : LooseTable) → IsStoodFor ds l → stays new (table_at ds l.id) ≡ true → IsStoodFor (defined new ds) l
-stood_for_still new ds l (d, at, kind, types) kept =
-    let out : outlives new d ≡ true = rw at at kept in
-    (d, table_stays new d ds l.id at out, kind, types)
+neither : (a b : Bool) → not (a || b) ≡ (not a && not b)
+neither true b = refl
+neither false b = refl
 
-all_stay : (new : Definition) (ds : List Definition) (ls : List LooseTable) → AllByRecursion (IsStoodFor ds) ls → AllByRecursion (IsStoodFor (defined new ds)) (filter (λ l. stays new (table_at ds l.id)) ls)
+stood_for_still : (new : Definition) (ds : List Definition) (l : ℕ × LooseTable) → IsStoodFor ds l → stays new l.0 (table_at ds l.0) ≡ true → IsStoodFor (defined new ds) l
+stood_for_still new ds l (d, at, kind, types) kept =
+    let stays_on : not (eqb l.0 new.id || is_same_name d.name new.name) ≡ true = rw at at kept in
+    let out : outlives new d ≡ true =
+    ap (λ (i : ℕ). not (eqb i new.id) && not (is_same_name d.name new.name)) (table_at-id ds l.0 d at) ∙ sym (neither (eqb l.0 new.id) (is_same_name d.name new.name)) ∙ stays_on in
+    (d, table_stays new d ds l.0 at out, kind, types)
+
+all_stay : (new : Definition) (ds : List Definition) (ls : List (ℕ × LooseTable)) → AllByRecursion (IsStoodFor ds) ls → AllByRecursion (IsStoodFor (defined new ds)) (filter (λ l. stays new l.0 (table_at ds l.0)) ls)
 all_stay new ds [] all = tt
-all_stay new ds (l ∷ ls) all = elim (cases_Bool (stays new (table_at ds l.id))) [
+all_stay new ds (l ∷ ls) all = elim (cases_Bool (stays new l.0 (table_at ds l.0))) [
   | inl kept ↦ rw kept (stood_for_still new ds l all.0 kept, all_stay new ds ls all.1)
   | inr gone ↦ rw gone (all_stay new ds ls all.1)
 ]
 
-all_more : (ds : List Definition) (ls : List LooseTable) (l : LooseTable) → AllByRecursion (IsStoodFor ds) ls → IsStoodFor ds l → AllByRecursion (IsStoodFor ds) (ls ++ (l ∷ []))
-all_more ds [] l all is = (is, tt)
-all_more ds (x ∷ ls) l all is = (all.0, all_more ds ls l all.1 is)
+all_more : (ds : List Definition) (ls : List (ℕ × LooseTable)) (id : ℕ) (l : LooseTable) → AllByRecursion (IsStoodFor ds) ls → IsStoodFor ds (id, l) → AllByRecursion (IsStoodFor ds) (insert_entry nat_cmp ls id l)
+all_more ds [] id l all is = (is, tt)
+all_more ds (x ∷ ls) id l all is = elim (cases_eq x.0 id) [
+  | inl same ↦ rw (sym (nat_cmp_is id x.0 Equal (sym same))) (subst (λ (i : ℕ). IsStoodFor ds (i, l)) (sym same) is, all.1)
+  | inr other ↦ elim (cases_lt id x.0) [
+    | inl lt ↦ rw (sym (nat_cmp_is id x.0 Less lt)) (is, all)
+    | inr le ↦
+        let gt : x.0 < id = omega arith in
+        rw (sym (nat_cmp_is id x.0 Greater gt)) (all.0, all_more ds ls id l all.1 is)
+  ]
+]
 
 -- ---- effects
 
@@ -122,20 +141,23 @@ stand_in_sound t e d bytes rest out sound read (wrote, is) =
     let ds : List Definition = t.state.received.tables in
     let good = loosely_good bytes d read in
     let here : table_at (defined new ds) d.id ≡ Some new = define_selects t.state.received new in
-    subst IsSound (sym is) (all_defined new ds (stand_in_is t.roster d good.0 good.1) sound.0, all_more (defined new ds) (filter (λ l. stays new (table_at ds l.id)) t.loose) (loose_table d) (all_stay new ds t.loose sound.1) (new, here, refl, refl))
+    subst IsSound (sym is) (all_defined new ds (stand_in_is t.roster d good.0 good.1) sound.0, all_more (defined new ds) (filter (λ l. stays new l.0 (table_at ds l.0)) t.loose) d.id (loose_table d) (all_stay new ds t.loose sound.1) (new, here, refl, refl))
 
 -- ---- the selected table
 
-found_stood : (ds : List Definition) (ls : List LooseTable) (id : ℕ) (l : LooseTable) → AllByRecursion (IsStoodFor ds) ls → loose_at ls id ≡ Some l → (d : Definition) × (table_at ds id ≡ Some d) × (d.kind ≡ kinds.String) × (d.types ≡ name_type_of l.types)
+found_stood : (ds : List Definition) (ls : List (ℕ × LooseTable)) (id : ℕ) (l : LooseTable) → AllByRecursion (IsStoodFor ds) ls → loose_at ls id ≡ Some l → (d : Definition) × (table_at ds id ≡ Some d) × (d.kind ≡ kinds.String) × (d.types ≡ name_type_of l.types)
 found_stood ds [] id l all e = absurd cc
-found_stood ds (x ∷ ls) id l all e = elim (cases_Bool (eqb x.id id)) [
+found_stood ds (x ∷ ls) id l all e = elim (cases_Bool (eqb x.0 id)) [
   | inl here ↦
-      let same : ◌≡◌ {A = Option LooseTable} (Some x) (Some l) = rw here at e in
-      let is : x ≡ l = cc in
+      let same : ◌≡◌ {A = Option LooseTable} (Some x.1) (Some l) = sym (ap found (tested id x.0 ∙ here)) ∙ e in
+      let is : x.1 ≡ l = cc in
       let one = all.0 in
-      (one.0, ap (table_at ds) (sym (eqb-true x.id id here)) ∙ one.1, one.2, one.3 ∙ ap (λ (y : LooseTable). name_type_of y.types) is)
-  | inr there ↦ found_stood ds ls id l all.1 (rw there at e)
+      (one.0, ap (table_at ds) (sym (eqb-true x.0 id here)) ∙ one.1, one.2, one.3 ∙ ap (λ (y : LooseTable). name_type_of y.types) is)
+  | inr there ↦ found_stood ds ls id l all.1 (sym (ap found (tested id x.0 ∙ there)) ∙ e)
 ]
+  where
+    found : Bool → Option LooseTable
+    found b = cond b (Some x.1) (loose_at ls id)
 
 pub selected_stood : (t : Sifting) (l : LooseTable) → IsSound t → selected_loose t ≡ Some l → (d : Definition) × (selected_table t.state.received ≡ Some d) × (d.kind ≡ kinds.String) × (d.types ≡ name_type_of l.types)
 selected_stood t l sound e = at t.state.received.selected e

@@ -1,8 +1,11 @@
 -- What a sieve holds (profile).
-use Rattle.std.specs.Prelude.{ℕ, Bool, false, not, ◌&&◌, ◌==◌, nat_le, List, [], ◌∷◌, ◌++◌, length, filter, Option, Some, None, option_and_then, option_map, if◌then◌else◌}
+use Rattle.std.specs.Prelude.{ℕ, Bool, false, not, ◌&&◌, ◌||◌, ◌==◌, nat_le, List, [], ◌++◌, length, filter, Option, Some, None, option_and_then, option_map, if◌then◌else◌}
+use Rattle.std.specs.BTreeMap.{insert_entry, is_at}
+use Rattle.std.specs.Map.{lookup}
+use Rattle.std.specs.Ordering.{nat_cmp}
 use Rattle.table_types.specs.Tables.{Definition}
 use Rattle.table_types.specs.Rosters.{has_id, table_at}
-use Rattle.peers_msg.specs.Received.{outlives}
+use Rattle.peers_msg.specs.ReceivedIndex.{has_that_name}
 use Rattle.known_state.specs.State.{State, fresh, resolved_number}
 use Rattle.known_state.specs.LastNumbers.{last_of, set_last, keeps_last}
 use Rattle.known_state.specs.Effects.{made, selected_number}
@@ -14,13 +17,13 @@ use Rattle.tolerant_intake.specs.declared.passed_over.PassedOver.{PassedOver}
 use Rattle.tolerant_intake.specs.Counts.{none_passed, counted}
 
 -- the node's roster; the state of the strict intake that has read what went out; the last number of each table as the peer
--- counts; the tables outside the profile; what was passed over; the bytes of an unfinished message; and whether all that
+-- counts; the tables outside the profile, by the peer's ids; what was passed over; the bytes of an unfinished message; and whether all that
 -- comes goes out as it is
 pub record Sifting : Type 0 where
   pub roster : List Definition
   pub state : State
   pub numbers : List (ℕ × ℕ)
-  pub loose : List LooseTable
+  pub loose : List (ℕ × LooseTable)
   pub passed_over : PassedOver
   pub unread : List ℕ
   pub stopped : Bool
@@ -44,9 +47,8 @@ is_further t id = nat_le most_tables (length t.state.received.tables) && not (ha
 -- ---- the selected table
 
 -- the table outside the profile with an id
-abbrev pub loose_at : List LooseTable → ℕ → Option LooseTable
-loose_at [] id = None
-loose_at (l ∷ ls) id = if l.id == id then Some l else loose_at ls id
+abbrev pub loose_at : List (ℕ × LooseTable) → ℕ → Option LooseTable
+loose_at ls id = lookup (is_at (nat_cmp id)) ls
 
 -- the selected table, if it is outside the profile
 abbrev pub selected_loose : Sifting → Option LooseTable
@@ -74,14 +76,13 @@ numbers_after t (effects.Define d) = filter (λ l. keeps_last d (table_at t.stat
 numbers_after t (effects.Update r) = set_last r.table r.number t.numbers
 numbers_after t effect = t.numbers
 
--- a table stays at a definition, given what its id stands for, unless the definition has its id or its name
-abbrev pub stays : Definition → Option Definition → Bool
-stays new None = false
-stays new (Some d) = outlives new d
+-- a table stays at a definition, given its id and what that stands for, unless the definition has that id or that name
+abbrev pub stays : Definition → ℕ → Option Definition → Bool
+stays new id stood_for = not (id == new.id || has_that_name stood_for new.name)
 
 -- the tables outside the profile after an effect
-abbrev pub loose_after : Sifting → Effect → List LooseTable
-loose_after t (effects.Define d) = filter (λ l. stays d (table_at t.state.received.tables l.id)) t.loose
+abbrev pub loose_after : Sifting → Effect → List (ℕ × LooseTable)
+loose_after t (effects.Define d) = filter (λ l. stays d l.0 (table_at t.state.received.tables l.0)) t.loose
 loose_after t effect = t.loose
 
 -- the strict intake reads a message with this effect, which is the peer's own
@@ -93,7 +94,7 @@ abbrev pub replaced : Sifting → Definition → LooseTable → Cause → Siftin
 replaced t d l cause = record t {
   state = made t.state (effects.Define d);
   numbers = numbers_after t (effects.Define d);
-  loose = loose_after t (effects.Define d) ++ (l ∷ []);
+  loose = insert_entry nat_cmp (loose_after t (effects.Define d)) d.id l;
   passed_over = counted cause t.passed_over;
 }
 

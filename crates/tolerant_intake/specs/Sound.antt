@@ -17,8 +17,8 @@ abbrev pub AreDefinitions : List Definition → Type 0
 AreDefinitions ds = AllByRecursion (λ d. is_definition d ≡ true) ds
 
 -- the id of a table outside the profile stands for its stand-in
-abbrev pub IsStoodFor : List Definition → LooseTable → Type 0
-IsStoodFor ds l = (d : Definition) × (table_at ds l.id ≡ Some d) × (d.kind ≡ kinds.String) × (d.types ≡ name_type_of l.types)
+abbrev pub IsStoodFor : List Definition → (ℕ × LooseTable) → Type 0
+IsStoodFor ds l = (d : Definition) × (table_at ds l.0 ≡ Some d) × (d.kind ≡ kinds.String) × (d.types ≡ name_type_of l.1.types)
 
 -- all tables received are definitions, and each table outside the profile has its stand-in among them
 abbrev pub IsSound : Sifting → Type 0

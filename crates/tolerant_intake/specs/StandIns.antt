@@ -32,7 +32,7 @@ stand_in roster d = record { id = d.id; name = d.name; kind = kinds.String; key_
 
 -- what has to be known of the table to read its updates
 abbrev pub loose_table : LooseDefinition → LooseTable
-loose_table d = record { id = d.id; kind = d.kind; key_length = d.key_length; types = known_types d }
+loose_table d = record { kind = d.kind; key_length = d.key_length; types = known_types d }
 
 -- a data type from 20 up, or another thing outside the profile
 abbrev pub cause_of : LooseDefinition → Cause

@@ -111,7 +111,6 @@ impl<'a> LooseDefinition<'a> {
         ensures { IfOk result (λ table. table ≡ loose_table (record { id = self.entry.id; name = self.entry.name.now; kind = self.entry.kind; key_length = self.entry.key_length; bits = self.entry.bits })) }
     {
         Ok(LooseTable {
-            id: self.id,
             kind: self.kind,
             key_length: self.key_length,
             types: types_stored(alloc, self.bits)?,

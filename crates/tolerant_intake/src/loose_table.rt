@@ -1,22 +1,20 @@
 //! Tables outside the profile.
 
-ghost use Rattle.std.specs.Prelude.{◌≡◌, ◌++◌, filter, option_copied, IfOk, OnOk, OnErr};
+ghost use Rattle.std.specs.Prelude.{◌≡◌, ◌==◌, not, filter, IfOk};
 ghost use Rattle.table_types.specs.DataTypes.{all_types};
 ghost use Rattle.table_types.specs.Rosters.{table_at};
-ghost use Rattle.peers_msg.specs.Received.{outlives};
 ghost use Rattle.tolerant_intake.specs.Loose.{types_stored};
-ghost use Rattle.tolerant_intake.specs.Sifting.{loose_at, stays};
+ghost use Rattle.tolerant_intake.specs.Sifting.{stays};
 
 use peers_msg::Received;
 use std::alloc::Global;
+use std::collections::BTreeMap;
 use table_types::{DataType, Items, Memory, TableDef};
 
 /// A table outside the profile: what has to be known of it to read its updates up to the server's name (HAProxy,
 /// doc/peers-v2.0.txt, "Table Definition Message").
 #[derive(Debug, Drop)]
 pub struct LooseTable {
-    /// The id that the peer gives the table.
-    pub id: u64,
     /// The number of the kind of its keys, of this project's kinds or not.
     pub kind: u64,
     /// The length of its keys in bytes.
@@ -25,40 +23,26 @@ pub struct LooseTable {
     pub types: Items<(DataType, Option<u32>)>,
 }
 
-/// Returns the table with the id `id`.
-pub(crate) fn loose_at(tables: &[LooseTable], id: u64) -> Option<&LooseTable>
-    ensures { option_copied result ≡ loose_at tables.now id }
+/// Removes the table of an id.
+fn remove(tables: &mut BTreeMap<u64, LooseTable>, id: u64)
+    ensures { tables.new.entries ≡ filter (λ l. not (l.0 == id)) tables.old.entries }
 {
-    for table in tables {
-        if table.id == id {
-            return Some(table);
-        }
-    }
-    None
+    // The ids ascend.
+    let _count = tables.len();
+    tables.remove(&id);
 }
 
-/// Returns whether a table stays at a definition, given the table for which its id stands.
-fn stays(new: &TableDef, stood_for: Option<&TableDef>) -> bool
-    ensures { result ≡ stays new.now (option_copied stood_for.entry) }
+/// Removes the tables that a definition replaces, given what was received before it: at most two.
+pub(crate) fn keep_staying(
+    tables: &mut BTreeMap<u64, LooseTable>,
+    new: &TableDef,
+    received: &Received,
+)
+    ensures { tables.new.entries ≡ filter (λ l. stays new.now l.0 (table_at received.now.tables l.0)) tables.old.entries }
 {
-    match stood_for {
-        Some(table) => table.id() != new.id() && table.name() != new.name(),
-        None => false,
-    }
-}
-
-/// Removes the tables that a definition replaces, given what was received before it.
-pub(crate) fn keep_staying(tables: &mut Vec<LooseTable>, new: &TableDef, received: &Received)
-    ensures { tables.new.items ≡ filter (λ l. stays new.now (table_at received.now.tables l.id)) tables.old.items }
-{
-    let mut index = 0;
-    while index < tables.len() {
-        let id = tables[index].id;
-        if stays(new, received.table(id)) {
-            index += 1;
-        } else {
-            tables.remove(index);
-        }
+    remove(tables, new.id());
+    if let Some(named) = received.named(new.name()) {
+        remove(tables, named.id());
     }
 }
 

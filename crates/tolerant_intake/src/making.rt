@@ -66,8 +66,9 @@ impl Sieve {
     fn replace(&mut self, table: TableDef, loose: LooseTable, cause: Cause) -> Result<(), Memory>
         ensures { OnOk result (self.new ≡ replaced self.old table loose cause) }
     {
+        let id = table.id();
         self.define(table)?;
-        self.loose.push(loose)?;
+        self.loose.insert(id, loose)?;
         self.count_passed(cause);
         Ok(())
     }

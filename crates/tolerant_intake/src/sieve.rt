@@ -15,6 +15,7 @@ use crate::sieve_error::SieveError;
 use known_state::{LastNumbers, State};
 use peers_msg::Unread;
 use std::alloc::Global;
+use std::collections::BTreeMap;
 use std::marker::Model;
 use table_types::Roster;
 
@@ -36,8 +37,8 @@ pub struct Sieve {
     pub(crate) state: State,
     /// The last number of each table, as the peer counts.
     pub(crate) numbers: LastNumbers,
-    /// The tables outside the profile.
-    pub(crate) loose: Vec<LooseTable>,
+    /// The tables outside the profile, by the peer's ids.
+    pub(crate) loose: BTreeMap<u64, LooseTable>,
     passed_over: PassedOver,
     /// The bytes of an unfinished message.
     unread: Unread,
@@ -50,7 +51,7 @@ impl Model for Sieve {
 
     ghost Value = { Sifting };
 
-    ghost view = { λ s. record { roster = s.roster; state = s.state; numbers = s.numbers; loose = s.loose.items; passed_over = s.passed_over; unread = s.unread; stopped = s.stopped } };
+    ghost view = { λ s. record { roster = s.roster; state = s.state; numbers = s.numbers; loose = s.loose.entries; passed_over = s.passed_over; unread = s.unread; stopped = s.stopped } };
 }
 
 impl Sieve {
@@ -63,7 +64,7 @@ impl Sieve {
             roster,
             state: State::new(alloc),
             numbers: LastNumbers::new(alloc),
-            loose: Vec::new(alloc),
+            loose: BTreeMap::new(alloc),
             passed_over: PassedOver {
                 definition: 0,
                 value: 0,

@@ -19,7 +19,7 @@ ghost use Rattle.tolerant_intake.specs.Changes.{Answers};
 
 use crate::change::Change;
 use crate::counted_update::CountedUpdate;
-use crate::loose_table::{LooseTable, loose_at};
+use crate::loose_table::LooseTable;
 use crate::loose_update::LooseUpdateRef;
 use crate::passed_over::Cause;
 use crate::sieve::Sieve;
@@ -109,7 +109,7 @@ impl Sieve {
         ensures { option_copied result ≡ selected_loose self.now }
     {
         match self.state.received().selected() {
-            Some(id) => loose_at(self.loose.as_slice(), id),
+            Some(id) => self.loose.get(&id),
             None => None,
         }
     }
