@@ -11,7 +11,7 @@ use Rattle.std.proofs.lemmas.Bool.{eqb-true}
 use Rattle.table_types.specs.Tables.{Definition}
 use Rattle.table_types.specs.Rosters.{table_at}
 use Rattle.peers_msg.specs.Received.{AreDistinct}
-use Rattle.peers_msg.specs.ReceivedIndex.{has_that_name, id_named, is_id}
+use Rattle.peers_msg.specs.ReceivedIndex.{id_named, is_id}
 use Rattle.peers_msg.proofs.MapsById.{tested}
 use Rattle.peers_msg.proofs.TablesByIdAndName.{same_at}
 use Rattle.tolerant_intake.specs.Sifting.{stays}
