@@ -8,3 +8,4 @@ pub mod WrittenLesson
 pub mod LessonsAppend
 pub mod NextPieces
 pub mod PlannedNames
+pub mod MessageEnds

@@ -1,6 +1,6 @@
 -- The next message of those that send updates with planned names.
-use Rattle.std.proofs.Common.{◌≡◌, ℕ, Bool, true, false, List, [], ◌∷◌, ◌++◌, ◌+◌, ◌<◌, length, get_or, drop, Option, Some, refl, sym, ap, ◌∙◌, subst}
-use Rattle.std.specs.Prelude.{is_some}
+use Rattle.std.proofs.Common.{◌≡◌, ℕ, Bool, true, false, List, [], ◌∷◌, ◌++◌, ◌+◌, ◌<◌, length, get_or, drop, Option, Some, None, refl, sym, ap, ◌∙◌, subst}
+use Rattle.std.specs.Prelude.{is_some, option_map}
 use Rattle.std.proofs.lemmas.List.{drop_more}
 use Rattle.table_types.specs.declared.update.Update.{Update}
 use Rattle.table_types.specs.Tables.{Definition}
@@ -12,14 +12,15 @@ use Rattle.peers_msg.specs.Received.{Received, selected_table}
 use Rattle.peers_msg.specs.Spelling.{spelled}
 use Rattle.known_state.specs.State.{State, Step, resolved_number, reads_empty}
 use Rattle.known_state.specs.LastNumbers.{last_of, set_last}
-use Rattle.known_state.specs.Known.{KnownState}
-use Rattle.known_state.specs.Cost.{number_sent}
+use Rattle.known_state.specs.Known.{AreOwn, KnownState}
+use Rattle.known_state.specs.Cost.{is_selected, number_sent}
+use Rattle.known_state.proofs.ReceivedIsOwn.{table_at-id}
 use Rattle.known_state.proofs.FitsOrIsRefused.{selected-id}
 use Rattle.known_state.proofs.NamedAsResolved.{named_so}
 use Rattle.teach_writer.specs.declared.planned_name.PlannedName.{PlannedName}
-use Rattle.teach_writer.specs.Pieces.{planned_field, selection_of, state_selected, state_ready, state_updated, state_after, messages_left, state_left, AreSendable, IsPart, IsFirst, IsNext, left_of}
+use Rattle.teach_writer.specs.Pieces.{planned_field, selection_of, state_selected, state_ready, state_updated, state_after, messages_left, state_left, AreSendable, IsPart, IsFirst, IsNext, left_of, selected_id}
 use Rattle.teach_writer.specs.Sending.{is_table, selection, update_sent}
-use Rattle.teach_writer.proofs.UpdateStepsAreLegal.{sent_resolved}
+use Rattle.teach_writer.proofs.UpdateStepsAreLegal.{listed_by_id, retained_selected, sent_resolved}
 
 -- ---- the state after a message
 
@@ -63,6 +64,25 @@ selected_by s e d m us is step = at (is_table (selected_table s.received) d.id) 
         let one : m ≡ messages.Define d = cc in
         subst (λ (x : Message). e ≡ state_selected s (x ∷ [])) (sym one) (defined_so (subst (λ (x : Message). Step s x us e) one step))
 
+-- ---- the selected table, by its id
+
+-- whether a table is the selected one goes by its id
+by_id : (o : Option Definition) (id : ℕ) → is_table o id ≡ is_selected (option_map (λ d. d.id) o) id
+by_id None id = refl
+by_id (Some d) id = refl
+
+pub selected_by_id : (k : KnownState) (id : ℕ) (d : Definition) (selected : Option ℕ) → AreOwn k.roster k.state.received.tables → table_at k.roster id ≡ Some d → selected ≡ selected_id k.state.received → is_selected selected id ≡ true → selected_table k.state.received ≡ Some d
+selected_by_id k id d selected own listed is same =
+    let here : is_table (selected_table k.state.received) id ≡ true = by_id (selected_table k.state.received) id ∙ ap (λ (o : Option ℕ). is_selected o id) (sym is) ∙ same in
+    retained_selected k d own (listed_by_id k.roster id d listed) (subst (λ (n : ℕ). is_table (selected_table k.state.received) n ≡ true) (sym (table_at-id k.roster id d listed)) here)
+
+pub other_by_id : (h : Received) (id : ℕ) (selected : Option ℕ) → selected ≡ selected_id h → is_selected selected id ≡ false → is_table (selected_table h) id ≡ false
+other_by_id h id selected is other = by_id (selected_table h) id ∙ ap (λ (o : Option ℕ). is_selected o id) (sym is) ∙ other
+
+-- an update leaves its table selected
+pub still_selected : (s e : State) (u : Update) (field : NameField) (d : Definition) → selected_table s.received ≡ Some d → d.id ≡ u.table → e ≡ state_updated s field u → selected_id e.received ≡ Some u.table
+still_selected s e u field d sel id is = ap (λ (x : State). selected_id x.received) is ∙ ap (λ (o : Option Definition). option_map (λ t. t.id) o) sel ∙ ap (λ (n : ℕ). Some n) id
+
 -- ---- the first message of those left
 
 -- what selects the first update's table
@@ -81,7 +101,7 @@ part_first roster s e u us n ns m are (chosen, is, none) =
     let reads : reads_empty e.slots field ≡ false = ap (λ (x : State). reads_empty x.slots field) is ∙ are.0.4 in (
       here ∙ sym there,
       ap (λ (x : State). state_left roster x us ns) (sym same),
-      ((are.0.0, are.0.1, are.0.2, are.0.3, reads), subst (λ (x : State). AreSendable roster x us ns) same are.1),
+      ((are.0.0, are.0.1, are.0.2, are.0.3, reads, are.0.5), subst (λ (x : State). AreSendable roster x us ns) same are.1),
     )
 
 -- the first update, if its table is selected

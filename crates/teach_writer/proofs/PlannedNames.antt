@@ -107,7 +107,7 @@ planned_more roster s us ns u d n slots sound (are, slots_are, own, legal) liste
     let reads_here : reads_empty mid.slots field ≡ false = ap (λ (ss : List (Option (List ℕ))). reads_empty ss field) slots_are ∙ reads in
     let name_is : name_of mid.slots field ≡ u.name = ap (λ (ss : List (Option (List ℕ))). name_of ss field) slots_are ∙ named in
     let sent = sends roster mid u d n sound own listed is fit small field_fits reads_here name_is in
-    let more = more_left roster s us ns u n are (d, listed, fit, field_fits, reads_here) in
+    let more = more_left roster s us ns u n are (d, listed, fit, field_fits, reads_here, is) in
     let e : State = state_left roster s (us ++ u ∷ []) (ns ++ n ∷ []) in
     let before : List ℕ = stream_of (messages_left roster s us ns) in
     let bytes : List ℕ = stream_of (messages_left roster s (us ++ u ∷ []) (ns ++ n ∷ [])) in

@@ -1,14 +1,14 @@
 -- What is left of a lesson that is written message by message (profile): each piece is the bytes of one message.
-use Rattle.std.specs.Prelude.{◌≡◌, ℕ, Bool, true, false, List, [], ◌∷◌, ◌++◌, Option, Some, None}
+use Rattle.std.specs.Prelude.{◌≡◌, ℕ, ◌+◌, Bool, true, false, List, [], ◌∷◌, ◌++◌, Option, Some, None, length, option_map}
 use Rattle.table_types.specs.declared.update.Update.{Update}
-use Rattle.table_types.specs.Tables.{Definition}
+use Rattle.table_types.specs.Tables.{Definition, is_definition}
 use Rattle.table_types.specs.Updates.{fits}
 use Rattle.table_types.specs.Rosters.{table_at}
 use Rattle.peers_msg.specs.declared.name_field.NameField.{NameField}
 use Rattle.peers_msg.specs.declared.name_field.NameField.TheVariants as names
 use Rattle.peers_msg.specs.declared.message.Message.{Message}
 use Rattle.peers_msg.specs.Fitting.{name_fits}
-use Rattle.peers_msg.specs.Received.{Received, received_after}
+use Rattle.peers_msg.specs.Received.{Received, received_after, selected_table}
 use Rattle.peers_msg.specs.Spelling.{spelled, stream_of}
 use Rattle.known_state.specs.State.{State, last_numbers_after, reads_empty, slots_after}
 use Rattle.known_state.specs.LastNumbers.{set_last}
@@ -28,6 +28,11 @@ pub record Left : Type 0 where
 -- the bytes that are left: those of the messages that are left
 abbrev pub bytes_left : Left → List ℕ
 bytes_left left = stream_of left.messages
+
+-- where messages end, if they follow `start` bytes
+abbrev pub ends_from : ℕ → List Message → List ℕ
+ends_from start [] = []
+ends_from start (m ∷ ms) = (start + length (spelled m)) ∷ ends_from (start + length (spelled m)) ms
 
 -- The next piece is the bytes of the first message that is left, and the other messages are left after it. If none is left,
 -- there is no piece, and the caller is told so. Neither changes the lesson's prices or what the learner knows after it.
@@ -88,12 +93,13 @@ state_left roster s (u ∷ us) [] = s
 state_left roster s (u ∷ us) (n ∷ ns) = state_left roster (state_after roster s u n) us ns
 
 -- An update can be sent with its planned name: it belongs to a table of the roster, its name field fits that table, and the
--- field reads no empty slot.
+-- field reads no empty slot. The table is well formed.
 abbrev pub IsSendable : List Definition → State → Update → PlannedName → Type 0
 IsSendable roster s u name =
     (d : Definition) × (table_at roster u.table ≡ Some d) × (fits d u ≡ true)
     × (name_fits d (planned_field u.name name) ≡ true)
     × (reads_empty s.slots (planned_field u.name name) ≡ false)
+    × (is_definition d ≡ true)
 
 -- each update can be sent after those before it
 abbrev pub AreSendable : List Definition → State → List Update → List PlannedName → Type 0
@@ -112,6 +118,10 @@ left_of k us names ended prices = record {
 }
 
 -- ---- one message of these
+
+-- the id of the selected table
+abbrev pub selected_id : Received → Option ℕ
+selected_id h = option_map (λ d. d.id) (selected_table h)
 
 -- The message is the next one of an update, and leads to the state e: what selects its table, if it isn't selected; otherwise
 -- the whole update.

@@ -32,6 +32,8 @@ impl From<PlanError> for TeachError {
 pub struct Lesson {
     /// The bytes of its messages, one after another.
     pub bytes: Items<u8>,
+    /// Where its messages end: for each of them, how many bytes there are up to its end.
+    pub ends: Items<usize>,
     /// One price for each update of the batch that has a name. The prices prove that no legal stream that carries the
     /// batch is shorter.
     pub prices: Items<u64>,

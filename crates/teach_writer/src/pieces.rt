@@ -19,7 +19,7 @@ use crate::held_names::names_to_plan;
 use crate::lesson::TeachError;
 use crate::planned::plan_names;
 use crate::planned_name::PlannedName;
-use crate::sending::send_next;
+use crate::sending::{selected_id, send_next};
 use known_state::{Known, Plan, Request};
 use retention_flow::plan;
 use std::alloc::Global;
@@ -33,6 +33,8 @@ pub struct Pieces {
     alloc: Global,
     /// What the learner knows after the messages written so far.
     known: Known,
+    /// The id of the table that is selected after them.
+    selected: Option<u64>,
     batch: Batch,
     /// How the name of each update is sent.
     names: Vec<PlannedName>,
@@ -45,14 +47,15 @@ pub struct Pieces {
 
 impl Model for Pieces {
     ghost use Rattle.std.specs.Prelude.{◌≡◌, true, [], drop};
-    ghost use Rattle.teach_writer.specs.Pieces.{AreSendable, Left, left_of};
+    ghost use Rattle.teach_writer.specs.Pieces.{AreSendable, Left, left_of, selected_id};
 
     ghost Value = { Left };
 
     ghost view = { λ p. left_of p.known (drop p.index p.batch) (drop p.index p.names.items) p.ended p.prices.items };
 
     ghost invariant = { λ p. AreSendable p.known.roster p.known.state (drop p.index p.batch) (drop p.index p.names.items)
-        × (p.ended ≡ true → drop p.index p.batch ≡ []) };
+        × (p.ended ≡ true → drop p.index p.batch ≡ [])
+        × (p.selected ≡ selected_id p.known.state.received) };
 }
 
 /// Returns the pieces of the lesson according to a plan of the batch's requests, with the plan's prices. Whatever the
@@ -79,6 +82,7 @@ fn pieces_by(
     Ok(Pieces {
         alloc,
         known: known.copy(alloc)?,
+        selected: selected_id(known.received()),
         batch: batch.copy()?,
         names,
         index: 0,
@@ -123,6 +127,7 @@ impl Pieces {
         let more = send_next(
             self.alloc,
             &mut self.known,
+            &mut self.selected,
             self.batch.updates(),
             self.names.as_slice(),
             &mut self.index,

@@ -4,18 +4,18 @@ ghost use Rattle.std.specs.Prelude.{◌-◌, ◌≡◌, ◌<◌, ◌≤◌, ◌^
 ghost use Rattle.table_types.specs.Batches.{IsBatchFor};
 ghost use Rattle.table_types.specs.Rosters.{table_at};
 ghost use Rattle.table_types.specs.SlotIds.{slot_count, is_slot};
-ghost use Rattle.table_types.specs.Tables.{Definition, is_definition};
+ghost use Rattle.table_types.specs.Tables.{Definition};
 ghost use Rattle.table_types.specs.Updates.{fits, stores_name};
 ghost use Rattle.peers_msg.specs.Fitting.{name_fits};
 ghost use Rattle.peers_msg.specs.Spelling.{stream_of};
 ghost use Rattle.known_state.specs.Cost.{knowledge_of};
-ghost use Rattle.known_state.specs.Known.{KnownState};
 ghost use Rattle.known_state.specs.Lessons.{IsLessonFor};
 ghost use Rattle.known_state.specs.Plans.{AreLinked, at_start, kept_over, links, names_in};
 ghost use Rattle.known_state.specs.Requests.{IsUpdateOf, requests_of};
 ghost use Rattle.known_state.specs.State.{name_of, reads_empty, slots_after};
 ghost use Rattle.teach_writer.specs.NextRequests.{IsAsMarked, retained_after, index_after};
 ghost use Rattle.teach_writer.specs.Pieces.{AreSendable, messages_left, planned_field, state_left};
+ghost use Rattle.teach_writer.specs.Planning.{StoresNames};
 ghost use Rattle.teach_writer.specs.Retained.{IsNameField};
 ghost use Rattle.teach_writer.specs.Sending.{GoesThrough, is_stored, slot_of};
 
@@ -83,18 +83,43 @@ fn note_likely_slot(
     }
 }
 
-/// Returns whether the table of an update stores names.
-fn stores_name(known: &Known, update: &Update) -> bool
-    requires { IsUpdateOf known.now.roster update.now }
-    ensures stored { result ≡ is_stored known.now.roster update.now }
-    ensures table { (d : Definition) → table_at known.now.roster update.now.table ≡ Some d → (stores_name d ≡ result) × (is_definition d ≡ true) }
+/// A table, and whether it stores names.
+#[derive(Clone, Copy, Debug)]
+struct NamedTable {
+    id: u64,
+    stores_name: bool,
+}
+
+/// Returns the table of an update. Looks it up only if it isn't that of the update before.
+fn table_of(known: &Known, update: &Update, before: Option<NamedTable>) -> NamedTable
+    requires of { IsUpdateOf known.now.roster update.now }
+    requires before { IfSome before (λ table. StoresNames known.now.roster table.id table.stores_name) }
+    ensures id { result.id ≡ update.now.table }
+    ensures stored { result.stores_name ≡ is_stored known.now.roster update.now }
+    ensures table { StoresNames known.now.roster update.now.table result.stores_name }
     ensures word { update.now.number < 2 ^ 32 }
 {
-    let Some(table) = known.roster().table(update.table) else {
+    let _number = number_sent(None, update.number);
+    match before {
+        Some(table) if table.id == update.table => table,
+        _ => looked_up(known, update.table),
+    }
+}
+
+/// Looks up the table with the id `id`, which the roster has.
+fn looked_up(known: &Known, id: u64) -> NamedTable
+    requires { (d : Definition) × (table_at known.now.roster id ≡ Some d) }
+    ensures id { result.id ≡ id }
+    ensures table { StoresNames known.now.roster id result.stores_name }
+{
+    let Some(table) = known.roster().table(id) else {
         unreachable!();
     };
-    let (_id, _number) = (table.id(), number_sent(None, update.number));
-    table.stores_name()
+    let _id = table.id();
+    NamedTable {
+        id,
+        stores_name: table.stores_name(),
+    }
 }
 
 /// Plans how the name of an update is sent: if its request is kept, read from a slot that retains it, of which the
@@ -179,15 +204,18 @@ pub fn plan_names(
     let mut likely_slots = vec![in alloc; None; requests.len()]?;
     let mut names = Vec::new(alloc);
     let mut index = 0;
+    let mut before = None;
     for update in batch.updates() {
         let likely_slot = likely_slot(&likely_slots, index);
         let kept = mark_at(keep, index);
-        let stored = stores_name(known, update);
+        let table = table_of(known, update, before);
+        let stored = table.stores_name;
         let name = plan_name(&retained, &slots, update, stored, kept, likely_slot);
         let slot = use_name(alloc, &mut slots, update, name)?;
         note_likely_slot(&mut likely_slots, &later, index, slot);
         retain_or_free(&mut retained, &mut index, slot, next.as_slice());
         names.push(name)?;
+        before = Some(table);
     }
     Ok(names)
 }

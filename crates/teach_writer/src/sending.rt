@@ -1,6 +1,6 @@
 //! How the messages of updates are sent, one by one.
 
-ghost use Rattle.std.specs.Prelude.{◌≡◌, ◌∷◌, [], ◌++◌, true, false, List, Some, Ok, IfOk, OnOk, OnErr, IfSome, IsNone, drop};
+ghost use Rattle.std.specs.Prelude.{◌≡◌, ◌∷◌, [], ◌++◌, true, false, List, Some, Ok, IfOk, OnOk, OnErr, drop};
 ghost use Rattle.table_types.specs.declared.update.Update.{Update};
 ghost use Rattle.table_types.specs.Tables.{Definition, is_definition};
 ghost use Rattle.table_types.specs.Updates.{fits};
@@ -10,9 +10,10 @@ ghost use Rattle.peers_msg.specs.declared.message.Message.{Message};
 ghost use Rattle.peers_msg.specs.Fitting.{name_fits};
 ghost use Rattle.peers_msg.specs.Received.{selected_table};
 ghost use Rattle.peers_msg.specs.Spelling.{spelled};
+ghost use Rattle.known_state.specs.Cost.{is_selected};
 ghost use Rattle.known_state.specs.Known.{IsTakenBy};
 ghost use Rattle.known_state.specs.State.{Step, IsOwn, reads_empty};
-ghost use Rattle.teach_writer.specs.Pieces.{AreSendable, IsFirst, IsPart, IsSendable, planned_field, selection_of, state_selected};
+ghost use Rattle.teach_writer.specs.Pieces.{AreSendable, IsFirst, IsPart, IsSendable, planned_field, selected_id, selection_of, state_selected};
 ghost use Rattle.teach_writer.specs.Sending.{is_table, selection, update_sent};
 
 use crate::planned_name::PlannedName;
@@ -21,16 +22,21 @@ use peers_msg::{Message, NameFieldRef, Received, append, append_update};
 use std::alloc::Global;
 use table_types::{Memory, TableDef, Update};
 
-/// Returns the selected table if its id is `id`.
-fn selected(received: &Received, id: u64) -> Option<&TableDef>
-    ensures selected { IfSome result (λ table. (selected_table received.now ≡ Some table.now) × (table.now.id ≡ id)
-        × (is_definition table.now ≡ true)) }
-    ensures other { IsNone result → is_table (selected_table received.now) id ≡ false }
+/// Returns the id of the selected table.
+pub fn selected_id(received: &Received) -> Option<u64>
+    ensures { result ≡ selected_id received.now }
 {
     match received.selected_table() {
-        Some(table) if table.id() == id => Some(table),
-        _ => None,
+        Some(table) => Some(table.id()),
+        None => None,
     }
+}
+
+/// Returns whether the table `id` is selected, given the id of the selected table.
+fn is_selected(selected: Option<u64>, id: u64) -> bool
+    ensures { result ≡ is_selected selected id }
+{
+    selected == Some(id)
 }
 
 /// Returns what selects a table of the roster that isn't selected: a switch if it is defined, and its definition
@@ -73,6 +79,7 @@ fn write_selection(
         × (selection_of (table_at known.old.roster id) known.old.state.received ≡ m ∷ [])
         × (known.new.state ≡ state_selected known.old.state (m ∷ []))
         × (selection_of (table_at known.old.roster id) known.new.state.received ≡ [])) }
+    ensures selected { OnOk result (selected_id known.new.state.received ≡ Some id) }
     ensures roster { known.new.roster ≡ known.old.roster }
     ensures stays { OnErr result (known.new ≡ known.old) }
 {
@@ -126,23 +133,26 @@ fn write_selected(
     Ok(())
 }
 
-/// Sends the next message of an update: what selects its table, if it isn't selected, and otherwise the update. Returns
-/// whether that was the update.
+/// Sends the next message of an update: what selects its table, if that isn't the one with the id `selected`, and
+/// otherwise the update. Returns whether that was the update.
 fn send_part(
     alloc: Global,
     known: &mut Known,
+    selected: Option<u64>,
     update: &Update,
     name: PlannedName,
     bytes: &mut Vec<u8>,
 ) -> Result<bool, Memory>
-    requires { IsSendable known.old.roster known.old.state update.now name }
+    requires sendable { IsSendable known.old.roster known.old.state update.now name }
+    requires selected { selected ≡ selected_id known.old.state.received }
     ensures part { IfOk result (λ whole. (m : Message) × (bytes.new.items ≡ bytes.old.items ++ spelled m)
         × IsPart known.old.roster known.old.state update.now name whole m known.new.state) }
+    ensures selected { OnOk result (selected_id known.new.state.received ≡ Some update.now.table) }
     ensures roster { known.new.roster ≡ known.old.roster }
     ensures stays { OnErr result (known.new ≡ known.old) }
 {
     let _roster = known.roster();
-    if let Some(_table) = selected(known.received(), update.table) {
+    if is_selected(selected, update.table) {
         let field = name_field(update, name);
         write_selected(known, update, field, bytes)?;
         return Ok(true);
@@ -152,21 +162,24 @@ fn send_part(
 }
 
 /// Sends the next message of the updates from `index` on, if one is left, and moves `index` past its update unless that is
-/// still to be sent. Returns whether there was one.
+/// still to be sent. The table of the update is then the selected one. Returns whether there was a message.
 pub fn send_next(
     alloc: Global,
     known: &mut Known,
+    selected: &mut Option<u64>,
     updates: &[Update],
     names: &[PlannedName],
     index: &mut usize,
     bytes: &mut Vec<u8>,
 ) -> Result<bool, Memory>
-    requires { AreSendable known.old.roster known.old.state (drop index.old updates.now) (drop index.old names.now) }
+    requires sendable { AreSendable known.old.roster known.old.state (drop index.old updates.now) (drop index.old names.now) }
+    requires selected { selected.old ≡ selected_id known.old.state.received }
     ensures more { IfOk result (λ more. more ≡ true → (m : Message) × (bytes.new.items ≡ bytes.old.items ++ spelled m)
         × IsFirst known.old.roster known.old.state (drop index.old updates.now) (drop index.old names.now) m known.new.state
         (drop index.new updates.now) (drop index.new names.now)) }
     ensures none { IfOk result (λ more. more ≡ false → (drop index.old updates.now ≡ []) × (bytes.new.items ≡ bytes.old.items)
         × (known.new ≡ known.old) × (index.new ≡ index.old)) }
+    ensures selected { selected.new ≡ selected_id known.new.state.received }
     ensures ended { drop index.old updates.now ≡ [] → result ≡ Ok false }
     ensures roster { known.new.roster ≡ known.old.roster }
     ensures stays { OnErr result ((known.new ≡ known.old) × (index.new ≡ index.old)) }
@@ -174,7 +187,9 @@ pub fn send_next(
     if *index >= updates.len() || *index >= names.len() {
         return Ok(false);
     }
-    let whole = send_part(alloc, known, &updates[*index], names[*index], bytes)?;
+    let update = &updates[*index];
+    let whole = send_part(alloc, known, *selected, update, names[*index], bytes)?;
+    *selected = Some(update.table);
     if !whole {
         return Ok(true);
     }

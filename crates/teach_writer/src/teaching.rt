@@ -10,7 +10,7 @@ ghost use Rattle.known_state.specs.Plans.{Plan};
 ghost use Rattle.known_state.specs.Shortest.{Shortest};
 ghost use Rattle.price_checker.specs.Verdicts.{Says, bound_shown};
 ghost use Rattle.price_checker.specs.declared.verdict.Verdict.TheVariants as verdicts;
-ghost use Rattle.teach_writer.specs.Pieces.{bytes_left};
+ghost use Rattle.teach_writer.specs.Pieces.{bytes_left, ends_from};
 ghost use Rattle.teach_writer.specs.Planning.{IsPlanFor};
 ghost use Rattle.teach_writer.specs.Sending.{GoesThrough};
 
@@ -22,13 +22,18 @@ use table_types::{Batch, Items, Memory};
 
 /// Returns what is left of a lesson as a whole.
 fn joined(alloc: Global, mut pieces: Pieces) -> Result<Lesson, Memory>
-    ensures { IfOk result (λ lesson. (lesson.bytes ≡ bytes_left pieces) × (lesson.prices ≡ pieces.prices) × (lesson.known ≡ pieces.known)) }
+    ensures parts { IfOk result (λ lesson. (lesson.bytes ≡ bytes_left pieces) × (lesson.prices ≡ pieces.prices) × (lesson.known ≡ pieces.known)) }
+    ensures ends { IfOk result (λ lesson. (ms : List Message) → bytes_left pieces ≡ stream_of ms → lesson.ends ≡ ends_from 0 ms) }
 {
     let mut bytes = Vec::new(alloc);
-    while pieces.append_next(&mut bytes)? {}
+    let mut ends = Vec::new(alloc);
+    while pieces.append_next(&mut bytes)? {
+        ends.push(bytes.len())?;
+    }
     match pieces.end() {
         Ok((prices, known)) => Ok(Lesson {
             bytes: Items::new(bytes),
+            ends: Items::new(ends),
             prices: Items::new(prices),
             known,
         }),
@@ -47,6 +52,7 @@ fn joined(alloc: Global, mut pieces: Pieces) -> Result<Lesson, Memory>
 pub fn teach(alloc: Global, known: &Known, batch: &Batch) -> Result<Lesson, TeachError>
     requires batch { IsBatchFor known.now.roster batch.now }
     ensures taught { IfOk result (λ lesson. IsLessonFor known.now batch.now lesson.bytes lesson.known) }
+    ensures ends { IfOk result (λ lesson. (ms : List Message) → lesson.bytes ≡ stream_of ms → lesson.ends ≡ ends_from 0 ms) }
     ensures order { IfOk result (λ lesson. (plan : Plan) × IsPlanFor known.now batch.now plan × (lesson.prices ≡ plan.prices)
         × GoesThrough known.now batch.now plan.keep lesson.bytes lesson.known.state) }
     ensures shortest { IfOk result (λ lesson. (ms : List Message) × (lesson.bytes ≡ stream_of ms) × Shortest known.now batch.now ms) }

@@ -80,12 +80,14 @@ pub fn is_taught_again(alloc: Global, taught: &Taught) -> Option<bool> {
 fn joined(alloc: Global, pieces: Pieces, sizes: &[usize]) -> Option<Lesson> {
     let mut pieces = pieces;
     let mut bytes = Vec::new(alloc);
+    let mut ends = Vec::new(alloc);
     for size in sizes {
         let piece = pieces.next().ok()??;
         if piece.len() != *size {
             return None;
         }
         bytes.extend_from_slice(piece.as_slice()).ok()?;
+        ends.push(bytes.len()).ok()?;
         pieces = pieces.end().err()?;
     }
     for _ in 0..2 {
@@ -96,17 +98,19 @@ fn joined(alloc: Global, pieces: Pieces, sizes: &[usize]) -> Option<Lesson> {
     let (prices, known) = pieces.end().ok()?;
     Some(Lesson {
         bytes: Items::new(bytes),
+        ends: Items::new(ends),
         prices: Items::new(prices),
         known,
     })
 }
 
-/// Returns whether the lesson is right, and comes in pieces of these sizes.
+/// Returns whether the lesson is right, comes in pieces of these sizes, and knows that its messages end where they do.
 pub fn comes_in_pieces(alloc: Global, taught: &Taught, sizes: &[usize]) -> Option<bool> {
     let known = known(alloc, &taught.from)?;
     let batch = Batch::new(alloc, known.roster(), updates(alloc, taught.updates)?).ok()?;
-    let pieces = Pieces::new(alloc, &known, &batch).ok()?;
-    Some(is_right(&joined(alloc, pieces, sizes)?, taught))
+    let pieces = joined(alloc, Pieces::new(alloc, &known, &batch).ok()?, sizes)?;
+    let lesson = teach(alloc, &known, &batch).ok()?;
+    Some(is_right(&pieces, taught) && lesson.ends.as_slice() == pieces.ends.as_slice())
 }
 
 /// A known state, updates, and the size of the message of each with its name read, and with it written.

@@ -18,6 +18,7 @@ use Rattle.known_state.specs.State.{State, slots_after}
 use Rattle.teach_writer.specs.declared.planned_name.PlannedName.{PlannedName}
 use Rattle.teach_writer.specs.NextRequests.{is_first_kept, kept_next, IsAsMarked, IsRetainedFirst, retained_after, index_after}
 use Rattle.teach_writer.specs.Pieces.{AreSendable, messages_left, messages_of, planned_field, state_left}
+use Rattle.teach_writer.specs.Planning.{StoresNames}
 use Rattle.teach_writer.specs.Retained.{retained_at, IsNameField}
 use Rattle.teach_writer.specs.Sending.{slot_of, is_stored}
 use Rattle.teach_writer.proofs.MarkedSteps.{IsUnderWay, way_start, way_step, way_room, way_unkept, way_end}
@@ -61,6 +62,7 @@ loop-update-init c =
     way_start k.roster k.state us (knowledge_of k.state) rs keep retained (λ name. is_first_kept first name) c.requires.requests c.requires.keep linked many c.retained_first-retained.ensures.count exact c.in_ok-next.ensures.first in
     record {
       few = omega arith;
+      before = search rules;
       planned = subst (λ (ns : List PlannedName). ArePlanned k.roster k.state [] ns c.in_ok-slots.slots) (sym empty)
           (subst (λ (ss : List (Option (List ℕ))). ArePlanned k.roster k.state [] [] ss) (sym slots_are) (planned_start k.roster k.state own));
       way = λ linked room. subst (λ (ns : List PlannedName). IsUnderWay k.roster k.state us rs keep (stream_of (messages_left k.roster k.state [] ns)) (state_left k.roster k.state [] ns) retained 0 us) (sym empty) (start linked);
@@ -81,7 +83,7 @@ loop-update-preserved c =
     let names : List PlannedName = c.loop-update.names.items in
     let slots : List (Option (List ℕ)) = c.loop-update.slots in
     let kept : Bool = c.mark_at-kept.result in
-    let stored : Bool = c.stores_name-stored.result in
+    let stored : Bool = c.table_of-table.result.stores_name in
     let name : PlannedName = c.plan_name-name.result in
     let field : NameField = planned_field u.name name in
     let mid : State = state_left k.roster k.state (take i us) names in
@@ -89,12 +91,12 @@ loop-update-preserved c =
     let left : drop i us ≡ u ∷ drop (i + 1) us = here raw us i u c.updates-update-items.ensures.updates c.loop-update-test.true c.update-item.is in
     let asked : IsUpdateFor k.roster u = at_index (IsUpdateFor k.roster) us (drop (i + 1) us) i u left c.requires.batch.1 in
     let of : IsUpdateOf k.roster u = (asked.0, asked.1, asked.2) in
-    let table : (stores_name of.0 ≡ stored) × (is_definition of.0 ≡ true) = c.stores_name-stored.ensures.table of.0 of.1 in
+    let table : (stores_name of.0 ≡ stored) × (is_definition of.0 ≡ true) = c.table_of-table.ensures.table of.0 of.1 in
     let done : take (i + 1) us ≡ take i us ++ u ∷ [] = planned raw us i u c.updates-update-items.ensures.updates c.loop-update-test.true c.update-item.is in
     let pushed : c.push.new.self.items ≡ names ++ name ∷ [] = search rules in
     let written : c.use_name.new.slots ≡ slots_after slots field = search rules in
     let slot_is : c.in_ok-slot.slot ≡ slot_of field = search rules in
-    let more = planned_more k.roster k.state (take i us) names u of.0 name slots sound c.loop-update.invariant.planned of.1 table.1 of.2 c.stores_name-stored.ensures.word
+    let more = planned_more k.roster k.state (take i us) names u of.0 name slots sound c.loop-update.invariant.planned of.1 table.1 of.2 c.table_of-table.ensures.word
     (c.plan_name-name.ensures.fits of.0 table.0 of.2) c.plan_name-name.ensures.reads c.plan_name-name.ensures.named in
     let flags : next ≡ kept_next rs keep = c.as_slice.ensures.value ∙ c.in_ok-next.ensures.next in
     let retained_is : c.retain_or_free.new.retained ≡ retained_after retained (slot_of field) (get_or next index false) = c.retain_or_free.ensures.retained ∙ ap (λ (o : Option ℕ). retained_after retained o (get_or next index false)) slot_is in
@@ -103,6 +105,7 @@ loop-update-preserved c =
     let one : List Message = messages_of k.roster mid u name in
     record {
       few = omega (arith, c.loop-update.invariant.few, index_is, index_grows index (slot_of field));
+      before = subst (λ (id : ℕ). StoresNames k.roster id stored) (sym c.table_of-table.ensures.id) c.table_of-table.ensures.table;
       planned = subst (λ (l : List Update). ArePlanned k.roster k.state l c.push.new.self.items c.use_name.new.slots) (sym done)
           (subst (λ (ns : List PlannedName). ArePlanned k.roster k.state (take i us ++ u ∷ []) ns c.use_name.new.slots) (sym pushed)
           (subst (λ (ss : List (Option (List ℕ))). ArePlanned k.roster k.state (take i us ++ u ∷ []) (names ++ name ∷ []) ss) (sym written) more.0));
@@ -111,7 +114,7 @@ loop-update-preserved c =
           let marked : IsAsMarked retained mid.slots kept u.name = (λ other. way_unkept k.roster k.state mid us (drop (i + 1) us) u rs keep (stream_of sent) retained index way (sym c.mark_at-kept.ensures ∙ other), way_room k.roster k.state mid us (drop (i + 1) us) u rs keep (stream_of sent) retained index way room) in
           let field_is : IsAsMarked retained mid.slots kept u.name → IsNameField retained mid.slots stored u.name field =
           subst (λ (ss : List (Option (List ℕ))). IsAsMarked retained ss kept u.name → IsNameField retained ss stored u.name field) (sym c.loop-update.invariant.planned.1) c.plan_name-name.ensures.field in
-          let named : IsNameField retained mid.slots (is_stored k.roster u) u.name field = subst (λ (b : Bool). IsNameField retained mid.slots b u.name field) c.stores_name-stored.ensures.stored (field_is marked) in
+          let named : IsNameField retained mid.slots (is_stored k.roster u) u.name field = subst (λ (b : Bool). IsNameField retained mid.slots b u.name field) c.table_of-table.ensures.stored (field_is marked) in
           let step = way_step k.roster k.state mid (state_left k.roster k.state (take i us ++ u ∷ []) (names ++ name ∷ [])) us (drop (i + 1) us) u rs keep next (stream_of sent) (stream_of (messages_left k.roster k.state (take i us ++ u ∷ []) (names ++ name ∷ []))) retained index field one way more.1 named more.2 flags in
           let by_flags = subst (λ (flags : List Bool). IsUnderWay k.roster k.state us rs keep (stream_of (messages_left k.roster k.state (take i us ++ u ∷ []) (names ++ name ∷ []))) (state_left k.roster k.state (take i us ++ u ∷ []) (names ++ name ∷ [])) flags (index_after index (slot_of field)) (drop (i + 1) us)) (sym retained_is) step in
           let by_index = subst (λ (n : ℕ). IsUnderWay k.roster k.state us rs keep (stream_of (messages_left k.roster k.state (take i us ++ u ∷ []) (names ++ name ∷ []))) (state_left k.roster k.state (take i us ++ u ∷ []) (names ++ name ∷ [])) c.retain_or_free.new.retained n (drop (i + 1) us)) (sym index_is) by_flags in

@@ -16,10 +16,10 @@ returns-then-index-updates-clause-none c = λ end. (none, refl, refl, refl)
       | then-index-updates-via-else-index-updates+then-index-names w ↦
           let short : drop c.args.index.now c.args.names.now ≡ [] = drop_all c.args.index.now c.args.names.now (omega (arith, w.if-index-names.true)) in
           none_sendable c.args.known.now.roster c.args.known.now.state (drop c.args.index.now c.args.updates.now)
-          (subst (λ (ns : List PlannedName). AreSendable c.args.known.now.roster c.args.known.now.state (drop c.args.index.now c.args.updates.now) ns) short c.requires)
+          (subst (λ (ns : List PlannedName). AreSendable c.args.known.now.roster c.args.known.now.state (drop c.args.index.now c.args.updates.now) ns) short c.requires.sendable)
     ]
 
-pub send_part-requires : goal.send_part-requires
-send_part-requires c =
-    let first = sendable_here c.args.known.now.roster c.args.known.now.state c.args.updates.now c.args.names.now c.args.index.now c.index-updates-index.result planned.NotStored c.if-index-updates.false c.if-index-names.false c.index-updates-index.is c.requires in
+pub send_part-requires-clause-sendable : goal.send_part-requires-clause-sendable
+send_part-requires-clause-sendable c =
+    let first = sendable_here c.args.known.now.roster c.args.known.now.state c.args.updates.now c.args.names.now c.args.index.now c.index-updates-index.result planned.NotStored c.if-index-updates.false c.if-index-names.false c.index-updates-index.is c.requires.sendable in
     first.0

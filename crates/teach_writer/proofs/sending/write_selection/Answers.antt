@@ -1,4 +1,5 @@
 use Rattle.std.proofs.Common.{◌≡◌, ℕ, false, Some, [], ◌∷◌, ◌++◌, rules, sym, ap, ◌∙◌, subst, List, Option}
+use Rattle.std.specs.Prelude.{option_map}
 use Rattle.table_types.specs.declared.update.Update.{Update}
 use Rattle.table_types.specs.Tables.{Definition}
 use Rattle.table_types.specs.Rosters.{table_at}
@@ -45,3 +46,15 @@ returns-clause-written c =
       selected_by k.state e d m step.0 is step.1,
       ap (λ (o : Option Definition). selection_of o e.received) listed ∙ sym (selected_selection e.received d selected.1),
     )
+
+pub returns-clause-selected : goal.returns-clause-selected
+returns-clause-selected c =
+    let k = c.args.known.now in
+    let d = c.in-Some.table.now in
+    let m = c.in_ok-message.message in
+    let e = c.write_message.new.known.state in
+    let listed : table_at k.roster c.args.id ≡ Some d = search rules in
+    let is : m ∷ [] ≡ selection k.state.received d = search rules in
+    let step : (us : List Update) × Step k.state m us e × IsOwn k.roster m = search rules in
+    let selected = selection_selects k d m step.0 e c.roster-roster.ensures.own (listed_by_id k.roster c.args.id d listed) is step.1 in
+    ap (λ (o : Option Definition). option_map (λ t. t.id) o) selected.1 ∙ ap (λ (n : ℕ). Some n) (table_at-id k.roster c.args.id d listed)

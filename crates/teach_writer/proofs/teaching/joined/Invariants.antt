@@ -1,13 +1,14 @@
 use Rattle.std.proofs.Common.{◌≡◌, ◌++◌, length}
-use Rattle.teach_writer.specs.Pieces.{bytes_left}
+use Rattle.teach_writer.specs.Pieces.{bytes_left, ends_from}
 use Rattle.teach_writer.proofs.teaching.joined.Given as goal
 
-abbrev pub invariant-loop-bytes : goal.invariant-loop-bytes
-invariant-loop-bytes l = record {
+abbrev pub invariant-loop-ends : goal.invariant-loop-ends
+invariant-loop-ends l = record {
   bytes : l.bytes.items ++ bytes_left l.pieces ≡ bytes_left l.fn.pieces;
+  ends : l.ends.items ++ ends_from (length l.bytes.items) l.pieces.messages ≡ ends_from 0 l.fn.pieces.messages;
   prices : l.pieces.prices ≡ l.fn.pieces.prices;
   known : l.pieces.known ≡ l.fn.pieces.known;
 }
 
-abbrev pub decreases-loop-bytes : goal.decreases-loop-bytes
-decreases-loop-bytes l = length l.pieces.messages
+abbrev pub decreases-loop-ends : goal.decreases-loop-ends
+decreases-loop-ends l = length l.pieces.messages
