@@ -18,4 +18,4 @@ pub use laws::{
 };
 pub use lesson::{Lesson, TeachError};
 pub use pieces::Pieces;
-pub use teaching::teach;
+pub use teaching::{joined, teach};

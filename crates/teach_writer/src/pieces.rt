@@ -117,7 +117,7 @@ impl Pieces {
 
     /// Appends the bytes of the next message to `bytes`, and returns whether one was left. After `Memory` the same message is
     /// still the next one.
-    pub(crate) fn append_next(&mut self, bytes: &mut Vec<u8>) -> Result<bool, Memory>
+    pub fn append_next(&mut self, bytes: &mut Vec<u8>) -> Result<bool, Memory>
         ensures more { IfOk result (λ more. more ≡ true → (m : Message) × (bytes.new.items ≡ bytes.old.items ++ spelled m)
             × IsNext self.old (Some (spelled m)) self.new) }
         ensures none { IfOk result (λ more. more ≡ false → (bytes.new.items ≡ bytes.old.items) × IsNext self.old None self.new) }

@@ -21,7 +21,7 @@ use std::alloc::Global;
 use table_types::{Batch, Items, Memory};
 
 /// Returns what is left of a lesson as a whole.
-fn joined(alloc: Global, mut pieces: Pieces) -> Result<Lesson, Memory>
+pub fn joined(alloc: Global, mut pieces: Pieces) -> Result<Lesson, Memory>
     ensures parts { IfOk result (λ lesson. (lesson.bytes ≡ bytes_left pieces) × (lesson.prices ≡ pieces.prices) × (lesson.known ≡ pieces.known)) }
     ensures ends { IfOk result (λ lesson. (ms : List Message) → bytes_left pieces ≡ stream_of ms → lesson.ends ≡ ends_from 0 ms) }
 {
