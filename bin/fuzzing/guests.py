@@ -117,11 +117,12 @@ class Guest(Far):
     def sync(self, pieces):
         """As a sync of any session does. What is read at once is acknowledged once for each table, in ascending order."""
         before, due = len(self.acks), self.learner.acks()
-        is_small, is_sound = pieces == 1 and len(self.said) <= AT_ONCE, self.patience != IMPATIENT
+        is_small, is_sound = pieces == 1 and len(self.said) <= AT_ONCE and not self.is_behind, self.patience != IMPATIENT
         super().sync(pieces)
         if is_small and is_sound:
             self.in_time(lambda: len(self.acks) - before >= len(due), 'an acknowledgement', lambda: (due, self.acks[before:]))
             require(self.acks[before:] == due, 'acknowledgements', 'are other than one for each table:', self.acks[before:], due)
+            self.is_behind = False
         self.acknowledge()
 
     def repeat(self):

@@ -122,7 +122,7 @@ def random_session(random, roster, updates):
 class Far:
     """One end of a connection. `came` is all that was read, and `sent` what was sent after the hello. `learner` knows what a learner has of
     the messages said. `limit` is how long the other end may take, in seconds, and `patience` how long the far side waits for what may
-    not come."""
+    not come. `is_behind` is whether acknowledgements that nobody waited for may still come."""
 
     def __init__(self, peer, limit, learner):
         peer.setblocking(False)
@@ -137,6 +137,7 @@ class Far:
         self.read_to = 0
         self.acks = []
         self.replaced = set()
+        self.is_behind = False
         self.lessons = bytearray()
         self.numbers = {}
         self.updates = {}
@@ -262,9 +263,10 @@ class Far:
             self.slow(data, pieces)
         due = self.learner.acks()
         self.learner.owing.difference_update(at for at, _ in due)
-        due = [ack for ack in due if ack[0] not in self.replaced]
+        awaited = [ack for ack in due if ack[0] not in self.replaced]
         self.replaced.clear()
-        self.in_time(lambda: set(due) <= set(self.acks[before:]), 'an acknowledgement', lambda: (due, self.acks[before:]))
+        self.in_time(lambda: set(awaited) <= set(self.acks[before:]), 'an acknowledgement', lambda: (awaited, self.acks[before:]))
+        self.is_behind = len(awaited) < len(due) or self.is_behind and not awaited
 
     def ask(self):
         """Asks for a resync and acknowledges what comes."""

@@ -77,6 +77,24 @@ def other_definitions(trial):
 
 
 @check
+def log_of_tables_passed_over(trial):
+    """standard error says once a connection that tables are passed over, and names none of them"""
+    node = node_of_b(trial)
+    outside = definition(table(93, '#quiet')) + wide(91, b'#strange', 1 << 2 | 1 << 20, encoded(20)) + wide(92, b'#stranger', 1 << 19, b'')
+    for times in (1, 2):
+        far = connected(trial, node)
+        up_to_date(node)
+        for value in (1, 2):
+            far.send(outside)
+            still_learns(node, far, 2 * times + value)
+            time.sleep(1.2)
+        far.close()
+        wait(lambda: node.said().count(b'peer b down end\n') == times, 2, 'the session is over', node.said)
+        equal(node.said().count(b'peer b table passed over\n'), times, 'lines about tables')
+    require(b'#' not in node.said(), 'no table is named', node.said())
+
+
+@check
 def values_out_of_range(trial):
     """an update with a value out of its range is passed over"""
     node = node_of_b(trial)
@@ -136,16 +154,19 @@ def faults(trial):
 
 @check
 def three_faults(trial):
-    """after three faults in 60 s a node leaves a peer alone, and still takes its hello"""
+    """after three faults in 60 s a node leaves a peer alone for 60 s, and still takes its hello"""
     door = Door(trial)
     node = Node(trial, peers=('b ' + address(door.port),)).start()
     for place in range(3):
         far = door.far(place, 6)
         far.send(switch(9))
-        far.ends(2)
+        ended = far.ends(2)
     time.sleep(7)
     equal(len(door.tries), 3, 'connections')
-    still_learns(node, connected(trial, node), 1)
+    far = connected(trial, node)
+    still_learns(node, far, 1)
+    far.close()
+    between(59.9, door.tried(4, 60)[3] - ended, 64, 'seconds until the node connects again')
 
 
 @check
@@ -200,7 +221,7 @@ def hellos(trial):
             (b'\n\n\n', b'501\n'), (b'H' * 513, b'501\n'), (b'HAProxyS 2.1\n' + b'n' * 600, b'501\n')):
         equal(answer_to(trial, node, data), status, 'the answer to %r' % data)
     equal(answer_to(trial, node, b'HAProxyS 2.1\r\nn\r\nb 12345 678\r\n'), b'200\n', 'the answer to a hello with CR')
-    equal(node.peer('b')['sessions'], '1', 'sessions')
+    wait(lambda: node.peer('b')['sessions'] == '1', 2, 'one session', lambda: node.peer('b'))
 
 
 @check

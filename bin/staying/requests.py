@@ -5,7 +5,8 @@ import re
 import threading
 import time
 
-from peering.far import CONFIRMED, REQUEST, Manners, connected, hello, kept_open
+from fuzzing.messages import acknowledgement
+from peering.far import CONFIRMED, FINISHED, REQUEST, Manners, connected, hello, kept_open
 from peering.lessons import definition, table, update
 from peering.node import FIRST_MOMENT, T1, Node, reply
 from peering.trial import between, check, equal, matches, require, wait
@@ -62,6 +63,7 @@ def refused_tracks(trial):
                    ('get t1 =a', 'WrongKey'), ('get st 7', 'WrongKey'), ('get t1 8', 'none')))
     equal(node.events(), events, 'events')
     equal(reply(node.ask('track t1 7 add gpc0 1'))[2], '7 1 local', 'a track that fits')
+    equal(node.events(), events + 1, 'events after it')
     equal(node.ask('track t1 8 add gpc0 1'), 'TableFull', 'a track of a key too many')
 
 
@@ -69,7 +71,7 @@ def refused_tracks(trial):
 def unreadable(trial):
     """a line that can't be read is refused, and the connection goes on"""
     node = alone(trial)
-    for line in ('track', 'tracks t1 7 add gpc0 1', 'Track t1 7 add gpc0 1', 'track t1 7 add gpc0', 'track t1 7 add gpc0 1 2',
+    for line in ('', ' ', 'track', 'tracks t1 7 add gpc0 1', 'Track t1 7 add gpc0 1', 'track t1 7 add gpc0', 'track t1 7 add gpc0 1 2',
                  'track t1 7 add gpc0 -1', 'track t1 7 add gpc0 01', 'track t1 7 add nothing 1', 'track t1 7 grow gpc0 1', 'track t1 7 add gpc0 18446744073709551616',
                  'track r 7 rate gpc0_rate 4294967296', 'track t1  7 add gpc0 1', 'track t1 7 add gpc0 1 ', ' track t1 7 add gpc0 1',
                  'track\tt1 7 add gpc0 1', 'track t1 7 add gpc0 1\r', 'track t1 x add gpc0 1', 'track t1 4294967296 add gpc0 1',
@@ -162,6 +164,32 @@ def peers_shown(trial):
         matches(r'table b %s taught=0 acknowledged=0 received=- left=no( .*)?' % name, line, 'a table of it')
     matches(pattern % ('c', 'down', '-', 0), lines[4], 'the other peer')
     equal(len(lines), 5, 'lines')
+
+
+@check
+def peers_in_each_state(trial):
+    """show peers says what a session does, how long it has stood, and how long ago the last one ended"""
+    node = node_of_b(trial, tables=(T1,))
+    time.sleep(1)
+    between(900, int(node.peer('b')['since']), node.moment() - FIRST_MOMENT, 'ms since the node began')
+    far = connected(trial, node)
+    up_to_date(node)
+    node.ask('track t1 7 add gpc0 1')
+    far.gets_row('t1', 7, (1,))
+    far.close()
+    wait(lambda: node.peer('b')['state'] == 'down', 2, 'the session is over')
+    time.sleep(0.5)
+    between(400, int(node.peer('b')['since']), 1500, 'ms since the session ended')
+    far = connected(trial, node, manners=Manners(acks='none'), behind=REQUEST)
+    far.gets_row('t1', 7, (1,))
+    wait(lambda: node.peer('b')['state'] == 'teaching', 1, 'the peer is taught', lambda: node.peer('b'))
+    equal((node.shared('b', 't1')['taught'], node.shared('b', 't1')['acknowledged']), ('1', '0'), 'what was taught and acknowledged')
+    far.send(acknowledgement(1, 1))
+    far.gets(FINISHED, 2)
+    wait(lambda: node.peer('b')['state'] == 'ready', 2, 'the peer is ready')
+    time.sleep(0.5)
+    stood = 1000 * (time.monotonic() - far.asked)
+    between(500, int(node.peer('b')['since']), stood, 'ms since the session began')
 
 
 @check
@@ -414,7 +442,9 @@ def sections(trial):
     equal(node.ask('show table'), ['# table: mesh/ints, type: integer, size:1000000, used:1', '# table: plain, type: integer, size:1000000, used:0'],
           'the headers')
     equal(entries(node, 'mesh/ints'), ['key=7 use=0 exp=0 gpc0=5'], 'the rows')
-    equal(node.ask('get plain 7'), 'none', 'a row of the other table')
+    answers(node, (('get /ints 7', 'row 1 - 7 5'), ('get plain 7', 'none'), ('get mesh/plain 7', 'NoTable'), ('get meshplain 7', 'NoTable'),
+                   ('get other/ints 7', 'NoTable')))
+    equal(node.ask('show table /ints'), node.ask('show table mesh/ints'), 'the table by its name on the wire')
     require('haproxy_sticktable_used{name="mesh/ints",type="integer"}' in node.metrics(), 'the name in the metrics', node.metrics())
     wait(lambda: node.shared('b', 'mesh/ints')['taught'] == '1', 2, 'the name in show peers', lambda: node.ask('show peers'))
 
@@ -459,6 +489,19 @@ def ended_rows(trial):
     time.sleep(2.5)
     equal(node.events(), before, 'events of tables at rest')
     matches(r'reply 2 [0-9]+ 7 1 local', node.ask('track t1 7 add gpc0 1'), 'a row of the same key begins anew')
+
+
+@check
+def ended_rows_shown(trial):
+    """a row that has ended, and that the node hasn't purged yet, is shown by show rows alone, and counts as used"""
+    node = alone(trial, tables=('table 1 t1 integer 4 300 gpc0',))
+
+    def is_stored():
+        node.ask('track t1 7 add gpc0 1')
+        time.sleep(0.302)
+        row, rows, (header, *shown) = node.ask('get t1 7'), node.ask('show rows'), node.ask('show table t1')
+        return (row, len(rows), shown) == ('none', 1, []) and header.endswith(' used:1')
+    wait(is_stored, 8, 'a row that has ended is stored', lambda: (node.ask('show rows'), node.ask('show table t1')))
 
 
 @check

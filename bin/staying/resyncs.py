@@ -126,6 +126,23 @@ def partial_resync(trial):
     far.gets(REQUEST, 2)
     between(0, finishes(far, message=PARTIAL), 1, 'seconds until its end')
     equal(far.count(FINISHED), 0, 'finished resyncs')
+    node.shows('digbaro_resyncs_total{peer="b",role="teacher",end="partial"}', 1)
+
+
+@check
+def broken_resync(trial):
+    """a resync is broken if the session ends before it, and the next one teaches all rows"""
+    node = node_of_b(trial)
+    far = connected(trial, node)
+    up_to_date(node)
+    node.ask('track t1 7 add gpc0 1')
+    far = again(trial, node, far, Manners(acks='none'))
+    far.send(REQUEST)
+    far.gets_row('t1', 7, (1,))
+    far = again(trial, node, far)
+    node.shows('digbaro_resyncs_total{peer="b",role="teacher",end="broken"}', 1)
+    finishes(far)
+    equal(far.rows('t1'), {b'\0\0\0\7': ((1,), None)}, 'the rows of the next one')
 
 
 @check
@@ -364,3 +381,4 @@ def tracks_after_5_seconds(trial):
     node.admins.send('track t1 7 add gpc0 1\n')
     equal(node.admins.line(8), 'reply 1 - 7 1 local', 'the track')
     between(4.9, time.monotonic() - node.started, 6.5, 'seconds after the start')
+    equal((node.head()['up_to_date'], node.peer('b')['state']), ('no', 'asking'), 'the node then, and its peer')

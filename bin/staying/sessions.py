@@ -211,6 +211,8 @@ def error_messages(trial):
         wait(lambda: node.peer('b')['state'] == 'down', 2, 'the session is over', lambda: node.peer('b'))
         ended = node.peer('b')
         equal((ended['last_end'], ended['role'], ended['sessions']), (end, '-', str(place + 1)), 'the last end, the role, the sessions')
+    for end, count in (('end', 1), ('device', 1), ('error', 2)):
+        node.shows('digbaro_sessions_total{peer="b",end="%s"}' % end, count)
 
 
 @check
@@ -385,20 +387,46 @@ def without_an_admin_port(trial):
     connected(trial, node).gets(CONFIRMED, 3)
 
 
+def says(node, lines):
+    """Checks the lines on standard error, all of them."""
+    text = ''.join(line + '\n' for line in lines).encode()
+    wait(lambda: len(node.said()) >= len(text), 2, 'lines on standard error', node.said)
+    equal(node.said(), text, 'standard error')
+
+
 @check
 def log(trial):
-    """standard error has a line for each change of state"""
+    """standard error has a line for each change of state: a peer up or down and why, a resync begun and ended with its rows"""
     node = node_of_b(trial)
-    far = connected(trial, node)
+    far = connected(trial, node, manners=KEEPS_QUIET)
+    far.gets(REQUEST, 2)
+    far.send(definition(T1_THERE) + update(T1_THERE, 1, 7, (5,)) + update(T1_THERE, 2, 8, (5,)) + FINISHED)
     up_to_date(node)
+    far.gets_ack(77, 2)
+    far.send(REQUEST)
+    far.gets(FINISHED, 2)
     far.close()
-    wait(lambda: node.peer('b')['state'] == 'down', 2, 'the session is over')
-    wait(lambda: node.said().count(b'\n') >= 4, 2, 'lines of a peer up, a resync begun and ended, and a peer down', node.said)
+    says(node, ('peer b up accept', 'peer b resync learner begun', 'peer b resync learner finished rows 2', 'peer b resync teacher begun',
+                'peer b resync teacher finished rows 2', 'peer b down end'))
+
+
+@check
+def log_of_a_table_left(trial):
+    """standard error says once a connection that a table was left"""
+    node = node_of_b(trial, tables=(T1,))
+    far = connected(trial, node, manners=Manners(acks='none'))
+    up_to_date(node)
+    node.ask('track t1 7 add gpc0 1')
+    wait(lambda: node.shared('b', 't1')['left'] == 'yes', 5, 'the table is left')
+    node.ask('track t1 8 add gpc0 1')
+    time.sleep(2.5)
+    far.close()
+    says(node, ('peer b up accept', 'peer b resync learner begun', 'peer b resync learner finished rows 0', 'peer b left table 1', 'peer b down end'))
 
 
 @check
 def log_of_rows_passed_over(trial):
-    """standard error has at most a line for a table of which many rows are passed over, and names no key"""
+    """standard error has no line for rows that are passed over"""
     node = node_of_b(trial)
     far = connected(trial, node)
     time.sleep(0.4)
@@ -407,5 +435,5 @@ def log_of_rows_passed_over(trial):
     far.send(definition(T1_THERE) + out_of_range + update(T1_THERE, 301, 8, (1,)))
     far.gets_ack(77, 301)
     time.sleep(0.3)
-    between(before, node.said().count(b'\n'), before + 2, 'lines')
+    equal(node.said().count(b'\n'), before, 'lines')
     require(b'123456789' not in node.said(), 'no key is named', node.said())
