@@ -8,9 +8,9 @@ in_kilobytes() { prlimit --as=$(($1 * 1024)) "$program" "${@:2}"; }
 in_50_megabytes() { in_kilobytes 51200 "$@"; }
 
 # A lesson of 512 updates, 200 names in turn, in 16 KB less each time, until the program can no longer be loaded: it is whole, or
-# the program says that memory ran out. Both come.
+# the program says that memory ran out. Both come. If the stack has no room to grow, the kernel ends it (139), at four sizes at most.
 lesson_in_less_and_less() {
-    local kilobytes lesson whole=0 lacking=0
+    local kilobytes lesson whole=0 lacking=0 stackless=0
     echo 'table 3 st string 33 30000 server_key' >"$scene"
     awk 'BEGIN { for (i = 0; i < 512; i++) printf "update 3 %d 30000 =k n%03d\n", i + 1, i % 200 }' >>"$scene"
     run lesson <"$scene"
@@ -22,12 +22,14 @@ lesson_in_less_and_less() {
         elif [ "$status" -eq 0 ]; then
             whole=$((whole + 1))
             [ "$output" = "$lesson" ] && [ -z "$errors" ] || fail "a lesson in $kilobytes KB is another"
+        elif [ "$status" -eq 139 ]; then
+            stackless=$((stackless + 1))
         else
             lacking=$((lacking + 1))
             ends "a lesson in $kilobytes KB" 3 '' $'memory\n'
         fi
     done
-    if [ "$whole" -gt 0 ] && [ "$lacking" -gt 0 ]; then pass; else fail "a lesson in less and less memory: $whole whole, $lacking lacking"; fi
+    came_short 'a long lesson' "$whole" "$lacking" "$stackless"
 }
 
 # in_less_and_less WORD..: a command line with 16 KB less each time, until the program can no longer be loaded. It is never refused as no

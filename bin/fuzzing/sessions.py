@@ -45,8 +45,11 @@ def sound_acts(random, talk):
     for _ in range(random.choice((1, 1, 3, 10))):
         before = len(talk.messages)
         talk.grow(before + random.choice((1, 3, 20, 60)))
+        pieces = random.choice((1, 1, 3, 7))
+        if pieces == 1:
+            talk.tour()
         acts += [('say', said) for said in talk.messages[before:] if said[:3] not in ASKING]
-        acts.append(('sync', random.choice((1, 1, 3, 7))))
+        acts.append(('sync', pieces))
         if random.random() < 0.2:
             acts.append(('ask',))
     return acts + [('ask',)] if random.random() < 0.7 else acts

@@ -61,11 +61,23 @@ class Talk:
     def grow(self, count):
         """Adds messages, up to `count` of them in all or a fault; fewer if keys may be very long."""
         most = count if all(table.length < LONG for table in self.tables) else min(count, MOST_WITH_LONG_KEYS)
-        while len(self.messages) < most and self.state.fault is None and self.state.sure:
-            said = self.next()
-            self.messages.append(said)
-            self.state.take(said)
+        while len(self.messages) < most and self.goes_on():
+            self.add(self.next())
         return self
+
+    def goes_on(self):
+        return self.state.fault is None and self.state.sure
+
+    def add(self, said):
+        self.messages.append(said)
+        self.state.take(said)
+
+    def tour(self):
+        """Adds an update of each local table, so that several are acknowledged at once."""
+        for at in self.random.sample(range(self.roster), self.roster):
+            if self.goes_on():
+                self.add(('define', at, self.tables[at].id, self.tables[at].expire))
+                self.add(self.an_update())
 
     def next(self):
         chance = self.random.random()
