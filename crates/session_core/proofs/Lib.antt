@@ -30,3 +30,7 @@ mod ReopensApart
 mod OnlyTurnsCopy
 mod StandingOnce
 mod SomeStand
+mod TakenHoweverCut
+mod AnswersInOrder
+mod MessagesInOrder
+mod HeardHoweverCut

@@ -39,7 +39,7 @@ ack_intake : (c : Course) (ack : Option (ℕ × ℕ)) → (ack_received c ack).1
 ack_intake c (Some (table, number)) = acknowledged_intake _ c table number
 ack_intake c None = refl
 
-received_intake : (c : Course) (t : Taken) → (message_received c t).1.intake ≡ c.intake
+pub received_intake : (c : Course) (t : Taken) → (message_received c t).1.intake ≡ c.intake
 received_intake c (taken.Row u) = refl
 received_intake c taken.Passed = refl
 received_intake c (taken.Said control) = said_intake c control

@@ -92,7 +92,7 @@ fed_on c e bytes more ts acts good receives =
 abbrev redue : Course → List ℕ → Course
 redue c due = lift (λ (x : Taking). record x { due = due }) c
 
-takes_redue : (t e : Taking) (m : Message) (own : List Update) (due : List ℕ) → Takes t m own e → Takes (record t { due = due }) m own (record e { due = due_after t.state m due })
+pub takes_redue : (t e : Taking) (m : Message) (own : List Update) (due : List ℕ) → Takes t m own e → Takes (record t { due = due }) m own (record e { due = due_after t.state m due })
 takes_redue t e m own due (is_open, rest, at, us, step, keeps, is) = (is_open, rest, at, us, step, keeps, ap (λ (x : Taking). record x { due = due_after t.state m due }) is)
 
 received_redue : (ts : List Taken) (c e : Course) (acts : List Action) (due : List ℕ) → AreReceived c ts acts e → (after : List ℕ) × AreReceived (redue c due) ts acts (redue e after)
@@ -104,7 +104,7 @@ received_redue (t ∷ ts) c e acts due (mid, rest, (whole, (m, takes, answers), 
     let others = received_redue ts (message_received mid t).1 e rest after later in
     (others.0, (redue mid after, rest, one, all ∙ ap (λ (x : List Action × Course). x.0 ++ rest) (sym next), subst (λ (x : List Action × Course). AreReceived x.1 ts rest (redue e others.0)) (sym next) others.1))
 
-stops_redue : (t e : Taking) (due : List ℕ) (fault : Fault) → Stops t fault e → (x : Taking) × Stops (record t { due = due }) fault x
+pub stops_redue : (t e : Taking) (due : List ℕ) (fault : Fault) → Stops t fault e → (x : Taking) × Stops (record t { due = due }) fault x
 stops_redue t e due faults.Memory (is_open, takable, is) = (record t { due = due }, (is_open, takable, refl))
 stops_redue t e due faults.Closed (closed, is) = (record t { due = due }, (closed, refl))
 stops_redue t e due (faults.Breach breach) (is_open, at, is) = (shut (record t { due = due }), (is_open, at, refl))
@@ -170,7 +170,7 @@ confirms_heard (actions.Teach batch ∷ acts) = confirms_heard acts
 confirms_heard (actions.Part kind ∷ acts) = confirms_heard acts
 confirms_heard (actions.Close ∷ acts) = confirms_heard acts
 
-or_group : (a b c : Bool) → ((a || b) || c) ≡ (a || (b || c))
+pub or_group : (a b c : Bool) → ((a || b) || c) ≡ (a || (b || c))
 or_group true b c = refl
 or_group false b c = refl
 
@@ -186,7 +186,7 @@ both_confirm said one other all heard =
 
 -- ---- bytes
 
-after_good : (a b : List ℕ) → IsBytes (a ++ b) → IsBytes b
+pub after_good : (a b : List ℕ) → IsBytes (a ++ b) → IsBytes b
 after_good [] b good = good
 after_good (x ∷ a) b good = after_good a b (λ i. good (suc i))
 
@@ -302,7 +302,7 @@ fed_whole (b ∷ pieces) s e c a acts is holds good (one, rest, mid, all, goes, 
 
 -- ---- bytes after the end of a session
 
-stops_more : (t e : Taking) (more : List ℕ) (fault : Fault) → IsBytes t.unread → Stops t fault e → fault ≢ faults.Memory → (x : Taking) × Stops (fed t more) fault x
+pub stops_more : (t e : Taking) (more : List ℕ) (fault : Fault) → IsBytes t.unread → Stops t fault e → fault ≢ faults.Memory → (x : Taking) × Stops (fed t more) fault x
 stops_more t e more faults.Memory good stops wanted = absurd (wanted refl)
 stops_more t e more faults.Closed good (closed, is) wanted = (fed t more, (closed, refl))
 stops_more t e more faults.NoNumber good stops wanted = (e, stops_on t e more faults.NoNumber good stops.0 stops wanted)

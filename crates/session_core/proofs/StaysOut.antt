@@ -54,7 +54,7 @@ out_more t table [] is = is
 out_more t table (s ∷ ss) is = or_either (s.table == t && s.out) (is_out t ss) _ _ (out_more_one t (s.table == table) s) (out_more t table ss) is
 
 -- a batch of another table is out no longer
-out_other : (t table : ℕ) (ss : List Share) → (table == t) ≡ false → is_out t (out_set table false ss) ≡ is_out t ss
+pub out_other : (t table : ℕ) (ss : List Share) → (table == t) ≡ false → is_out t (out_set table false ss) ≡ is_out t ss
 out_other t table [] apart = refl
 out_other t table (s ∷ ss) apart = elim (cases_eq s.table table) [
   | inl same ↦
@@ -75,7 +75,7 @@ out_quiet_set : (t table : ℕ) (ss : List Share) → is_out t (quiet_set table 
 out_quiet_set t table [] = refl
 out_quiet_set t table (s ∷ ss) = rw (quiet_table (s.table == table) s, quiet_out (s.table == table) s, out_quiet_set t table ss) refl
 
-out_unquieted : (t : ℕ) (ss : List Share) → is_out t (unquieted ss) ≡ is_out t ss
+pub out_unquieted : (t : ℕ) (ss : List Share) → is_out t (unquieted ss) ≡ is_out t ss
 out_unquieted t [] = refl
 out_unquieted t (s ∷ ss) = ap (λ (b : Bool). (s.table == t && s.out) || b) (out_unquieted t ss)
 

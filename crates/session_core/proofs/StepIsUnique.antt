@@ -88,7 +88,7 @@ ends_alike : (c : Course) (a b : Result (Unit {0}) Halt) → (answer : Result (O
 ends_alike c a b (answer, e, (next, wanted, is)) (answer', e', (next', wanted', is')) =
     end_of a b (sym is ∙ ap ending (intake_next_once c.intake e e' answer answer' next next' wanted wanted').0 ∙ is')
 
-one_end : (c : Course) (a b : Result (Unit {0}) Halt) → Ends c a → Ends c b → a ≡ b
+pub one_end : (c : Course) (a b : Result (Unit {0}) Halt) → Ends c a → Ends c b → a ≡ b
 one_end c a b ends again = ends_alike c a b (shown_end c a ends) (shown_end c b again)
 
 no_end : (c : Course) (end : Result (Unit {0}) Halt) (next : Taking) (t : Taken) → (answer : Result (Option Taken) Fault) × (e : Taking) × Shows c (Some end) e answer → Shows c None next (Ok (Some t)) → ⊥
@@ -96,13 +96,13 @@ no_end c end next' t (answer, e, (next, wanted, is)) (gives, wanted', is') =
     let bad : Some end ≡ None = sym is ∙ ap ending (intake_next_once c.intake e next' answer (Ok (Some t)) next gives wanted wanted').0 ∙ is' in
     cc
 
-not_both : (c mid : Course) (t : Taken) (end : Result (Unit {0}) Halt) → Ends c end → Receives c t mid → ⊥
+pub not_both : (c mid : Course) (t : Taken) (end : Result (Unit {0}) Halt) → Ends c end → Receives c t mid → ⊥
 not_both c mid t end ends receives = no_end c end mid.intake t (shown_end c end ends) (shown_received c mid t receives)
 
 taken_of : (t u : Taken) → ◌≡◌ {A = Result (Option Taken) Fault} (Ok (Some t)) (Ok (Some u)) → t ≡ u
 taken_of t u same = cc
 
-one_received : (c mid next : Course) (t u : Taken) → Receives c t mid → Receives c u next → (t ≡ u) × (mid ≡ next)
+pub one_received : (c mid next : Course) (t u : Taken) → Receives c t mid → Receives c u next → (t ≡ u) × (mid ≡ next)
 one_received c mid next t u receives again =
     let same = intake_next_once c.intake mid.intake next.intake (Ok (Some t)) (Ok (Some u)) receives.1 again.1 (some_answer (Some t)) (some_answer (Some u)) in
     (taken_of t u same.0, receives.2 ∙ ap (λ (x : Taking). record c { intake = x }) same.1 ∙ sym again.2)

@@ -10,3 +10,4 @@ pub mod Paces
 pub mod Standing
 pub mod StandingRuns
 pub mod StandingSteps
+pub mod Hearing

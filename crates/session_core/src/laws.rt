@@ -1,7 +1,7 @@
 //! Laws of the definitions, which hold whatever the program does.
 
-ghost use Rattle.std.specs.Prelude.{◌≡◌, ◌⊎◌, ℕ, None, ◌∷◌, ◌++◌, [], true, false, List};
-ghost use Rattle.std.specs.List.{AllByRecursion};
+ghost use Rattle.std.specs.Prelude.{◌≡◌, ◌⊎◌, ℕ, Bool, None, ◌∷◌, ◌++◌, [], true, false, List};
+ghost use Rattle.std.specs.List.{AllByRecursion, list_any};
 ghost use Rattle.table_types.specs.Tables.{Definition};
 ghost use Rattle.session_core.specs.declared.action.Action.{Action};
 ghost use Rattle.session_core.specs.declared.event.Event.{Event};
@@ -10,6 +10,8 @@ ghost use Rattle.peers_msg.specs.Decoding.{together};
 ghost use Rattle.session_core.specs.Phases as phases;
 ghost use Rattle.session_core.specs.Courses.{Course};
 ghost use Rattle.session_core.specs.Cutting.{AreFed, IsFedOut, without_acks};
+ghost use Rattle.session_core.specs.Hearing.{Hears, asked_in, heard_in, told};
+ghost use Rattle.session_core.specs.Standing.{is_open, is_reopen};
 ghost use Rattle.session_core.specs.Sessions.{SessionState, Goes, is_asked};
 ghost use Rattle.session_core.specs.Runs.{Runs, IsBegun, ends_resync, HasNothingLeft, HasNothingOut, HoldsBytes, BringsBytes, was_confirmed};
 
@@ -71,4 +73,30 @@ pub fn any_events()
         together (first ∷ pieces) ++ more ≡ together (piece ∷ others) ++ rest →
         AreFed s (first ∷ pieces) acts e → AreFed s (piece ∷ others) given end → IsFedOut more e → IsFedOut rest end →
         (without_acks acts ≡ without_acks given) × (e ≡ end) }
+{}
+
+/// However the bytes of an open session are cut into events, and wherever the answers of its tables come in between, `told`
+/// the same is told: the same rows to learn, the same acknowledgements to pass on but for late ones, the same confirmations
+/// and the same end, in the same order. An acknowledgement is late if an earlier one of its table settles the batch that is
+/// out: it is passed on only if it comes before the answer. Once all are answered, `same` the session is the same, with the
+/// same resync under way or waiting, and `reopened` its tables were reopened in both runs or in neither. How often they are
+/// reopened, and before which row, depends on the cut: a request waits for the answers that are due. In both runs the same
+/// numbers settle a batch, no table refuses a number, and all of the bytes are heard or the session ends.
+pub fn any_answers()
+    ensures told { (settles : ℕ → ℕ → Bool) (s e end : SessionState) (c : Course) (step other : Event × List Action) (steps others : List (Event × List Action)) (more rest : List ℕ) (left over : List (ℕ × ℕ)) →
+        s.phase ≡ phases.Open c → HoldsBytes s.phase → IsBytes (heard_in (step ∷ steps) ++ more) →
+        heard_in (step ∷ steps) ++ more ≡ heard_in (other ∷ others) ++ rest →
+        Hears settles s [] (step ∷ steps) e left → Hears settles s [] (other ∷ others) end over → IsFedOut more e → IsFedOut rest end →
+        told settles (step ∷ steps) ≡ told settles (other ∷ others) }
+    ensures same { (settles : ℕ → ℕ → Bool) (s e end : SessionState) (c : Course) (step other : Event × List Action) (steps others : List (Event × List Action)) (more rest : List ℕ) (left over : List (ℕ × ℕ)) →
+        s.phase ≡ phases.Open c → HoldsBytes s.phase → IsBytes (heard_in (step ∷ steps) ++ more) →
+        heard_in (step ∷ steps) ++ more ≡ heard_in (other ∷ others) ++ rest →
+        Hears settles s [] (step ∷ steps) e left → Hears settles s [] (other ∷ others) end over → IsFedOut more e → IsFedOut rest end →
+        (left ≡ []) ⊎ (e.phase ≡ phases.Ended) → (over ≡ []) ⊎ (end.phase ≡ phases.Ended) → e ≡ end }
+    ensures reopened { (settles : ℕ → ℕ → Bool) (s e end : SessionState) (c : Course) (step other : Event × List Action) (steps others : List (Event × List Action)) (more rest : List ℕ) (left over : List (ℕ × ℕ)) →
+        s.phase ≡ phases.Open c → HoldsBytes s.phase → IsBytes (heard_in (step ∷ steps) ++ more) →
+        heard_in (step ∷ steps) ++ more ≡ heard_in (other ∷ others) ++ rest →
+        Hears settles s [] (step ∷ steps) e left → Hears settles s [] (other ∷ others) end over → IsFedOut more e → IsFedOut rest end →
+        left ≡ [] → over ≡ [] → is_open e.phase ≡ true →
+        list_any is_reopen (asked_in (step ∷ steps)) ≡ list_any is_reopen (asked_in (other ∷ others)) }
 {}
