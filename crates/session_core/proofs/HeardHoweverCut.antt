@@ -33,7 +33,7 @@ use Rattle.session_core.specs.StandingSteps.{is_all}
 use Rattle.session_core.specs.Cutting.{IsFedOut}
 use Rattle.session_core.specs.Runs.{HoldsBytes}
 use Rattle.session_core.specs.Hearing.{Awaits, Hears, asked_in, heard_in, passed_on, without_late}
-use Rattle.session_core.proofs.AnswersInOrder.{Fits, Sharing, all_answered, answered_in, begins, begun_if, fits_answered, fits_first, freed, settled_if}
+use Rattle.session_core.proofs.AnswersInOrder.{requested_in, Fits, Sharing, all_answered, answered_in, begins, begun_if, fits_answered, fits_first, freed, settled_if}
 use Rattle.session_core.proofs.EndLemmas.{silent_acks}
 use Rattle.session_core.proofs.IntakeGoesOn.{append_good}
 use Rattle.session_core.proofs.MessagesInOrder.{or_false, reopened_both, course_of, dues_of, late_append, left_append, left_by, messages_move, over_by, passed_append, plain, plain_append, plain_reopens, told_append, told_by}
@@ -44,19 +44,19 @@ use Rattle.session_core.proofs.TakenHoweverCut.{AreTaken, IsOver, over_ends, tak
 -- ---- what a run comes to
 
 -- what the end of the messages tells
-abbrev end_told : Result (Unit {0}) Halt → List Action
+abbrev pub end_told : Result (Unit {0}) Halt → List Action
 end_told (Ok u) = []
 end_told (Err halts.Failed) = actions.Close ∷ []
 end_told (Err (halts.Fault fault)) = actions.Part (kind_of_fault fault) ∷ []
 end_told (Err halts.Memory) = []
 
 -- the session `s` once it is over
-abbrev over_with : SessionState → Option Fault → List Action → SessionState
+abbrev pub over_with : SessionState → Option Fault → List Action → SessionState
 over_with s fault acts = record { phase = phases.Ended; known = s.known; fault = fault; confirmed = s.confirmed || confirms acts }
 
 -- The session `s` is `e` after the messages, whose end is this: open, with the intake `y` and what is shared, in which `left`
 -- await their answers and `k` is shared then; or over.
-abbrev Leaves : (ℕ → ℕ → Bool) → Course → Bool → SessionState → Result (Unit {0}) Halt → Taking → Sharing → List Action → SessionState → List (ℕ × ℕ) → Type 0
+abbrev pub Leaves : (ℕ → ℕ → Bool) → Course → Bool → SessionState → Result (Unit {0}) Halt → Taking → Sharing → List Action → SessionState → List (ℕ × ℕ) → Type 0
 Leaves settles c before s (Ok u) y k acts e left =
     (b : Sharing)
     × (e ≡ record { phase = phases.Open (course_of c (with_due y []) b (dues_of left)); known = s.known; fault = s.fault; confirmed = s.confirmed || confirms acts })
@@ -67,15 +67,15 @@ Leaves settles c before s (Err (halts.Fault fault)) y k acts e left = e ≡ over
 Leaves settles c before s (Err halts.Memory) y k acts e left = ⊥
 
 -- bytes after the intake `x` were heard, and asked for `acts`
-abbrev Comes : (ℕ → ℕ → Bool) → Course → Bool → Taking → Sharing → List ℕ → SessionState → List ℕ → List Action → SessionState → List (ℕ × ℕ) → Type 0
-Comes settles c before x k over s bytes acts e left =
+abbrev pub Comes : (Sharing → Sharing) → (ℕ → ℕ → Bool) → Course → Bool → Taking → Sharing → List ℕ → SessionState → List ℕ → List Action → SessionState → List (ℕ × ℕ) → Type 0
+Comes asks settles c before x k over s bytes acts e left =
     (ts : List Taken)
     × (y : Taking)
     × (end : Result (Unit {0}) Halt)
     × AreTaken (fed x bytes) ts y
     × IsOver y end
-    × (without_late settles over (plain acts) ≡ told_by settles c.intake.roster k ts ++ end_told end)
-    × Leaves settles c before s end y (left_by settles c.intake.roster k ts) acts e left
+    × (without_late settles over (plain acts) ≡ told_by asks settles c.intake.roster k ts ++ end_told end)
+    × Leaves settles c before s end y (left_by asks settles c.intake.roster k ts) acts e left
 
 -- ---- confirmations
 
@@ -92,7 +92,7 @@ reopens_confirm (s ∷ ss) = reopens_confirm ss
 -- ---- an answer
 
 -- what an answer asks for says nothing, and changes what is shared
-abbrev Answers : Course → Taking → List Due → Bool → SessionState → Sharing → List Action → SessionState → Type 0
+abbrev pub Answers : Course → Taking → List Due → Bool → SessionState → Sharing → List Action → SessionState → Type 0
 Answers c x due before s b acts e = (plain acts ≡ []) × (confirms acts ≡ false) × (e ≡ going s (course_of c x b due)) × (b.reopened ≡ (before || list_any is_reopen acts))
 
 none_reopened : (before : Bool) (acts : List Action) → acts ≡ [] → before ≡ (before || list_any is_reopen acts)
@@ -114,10 +114,10 @@ rest_of first other rest more same = cc
 -- ---- bytes
 
 -- what the end of the bytes adds to the actions of the messages
-quiet_acks : (c : Course) → plain (acks_given c) ≡ []
+pub quiet_acks : (c : Course) → plain (acks_given c) ≡ []
 quiet_acks c = ap without_reopens (silent_acks c.intake)
 
-passed_acks : (c : Course) → passed_on (acks_given c) ≡ []
+pub passed_acks : (c : Course) → passed_on (acks_given c) ≡ []
 passed_acks c = by (due_acks c.intake)
   where
     by : (ms : List Message) → passed_on (sends_acks ms) ≡ []
@@ -125,7 +125,7 @@ passed_acks c = by (due_acks c.intake)
     by (m ∷ ms) = refl
 
 -- the session after the bytes, as the one before them with what they told
-abbrev stepped : SessionState → Phase → List Action → SessionState
+abbrev pub stepped : SessionState → Phase → List Action → SessionState
 stepped s phase acts = record { phase = phase; known = s.known; fault = s.fault; confirmed = s.confirmed || confirms acts }
 
 leaves_both : (settles : ℕ → ℕ → Bool) (c : Course) (before now : Bool) (s e : SessionState) (phase : Phase) (end : Result (Unit {0}) Halt) (y z : Taking) (k l : Sharing) (acts others : List Action) (left : List (ℕ × ℕ))
@@ -145,27 +145,27 @@ leaves_both settles c before now s e phase (Err (halts.Fault fault)) y z k l act
 leaves_both settles c before now s e phase (Err halts.Memory) y z k l acts others left same is again ends = absurd ends
 
 -- the messages of a piece that leaves the session open, and what follows
-on_comes : (settles : ℕ → ℕ → Bool) (c : Course) (before now : Bool) (x m : Taking) (k : Sharing) (over : List ℕ) (s mid e : SessionState) (bytes more : List ℕ) (ts : List Taken) (given acts others : List Action) (left : List (ℕ × ℕ)) (phase : Phase)
+pub on_comes : (asks : Sharing → Sharing) (settles : ℕ → ℕ → Bool) (c : Course) (before now : Bool) (x m : Taking) (k : Sharing) (over : List ℕ) (s mid e : SessionState) (bytes more : List ℕ) (ts : List Taken) (given acts others : List Action) (left : List (ℕ × ℕ)) (phase : Phase)
     → IsBytes (x.unread ++ bytes) → AreTaken (fed x bytes) ts m → plain acts ≡ plain given
-    → without_late settles over (plain given) ≡ told_by settles c.intake.roster k ts
+    → without_late settles over (plain given) ≡ told_by asks settles c.intake.roster k ts
     → now ≡ (before || list_any is_reopen acts) → mid ≡ stepped s phase acts
-    → Comes settles c now (with_due m []) (left_by settles c.intake.roster k ts) (over_by settles over (plain given)) mid more others e left
-    → Comes settles c before x k over s (bytes ++ more) (acts ++ others) e left
-on_comes settles c before now x m k over s mid e bytes more ts given acts others left phase good takes same tells again stands (us, y, end, later, ends, says, leaves) =
+    → Comes asks settles c now (with_due m []) (left_by asks settles c.intake.roster k ts) (over_by settles over (plain given)) mid more others e left
+    → Comes asks settles c before x k over s (bytes ++ more) (acts ++ others) e left
+on_comes asks settles c before now x m k over s mid e bytes more ts given acts others left phase good takes same tells again stands (us, y, end, later, ends, says, leaves) =
     let roster : List Definition = c.intake.roster in
     let all = taken_both x m y bytes more ts us end good takes later ends in
     let plainly : plain (acts ++ others) ≡ plain given ++ plain others = plain_append acts others ∙ ap (λ (xs : List Action). xs ++ plain others) same in
-    let grouped : (told_by settles roster k ts ++ told_by settles roster (left_by settles roster k ts) us) ++ end_told end ≡ told_by settles roster k ts ++ (told_by settles roster (left_by settles roster k ts) us ++ end_told end) =
-    append_assoc (told_by settles roster k ts) (told_by settles roster (left_by settles roster k ts) us) (end_told end) in
-    let says_all : without_late settles over (plain (acts ++ others)) ≡ told_by settles roster k (ts ++ us) ++ end_told end =
+    let grouped : (told_by asks settles roster k ts ++ told_by asks settles roster (left_by asks settles roster k ts) us) ++ end_told end ≡ told_by asks settles roster k ts ++ (told_by asks settles roster (left_by asks settles roster k ts) us ++ end_told end) =
+    append_assoc (told_by asks settles roster k ts) (told_by asks settles roster (left_by asks settles roster k ts) us) (end_told end) in
+    let says_all : without_late settles over (plain (acts ++ others)) ≡ told_by asks settles roster k (ts ++ us) ++ end_told end =
     ap (without_late settles over) plainly
     ∙ late_append settles over (plain given) (plain others)
     ∙ ap (λ (xs : List Action). xs ++ without_late settles (over_by settles over (plain given)) (plain others)) tells
-    ∙ ap (λ (xs : List Action). told_by settles roster k ts ++ xs) says
+    ∙ ap (λ (xs : List Action). told_by asks settles roster k ts ++ xs) says
     ∙ sym grouped
-    ∙ ap (λ (xs : List Action). xs ++ end_told end) (sym (told_append settles roster k ts us)) in
-    let from : Leaves settles c now (stepped s phase acts) end y (left_by settles roster (left_by settles roster k ts) us) others e left = subst (λ (t : SessionState). Leaves settles c now t end y (left_by settles roster (left_by settles roster k ts) us) others e left) stands leaves in
-    (ts ++ us, all.0, end, all.1, all.2, says_all, leaves_both settles c before now s e phase end y all.0 (left_by settles roster (left_by settles roster k ts) us) (left_by settles roster k (ts ++ us)) acts others left all.3 (left_append settles roster k ts us) again from)
+    ∙ ap (λ (xs : List Action). xs ++ end_told end) (sym (told_append asks settles roster k ts us)) in
+    let from : Leaves settles c now (stepped s phase acts) end y (left_by asks settles roster (left_by asks settles roster k ts) us) others e left = subst (λ (t : SessionState). Leaves settles c now t end y (left_by asks settles roster (left_by asks settles roster k ts) us) others e left) stands leaves in
+    (ts ++ us, all.0, end, all.1, all.2, says_all, leaves_both settles c before now s e phase end y all.0 (left_by asks settles roster (left_by asks settles roster k ts) us) (left_by asks settles roster k (ts ++ us)) acts others left all.3 (left_append asks settles roster k ts us) again from)
 
 -- after the end no event follows
 none_follow : (settles : ℕ → ℕ → Bool) (s e : SessionState) (due left : List (ℕ × ℕ)) (steps : List (Event × List Action)) → s.phase ≡ phases.Ended → Hears settles s due steps e left → (steps ≡ []) × (e ≡ s)
@@ -173,18 +173,17 @@ none_follow settles s e due left [] ended hears = (refl, hears.0)
 none_follow settles s e due left (step ∷ steps) ended (mid, rest, goes, awaits, later) = absurd (subst (λ (p : Phase). GoesIn p s step.0 step.1 mid) ended goes)
 
 -- the messages of a piece that ends the session
-over_comes : (settles : ℕ → ℕ → Bool) (c : Course) (before : Bool) (x m : Taking) (k : Sharing) (over : List ℕ) (s mid e : SessionState) (bytes : List ℕ) (steps : List (Event × List Action)) (ts : List Taken) (given acts : List Action) (due left : List (ℕ × ℕ)) (end : Result (Unit {0}) Halt)
-    → AreTaken (fed x bytes) ts m → IsOver m end → without_late settles over (plain acts) ≡ told_by settles c.intake.roster k ts ++ end_told end
-    → Leaves settles c before s end m (left_by settles c.intake.roster k ts) acts mid left
-    → mid.phase ≡ phases.Ended → Hears settles mid due steps e left
-    → Comes settles c before x k over s (bytes ++ heard_in steps) (acts ++ asked_in steps) e left
-over_comes settles c before x m k over s mid e bytes steps ts given acts due left end takes ends says leaves ended hears =
-    let none = none_follow settles mid e due left steps ended hears in
-    let here : Comes settles c before x k over s bytes acts e left = (ts, m, end, takes, ends, says, subst (λ (t : SessionState). Leaves settles c before s end m (left_by settles c.intake.roster k ts) acts t left) (sym none.1) leaves) in
+pub over_comes : (asks : Sharing → Sharing) (settles : ℕ → ℕ → Bool) (c : Course) (before : Bool) (x m : Taking) (k : Sharing) (over : List ℕ) (s mid e : SessionState) (bytes : List ℕ) (steps : List (Event × List Action)) (ts : List Taken) (given acts : List Action) (left : List (ℕ × ℕ)) (end : Result (Unit {0}) Halt)
+    → AreTaken (fed x bytes) ts m → IsOver m end → without_late settles over (plain acts) ≡ told_by asks settles c.intake.roster k ts ++ end_told end
+    → Leaves settles c before s end m (left_by asks settles c.intake.roster k ts) acts mid left
+    → (steps ≡ []) × (e ≡ mid)
+    → Comes asks settles c before x k over s (bytes ++ heard_in steps) (acts ++ asked_in steps) e left
+over_comes asks settles c before x m k over s mid e bytes steps ts given acts left end takes ends says leaves none =
+    let here : Comes asks settles c before x k over s bytes acts e left = (ts, m, end, takes, ends, says, subst (λ (t : SessionState). Leaves settles c before s end m (left_by asks settles c.intake.roster k ts) acts t left) (sym none.1) leaves) in
     let no_bytes : bytes ≡ bytes ++ heard_in steps = sym (ap (λ (xs : List (Event × List Action)). bytes ++ heard_in xs) none.0 ∙ append-nil bytes) in
     let no_acts : acts ≡ acts ++ asked_in steps = sym (ap (λ (xs : List (Event × List Action)). acts ++ asked_in xs) none.0 ∙ append-nil acts) in
-    subst (λ (b : List ℕ). Comes settles c before x k over s b (acts ++ asked_in steps) e left) no_bytes
-    (subst (λ (xs : List Action). Comes settles c before x k over s bytes xs e left) no_acts here)
+    subst (λ (b : List ℕ). Comes asks settles c before x k over s b (acts ++ asked_in steps) e left) no_bytes
+    (subst (λ (xs : List Action). Comes asks settles c before x k over s bytes xs e left) no_acts here)
 
 -- what follows a piece: the events after it, wherever they begin
 abbrev Follows : (ℕ → ℕ → Bool) → Course → List (Event × List Action) → SessionState → List (ℕ × ℕ) → Type 0
@@ -192,27 +191,27 @@ Follows settles c steps e left =
     (s : SessionState) (x : Taking) (a k : Sharing) (over : List ℕ) (acks : List (ℕ × ℕ)) → IsBytes (x.unread ++ heard_in steps)
     → IntakeNext (with_due x []) (Ok None) (with_due x []) → x.roster ≡ c.intake.roster
     → s.phase ≡ phases.Open (course_of c (with_due x []) a (dues_of acks)) → Fits settles over acks a k → Hears settles s acks steps e left
-    → Comes settles c a.reopened (with_due x []) k over s (heard_in steps) (asked_in steps) e left
+    → Comes requested_in settles c a.reopened (with_due x []) k over s (heard_in steps) (asked_in steps) e left
 
 -- a piece of an open session, or the rest of the one that opened it, after what is sent first
-abbrev says_nothing : List Action → Type 0
+abbrev pub says_nothing : List Action → Type 0
 says_nothing first = (plain first ≡ []) × (passed_on first ≡ []) × (list_any is_reopen first ≡ false)
 
 -- the actions of a piece, without what is sent first
-piece_plain : (first given last acts : List Action) → says_nothing first → acts ≡ (first ++ given) ++ last → plain acts ≡ plain given ++ plain last
+pub piece_plain : (first given last acts : List Action) → says_nothing first → acts ≡ (first ++ given) ++ last → plain acts ≡ plain given ++ plain last
 piece_plain first given last acts silent is =
     ap plain is
     ∙ plain_append (first ++ given) last
     ∙ ap (λ (xs : List Action). xs ++ plain last) (plain_append first given ∙ ap (λ (xs : List Action). xs ++ plain given) silent.0)
 
-piece_passes : (first given last acts : List Action) → says_nothing first → acts ≡ (first ++ given) ++ last → passed_on acts ≡ passed_on given ++ passed_on last
+pub piece_passes : (first given last acts : List Action) → says_nothing first → acts ≡ (first ++ given) ++ last → passed_on acts ≡ passed_on given ++ passed_on last
 piece_passes first given last acts silent is =
     ap passed_on is
     ∙ passed_append (first ++ given) last
     ∙ ap (λ (p : List (ℕ × ℕ)). p ++ passed_on last) (passed_append first given ∙ ap (λ (p : List (ℕ × ℕ)). p ++ passed_on given) silent.1)
 
 -- the end of the session is told
-piece_told : (settles : ℕ → ℕ → Bool) (over : List ℕ) (first given last acts tells : List Action) → says_nothing first → acts ≡ (first ++ given) ++ last → without_late settles (over_by settles over (plain given)) (plain last) ≡ last
+pub piece_told : (settles : ℕ → ℕ → Bool) (over : List ℕ) (first given last acts tells : List Action) → says_nothing first → acts ≡ (first ++ given) ++ last → without_late settles (over_by settles over (plain given)) (plain last) ≡ last
     → without_late settles over (plain given) ≡ tells → without_late settles over (plain acts) ≡ tells ++ last
 piece_told settles over first given last acts tells silent is ends says =
     ap (without_late settles over) (piece_plain first given last acts silent is)
@@ -241,7 +240,7 @@ piece_open : (settles : ℕ → ℕ → Bool) (c m : Course) (x : Taking) (a k :
     → AreReceived (course_of c (fed x bytes) a []) ts given m → IntakeNext m.intake (Ok None) m.intake
     → acts ≡ (first ++ given) ++ acks_given m → mid ≡ stepped s (phases.Open (acks_sent m)) acts
     → Follows settles c steps e left → Hears settles mid (passed_on acts) steps e left
-    → Comes settles c a.reopened x k over s (bytes ++ heard_in steps) (acts ++ asked_in steps) e left
+    → Comes requested_in settles c a.reopened x k over s (bytes ++ heard_in steps) (acts ++ asked_in steps) e left
 piece_open settles c m x a k over s mid e bytes first given acts ts steps left silent good same fits gets waits is stands follows hears =
     let roster : List Definition = c.intake.roster in
     let y : Taking = m.intake in
@@ -255,35 +254,35 @@ piece_open settles c m x a k over s mid e bytes first given acts ts steps left s
     ap (λ (t : SessionState). t.phase) stands
     ∙ ap (λ (d : Course). phases.Open (acks_sent d)) moved.1.1
     ∙ ap (λ (p : List (ℕ × ℕ)). phases.Open (course_of c (with_due y []) b (dues_of p))) (sym passed) in
-    let fits_then : Fits settles (over_by settles over (plain given)) (passed_on acts) b (left_by settles roster k ts) =
-    subst (λ (p : List (ℕ × ℕ)). Fits settles (over_by settles over (plain given)) p b (left_by settles roster k ts)) (sym passed) moved.1.2 in
+    let fits_then : Fits settles (over_by settles over (plain given)) (passed_on acts) b (left_by requested_in settles roster k ts) =
+    subst (λ (p : List (ℕ × ℕ)). Fits settles (over_by settles over (plain given)) p b (left_by requested_in settles roster k ts)) (sym passed) moved.1.2 in
     let good_then : IsBytes (y.unread ++ heard_in steps) = append_good y.unread (heard_in steps) (taken_good ts (fed x bytes) y here takes) (after_good (x.unread ++ bytes) (heard_in steps) good) in
-    let later = follows mid y b (left_by settles roster k ts) (over_by settles over (plain given)) (passed_on acts) good_then (waits.0, waits.1, refl) moved.0 opens fits_then hears in
+    let later = follows mid y b (left_by requested_in settles roster k ts) (over_by settles over (plain given)) (passed_on acts) good_then (waits.0, waits.1, refl) moved.0 opens fits_then hears in
     let again : b.reopened ≡ (a.reopened || list_any is_reopen acts) = moved.1.4 ∙ ap (λ (r : Bool). a.reopened || r) (sym (piece_reopens first given (acks_given m) acts silent (acks_reopen m) is)) in
-    on_comes settles c a.reopened b.reopened x y k over s mid e bytes (heard_in steps) ts given acts (asked_in steps) left (phases.Open (acks_sent m)) here takes plainly moved.1.3 again stands later
+    on_comes requested_in settles c a.reopened b.reopened x y k over s mid e bytes (heard_in steps) ts given acts (asked_in steps) left (phases.Open (acks_sent m)) here takes plainly moved.1.3 again stands later
 
 piece_comes : (settles : ℕ → ℕ → Bool) (c : Course) (x : Taking) (a k : Sharing) (over : List ℕ) (s mid e : SessionState) (bytes : List ℕ) (first acts : List Action) (steps : List (Event × List Action)) (left : List (ℕ × ℕ))
     → says_nothing first → IsBytes ((x.unread ++ bytes) ++ heard_in steps) → x.roster ≡ c.intake.roster → Fits settles over [] a k
     → ReceivesBytes s (course_of c (fed x bytes) a []) first acts mid → Follows settles c steps e left → Hears settles mid (passed_on acts) steps e left
-    → Comes settles c a.reopened x k over s (bytes ++ heard_in steps) (acts ++ asked_in steps) e left
+    → Comes requested_in settles c a.reopened x k over s (bytes ++ heard_in steps) (acts ++ asked_in steps) e left
 piece_comes settles c x a k over s mid e bytes first acts steps left silent good same fits (end, given, m, receives, concludes) follows hears =
     let got = received s (course_of c (fed x bytes) a []) m first given acts mid end receives concludes in
     by end got.0 got.1 got.2 got.3 got.4
   where
-    moves : (ts : List Taken) (n : Course) → AreReceived (course_of c (fed x bytes) a []) ts given n → without_late settles over (plain given) ≡ told_by settles c.intake.roster k ts
+    moves : (ts : List Taken) (n : Course) → AreReceived (course_of c (fed x bytes) a []) ts given n → without_late settles over (plain given) ≡ told_by requested_in settles c.intake.roster k ts
     moves ts n gets = (messages_move settles c.intake.roster ts c (fed x bytes) [] over [] a k given n same fits gets).1.3
 
     by : (end : Result (Unit {0}) Halt) (ts : List Taken) (n : Course) → AreReceived (course_of c (fed x bytes) a []) ts given n → Ends n end → Concludes s n end (first ++ given) acts mid
-        → Comes settles c a.reopened x k over s (bytes ++ heard_in steps) (acts ++ asked_in steps) e left
+        → Comes requested_in settles c a.reopened x k over s (bytes ++ heard_in steps) (acts ++ asked_in steps) e left
     by (Ok u) ts n gets ends (is, stands) = piece_open settles c n x a k over s mid e bytes first given acts ts steps left silent good same fits gets ends is stands follows hears
     by (Err halts.Failed) ts n gets ends (is, stands) =
         let takes = taken_received ts (course_of c (fed x bytes) a []) n given gets in
-        let says = piece_told settles over first given (actions.Close ∷ []) acts (told_by settles c.intake.roster k ts) silent is refl (moves ts n gets) in
-        over_comes settles c a.reopened x n.intake k over s mid e bytes steps ts given acts (passed_on acts) left (Err halts.Failed) takes (over_ends n (Err halts.Failed) ends) says stands (ap (λ (t : SessionState). t.phase) stands) hears
+        let says = piece_told settles over first given (actions.Close ∷ []) acts (told_by requested_in settles c.intake.roster k ts) silent is refl (moves ts n gets) in
+        over_comes requested_in settles c a.reopened x n.intake k over s mid e bytes steps ts given acts left (Err halts.Failed) takes (over_ends n (Err halts.Failed) ends) says stands (none_follow settles mid e (passed_on acts) left steps (ap (λ (t : SessionState). t.phase) stands) hears)
     by (Err (halts.Fault fault)) ts n gets ends (is, stands) =
         let takes = taken_received ts (course_of c (fed x bytes) a []) n given gets in
-        let says = piece_told settles over first given (actions.Part (kind_of_fault fault) ∷ []) acts (told_by settles c.intake.roster k ts) silent is refl (moves ts n gets) in
-        over_comes settles c a.reopened x n.intake k over s mid e bytes steps ts given acts (passed_on acts) left (Err (halts.Fault fault)) takes (over_ends n (Err (halts.Fault fault)) ends) says stands (ap (λ (t : SessionState). t.phase) stands) hears
+        let says = piece_told settles over first given (actions.Part (kind_of_fault fault) ∷ []) acts (told_by requested_in settles c.intake.roster k ts) silent is refl (moves ts n gets) in
+        over_comes requested_in settles c a.reopened x n.intake k over s mid e bytes steps ts given acts left (Err (halts.Fault fault)) takes (over_ends n (Err (halts.Fault fault)) ends) says stands (none_follow settles mid e (passed_on acts) left steps (ap (λ (t : SessionState). t.phase) stands) hears)
     by (Err halts.Memory) ts n gets ends concludes = absurd concludes
 
 -- actions that confirm as others do
@@ -300,10 +299,10 @@ confirmed_same settles c before now s e phase (Err halts.Memory) y k acts others
 -- ---- events one after another
 
 -- nothing follows
-none_comes : (settles : ℕ → ℕ → Bool) (c : Course) (s e : SessionState) (x : Taking) (a k : Sharing) (over : List ℕ) (acks left : List (ℕ × ℕ))
-    → IntakeNext (with_due x []) (Ok None) (with_due x []) → s.phase ≡ phases.Open (course_of c (with_due x []) a (dues_of acks)) → Fits settles over acks a k → Hears settles s acks [] e left
-    → Comes settles c a.reopened (with_due x []) k over s [] [] e left
-none_comes settles c s e x a k over acks left waits opens fits (here, is) =
+pub none_comes : (asks : Sharing → Sharing) (settles : ℕ → ℕ → Bool) (c : Course) (s e : SessionState) (x : Taking) (a k : Sharing) (over : List ℕ) (acks left : List (ℕ × ℕ))
+    → IntakeNext (with_due x []) (Ok None) (with_due x []) → s.phase ≡ phases.Open (course_of c (with_due x []) a (dues_of acks)) → Fits settles over acks a k → (e ≡ s) × (left ≡ acks)
+    → Comes asks settles c a.reopened (with_due x []) k over s [] [] e left
+none_comes asks settles c s e x a k over acks left waits opens fits (here, is) =
     let phase : e.phase ≡ phases.Open (course_of c (with_due x []) a (dues_of left)) = ap (λ (t : SessionState). t.phase) here ∙ opens ∙ ap (λ (p : List (ℕ × ℕ)). phases.Open (course_of c (with_due x []) a (dues_of p))) (sym is) in
     let stands : e ≡ record { phase = phases.Open (course_of c (with_due x []) a (dues_of left)); known = s.known; fault = s.fault; confirmed = s.confirmed || false } =
     as_it_is e s here
@@ -314,44 +313,57 @@ none_comes settles c s e x a k over acks left waits opens fits (here, is) =
     as_it_is : (e s : SessionState) → e ≡ s → e ≡ record { phase = e.phase; known = s.known; fault = s.fault; confirmed = s.confirmed }
     as_it_is e s here = ap (λ (t : SessionState). record { phase = e.phase; known = t.known; fault = t.fault; confirmed = t.confirmed }) here
 
+-- an answer that settles so, and what follows
+pub answer_next : (asks : Sharing → Sharing) (settles : ℕ → ℕ → Bool) (c : Course) (s mid e : SessionState) (x : Taking) (a b k : Sharing) (over : List ℕ) (rest left : List (ℕ × ℕ)) (bytes : List ℕ) (acts others : List Action)
+    → Answers c (with_due x []) (dues_of rest) a.reopened s b acts mid → Comes asks settles c b.reopened (with_due x []) k over mid bytes others e left
+    → Comes asks settles c a.reopened (with_due x []) k over s bytes (acts ++ others) e left
+answer_next asks settles c s mid e x a b k over rest left bytes acts others (nothing, none, stands, reopened) (ts, y, end, takes, ends, tells, leaves) =
+    let phase : Phase = phases.Open (course_of c (with_due x []) b (dues_of rest)) in
+    let says : plain (acts ++ others) ≡ plain others = plain_append acts others ∙ ap (λ (xs : List Action). xs ++ plain others) nothing in
+    let said : confirms (acts ++ others) ≡ confirms others = confirms_append acts others ∙ ap (λ (y : Bool). y || confirms others) none in
+    let again : (b.reopened || list_any is_reopen others) ≡ (a.reopened || list_any is_reopen (acts ++ others)) = ap (λ (r : Bool). r || list_any is_reopen others) reopened ∙ reopened_both a.reopened acts others in
+    let l : Sharing = left_by asks settles c.intake.roster k ts in
+    let there : Leaves settles c b.reopened (record { phase = phase; known = s.known; fault = s.fault; confirmed = s.confirmed }) end y l others e left = subst (λ (t : SessionState). Leaves settles c b.reopened t end y l others e left) stands leaves in
+    (ts, y, end, takes, ends, ap (without_late settles over) says ∙ tells, confirmed_same settles c a.reopened b.reopened s e phase end y l others (acts ++ others) left (sym said) again there)
+
+-- what an answer makes of an open session
+pub answer_settles : (settles : ℕ → ℕ → Bool) (c : Course) (s mid : SessionState) (x : Taking) (a : Sharing) (acks rest : List (ℕ × ℕ)) (table number : ℕ) (answer : Settled) (acts : List Action)
+    → s.phase ≡ phases.Open (course_of c x a (dues_of acks)) → Goes s (events.Settled table answer) acts mid
+    → acks ≡ (table, number) ∷ rest → is_all answer ≡ (is_out table (shared s.phase) && settles table number)
+    → Answers c x (dues_of rest) a.reopened s (answered_in settles (table, number) a) acts mid
+answer_settles settles c s mid x a acks rest table number answer acts opens goes is_first is_answer =
+    let here : Course = course_of c x a (dues_of acks) in
+    let there : GoesOpen s here (events.Settled table answer) acts mid = subst (λ (p : Phase). GoesIn p s (events.Settled table answer) acts mid) opens goes in
+    let d : Course = there.0 in
+    let first : dues.Ack table ∷ dues_of rest ≡ dues.Ack table ∷ d.due = ap dues_of (sym is_first) ∙ there.1.0 in
+    let is_d : d ≡ course_of c x a (dues_of rest) = there.1.1 ∙ ap (λ (ds : List Due). course_of c x a ds) (rest_of (dues.Ack table) (dues.Ack table) (dues_of rest) d.due first) in
+    let is_out_now : is_all answer ≡ (is_out table a.shares && settles table number) = is_answer ∙ ap (λ (p : Phase). is_out table (shared p) && settles table number) opens in
+    subst (λ (y : Bool). Answers c x (dues_of rest) a.reopened s (settled_if y table a) acts mid) is_out_now
+    (settles_moves answer s mid c x a (dues_of rest) table acts (subst (λ (y : Course). Settles answer s y table acts mid) is_d there.2))
+
 -- an answer, and what follows
 answer_comes : (settles : ℕ → ℕ → Bool) (c : Course) (s mid e : SessionState) (x : Taking) (a k : Sharing) (over : List ℕ) (acks rest left : List (ℕ × ℕ)) (table : ℕ) (answer : Settled) (acts : List Action) (steps : List (Event × List Action))
     → IsBytes (x.unread ++ heard_in steps) → IntakeNext (with_due x []) (Ok None) (with_due x []) → x.roster ≡ c.intake.roster
     → s.phase ≡ phases.Open (course_of c (with_due x []) a (dues_of acks)) → Fits settles over acks a k
     → Goes s (events.Settled table answer) acts mid → Awaits settles s (events.Settled table answer) acts acks rest
     → Follows settles c steps e left → Hears settles mid rest steps e left
-    → Comes settles c a.reopened (with_due x []) k over s (heard_in steps) (acts ++ asked_in steps) e left
+    → Comes requested_in settles c a.reopened (with_due x []) k over s (heard_in steps) (acts ++ asked_in steps) e left
 answer_comes settles c s mid e x a k over acks rest left table answer acts steps good waits same opens fits goes (number, is_first, is_answer) follows hears =
-    let here : Course = course_of c (with_due x []) a (dues_of acks) in
-    let there : GoesOpen s here (events.Settled table answer) acts mid = subst (λ (p : Phase). GoesIn p s (events.Settled table answer) acts mid) opens goes in
-    let d : Course = there.0 in
-    let first : dues.Ack table ∷ dues_of rest ≡ dues.Ack table ∷ d.due = ap dues_of (sym is_first) ∙ there.1.0 in
-    let is_d : d ≡ course_of c (with_due x []) a (dues_of rest) = there.1.1 ∙ ap (λ (ds : List Due). course_of c (with_due x []) a ds) (rest_of (dues.Ack table) (dues.Ack table) (dues_of rest) d.due first) in
-    let moved = settles_moves answer s mid c (with_due x []) a (dues_of rest) table acts (subst (λ (y : Course). Settles answer s y table acts mid) is_d there.2) in
     let b : Sharing = answered_in settles (table, number) a in
-    let is_out_now : is_all answer ≡ (is_out table a.shares && settles table number) = is_answer ∙ ap (λ (p : Phase). is_out table (shared p) && settles table number) opens in
-    let is_b : settled_if (is_all answer) table a ≡ b = ap (λ (y : Bool). settled_if y table a) is_out_now in
-    let stands : mid ≡ going s (course_of c (with_due x []) b (dues_of rest)) = moved.2 ∙ ap (λ (y : Sharing). going s (course_of c (with_due x []) y (dues_of rest))) is_b in
+    let moved = answer_settles settles c s mid (with_due x []) a acks rest table number answer acts opens goes is_first is_answer in
     let fits_then : Fits settles over rest b k = fits_answered settles over table number rest a k (subst (λ (p : List (ℕ × ℕ)). Fits settles over p a k) is_first fits) in
-    let later = follows mid x b k over rest good waits same (ap (λ (t : SessionState). t.phase) stands) fits_then hears in
-    let says : plain (acts ++ asked_in steps) ≡ plain (asked_in steps) = plain_append acts (asked_in steps) ∙ ap (λ (xs : List Action). xs ++ plain (asked_in steps)) moved.0 in
-    let said : confirms (acts ++ asked_in steps) ≡ confirms (asked_in steps) = confirms_append acts (asked_in steps) ∙ ap (λ (y : Bool). y || confirms (asked_in steps)) moved.1 in
-    let roster : List Definition = c.intake.roster in
-    let again : (b.reopened || list_any is_reopen (asked_in steps)) ≡ (a.reopened || list_any is_reopen (acts ++ asked_in steps)) =
-    ap (λ (y : Sharing). y.reopened || list_any is_reopen (asked_in steps)) (sym is_b) ∙ ap (λ (r : Bool). r || list_any is_reopen (asked_in steps)) moved.3 ∙ reopened_both a.reopened acts (asked_in steps) in
-    let leaves : Leaves settles c b.reopened (going s (course_of c (with_due x []) b (dues_of rest))) later.2 later.1 (left_by settles roster k later.0) (asked_in steps) e left =
-    subst (λ (t : SessionState). Leaves settles c b.reopened t later.2 later.1 (left_by settles roster k later.0) (asked_in steps) e left) stands later.6 in
-    (later.0, later.1, later.2, later.3, later.4, ap (without_late settles over) says ∙ later.5, confirmed_same settles c a.reopened b.reopened s e (phases.Open (course_of c (with_due x []) b (dues_of rest))) later.2 later.1 (left_by settles roster k later.0) (asked_in steps) (acts ++ asked_in steps) left (sym said) again leaves)
+    let later = follows mid x b k over rest good waits same (ap (λ (t : SessionState). t.phase) moved.2) fits_then hears in
+    answer_next requested_in settles c s mid e x a b k over rest left (heard_in steps) acts (asked_in steps) moved later
 
 -- bytes of an open session come only once no answer is due
-none_due : (acks : List (ℕ × ℕ)) → dues_of acks ≡ [] → acks ≡ []
+pub none_due : (acks : List (ℕ × ℕ)) → dues_of acks ≡ [] → acks ≡ []
 none_due [] none = refl
 none_due (ack ∷ acks) none = cc
 
 bytes_come : (settles : ℕ → ℕ → Bool) (c : Course) (s mid e : SessionState) (x : Taking) (a k : Sharing) (over : List ℕ) (acks rest left : List (ℕ × ℕ)) (bytes : List ℕ) (acts : List Action) (steps : List (Event × List Action))
     → IsBytes ((x.unread ++ bytes) ++ heard_in steps) → x.roster ≡ c.intake.roster → s.phase ≡ phases.Open (course_of c x a (dues_of acks)) → Fits settles over acks a k
     → Goes s (events.Bytes bytes) acts mid → rest ≡ acks ++ passed_on acts → Follows settles c steps e left → Hears settles mid rest steps e left
-    → Comes settles c a.reopened x k over s (bytes ++ heard_in steps) (acts ++ asked_in steps) e left
+    → Comes requested_in settles c a.reopened x k over s (bytes ++ heard_in steps) (acts ++ asked_in steps) e left
 bytes_come settles c s mid e x a k over acks rest left bytes acts steps good same opens fits goes is_rest follows hears =
     let there : GoesOpen s (course_of c x a (dues_of acks)) (events.Bytes bytes) acts mid = subst (λ (p : Phase). GoesIn p s (events.Bytes bytes) acts mid) opens goes in
     let none : acks ≡ [] = none_due acks there.0 in
@@ -361,7 +373,7 @@ bytes_come settles c s mid e x a k over acks rest left bytes acts steps good sam
     piece_comes settles c x a k over s mid e bytes [] acts steps left (refl, refl, refl) good same fits_now gets follows (subst (λ (p : List (ℕ × ℕ)). Hears settles mid p steps e left) is hears)
 
 follows_all : (settles : ℕ → ℕ → Bool) (c : Course) (e : SessionState) (left : List (ℕ × ℕ)) (steps : List (Event × List Action)) → Follows settles c steps e left
-follows_all settles c e left [] s x a k over acks good waits same opens fits hears = none_comes settles c s e x a k over acks left waits opens fits hears
+follows_all settles c e left [] s x a k over acks good waits same opens fits hears = none_comes requested_in settles c s e x a k over acks left waits opens fits hears
 follows_all settles c e left ((events.Bytes bytes, acts) ∷ steps) s x a k over acks good waits same opens fits (mid, rest, goes, awaits, hears) =
     let grouped : x.unread ++ (bytes ++ heard_in steps) ≡ (x.unread ++ bytes) ++ heard_in steps = sym (append_assoc x.unread bytes (heard_in steps)) in
     bytes_come settles c s mid e (with_due x []) a k over acks rest left bytes acts steps (subst IsBytes grouped good) same opens fits goes awaits (follows_all settles c e left steps) hears
@@ -385,7 +397,7 @@ sharing_of c = record { shares = c.shares; waits = c.waits; anew = false; reopen
 
 open_comes : (settles : ℕ → ℕ → Bool) (c : Course) (s e : SessionState) (step : Event × List Action) (steps : List (Event × List Action)) (left : List (ℕ × ℕ))
     → s.phase ≡ phases.Open c → IsBytes (c.intake.unread ++ heard_in (step ∷ steps)) → Hears settles s [] (step ∷ steps) e left
-    → Comes settles c false c.intake (sharing_of c) [] s (heard_in (step ∷ steps)) (asked_in (step ∷ steps)) e left
+    → Comes requested_in settles c false c.intake (sharing_of c) [] s (heard_in (step ∷ steps)) (asked_in (step ∷ steps)) e left
 open_comes settles c s e (events.Bytes bytes, acts) steps left opens good (mid, rest, goes, awaits, hears) =
     let there : GoesOpen s c (events.Bytes bytes) acts mid = subst (λ (p : Phase). GoesIn p s (events.Bytes bytes) acts mid) opens goes in
     let opens_so : s.phase ≡ phases.Open (course_of c c.intake (sharing_of c) []) = opens ∙ ap (λ (ds : List Due). phases.Open (record c { due = ds })) there.0 in
@@ -405,7 +417,7 @@ open_comes settles c s e (events.Refused table, acts) steps left opens good (mid
 -- ---- two ways to cut
 
 -- a confirmation counts
-confirms_plain : (settles : ℕ → ℕ → Bool) (over : List ℕ) (acts : List Action) → confirms (without_late settles over (plain acts)) ≡ confirms acts
+pub confirms_plain : (settles : ℕ → ℕ → Bool) (over : List ℕ) (acts : List Action) → confirms (without_late settles over (plain acts)) ≡ confirms acts
 confirms_plain settles over [] = refl
 confirms_plain settles over (actions.Send bytes ∷ acts) = sends (is_confirmation (actions.Send bytes)) refl (confirms_plain settles over acts)
   where
@@ -426,23 +438,23 @@ confirms_plain settles over (actions.Part kind ∷ acts) = confirms_plain settle
 confirms_plain settles over (actions.Close ∷ acts) = confirms_plain settles over acts
 
 -- with the bytes after the end of the session
-out_comes : (settles : ℕ → ℕ → Bool) (c : Course) (before : Bool) (x : Taking) (k : Sharing) (over : List ℕ) (s : SessionState) (bytes more : List ℕ) (acts : List Action) (e : SessionState) (left : List (ℕ × ℕ))
-    → IsBytes (x.unread ++ bytes) → IsFedOut more e → Comes settles c before x k over s bytes acts e left → Comes settles c before x k over s (bytes ++ more) acts e left
-out_comes settles c before x k over s bytes more acts e left good (inl none) comes =
-    subst (λ (b : List ℕ). Comes settles c before x k over s b acts e left) (sym (ap (λ (m : List ℕ). bytes ++ m) none ∙ append-nil bytes)) comes
-out_comes settles c before x k over s bytes more acts e left good (inr ended) (ts, y, Ok u, takes, ends, says, (b, stands, answers, later)) =
+pub out_comes : (asks : Sharing → Sharing) (settles : ℕ → ℕ → Bool) (c : Course) (before : Bool) (x : Taking) (k : Sharing) (over : List ℕ) (s : SessionState) (bytes more : List ℕ) (acts : List Action) (e : SessionState) (left : List (ℕ × ℕ))
+    → IsBytes (x.unread ++ bytes) → IsFedOut more e → Comes asks settles c before x k over s bytes acts e left → Comes asks settles c before x k over s (bytes ++ more) acts e left
+out_comes asks settles c before x k over s bytes more acts e left good (inl none) comes =
+    subst (λ (b : List ℕ). Comes asks settles c before x k over s b acts e left) (sym (ap (λ (m : List ℕ). bytes ++ m) none ∙ append-nil bytes)) comes
+out_comes asks settles c before x k over s bytes more acts e left good (inr ended) (ts, y, Ok u, takes, ends, says, (b, stands, answers, later)) =
     let never : phases.Open (course_of c (with_due y []) b (dues_of left)) ≡ phases.Ended = sym (ap (λ (t : SessionState). t.phase) stands) ∙ ended in
     absurd cc
-out_comes settles c before x k over s bytes more acts e left good (inr ended) (ts, y, Err halts.Failed, takes, ends, says, leaves) =
+out_comes asks settles c before x k over s bytes more acts e left good (inr ended) (ts, y, Err halts.Failed, takes, ends, says, leaves) =
     let on = taken_over x y bytes more ts halts.Failed good takes ends in
     (ts, fed y more, Err halts.Failed, on.0, on.1, says, leaves)
-out_comes settles c before x k over s bytes more acts e left good (inr ended) (ts, y, Err (halts.Fault fault), takes, ends, says, leaves) =
+out_comes asks settles c before x k over s bytes more acts e left good (inr ended) (ts, y, Err (halts.Fault fault), takes, ends, says, leaves) =
     let on = taken_over x y bytes more ts (halts.Fault fault) good takes ends in
     (ts, fed y more, Err (halts.Fault fault), on.0, on.1, says, leaves)
-out_comes settles c before x k over s bytes more acts e left good (inr ended) (ts, y, Err halts.Memory, takes, ends, says, leaves) = absurd leaves
+out_comes asks settles c before x k over s bytes more acts e left good (inr ended) (ts, y, Err halts.Memory, takes, ends, says, leaves) = absurd leaves
 
 -- the same messages, up to the same end
-abbrev AreAlike : (ℕ → ℕ → Bool) → Course → SessionState → List Action → List Action → SessionState → SessionState → List (ℕ × ℕ) → List (ℕ × ℕ) → Type 0
+abbrev pub AreAlike : (ℕ → ℕ → Bool) → Course → SessionState → List Action → List Action → SessionState → SessionState → List (ℕ × ℕ) → List (ℕ × ℕ) → Type 0
 AreAlike settles c s acts given e end left over =
     (without_late settles [] (plain acts) ≡ without_late settles [] (plain given))
     × ((left ≡ []) ⊎ (e.phase ≡ phases.Ended) → (over ≡ []) ⊎ (end.phase ≡ phases.Ended) → e ≡ end)
@@ -485,22 +497,22 @@ reopens_alike settles c s (Err (halts.Fault fault)) y k acts given e end left ov
     absurd (false≢true (ap (λ (t : SessionState). is_open t.phase) (sym stands) ∙ opens))
 reopens_alike settles c s (Err halts.Memory) y k acts given e end left over stands stands' none none' opens = absurd stands
 
-come_alike : (settles : ℕ → ℕ → Bool) (c : Course) (x : Taking) (k : Sharing) (s : SessionState) (bytes : List ℕ) (acts given : List Action) (e end : SessionState) (left over : List (ℕ × ℕ))
-    → Comes settles c false x k [] s bytes acts e left → Comes settles c false x k [] s bytes given end over → AreAlike settles c s acts given e end left over
-come_alike settles c x k s bytes acts given e end left over (ts, y, how, takes, ends, says, leaves) (us, z, why, takes', ends', says', leaves') =
+pub come_alike : (asks : Sharing → Sharing) (settles : ℕ → ℕ → Bool) (c : Course) (x : Taking) (k : Sharing) (s : SessionState) (bytes : List ℕ) (acts given : List Action) (e end : SessionState) (left over : List (ℕ × ℕ))
+    → Comes asks settles c false x k [] s bytes acts e left → Comes asks settles c false x k [] s bytes given end over → AreAlike settles c s acts given e end left over
+come_alike asks settles c x k s bytes acts given e end left over (ts, y, how, takes, ends, says, leaves) (us, z, why, takes', ends', says', leaves') =
     let roster : List Definition = c.intake.roster in
     let same = taken_once ts us (fed x bytes) y z how why takes takes' ends ends' in
     let tells : without_late settles [] (plain acts) ≡ without_late settles [] (plain given) =
     says
-    ∙ ap (λ (ms : List Taken). told_by settles roster k ms ++ end_told how) same.0
-    ∙ ap (λ (r : Result (Unit {0}) Halt). told_by settles roster k us ++ end_told r) same.2
+    ∙ ap (λ (ms : List Taken). told_by asks settles roster k ms ++ end_told how) same.0
+    ∙ ap (λ (r : Result (Unit {0}) Halt). told_by asks settles roster k us ++ end_told r) same.2
     ∙ sym says' in
     let said : confirms acts ≡ confirms given = sym (confirms_plain settles [] acts) ∙ ap confirms tells ∙ confirms_plain settles [] given in
-    let there : Leaves settles c false s how y (left_by settles roster k ts) given end over =
-    subst (λ (ms : List Taken). Leaves settles c false s how y (left_by settles roster k ms) given end over) (sym same.0)
-    (subst (λ (t : Taking). Leaves settles c false s how t (left_by settles roster k us) given end over) (sym same.1)
-    (subst (λ (r : Result (Unit {0}) Halt). Leaves settles c false s r z (left_by settles roster k us) given end over) (sym same.2) leaves')) in
-    (tells, ends_alike settles c false s how y (left_by settles roster k ts) acts given e end left over said leaves there, reopens_alike settles c s how y (left_by settles roster k ts) acts given e end left over leaves there)
+    let there : Leaves settles c false s how y (left_by asks settles roster k ts) given end over =
+    subst (λ (ms : List Taken). Leaves settles c false s how y (left_by asks settles roster k ms) given end over) (sym same.0)
+    (subst (λ (t : Taking). Leaves settles c false s how t (left_by asks settles roster k us) given end over) (sym same.1)
+    (subst (λ (r : Result (Unit {0}) Halt). Leaves settles c false s r z (left_by asks settles roster k us) given end over) (sym same.2) leaves')) in
+    (tells, ends_alike settles c false s how y (left_by asks settles roster k ts) acts given e end left over said leaves there, reopens_alike settles c s how y (left_by asks settles roster k ts) acts given e end left over leaves there)
 
 pub heard_however_cut : (settles : ℕ → ℕ → Bool) (s e end : SessionState) (c : Course) (step other : Event × List Action) (steps others : List (Event × List Action)) (more rest : List ℕ) (left over : List (ℕ × ℕ))
     → s.phase ≡ phases.Open c → HoldsBytes s.phase → IsBytes (heard_in (step ∷ steps) ++ more) → heard_in (step ∷ steps) ++ more ≡ heard_in (other ∷ others) ++ rest
@@ -512,7 +524,7 @@ heard_however_cut settles s e end c step other steps others more rest left over 
     let bytes' : List ℕ = heard_in (other ∷ others) in
     let good_one : IsBytes (c.intake.unread ++ bytes) = append_good c.intake.unread bytes unread (front_good bytes more good) in
     let good_other : IsBytes (c.intake.unread ++ bytes') = append_good c.intake.unread bytes' unread (front_good bytes' rest (subst IsBytes cut good)) in
-    let first = out_comes settles c false c.intake (sharing_of c) [] s bytes more (asked_in (step ∷ steps)) e left good_one out (open_comes settles c s e step steps left opens good_one one) in
-    let second = out_comes settles c false c.intake (sharing_of c) [] s bytes' rest (asked_in (other ∷ others)) end over good_other out' (open_comes settles c s end other others over opens good_other again) in
-    come_alike settles c c.intake (sharing_of c) s (bytes ++ more) (asked_in (step ∷ steps)) (asked_in (other ∷ others)) e end left over first
-    (subst (λ (b : List ℕ). Comes settles c false c.intake (sharing_of c) [] s b (asked_in (other ∷ others)) end over) (sym cut) second)
+    let first = out_comes requested_in settles c false c.intake (sharing_of c) [] s bytes more (asked_in (step ∷ steps)) e left good_one out (open_comes settles c s e step steps left opens good_one one) in
+    let second = out_comes requested_in settles c false c.intake (sharing_of c) [] s bytes' rest (asked_in (other ∷ others)) end over good_other out' (open_comes settles c s end other others over opens good_other again) in
+    come_alike requested_in settles c c.intake (sharing_of c) s (bytes ++ more) (asked_in (step ∷ steps)) (asked_in (other ∷ others)) e end left over first
+    (subst (λ (b : List ℕ). Comes requested_in settles c false c.intake (sharing_of c) [] s b (asked_in (other ∷ others)) end over) (sym cut) second)

@@ -34,3 +34,4 @@ mod TakenHoweverCut
 mod AnswersInOrder
 mod MessagesInOrder
 mod HeardHoweverCut
+mod StandingInOrder

@@ -112,9 +112,10 @@ control_told controls.ResyncFinished = sends_control controls.ResyncConfirmed �
 control_told controls.ResyncPartial = sends_control controls.ResyncConfirmed ∷ []
 control_told control = []
 
-abbrev pub control_left : Sharing → Control → Sharing
-control_left k controls.ResyncRequest = requested_in k
-control_left k control = k
+-- `asks` is what a resync request changes
+abbrev pub control_left : (Sharing → Sharing) → Sharing → Control → Sharing
+control_left asks k controls.ResyncRequest = asks k
+control_left asks k control = k
 
 abbrev pub message_told : List Definition → Sharing → Taken → List Action
 message_told roster k (taken.Row u) = actions.Learn u ∷ []
@@ -123,33 +124,33 @@ message_told roster k (taken.Said control) = control_told control
 message_told roster k (taken.Acked table number) = ack_told k (ack_of roster (taken.Acked table number))
 message_told roster k (taken.Failed kind) = []
 
-abbrev pub message_left : (ℕ → ℕ → Bool) → List Definition → Sharing → Taken → Sharing
-message_left settles roster k (taken.Row u) = k
-message_left settles roster k taken.Passed = k
-message_left settles roster k (taken.Said control) = control_left k control
-message_left settles roster k (taken.Acked table number) = ack_left settles k (ack_of roster (taken.Acked table number))
-message_left settles roster k (taken.Failed kind) = k
+abbrev pub message_left : (Sharing → Sharing) → (ℕ → ℕ → Bool) → List Definition → Sharing → Taken → Sharing
+message_left asks settles roster k (taken.Row u) = k
+message_left asks settles roster k taken.Passed = k
+message_left asks settles roster k (taken.Said control) = control_left asks k control
+message_left asks settles roster k (taken.Acked table number) = ack_left settles k (ack_of roster (taken.Acked table number))
+message_left asks settles roster k (taken.Failed kind) = k
 
-abbrev pub told_by : (ℕ → ℕ → Bool) → List Definition → Sharing → List Taken → List Action
-told_by settles roster k [] = []
-told_by settles roster k (t ∷ ts) = message_told roster k t ++ told_by settles roster (message_left settles roster k t) ts
+abbrev pub told_by : (Sharing → Sharing) → (ℕ → ℕ → Bool) → List Definition → Sharing → List Taken → List Action
+told_by asks settles roster k [] = []
+told_by asks settles roster k (t ∷ ts) = message_told roster k t ++ told_by asks settles roster (message_left asks settles roster k t) ts
 
-abbrev pub left_by : (ℕ → ℕ → Bool) → List Definition → Sharing → List Taken → Sharing
-left_by settles roster k [] = k
-left_by settles roster k (t ∷ ts) = left_by settles roster (message_left settles roster k t) ts
+abbrev pub left_by : (Sharing → Sharing) → (ℕ → ℕ → Bool) → List Definition → Sharing → List Taken → Sharing
+left_by asks settles roster k [] = k
+left_by asks settles roster k (t ∷ ts) = left_by asks settles roster (message_left asks settles roster k t) ts
 
-pub told_append : (settles : ℕ → ℕ → Bool) (roster : List Definition) (k : Sharing) (ts us : List Taken)
-    → told_by settles roster k (ts ++ us) ≡ told_by settles roster k ts ++ told_by settles roster (left_by settles roster k ts) us
-told_append settles roster k [] us = refl
-told_append settles roster k (t ∷ ts) us =
-    let later = told_append settles roster (message_left settles roster k t) ts us in
-    let grouped : (message_told roster k t ++ told_by settles roster (message_left settles roster k t) ts) ++ told_by settles roster (left_by settles roster (message_left settles roster k t) ts) us
-    ≡ message_told roster k t ++ (told_by settles roster (message_left settles roster k t) ts ++ told_by settles roster (left_by settles roster (message_left settles roster k t) ts) us) = simp append_assoc in
+pub told_append : (asks : Sharing → Sharing) (settles : ℕ → ℕ → Bool) (roster : List Definition) (k : Sharing) (ts us : List Taken)
+    → told_by asks settles roster k (ts ++ us) ≡ told_by asks settles roster k ts ++ told_by asks settles roster (left_by asks settles roster k ts) us
+told_append asks settles roster k [] us = refl
+told_append asks settles roster k (t ∷ ts) us =
+    let later = told_append asks settles roster (message_left asks settles roster k t) ts us in
+    let grouped : (message_told roster k t ++ told_by asks settles roster (message_left asks settles roster k t) ts) ++ told_by asks settles roster (left_by asks settles roster (message_left asks settles roster k t) ts) us
+    ≡ message_told roster k t ++ (told_by asks settles roster (message_left asks settles roster k t) ts ++ told_by asks settles roster (left_by asks settles roster (message_left asks settles roster k t) ts) us) = simp append_assoc in
     ap (λ (acts : List Action). message_told roster k t ++ acts) later ∙ sym grouped
 
-pub left_append : (settles : ℕ → ℕ → Bool) (roster : List Definition) (k : Sharing) (ts us : List Taken) → left_by settles roster k (ts ++ us) ≡ left_by settles roster (left_by settles roster k ts) us
-left_append settles roster k [] us = refl
-left_append settles roster k (t ∷ ts) us = left_append settles roster (message_left settles roster k t) ts us
+pub left_append : (asks : Sharing → Sharing) (settles : ℕ → ℕ → Bool) (roster : List Definition) (k : Sharing) (ts us : List Taken) → left_by asks settles roster k (ts ++ us) ≡ left_by asks settles roster (left_by asks settles roster k ts) us
+left_append asks settles roster k [] us = refl
+left_append asks settles roster k (t ∷ ts) us = left_append asks settles roster (message_left asks settles roster k t) ts us
 
 -- ---- one message
 
@@ -193,7 +194,7 @@ requested_moves settles false c x due over acks a k fits =
     moves_still settles c x a.reopened due over acks acts (requested_if false a) k [] (passed_reopens a.shares) (ap (over_by settles over) (plain_reopens a.shares)) (ap (without_late settles over) (plain_reopens a.shares)) refl fits
 
 said_moves : (settles : ℕ → ℕ → Bool) (control : Control) (c : Course) (x : Taking) (due : List Due) (over : List ℕ) (acks : List (ℕ × ℕ)) (a k : Sharing) → Fits settles over acks a k
-    → Moves settles c x a.reopened due over acks (message_received (course_of c x a due) (taken.Said control)).0 (message_received (course_of c x a due) (taken.Said control)).1 (control_left k control) (control_told control)
+    → Moves settles c x a.reopened due over acks (message_received (course_of c x a due) (taken.Said control)).0 (message_received (course_of c x a due) (taken.Said control)).1 (control_left requested_in k control) (control_told control)
 said_moves settles controls.ResyncRequest c x due over acks a k fits = requested_moves settles (any_out a.shares) c x due over acks a (requested_in k) (fits_requested settles over acks a k fits)
 said_moves settles controls.ResyncFinished c x due over acks a k fits = moves_still settles c x a.reopened due over acks (sends_control controls.ResyncConfirmed ∷ []) a k (sends_control controls.ResyncConfirmed ∷ []) refl refl refl (sym (or_false a.reopened)) fits
 said_moves settles controls.ResyncPartial c x due over acks a k fits = moves_still settles c x a.reopened due over acks (sends_control controls.ResyncConfirmed ∷ []) a k (sends_control controls.ResyncConfirmed ∷ []) refl refl refl (sym (or_false a.reopened)) fits
@@ -237,7 +238,7 @@ ack_moves settles (Some (table, number)) c x due over acks a k fits = acknowledg
 ack_moves settles None c x due over acks a k fits = moves_still settles c x a.reopened due over acks [] a k [] refl refl refl (sym (or_false a.reopened)) fits
 
 message_moves : (settles : ℕ → ℕ → Bool) (t : Taken) (c : Course) (x : Taking) (due : List Due) (over : List ℕ) (acks : List (ℕ × ℕ)) (a k : Sharing) → Fits settles over acks a k
-    → Moves settles c x a.reopened due over acks (message_received (course_of c x a due) t).0 (message_received (course_of c x a due) t).1 (message_left settles x.roster k t) (message_told x.roster k t)
+    → Moves settles c x a.reopened due over acks (message_received (course_of c x a due) t).0 (message_received (course_of c x a due) t).1 (message_left requested_in settles x.roster k t) (message_told x.roster k t)
 message_moves settles (taken.Row u) c x due over acks a k fits = moves_still settles c x a.reopened due over acks (actions.Learn u ∷ []) a k (actions.Learn u ∷ []) refl refl refl (sym (or_false a.reopened)) fits
 message_moves settles taken.Passed c x due over acks a k fits = moves_still settles c x a.reopened due over acks [] a k [] refl refl refl (sym (or_false a.reopened)) fits
 message_moves settles (taken.Said control) c x due over acks a k fits = said_moves settles control c x due over acks a k fits
@@ -246,12 +247,12 @@ message_moves settles (taken.Failed kind) c x due over acks a k fits = moves_sti
 
 -- ---- the messages of a piece
 
-taken_roster : (t e : Taking) (m : Message) (own : List Update) → Takes t m own e → e.roster ≡ t.roster
+pub taken_roster : (t e : Taking) (m : Message) (own : List Update) → Takes t m own e → e.roster ≡ t.roster
 taken_roster t e m own (is_open, rest, at, us, step, keeps, is) = ap (λ (x : Taking). x.roster) is
 
 pub messages_move : (settles : ℕ → ℕ → Bool) (roster : List Definition) (ts : List Taken) (c : Course) (x : Taking) (due : List Due) (over : List ℕ) (acks : List (ℕ × ℕ)) (a k : Sharing) (acts : List Action) (e : Course)
     → x.roster ≡ roster → Fits settles over acks a k → AreReceived (course_of c x a due) ts acts e
-    → (e.intake.roster ≡ roster) × Moves settles c e.intake a.reopened due over acks acts e (left_by settles roster k ts) (told_by settles roster k ts)
+    → (e.intake.roster ≡ roster) × Moves settles c e.intake a.reopened due over acks acts e (left_by requested_in settles roster k ts) (told_by requested_in settles roster k ts)
 messages_move settles roster [] c x due over acks a k acts e same fits (none, here) =
     let still = moves_still settles c x a.reopened due over acks [] a k [] refl refl refl (sym (or_false a.reopened)) fits in
     (ap (λ (d : Course). d.intake.roster) here ∙ same, subst (λ (xs : List Action). Moves settles c e.intake a.reopened due over acks xs e k []) (sym none) (subst (λ (d : Course). Moves settles c d.intake a.reopened due over acks [] d k []) (sym here) still))
@@ -266,8 +267,8 @@ messages_move settles roster (t ∷ ts) c x due over acks a k acts e same fits (
     let over_then : List ℕ = over_by settles over (plain one.0) in
     let acks_then : List (ℕ × ℕ) = acks ++ passed_on one.0 in
     let goes : AreReceived (course_of c y b due_then) ts rest e = subst (λ (d : Course). AreReceived d ts rest e) (ap (λ (r : List Action × Course). r.1) is_one ∙ moves.1) later in
-    let k_then : Sharing = message_left settles roster k t in
-    let fits_then : Fits settles over_then acks_then b k_then = subst (λ (r : List Definition). Fits settles over_then acks_then b (message_left settles r k t)) same_then moves.2 in
+    let k_then : Sharing = message_left requested_in settles roster k t in
+    let fits_then : Fits settles over_then acks_then b k_then = subst (λ (r : List Definition). Fits settles over_then acks_then b (message_left requested_in settles r k t)) same_then moves.2 in
     let others = messages_move settles roster ts c y due_then over_then acks_then b k_then rest e same_then fits_then goes in
     let last = others.1 in
     let is_acts : acts ≡ one.0 ++ rest = all ∙ ap (λ (r : List Action × Course). r.0 ++ rest) is_one in
@@ -279,7 +280,7 @@ messages_move settles roster (t ∷ ts) c x due over acks a k acts e same fits (
     ∙ ap (λ (ds : List Due). due ++ ds) (sym (map-append due_of (passed_on one.0) (passed_on rest)) ∙ ap dues_of (sym passed)) in
     let over_all : over_by settles over_then (plain rest) ≡ over_by settles over (plain acts) = sym (over_append settles over (plain one.0) (plain rest)) ∙ ap (over_by settles over) (sym plainly) in
     let told_one : without_late settles over (plain one.0) ≡ message_told roster k t = moves.3 ∙ ap (λ (r : List Definition). message_told r k t) same_then in
-    let told_all : without_late settles over (plain acts) ≡ told_by settles roster k (t ∷ ts) =
+    let told_all : without_late settles over (plain acts) ≡ told_by requested_in settles roster k (t ∷ ts) =
     ap (without_late settles over) plainly
     ∙ late_append settles over (plain one.0) (plain rest)
     ∙ ap (λ (xs : List Action). xs ++ without_late settles over_then (plain rest)) told_one
@@ -293,8 +294,8 @@ messages_move settles roster (t ∷ ts) c x due over acks a k acts e same fits (
       (
         last.0,
         last.1 ∙ ap (λ (ds : List Due). course_of c e.intake last.0 ds) due_all,
-        subst (λ (o : List ℕ). Fits settles o (acks ++ passed_on acts) last.0 (left_by settles roster k (t ∷ ts))) over_all
-            (subst (λ (p : List (ℕ × ℕ)). Fits settles (over_by settles over_then (plain rest)) p last.0 (left_by settles roster k (t ∷ ts))) acks_all last.2),
+        subst (λ (o : List ℕ). Fits settles o (acks ++ passed_on acts) last.0 (left_by requested_in settles roster k (t ∷ ts))) over_all
+            (subst (λ (p : List (ℕ × ℕ)). Fits settles (over_by settles over_then (plain rest)) p last.0 (left_by requested_in settles roster k (t ∷ ts))) acks_all last.2),
         told_all,
         again,
       ),

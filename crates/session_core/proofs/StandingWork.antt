@@ -261,3 +261,8 @@ work_in phases.Ended orderly = tt
 pub has_work : (roster : List Definition) (begun s : StandingState) (steps : List Happening) → BeginsToStay roster begun → Lasts begun steps s → HasWork s.session.phase
 has_work roster begun s steps (first, now, begins, is) lasts =
     work_in s.session.phase (orderly_lasts steps begun s (subst (λ (x : StandingState). IsOrderly x.session.phase) (sym is) (begun_orderly roster first begins)) lasts)
+
+-- no resync request waits in the session itself
+pub never_waits : (roster : List Definition) (begun s : StandingState) (steps : List Happening) (c : Course) → BeginsToStay roster begun → Lasts begun steps s → s.session.phase ≡ phases.Open c → c.waits ≡ false
+never_waits roster begun s steps c (first, now, begins, is) lasts opens =
+    (subst IsOrderly opens (orderly_lasts steps begun s (subst (λ (x : StandingState). IsOrderly x.session.phase) (sym is) (begun_orderly roster first begins)) lasts)).0

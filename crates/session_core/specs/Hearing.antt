@@ -1,6 +1,6 @@
 -- What a session hears: bytes, cut into events in any way, and in between the answers of its tables to the
 -- acknowledgements that it passes on (profile).
-use Rattle.std.specs.Prelude.{◌≡◌, ℕ, Bool, ◌==◌, ◌&&◌, List, [], ◌∷◌, ◌++◌, filter_map, flat_map, if◌then◌else◌}
+use Rattle.std.specs.Prelude.{◌≡◌, ℕ, Bool, false, ◌==◌, ◌&&◌, List, [], ◌∷◌, ◌++◌, filter_map, flat_map, if◌then◌else◌}
 use Rattle.std.specs.List.{list_any}
 use Rattle.session_core.specs.declared.action.Action.{Action}
 use Rattle.session_core.specs.declared.action.Action.TheVariants as actions
@@ -9,8 +9,9 @@ use Rattle.session_core.specs.declared.event.Event.TheVariants as events
 use Rattle.session_core.specs.Shares.{is_out}
 use Rattle.session_core.specs.Sessions.{SessionState, Goes}
 use Rattle.session_core.specs.Cutting.{without_acks}
-use Rattle.session_core.specs.Paces.{ack_in}
-use Rattle.session_core.specs.Standing.{shared, without_reopens}
+use Rattle.session_core.specs.Paces.{ack_in, is_ahead}
+use Rattle.session_core.specs.Standing.{StandingState, shared, without_reopens}
+use Rattle.session_core.specs.StandingRuns.{Happening, At, Happens}
 use Rattle.session_core.specs.StandingSteps.{is_all}
 
 -- the tables and numbers of the acknowledgements that are passed on, in order
@@ -63,3 +64,29 @@ without_late settles over (action ∷ acts) = action ∷ without_late settles ov
 -- for late ones, resync confirmed, and the end of the session.
 abbrev pub told : (ℕ → ℕ → Bool) → List (Event × List Action) → List Action
 told settles steps = without_late settles [] (without_reopens (without_acks (asked_in steps)))
+
+-- ---- sessions that stay
+
+-- The same of an event in a session that stays. A table may also refuse a number that isn't ahead, which settles nothing.
+abbrev pub AwaitsIn : (ℕ → ℕ → Bool) → StandingState → Event → List Action → List (ℕ × ℕ) → List (ℕ × ℕ) → Type 0
+AwaitsIn settles s (events.Refused table) acts due left =
+    (number : ℕ)
+    × (due ≡ (table, number) ∷ left)
+    × (is_ahead table s.pace.progress ≡ false)
+    × ((is_out table (shared s.session.phase) && settles table number) ≡ false)
+AwaitsIn settles s event acts due left = Awaits settles s.session event acts due left
+
+-- the same at a moment; only bytes and answers come
+abbrev pub AwaitsAt : (ℕ → ℕ → Bool) → StandingState → Happening → List (ℕ × ℕ) → List (ℕ × ℕ) → Type 0
+AwaitsAt settles s (At now event acts) due left = AwaitsIn settles s event acts due left
+AwaitsAt settles s one due left = ⊥
+
+-- a session that stays hears bytes and answers, at any moments
+abbrev pub HearsInTime : (ℕ → ℕ → Bool) → StandingState → List (ℕ × ℕ) → List Happening → StandingState → List (ℕ × ℕ) → Type 0
+HearsInTime settles s due [] e left = (e ≡ s) × (left ≡ due)
+HearsInTime settles s due (one ∷ steps) e left =
+    (mid : StandingState)
+    × (rest : List (ℕ × ℕ))
+    × Happens s one mid
+    × AwaitsAt settles s one due rest
+    × HearsInTime settles mid rest steps e left

@@ -40,7 +40,7 @@ pub use session::Session;
 pub use standing::Standing;
 pub use standing_laws::{
     a_batch_stays_out, a_left_table_stays_left, a_resync_has_work_left, a_standing_step_exists,
-    a_standing_step_is_unique, acknowledgements_were_received, heartbeats_keep_time,
+    a_standing_step_is_unique, acknowledgements_were_received, any_moments, heartbeats_keep_time,
     no_name_is_lost, only_free_tables_are_asked, resyncs_begin_apart, standing_resyncs_end_taught,
     ticks_change_nothing_else, what_a_tick_gives,
 };

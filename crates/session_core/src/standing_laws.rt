@@ -1,6 +1,6 @@
 //! Laws of sessions that stay, which hold whatever the program does.
 
-ghost use Rattle.std.specs.Prelude.{◌≡◌, ◌≢◌, ◌≤◌, ◌<◌, ◌+◌, ◌⊎◌, ◌&&◌, not, ℕ, true, false, ◌∷◌, ◌++◌, [], List};
+ghost use Rattle.std.specs.Prelude.{◌≡◌, ◌≢◌, ◌≤◌, ◌<◌, ◌+◌, ◌⊎◌, ◌&&◌, not, ℕ, Bool, true, false, ◌∷◌, ◌++◌, [], List};
 ghost use Rattle.std.specs.List.{list_any, list_all, AllByRecursion};
 ghost use Rattle.table_types.specs.Tables.{Definition};
 ghost use Rattle.session_core.specs.declared.action.Action.{Action};
@@ -12,7 +12,10 @@ ghost use Rattle.session_core.specs.Paces.{has_passed, heartbeat_time, silence_t
 ghost use Rattle.session_core.specs.declared.event.Event.TheVariants as events;
 ghost use Rattle.known_state.specs.Known.{without_names};
 ghost use Rattle.session_core.specs.Sessions.{is_asked};
-ghost use Rattle.session_core.specs.Runs.{BringsBytes, HasNothingLeft, HasNothingOut, ends_resync, copies};
+ghost use Rattle.peers_msg.specs.Integers.{IsBytes};
+ghost use Rattle.session_core.specs.Cutting.{IsFedOut};
+ghost use Rattle.session_core.specs.Hearing.{HearsInTime, heard_in, told};
+ghost use Rattle.session_core.specs.Runs.{BringsBytes, HasNothingLeft, HasNothingOut, HoldsBytes, ends_resync, copies};
 ghost use Rattle.session_core.specs.Standing.{StandingState, Stands, Ticks, is_open, is_reopen, shared};
 ghost use Rattle.session_core.specs.StandingSteps.{HearsBytes, IsSince, SendsAt, is_about, is_quiet, sent_by, settles_all};
 ghost use Rattle.session_core.specs.StandingRuns.{Happening, At, Happens, Lasts, BeginsToStay, HasWork, IsIdle, IsSameButSent, acknowledges, acts_of, beats, handed, is_close, is_finish, is_heartbeat, is_of_tick, leaves, leaves_any, was_acknowledged, was_left, without_ticks};
@@ -158,4 +161,23 @@ pub fn a_standing_step_exists()
         is_asked s.session.phase event ≡ true → (acts : List Action) × (e : StandingState) × Stands s now event acts e }
     ensures tick { (s : StandingState) (now : ℕ) → is_asked s.session.phase events.Turn ≡ true →
         (left : List ℕ) × (acts : List Action) × (e : StandingState) × Ticks s now left acts e }
+{}
+
+/// However the bytes of an open session that stays are cut into events, at whatever moments, and wherever the answers of its
+/// tables come in between, `told` the same is told, as `any_answers` says of a session: the same rows, acknowledgements but
+/// for late ones, confirmations and end, in the same order. `same` once all are answered, the session is the same. Its pace
+/// needn't be: it has the moments, and the last number that each table's peer acknowledged, late or not.
+pub fn any_moments()
+    ensures told { (settles : ℕ → ℕ → Bool) (roster : List Definition) (begun s e end : StandingState) (c : Course) (before : List Happening) (one other : Happening) (steps others : List Happening) (more rest : List ℕ) (left over : List (ℕ × ℕ)) →
+        BeginsToStay roster begun → Lasts begun before s → s.session.phase ≡ phases.Open c → HoldsBytes s.session.phase →
+        IsBytes (heard_in (handed (one ∷ steps)) ++ more) → heard_in (handed (one ∷ steps)) ++ more ≡ heard_in (handed (other ∷ others)) ++ rest →
+        HearsInTime settles s [] (one ∷ steps) e left → HearsInTime settles s [] (other ∷ others) end over →
+        IsFedOut more e.session → IsFedOut rest end.session →
+        told settles (handed (one ∷ steps)) ≡ told settles (handed (other ∷ others)) }
+    ensures same { (settles : ℕ → ℕ → Bool) (roster : List Definition) (begun s e end : StandingState) (c : Course) (before : List Happening) (one other : Happening) (steps others : List Happening) (more rest : List ℕ) (left over : List (ℕ × ℕ)) →
+        BeginsToStay roster begun → Lasts begun before s → s.session.phase ≡ phases.Open c → HoldsBytes s.session.phase →
+        IsBytes (heard_in (handed (one ∷ steps)) ++ more) → heard_in (handed (one ∷ steps)) ++ more ≡ heard_in (handed (other ∷ others)) ++ rest →
+        HearsInTime settles s [] (one ∷ steps) e left → HearsInTime settles s [] (other ∷ others) end over →
+        IsFedOut more e.session → IsFedOut rest end.session →
+        (left ≡ []) ⊎ (e.session.phase ≡ phases.Ended) → (over ≡ []) ⊎ (end.session.phase ≡ phases.Ended) → e.session ≡ end.session }
 {}
