@@ -1,5 +1,6 @@
 -- Rows in a list in ascending order of key: what is found, put and removed at an index.
-use Rattle.std.proofs.Common.{◌≡◌, ℕ, zero, suc, ◌+◌, ◌<◌, ◌≤◌, Bool, true, false, List, [], ◌∷◌, ◌++◌, length, take, drop, get_or, set, slice_get, Option, Some, None, IfSome, refl, sym, ap, ◌∙◌, subst, arith}
+use Rattle.std.proofs.Common.{◌≡◌, ℕ, zero, suc, ◌+◌, ◌-◌, ◌<◌, ◌≤◌, Bool, true, false, List, [], ◌∷◌, ◌++◌, length, take, drop, get_or, set, slice_get, Option, Some, None, IfSome, refl, sym, ap, ◌∙◌, subst, arith, append_assoc}
+use Rattle.std.specs.Prelude.{filter}
 use Rattle.std.specs.List.{AllByRecursion, insert, remove}
 use Rattle.std.specs.List.Sorted.{IsStrictlySortedBy}
 use Rattle.std.specs.Map.{keys_of}
@@ -7,7 +8,8 @@ use Rattle.std.specs.BTreeMap.{insert_entry}
 use Rattle.std.specs.declared.cmp.Ordering.{Ordering}
 use Rattle.std.specs.declared.cmp.Ordering.TheVariants.{Less, Equal, Greater}
 use Rattle.std.specs.Ordering.{is_eq, ordering_reverse}
-use Rattle.std.proofs.lemmas.List.{take_more}
+use Rattle.std.proofs.lemmas.Bool.{cond-true}
+use Rattle.std.proofs.lemmas.List.{drop_more, length-append, take_more}
 use Rattle.std.proofs.lemmas.Option.{slice_get_read}
 use Rattle.table_types.specs.declared.key.Key.{Key}
 use Rattle.table_types.specs.Keys.{key_cmp}
@@ -126,3 +128,21 @@ rising_taken (e ∷ es) key rising = by (is_eq (key_cmp key e.0)) refl (rising_t
     by : (b : Bool) → is_eq (key_cmp key e.0) ≡ b → IsStrictlySortedBy key_cmp (keys_of (rows_without key es)) → IsStrictlySortedBy key_cmp (keys_of (rows_without key (e ∷ es)))
     by true is rest = rw is rising.1
     by false is rest = rw is (above_taken e.0 key es rising.0, rest)
+
+-- ---- the rows that pass a test, listed one after another
+
+module _ (p : Key × StoredRow → Bool) (rows done all : List (Key × StoredRow)) (most i : ℕ) (e : Key × StoredRow) (within : i < length rows) (is : e ≡ get_or rows i e) where
+  next_row : drop i rows ≡ e ∷ drop (i + 1) rows
+  next_row = drop_more rows i e within ∙ ap (λ (x : Key × StoredRow). x ∷ drop (i + 1) rows) (sym is)
+
+  pub one_listed : (more : List (Key × StoredRow)) → p e ≡ true → more ≡ done ++ e ∷ [] → length done < most → done ++ take (most - length done) (filter p (drop i rows)) ≡ all
+      → more ++ take (most - length more) (filter p (drop (i + 1) rows)) ≡ all
+  one_listed more passes longer below before =
+      let rest : List (Key × StoredRow) = filter p (drop (i + 1) rows) in
+      let sizes : length (done ++ e ∷ []) ≡ length done + 1 = length-append done (e ∷ []) in
+      let left : suc (most - length (done ++ e ∷ [])) ≡ most - length done = omega arith in
+      ap (λ (l : List (Key × StoredRow)). l ++ take (most - length l) rest) longer
+      ∙ append_assoc done (e ∷ []) (take (most - length (done ++ e ∷ [])) rest)
+      ∙ ap (λ (n : ℕ). done ++ take n (e ∷ rest)) left
+      ∙ ap (λ (l : List (Key × StoredRow)). done ++ take (most - length done) l) (sym (ap (filter p) next_row ∙ cond-true (p e) (e ∷ rest) rest passes))
+      ∙ before

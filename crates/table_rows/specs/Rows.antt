@@ -1,10 +1,10 @@
 -- The rows of a table by key, and which of them is the first to end (HAProxy Configuration Manual, stick-table `size`
 -- and `expire`; that rows that end together are ordered by number is the profile's choice).
-use Rattle.std.specs.Prelude.{◌≡◌, ℕ, Bool, true, false, nat_lt, List, Option, Some, None}
+use Rattle.std.specs.Prelude.{◌≡◌, ℕ, Bool, true, false, nat_lt, filter, List, Option, Some, None}
 use Rattle.std.specs.List.{AllByRecursion}
 use Rattle.std.specs.declared.cmp.Ordering.{Ordering}
 use Rattle.std.specs.declared.cmp.Ordering.TheVariants.{Less, Equal, Greater}
-use Rattle.std.specs.Ordering.{nat_cmp, ordering_then, is_gt}
+use Rattle.std.specs.Ordering.{nat_cmp, ordering_then, is_gt, is_lt}
 use Rattle.std.specs.Map.{lookup, remove_entry}
 use Rattle.std.specs.BTreeMap.{is_at}
 use Rattle.table_types.specs.declared.key.Key.{Key}
@@ -18,6 +18,15 @@ row_at key rows = lookup (is_at (key_cmp key)) rows
 -- the rows without the row of a key
 abbrev pub rows_without : Key → List (Key × StoredRow) → List (Key × StoredRow)
 rows_without key rows = remove_entry (is_at (key_cmp key)) rows
+
+-- the key follows `after`; every key does if there is none
+abbrev pub follows : Option Key → Key → Bool
+follows None key = true
+follows (Some after) key = is_lt (key_cmp after key)
+
+-- the rows whose keys follow `after`
+abbrev pub rows_after : Option Key → List (Key × StoredRow) → List (Key × StoredRow)
+rows_after after rows = filter (λ e. follows after e.0) rows
 
 -- an end is after `now`, and so is no end
 abbrev pub goes_past : ℕ → Option ℕ → Bool

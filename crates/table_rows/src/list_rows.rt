@@ -1,7 +1,8 @@
 //! Rows in a list.
 
-ghost use Rattle.std.specs.Prelude.{◌≡◌, [], IfErr, IfOk};
+ghost use Rattle.std.specs.Prelude.{◌≡◌, [], IfErr, IfOk, option_copied};
 ghost use Rattle.table_rows.specs.Places.{IsGap, IsThere};
+ghost use Rattle.table_rows.specs.Rows.{follows};
 
 use crate::rows::Rows;
 use std::alloc::Global;
@@ -46,6 +47,16 @@ fn place(rows: &[(Key, Row)], key: &Key) -> Result<usize, usize>
         }
     }
     Err(rows.len())
+}
+
+/// Returns whether `key` follows `after`, as every key does if there is none.
+fn follows(after: Option<&Key>, key: &Key) -> bool
+    ensures { result ≡ follows (option_copied after.entry) key.now }
+{
+    match after {
+        Some(after) => after.cmp(key).is_lt(),
+        None => true,
+    }
 }
 
 impl ListRows {
@@ -110,6 +121,20 @@ impl Rows for ListRows {
 
     fn list(&self) -> Result<Vec<(Key, Row)>, Memory> {
         copy_of(self.alloc, &self.rows)
+    }
+
+    fn list_after(&self, after: Option<&Key>, most: usize) -> Result<Vec<(Key, Row)>, Memory> {
+        let mut list = Vec::new(self.alloc);
+        for entry in &self.rows {
+            if list.len() == most {
+                break;
+            }
+            if !follows(after, &entry.0) {
+                continue;
+            }
+            list.push((entry.0.copy(self.alloc)?, entry.1.copy(self.alloc)?))?;
+        }
+        Ok(list)
     }
 
     fn copy(&self) -> Result<ListRows, Memory> {

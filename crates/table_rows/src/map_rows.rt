@@ -8,6 +8,7 @@ use crate::rows::Rows;
 use std::alloc::Global;
 use std::collections::BTreeMap;
 use std::marker::Model;
+use std::ops::Bound;
 use table_types::{Key, Memory, Row};
 
 /// The rows of a table in an ordered map by key. Each call but `list` and `copy` takes time logarithmic in the number of
@@ -77,6 +78,21 @@ impl Rows for MapRows {
     fn list(&self) -> Result<Vec<(Key, Row)>, Memory> {
         let mut list = Vec::with_capacity(self.alloc, self.rows.len())?;
         for (key, row) in &self.rows {
+            list.push((key.copy(self.alloc)?, row.copy(self.alloc)?))?;
+        }
+        Ok(list)
+    }
+
+    fn list_after(&self, after: Option<&Key>, most: usize) -> Result<Vec<(Key, Row)>, Memory> {
+        let start = match after {
+            Some(key) => Bound::Excluded(key),
+            None => Bound::Unbounded,
+        };
+        let mut list = Vec::new(self.alloc);
+        for (key, row) in self.rows.range((start, Bound::Unbounded)) {
+            if list.len() == most {
+                break;
+            }
             list.push((key.copy(self.alloc)?, row.copy(self.alloc)?))?;
         }
         Ok(list)

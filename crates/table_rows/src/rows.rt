@@ -1,13 +1,13 @@
 //! Collections of a table's rows.
 
-ghost use Rattle.std.specs.Prelude.{◌≡◌, IfOk, List, OnErr, OnOk, length, option_copied};
+ghost use Rattle.std.specs.Prelude.{◌≡◌, IfOk, List, OnErr, OnOk, length, option_copied, take};
 ghost use Rattle.std.specs.BTreeMap.{insert_entry};
 ghost use Rattle.std.specs.List.Sorted.{IsStrictlySortedBy};
 ghost use Rattle.std.specs.Map.{keys_of};
 ghost use Rattle.table_types.specs.declared.key.Key.{Key};
 ghost use Rattle.table_types.specs.Keys.{key_cmp};
 ghost use Rattle.table_types.specs.Rows.{StoredRow};
-ghost use Rattle.table_rows.specs.Rows.{is_live, row_at, rows_without};
+ghost use Rattle.table_rows.specs.Rows.{is_live, row_at, rows_after, rows_without};
 
 use table_types::{Key, Memory, Moment, Row};
 
@@ -49,6 +49,11 @@ pub trait Rows: Drop {
     /// Returns copies of the rows with their keys, in ascending order of key.
     fn list(&self) -> Result<Vec<(Key, Row)>, Memory>
         ensures { IfOk result (λ list. list.items ≡ content self.now) };
+
+    /// Returns copies of the rows whose keys follow `after`, or of all rows, with their keys, in ascending order of key, at
+    /// most `most` of them.
+    fn list_after(&self, after: Option<&Key>, most: usize) -> Result<Vec<(Key, Row)>, Memory>
+        ensures { IfOk result (λ list. list.items ≡ take most (rows_after (option_copied after.entry) (content self.now))) };
 
     /// Returns a copy of the collection: equal rows under equal keys.
     fn copy(&self) -> Result<Self, Memory>
