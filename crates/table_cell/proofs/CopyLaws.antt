@@ -1,5 +1,5 @@
 -- What a copy returns, and the state that it leaves.
-use Rattle.std.proofs.Common.{◌≡◌, ℕ, zero, suc, Bool, true, false, List, [], ◌∷◌, length, Option, Some, None, refl, sym, ap, subst, ◌∙◌, true≢false}
+use Rattle.std.proofs.Common.{◌≡◌, ℕ, zero, suc, Bool, true, false, List, [], ◌∷◌, length, Option, Some, None, refl, sym, ap, ◌∙◌, true≢false}
 use Rattle.std.specs.Prelude.{filter, is_some, map, option_map, slice_get, take, nat_eq, nat_lt, if◌then◌else◌, ◌==◌}
 use Rattle.table_types.specs.declared.key.Key.{Key}
 use Rattle.table_types.specs.Rows.{StoredRow}
@@ -12,7 +12,6 @@ use Rattle.table_cell.specs.declared.errors.CopyError.TheVariants as uncopied
 use Rattle.table_cell.specs.declared.progress.Progress.{Progress}
 use Rattle.table_cell.specs.Machine.{TableState, acknowledged_by, bound_by, in_reach, is_unacked, copied, copy_refusal, is_out, last_number, progress_of, teaching, unacked, with_progress}
 use Rattle.table_cell.proofs.RowsLaws.{some_none}
-use Rattle.table_cell.proofs.StepLaws.{passes}
 
 with_same : (session : ℕ) (f g : Progress → Progress) (es : List (ℕ × Progress)) → ((p : Progress) → f p ≡ g p) → with_progress session f es ≡ with_progress session g es
 with_same session f g [] same = refl
@@ -31,29 +30,6 @@ teaches_last s session now us some =
     ap (λ (l : List (ℕ × Progress)). record s { sessions = l; latest = now })
     (with_same session (teaching (last_number 0 us)) (λ (p : Progress). record p { taught = last_number p.taught us }) s.sessions
     (λ p. ap (λ (n : ℕ). record p { taught = n }) (last_of_some 0 p.taught us some)))
-
--- if a copy isn't refused, the history has room
-pub copy_free : (full : Bool) (s : TableState) (session : ℕ) (kind : CopyKind) (limit now : ℕ) → copy_refusal full s session kind limit now ≡ None → (full ≡ false) × (copy_refusal false s session kind limit now ≡ None)
-copy_free full s session kind limit now granted =
-    let free = by (progress_of session s) refl in
-    (free, subst (λ b. copy_refusal b s session kind limit now ≡ None) free granted)
-  where
-    of_session : Option Progress → Option CopyError
-    of_session None = Some uncopied.NoSession
-    of_session (Some progress) =
-        if nat_lt now s.latest then Some uncopied.MomentBack
-        else (if is_out progress then Some uncopied.BatchOut
-        else (if length (unacked s session kind now limit) == 0 then Some uncopied.Nothing
-        else (if full then Some uncopied.HistoryFull
-        else None)))
-
-    by : (o : Option Progress) → progress_of session s ≡ o → full ≡ false
-    by None at = absurd (some_none uncopied.NoSession (sym (ap of_session at) ∙ granted))
-    by (Some progress) at =
-        let c = passes (nat_lt now s.latest) uncopied.MomentBack _ (sym (ap of_session at) ∙ granted) in
-        let b = passes (is_out progress) uncopied.BatchOut _ c.1 in
-        let n = passes (nat_eq (length (unacked s session kind now limit)) 0) uncopied.Nothing _ b.1 in
-        (passes full uncopied.HistoryFull _ n.1).0
 
 empty_list : {A : Type 0} (xs : List A) → slice_get xs 0 ≡ None → xs ≡ []
 empty_list [] none = refl

@@ -28,7 +28,7 @@ true_or_false b holds fails = let both : true ≡ false = sym holds ∙ fails in
 
 -- ---- rows and ends
 
-ends_apart : (a b : RowEnd) → (a.number ≡ b.number → ⊥) → are_same a b ≡ false
+pub ends_apart : (a b : RowEnd) → (a.number ≡ b.number → ⊥) → are_same a b ≡ false
 ends_apart a b other = by (are_same a b) refl
   where
     by : (c : Bool) → are_same a b ≡ c → are_same a b ≡ false

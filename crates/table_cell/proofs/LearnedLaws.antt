@@ -1,9 +1,9 @@
--- Runs of rows that pushes pass: how they are found and joined, how a push uses them, and why they stay valid.
+-- Runs of rows that pushes pass: how a push uses them, why they stay valid, and how they are found and joined.
 use Rattle.std.proofs.Common.{◌≡◌, ℕ, ◌+◌, ◌-◌, ◌<◌, ◌≤◌, Bool, true, false, cond, not, ◌&&◌, ◌||◌, Option, Some, None, List, [], ◌∷◌, ◌++◌, refl, sym, ap, ◌∙◌, subst, arith, inl, inr, true≢false}
 use Rattle.std.specs.Prelude.{MatchBool, filter, nat_lt}
 use Rattle.std.specs.List.{AllByRecursion}
 use Rattle.std.specs.Ordering.{is_eq}
-use Rattle.std.proofs.lemmas.Bool.{cases_Bool, cond-true, cond-false, cond_both, le-ltb, lt-ltb, ltb-true, ltb-false}
+use Rattle.std.proofs.lemmas.Bool.{cases_Bool, cond-true, cond-false, le-ltb, lt-ltb, ltb-true, ltb-false}
 use Rattle.table_types.specs.declared.key.Key.{Key}
 use Rattle.table_types.specs.Keys.{key_cmp}
 use Rattle.table_types.specs.Rows.{StoredRow}
@@ -11,67 +11,9 @@ use Rattle.table_types.specs.declared.copies.CopyKind.TheVariants as kinds
 use Rattle.table_rows.specs.Rows.{IsFirstToEnd, goes_past, is_live}
 use Rattle.table_cell.specs.Machine.{TableState, Leaves, has_room, is_copied, is_unacked, without}
 use Rattle.table_cell.specs.Soundness.{NumbersRise}
-use Rattle.table_cell.specs.LearnedRuns.{IsLearnedRun, IsPassedWithin, is_passed, last_passed}
+use Rattle.table_cell.specs.LearnedRuns.{IsLearnedRun, IsPassedWithin, is_passed}
 use Rattle.table_cell.proofs.RowsLaws.{all_end, all_filter, all_so, rise_bound, rise_each}
 use Rattle.table_cell.proofs.UnackedLaws.{is_above}
-
--- ---- finding a run
-
--- pushes pass the rows above a number up to the number found
-found_passed : (number least next latest : ℕ) (rows : List (Key × StoredRow)) → NumbersRise least next rows → AllByRecursion (IsPassedWithin number (last_passed next latest (filter (is_above number) rows)) latest) rows
-found_passed number least next latest [] rise = tt
-found_passed number least next latest (e ∷ es) (first, rest) = elim (cases_Bool (is_above number e)) [
-  | inl above ↦ elim (cases_Bool (is_passed latest e.1)) [
-    | inl passed ↦
-        let is : last_passed next latest (filter (is_above number) (e ∷ es)) ≡ last_passed next latest (filter (is_above number) es) =
-        ap (last_passed next latest) (cond-true (is_above number e) (e ∷ filter (is_above number) es) (filter (is_above number) es) above)
-        ∙ cond-true (is_passed latest e.1) (last_passed next latest (filter (is_above number) es)) (e.1.number - 1) passed in
-        subst (λ (n : ℕ). AllByRecursion (IsPassedWithin number n latest) (e ∷ es)) (sym is) ((λ _ _. passed), found_passed number (e.1.number + 1) next latest es rest)
-    | inr own ↦
-        let is : last_passed next latest (filter (is_above number) (e ∷ es)) ≡ e.1.number - 1 =
-        ap (last_passed next latest) (cond-true (is_above number e) (e ∷ filter (is_above number) es) (filter (is_above number) es) above)
-        ∙ cond-false (is_passed latest e.1) (last_passed next latest (filter (is_above number) es)) (e.1.number - 1) own in
-        subst (λ (n : ℕ). AllByRecursion (IsPassedWithin number n latest) (e ∷ es)) (sym is) (
-          (λ over under. absurd (omega (arith, over, under))),
-          all_so (λ (x : Key × StoredRow). (e.1.number + 1 ≤ x.1.number) × (x.1.number < next)) (IsPassedWithin number (e.1.number - 1) latest) (λ x bound over under. absurd (omega (arith, bound.0, under))) es (rise_each (e.1.number + 1) next es rest),
-        )
-  ]
-  | inr below ↦
-      let is : last_passed next latest (filter (is_above number) (e ∷ es)) ≡ last_passed next latest (filter (is_above number) es) =
-      ap (last_passed next latest) (cond-false (is_above number e) (e ∷ filter (is_above number) es) (filter (is_above number) es) below) in
-      let least_number : e.1.number ≤ number = ltb-false number e.1.number below in
-      subst (λ (n : ℕ). AllByRecursion (IsPassedWithin number n latest) (e ∷ es)) (sym is) ((λ over under. absurd (omega (arith, over, least_number))), found_passed number (e.1.number + 1) next latest es rest)
-]
-
--- and the number found was assigned
-found_given : (p : Key × StoredRow → Bool) (least next latest : ℕ) (rows : List (Key × StoredRow)) → 1 ≤ least → NumbersRise least next rows → last_passed next latest (filter p rows) < next
-found_given p least next latest [] some rise = omega (arith, some, rise)
-found_given p least next latest (e ∷ es) some (first, rest) =
-    let kept : last_passed next latest (filter p es) < next = found_given p (e.1.number + 1) next latest es (omega arith) rest in
-    let bound = rise_bound (e.1.number + 1) next es rest in
-    cond_both (p e) (e ∷ filter p es) (filter p es) (λ (l : List (Key × StoredRow)). last_passed next latest l < next)
-    (λ _. cond_both (is_passed latest e.1) (last_passed next latest (filter p es)) (e.1.number - 1) (λ (n : ℕ). n < next) (λ _. kept) (λ _. omega (arith, bound)))
-    (λ _. kept)
-
-pub run_found : (number next latest : ℕ) (rows : List (Key × StoredRow)) → NumbersRise 1 next rows → IsLearnedRun number (last_passed next latest (filter (is_above number) rows)) next latest rows
-run_found number next latest rows rise = record {
-  given = found_given (is_above number) 1 next latest rows (omega arith) rise;
-  passed = found_passed number 1 next latest rows rise;
-}
-
--- a run joined with the run that follows it
-pub run_joined : (after last further next latest : ℕ) (rows : List (Key × StoredRow)) → IsLearnedRun after last next latest rows → IsLearnedRun last further next latest rows → IsLearnedRun after further next latest rows
-run_joined after last further next latest rows near far = record { given = far.given; passed = joined rows near.passed far.passed }
-  where
-    joined : (es : List (Key × StoredRow)) → AllByRecursion (IsPassedWithin after last latest) es → AllByRecursion (IsPassedWithin last further latest) es → AllByRecursion (IsPassedWithin after further latest) es
-    joined [] low high = tt
-    joined (e ∷ es) (low, lows) (high, highs) = (
-      (λ over under. elim (cases_Bool (nat_lt last e.1.number)) [
-        | inl past ↦ high (ltb-true last e.1.number past) under
-        | inr within ↦ low over (ltb-false last e.1.number within)
-      ]),
-      joined es lows highs,
-    )
 
 -- ---- how a push uses a run
 
@@ -131,11 +73,55 @@ run_passed after last number next latest now rows from below later run = skipped
 pub run_kept : (p : Key × StoredRow → Bool) (after last next latest : ℕ) (rows : List (Key × StoredRow)) → IsLearnedRun after last next latest rows → IsLearnedRun after last next latest (filter p rows)
 run_kept p after last next latest rows run = record { given = run.given; passed = all_filter (IsPassedWithin after last latest) p rows run.passed }
 
-pub run_later : (after last next latest now : ℕ) (rows : List (Key × StoredRow)) → latest ≤ now → IsLearnedRun after last next latest rows → IsLearnedRun after last next now rows
+run_later : (after last next latest now : ℕ) (rows : List (Key × StoredRow)) → latest ≤ now → IsLearnedRun after last next latest rows → IsLearnedRun after last next now rows
 run_later after last next latest now rows later run = record {
   given = run.given;
   passed = all_so (IsPassedWithin after last latest) (IsPassedWithin after last now) (λ e passed over under. passed_later latest now e later (passed over under)) rows run.passed;
 }
+
+-- ---- finding a run
+
+-- a push that finds nothing passes every row above its number
+above_passed : (number now : ℕ) (e : Key × StoredRow) → is_unacked kinds.Push number now e ≡ false → number < e.1.number → is_passed now e.1 ≡ true
+above_passed number now e none over = by e.1.learned (is_live now e.1) refl (sym (ap (λ b. b && is_copied kinds.Push e.1 && is_live now e.1) (lt-ltb number e.1.number over)) ∙ none)
+  where
+    by : (learned live : Bool) → is_live now e.1 ≡ live → (not learned && is_live now e.1) ≡ false → (learned || not (is_live now e.1)) ≡ true
+    by true live at is = refl
+    by false true at is = absurd (true≢false (sym at ∙ is))
+    by false false at is = ap not at
+
+all_passed : (number last now : ℕ) (rows : List (Key × StoredRow)) → filter (is_unacked kinds.Push number now) rows ≡ [] → AllByRecursion (IsPassedWithin number last now) rows
+all_passed number last now [] none = tt
+all_passed number last now (e ∷ es) none = elim (cases_Bool (is_unacked kinds.Push number now e)) [
+  | inl own ↦ absurd (some_left (sym (cond-true (is_unacked kinds.Push number now e) (e ∷ filter (is_unacked kinds.Push number now) es) (filter (is_unacked kinds.Push number now) es) own) ∙ none))
+  | inr passed ↦ (
+    (λ over under. above_passed number now e passed over),
+    all_passed number last now es (sym (cond-false (is_unacked kinds.Push number now e) (e ∷ filter (is_unacked kinds.Push number now) es) (filter (is_unacked kinds.Push number now) es) passed) ∙ none),
+  )
+]
+  where
+    some_left : {rest : List (Key × StoredRow)} → e ∷ rest ≡ [] → ⊥
+    some_left is = cc
+
+-- if a push from a number finds nothing, the run goes from there to the last number assigned
+pub run_at_end : (number next now : ℕ) (rows : List (Key × StoredRow)) → NumbersRise 1 next rows → filter (is_unacked kinds.Push number now) rows ≡ [] → IsLearnedRun number (next - 1) next now rows
+run_at_end number next now rows rise none = let some = rise_bound 1 next rows rise in record { given = omega (arith, some); passed = all_passed number (next - 1) now rows none }
+
+-- a run that reaches the number from which another one begins, joined with that
+pub run_joined : (after last since number end next now : ℕ) (rows : List (Key × StoredRow)) → number ≤ last → since ≤ now → IsLearnedRun after last next since rows → IsLearnedRun number end next now rows → IsLearnedRun after end next now rows
+run_joined after last since number end next now rows reaches later near far = record { given = far.given; passed = joined rows (run_later after last next since now rows later near).passed far.passed }
+  where
+    joined : (es : List (Key × StoredRow)) → AllByRecursion (IsPassedWithin after last now) es → AllByRecursion (IsPassedWithin number end now) es → AllByRecursion (IsPassedWithin after end now) es
+    joined [] low high = tt
+    joined (e ∷ es) (low, lows) (high, highs) = (
+      (λ over under. elim (cases_Bool (nat_lt number e.1.number)) [
+        | inl past ↦ high (ltb-true number e.1.number past) under
+        | inr within ↦ let bound = ltb-false number e.1.number within in low over (omega (arith, bound, reaches))
+      ]),
+      joined es lows highs,
+    )
+
+-- ---- a row is stored
 
 run_longer : (after last next latest : ℕ) (rows : List (Key × StoredRow)) (key : Key) (row : StoredRow) → row.number ≡ next → IsLearnedRun after last next latest rows → IsLearnedRun after last (next + 1) latest (rows ++ (key, row) ∷ [])
 run_longer after last next latest rows key row is run = record {
@@ -151,25 +137,24 @@ left_all P s key rest leaves all = all_filter P (λ e. not (is_eq (key_cmp key e
     left true same = subst (AllByRecursion P) (sym same) all
     left false (first, ends, same) = subst (AllByRecursion P) (sym same) (all_filter P (λ e. not (is_eq (key_cmp first e.0))) s.rows all)
 
-run_left : (after last : ℕ) (s : TableState) (key : Key) (rest : List (Key × StoredRow)) → Leaves s key rest → IsLearnedRun after last s.next s.latest s.rows → IsLearnedRun after last s.next s.latest (without key rest)
-run_left after last s key rest leaves run = record { given = run.given; passed = left_all (IsPassedWithin after last s.latest) s key rest leaves run.passed }
+run_left : (after last since : ℕ) (s : TableState) (key : Key) (rest : List (Key × StoredRow)) → Leaves s key rest → IsLearnedRun after last s.next since s.rows → IsLearnedRun after last s.next since (without key rest)
+run_left after last since s key rest leaves run = record { given = run.given; passed = left_all (IsPassedWithin after last since) s key rest leaves run.passed }
 
-pub run_stored : (after last now : ℕ) (s : TableState) (key : Key) (row : StoredRow) (rest : List (Key × StoredRow)) → row.number ≡ s.next → s.latest ≤ now → Leaves s key rest → IsLearnedRun after last s.next s.latest s.rows
-    → IsLearnedRun after last (s.next + 1) now (without key rest ++ (key, row) ∷ [])
-run_stored after last now s key row rest is later leaves run =
-    run_longer after last s.next now (without key rest) key row is (run_later after last s.next s.latest now (without key rest) later (run_left after last s key rest leaves run))
+pub run_stored : (after last since : ℕ) (s : TableState) (key : Key) (row : StoredRow) (rest : List (Key × StoredRow)) → row.number ≡ s.next → Leaves s key rest → IsLearnedRun after last s.next since s.rows
+    → IsLearnedRun after last (s.next + 1) since (without key rest ++ (key, row) ∷ [])
+run_stored after last since s key row rest is leaves run = run_longer after last s.next since (without key rest) key row is (run_left after last since s key rest leaves run)
 
 -- a run up to the last number assigned goes on to a learned row
-pub run_grown : (after last now : ℕ) (s : TableState) (key : Key) (row : StoredRow) (rest : List (Key × StoredRow)) → row.number ≡ s.next → s.latest ≤ now → last + 1 ≡ s.next → row.learned ≡ true → NumbersRise 1 s.next s.rows
-    → Leaves s key rest → IsLearnedRun after last s.next s.latest s.rows → IsLearnedRun after row.number (s.next + 1) now (without key rest ++ (key, row) ∷ [])
-run_grown after last now s key row rest is later reaches learned rise leaves run =
-    let old = run_later after last s.next s.latest now (without key rest) later (run_left after last s key rest leaves run) in
+pub run_grown : (after last since : ℕ) (s : TableState) (key : Key) (row : StoredRow) (rest : List (Key × StoredRow)) → row.number ≡ s.next → last + 1 ≡ s.next → row.learned ≡ true → NumbersRise 1 s.next s.rows
+    → Leaves s key rest → IsLearnedRun after last s.next since s.rows → IsLearnedRun after row.number (s.next + 1) since (without key rest ++ (key, row) ∷ [])
+run_grown after last since s key row rest is reaches learned rise leaves run =
+    let old = run_left after last since s key rest leaves run in
     let below = left_all (λ (e : Key × StoredRow). (1 ≤ e.1.number) × (e.1.number < s.next)) s key rest leaves (rise_each 1 s.next s.rows rise) in
     record {
       given = omega (arith, is);
-      passed = all_end (IsPassedWithin after row.number now) (key, row) (without key rest) (each (without key rest) below old.passed) (λ over under. ap (λ b. b || not (is_live now row)) learned);
+      passed = all_end (IsPassedWithin after row.number since) (key, row) (without key rest) (each (without key rest) below old.passed) (λ over under. ap (λ b. b || not (is_live since row)) learned);
     }
   where
-    each : (es : List (Key × StoredRow)) → AllByRecursion (λ (e : Key × StoredRow). (1 ≤ e.1.number) × (e.1.number < s.next)) es → AllByRecursion (IsPassedWithin after last now) es → AllByRecursion (IsPassedWithin after row.number now) es
+    each : (es : List (Key × StoredRow)) → AllByRecursion (λ (e : Key × StoredRow). (1 ≤ e.1.number) × (e.1.number < s.next)) es → AllByRecursion (IsPassedWithin after last since) es → AllByRecursion (IsPassedWithin after row.number since) es
     each [] below passed = tt
     each (e ∷ es) (first, rest) (passed, others) = ((λ over under. passed over (omega (arith, first.1, reaches))), each es rest others)

@@ -6,6 +6,7 @@ pub mod CellLaws
 pub mod StockLaws
 pub mod StockSteps
 pub mod EndLaws
+pub mod EndCounts
 pub mod IndexLaws
 pub mod StepLaws
 pub mod RefusalLaws

@@ -61,10 +61,3 @@ first_answers now key row rows (first, at, order) found = elim (cases_Bool (is_l
   where
     same_some : (p q : StoredRow) → ◌≡◌ {A = Option StoredRow} (Some p) (Some q) → p ≡ q
     same_some p q is = cc
-
--- if all rows are live, none has ended
-pub none_ended : (now : ℕ) (rows : List (Key × StoredRow)) → list_all (λ e. is_live now e.1) rows ≡ true → length (filter (λ e. not (is_live now e.1)) rows) ≡ 0
-none_ended now [] live = refl
-none_ended now (e ∷ es) live =
-    let parts = and_parts (is_live now e.1) (list_all (λ (x : Key × StoredRow). is_live now x.1) es) live in
-    rw parts.0 (none_ended now es parts.1)

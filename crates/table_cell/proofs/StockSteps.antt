@@ -91,14 +91,6 @@ all_above least next [] some rise = refl
 all_above least next (e ∷ es) some (first, rest) =
     rw (lt-ltb 0 e.1.number (omega arith)) (ap (λ (fs : List (Key × StoredRow)). e ∷ fs) (all_above (e.1.number + 1) next es (omega arith) rest))
 
-pub both_parts : (p : Key × StoredRow → Bool) (es : List (Key × StoredRow)) → length (filter p es) + length (filter (λ e. not (p e)) es) ≡ length es
-both_parts p [] = refl
-both_parts p (e ∷ es) = by (p e) refl (both_parts p es)
-  where
-    by : (b : Bool) → p e ≡ b → length (filter p es) + length (filter (λ f. not (p f)) es) ≡ length es → length (filter p (e ∷ es)) + length (filter (λ f. not (p f)) (e ∷ es)) ≡ length (e ∷ es)
-    by true is rest = rw is (omega (arith, rest))
-    by false is rest = rw is (omega (arith, rest))
-
 -- a row is appended, and the row of another key is removed
 left_last : (rows : List (Key × StoredRow)) (key leaving : Key) (row : StoredRow) → (leaving ≡ key → ⊥) → without leaving (without key rows ++ (key, row) ∷ []) ≡ without key (without leaving rows) ++ (key, row) ∷ []
 left_last [] key leaving row other = by (is_eq (key_cmp leaving key)) refl

@@ -1,5 +1,5 @@
 -- The rows that a session has not acknowledged, one after another.
-use Rattle.std.proofs.Common.{◌≡◌, ℕ, suc, ◌+◌, ◌-◌, ◌<◌, Bool, true, false, ◌&&◌, List, [], ◌∷◌, ◌++◌, length, refl, sym, ap, ◌∙◌, arith, inl, inr, append_assoc}
+use Rattle.std.proofs.Common.{◌≡◌, ℕ, suc, ◌+◌, ◌-◌, ◌<◌, ◌≤◌, Bool, true, false, ◌&&◌, List, [], ◌∷◌, ◌++◌, length, refl, sym, ap, ◌∙◌, arith, inl, inr, append_assoc}
 use Rattle.std.specs.Prelude.{filter, map, take, nat_lt}
 use Rattle.std.proofs.lemmas.List.{length-append}
 use Rattle.std.proofs.lemmas.Bool.{cases_Bool, cond-true, cond-false}
@@ -69,3 +69,12 @@ pub none_done : {A B : Type 0} (f : A → B) (done : List B) (limit : ℕ) (all 
 none_done {A = A} {B = B} f done limit all rest none same =
     let whole : limit - 0 ≡ limit = omega arith in
     ap (λ (l : List B). l ++ take (limit - length l) (map f all)) none ∙ ap (λ (n : ℕ). take n (map f all)) whole ∙ ap (λ (l : List A). take limit (map f l)) same
+
+-- if a row is left and the batch isn't full, the batch isn't empty
+pub some_found : {A B : Type 0} (f : A → B) (done x : List B) (limit : ℕ) (e : A) (all rest : List A) → all ≡ e ∷ rest → length done < limit → done ++ take (limit - length done) (map f all) ≡ x → 1 ≤ length x
+some_found {A = A} {B = B} f done x limit e all rest is below before =
+    let left : limit - length done ≡ suc (limit - (length done + 1)) = omega arith in
+    let whole : x ≡ done ++ f e ∷ take (limit - (length done + 1)) (map f rest) =
+    sym before ∙ ap (λ (l : List A). done ++ take (limit - length done) (map f l)) is ∙ ap (λ (n : ℕ). done ++ take n (f e ∷ map f rest)) left in
+    let sizes : length x ≡ length done + suc (length (take (limit - (length done + 1)) (map f rest))) = ap (λ (l : List B). length l) whole ∙ length-append done (f e ∷ take (limit - (length done + 1)) (map f rest)) in
+    omega (arith, sizes)

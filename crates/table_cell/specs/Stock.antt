@@ -1,5 +1,5 @@
 -- What a stock holds: the rows of a table by key, and the next number to assign.
-use Rattle.std.specs.Prelude.{◌≡◌, ◌≤◌, ◌<◌, ◌^◌, ℕ, Bool, false, List, [], ◌∷◌, cond, is_some, map, Option, Some, None, IfSome}
+use Rattle.std.specs.Prelude.{◌≡◌, ◌≤◌, ◌<◌, ◌^◌, ℕ, Bool, false, List, [], ◌∷◌, cond, is_some, map, take, Option, Some, None, IfSome}
 use Rattle.std.specs.List.{AllByRecursion, list_any}
 use Rattle.std.specs.List.Sorted.{IsStrictlySortedBy}
 use Rattle.std.specs.Map.{keys_of}
@@ -8,7 +8,7 @@ use Rattle.table_types.specs.Keys.{key_cmp}
 use Rattle.table_types.specs.Rows.{StoredRow}
 use Rattle.table_rows.specs.declared.row_end.RowEnd.{RowEnd}
 use Rattle.table_rows.specs.Endings.{are_same, ending_of, is_among}
-use Rattle.table_rows.specs.Rows.{row_at}
+use Rattle.table_rows.specs.Rows.{row_at, rows_after}
 use Rattle.table_cell.specs.Machine.{without}
 use Rattle.table_cell.specs.Soundness.{NumbersRise, KeysDiffer}
 
@@ -35,6 +35,10 @@ left_for key leaving rows = cond (is_some (row_at key rows)) rows (leave leaving
 -- the same rows in ascending order of key
 abbrev pub AreInRisingKey : List (Key × StoredRow) → List (Key × StoredRow) → Type 0
 AreInRisingKey rows list = IsStrictlySortedBy key_cmp (keys_of list) × ((key : Key) → row_at key list ≡ row_at key rows)
+
+-- the first of the rows, at most `most`, whose keys follow `after`, or of all rows, in ascending order of key
+abbrev pub AreNextInRisingKey : Option Key → ℕ → List (Key × StoredRow) → List (Key × StoredRow) → Type 0
+AreNextInRisingKey after most rows list = (all : List (Key × StoredRow)) × AreInRisingKey rows all × (list ≡ take most (rows_after after all))
 
 -- ---- how a stock keeps its rows: by key, with the keys in ascending order of number and the ends beside them
 

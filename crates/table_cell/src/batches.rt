@@ -1,15 +1,16 @@
 //! Batches: copied for sessions, kept in the history, and settled.
 
-ghost use Rattle.std.specs.Prelude.{◌≡◌, ◌↔◌, ◌≤◌, ◌∷◌, ◌++◌, [], ℕ, IfOk, IfSome, IsOk, List, None, OnErr, false, option_copied};
+ghost use Rattle.std.specs.Prelude.{◌≡◌, ◌↔◌, ◌≤◌, ◌∷◌, ◌++◌, [], ℕ, IfOk, IfSome, IsOk, List, OnErr, OnOk, option_copied};
 ghost use Rattle.table_cell.specs.Cells.{AreLatestCopies};
 ghost use Rattle.table_cell.specs.declared.events.CellEvent.{CellEvent};
 ghost use Rattle.table_cell.specs.declared.events.CellEvent.TheVariants as events;
 ghost use Rattle.table_cell.specs.declared.events.CellReply.{CellReply};
 ghost use Rattle.table_cell.specs.declared.events.CellReply.TheVariants as replies;
 ghost use Rattle.table_cell.specs.Histories.{Copies, IsLatestBatch, Shares, SharesWith, batch_in, kept_batch};
-ghost use Rattle.table_cell.specs.Machine.{Step, copy_refusal};
-ghost use Rattle.table_cell.specs.Soundness.{IsSound};
+ghost use Rattle.table_cell.specs.Machine.{Step};
+ghost use Rattle.table_cell.specs.Parts.{IsCopy};
 ghost use Rattle.table_types.specs.Batches.{IsBatchFor};
+ghost use Rattle.table_types.specs.declared.copies.CopyKind.{CopyKind};
 
 use crate::blocks::Blocks;
 use crate::cell::TableCell;
@@ -21,35 +22,26 @@ use crate::table::Table;
 use std::collections::BTreeMap;
 use table_types::{Batch, CopyKind, Memory, Moment};
 
-/// Copies: records that the session is taught the batch, and adds the event to the history. Returns the batch, and the
-/// event's entry. If memory runs out, nothing has changed.
-fn copy(
+/// Records that the session is taught the batch of a copy, which is `event`, and adds the event to the history. Returns the
+/// batch, and the event's entry. If memory runs out, nothing has changed.
+fn add_copy(
     table: &mut Table,
     history: &mut Blocks<Entry>,
     latest_copies: &mut BTreeMap<u32, Entry>,
     session: u32,
-    kind: CopyKind,
-    limit: usize,
+    event: CellEvent,
+    batch: Batch,
     now: Moment,
 ) -> Result<(Batch, Entry), Memory>
-    requires sound { IsSound table.old }
-    requires limit { limit ≤ 512 }
-    requires granted { copy_refusal false table.old session kind limit now ≡ None }
-    ensures step { IfOk result (λ pair. Step table.old (events.Copy session kind limit now) (replies.Copy pair.0) table.new) }
-    ensures entry { IfOk result (λ pair. pair.1 ≡ (events.Copy session kind limit now, replies.Copy pair.0)) }
-    ensures event { IfOk result (λ pair. history.new.items ≡ history.old.items ++ (events.Copy session kind limit now, replies.Copy pair.0) ∷ []) }
-    ensures for_table { IfOk result (λ pair. IsBatchFor (table.old.definition ∷ []) pair.0) }
+    requires { (kind : CopyKind) × (limit : ℕ) × (event ≡ events.Copy session kind limit now) × IsCopy table.old session kind limit now batch }
+    ensures step { OnOk result (Step table.old event (replies.Copy batch) table.new) }
+    ensures batch { IfOk result (λ pair. pair.0 ≡ batch) }
+    ensures entry { IfOk result (λ pair. pair.1 ≡ (event, replies.Copy batch)) }
+    ensures event { OnOk result (history.new.items ≡ history.old.items ++ (event, replies.Copy batch) ∷ []) }
     ensures latest { (held : List (ℕ × (CellEvent × CellReply))) → AreLatestCopies latest_copies.old.entries held history.old.items → AreLatestCopies latest_copies.new.entries held history.new.items }
     ensures stays { OnErr result (table.new ≡ table.old) }
     ensures no_event { OnErr result (history.new.items ≡ history.old.items) }
 {
-    let batch = table.batch(session, kind, limit, now)?;
-    let event = CellEvent::Copy {
-        session,
-        kind,
-        limit,
-        moment: now,
-    };
     let reply = CellReply::Copy(batch.copy()?);
     let (kept, entry) = prepare(table.alloc(), history, event, reply)?;
     latest_copies.insert(session, entry.copy()?)?;
@@ -94,7 +86,8 @@ impl TableCell {
     }
 
     /// Copies like `copy`, and returns the batch and the entry that the history shares. The batch shares its updates
-    /// with the entry.
+    /// with the entry. Walks once the rows from the one that the session acknowledged last, and a push passes a known run of
+    /// rows that it doesn't include without walking it.
     pub fn copy_with_reply(
         &mut self,
         session: u32,
@@ -106,18 +99,23 @@ impl TableCell {
         ensures call { SharesWith (λ r. Copies self.old session kind limit now r self.new) (events.Copy session kind limit now) replies.Copy result }
         ensures for_table { IfOk result (λ pair. IsBatchFor (self.old.state.definition ∷ []) pair.0) }
     {
-        let full = self.is_history_full();
-        if let Some(error) = self.table.copy_refusal(full, session, kind, limit, now) {
-            self.table.pass_learned(session, kind, error);
-            return Err(error);
+        if self.is_history_full() {
+            return Err(self.table.copy_refusal_when_full(session, kind, limit, now));
         }
-        let Ok(copied) = copy(
+        let batch = self.table.batch(session, kind, limit, now)?;
+        let event = CellEvent::Copy {
+            session,
+            kind,
+            limit,
+            moment: now,
+        };
+        let Ok(copied) = add_copy(
             &mut self.table,
             &mut self.history,
             &mut self.latest_copies,
             session,
-            kind,
-            limit,
+            event,
+            batch,
             now,
         ) else {
             return Err(CopyError::Memory);

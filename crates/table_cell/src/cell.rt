@@ -4,7 +4,7 @@ ghost use Rattle.std.specs.Prelude.{◌≡◌, ◌+◌, ◌≤◌, ◌↔◌, �
 ghost use Rattle.std.specs.List.{list_all};
 ghost use Rattle.table_rows.specs.Rows.{goes_past, is_live, row_at};
 ghost use Rattle.table_cell.specs.Machine.{ack_refusal, has_out, new_table, progress_of};
-ghost use Rattle.table_cell.specs.Stock.{AreInRisingKey};
+ghost use Rattle.table_cell.specs.Stock.{AreInRisingKey, AreNextInRisingKey};
 ghost use Rattle.table_cell.specs.Histories.{IsSoundCell, Kept, events_of, event_in, is_history_full, new_cell, room_of};
 
 use crate::blocks::Blocks;
@@ -202,5 +202,15 @@ impl TableCell {
         ensures { IfOk result (λ list. AreInRisingKey self.now.state.rows list.items) }
     {
         self.table.rows()
+    }
+
+    /// Returns copies of the rows whose keys follow `after`, or of all rows if it is `None`, with their keys, in ascending
+    /// order of key, at most `most` of them. A list of fewer says that no more rows follow. So a table can be listed in parts,
+    /// each under a short lock; a table that changes between two parts shows each part as it is then. Takes time linear in
+    /// `most`, and logarithmic in the number of rows.
+    pub fn rows_after(&self, after: Option<&Key>, most: usize) -> Result<Vec<(Key, Row)>, Memory>
+        ensures { IfOk result (λ list. AreNextInRisingKey (option_copied after.entry) most self.now.state.rows list.items) }
+    {
+        self.table.rows_after(after, most)
     }
 }

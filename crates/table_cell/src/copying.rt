@@ -1,6 +1,6 @@
 //! Copying rows for a session.
 
-ghost use Rattle.std.specs.Prelude.{◌≡◌, ◌≤◌, ◌&&◌, IfOk, filter, map, option_map, slice_get, take, true};
+ghost use Rattle.std.specs.Prelude.{◌≡◌, ◌≤◌, ◌&&◌, IfOk, OnErr, filter, length, map, option_map, slice_get, take, true};
 ghost use Rattle.std.specs.List.{list_all};
 ghost use Rattle.table_types.specs.declared.data_type.Shape.{Shape};
 ghost use Rattle.table_types.specs.Changes.{cell_types};
@@ -157,10 +157,9 @@ impl Table {
         kind: CopyKind,
         now: Moment,
     ) -> Option<(&Key, &Row)>
-        requires { self.now.latest ≤ now }
         ensures { option_map (λ e. (e.0.now, e.1.now)) result ≡ slice_get (filter (is_unacked kind number now) (in_reach kind bound self.now.rows)) 0 }
     {
-        for (key, row) in self.stock.above(self.copy_start(kind, number)) {
+        for (key, row) in self.stock.above(self.copy_start(kind, number, now)) {
             if is_chosen(kind, bound, row, now) {
                 return Some((key, row));
             }
@@ -169,7 +168,7 @@ impl Table {
     }
 
     /// Returns the updates of the rows above `number` that a copy of `kind`, for a session with this `bound`, includes, in
-    /// ascending order of number, at most `limit` of them.
+    /// ascending order of number, at most `limit` of them. Walks these rows once. Memory can run out only if there is one.
     pub(crate) fn unacked(
         &self,
         number: u32,
@@ -180,10 +179,12 @@ impl Table {
     ) -> Result<Vec<Update>, Memory>
         requires sound { IsSound self.now }
         requires later { self.now.latest ≤ now }
-        ensures { IfOk result (λ updates. updates.items ≡ take limit (map (update_of self.now.definition now) (filter (is_unacked kind number now) (in_reach kind bound self.now.rows)))) }
+        requires some { 1 ≤ limit }
+        ensures updates { IfOk result (λ updates. updates.items ≡ take limit (map (update_of self.now.definition now) (filter (is_unacked kind number now) (in_reach kind bound self.now.rows)))) }
+        ensures found { OnErr result (1 ≤ length (take limit (map (update_of self.now.definition now) (filter (is_unacked kind number now) (in_reach kind bound self.now.rows))))) }
     {
         let mut updates = Vec::new(self.alloc);
-        for (key, row) in self.stock.above(self.copy_start(kind, number)) {
+        for (key, row) in self.stock.above(self.copy_start(kind, number, now)) {
             if updates.len() >= limit {
                 break;
             }

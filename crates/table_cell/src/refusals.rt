@@ -1,12 +1,15 @@
 //! Why a table refuses an event: the first reason that applies, in the order of each kind of event. `full` says that
 //! the history has no room for another event.
 
-ghost use Rattle.std.specs.Prelude.{◌≡◌, ◌≤◌, ◌<◌, ◌^◌, IfNone, nat_le};
-ghost use Rattle.table_cell.specs.Machine.{ack_refusal, close_refusal, copy_refusal, is_of_table, learn_refusal, open_refusal, purge_refusal, track_refusal};
+ghost use Rattle.std.specs.Prelude.{◌≡◌, ◌≢◌, ◌≤◌, ◌<◌, ◌^◌, Bool, ℕ, IfErr, IfNone, IfOk, OnOk, Some, false, nat_le, nat_lt, true};
+ghost use Rattle.table_types.specs.declared.copies.CopyKind.{CopyKind};
+ghost use Rattle.table_cell.specs.declared.errors.CopyError.TheVariants as errors;
+ghost use Rattle.table_cell.specs.Machine.{ack_refusal, close_refusal, copy_refusal, is_of_table, is_out, learn_refusal, open_refusal, progress_of, purge_refusal, track_refusal};
 
 use crate::errors::{
     AckError, CloseError, CopyError, LearnError, OpenError, PurgeError, TrackError,
 };
+use crate::progress::Progress;
 use crate::table::Table;
 use table_types::{Change, CopyKind, Key, Moment, TableDef, Update};
 
@@ -83,35 +86,46 @@ impl Table {
         }
     }
 
-    /// Returns why a copy of `kind` for `session` at `now` is refused, or `None` if it isn't.
-    pub(crate) fn copy_refusal(
+    /// Returns the progress of `session`, or why a copy for it at `now` is refused whatever the rows are.
+    pub(crate) fn ready_to_copy(&self, session: u32, now: Moment) -> Result<Progress, CopyError>
+        ensures ready { IfOk result (λ progress. (progress_of session self.now ≡ Some progress) × (nat_lt now self.now.latest ≡ false) × (is_out progress ≡ false)) }
+        ensures timely { OnOk result (now < 2 ^ 63) }
+        ensures refused { IfErr result (λ error. (full : Bool) (kind : CopyKind) (limit : ℕ) → copy_refusal full self.now session kind limit now ≡ Some error) }
+        ensures error { IfErr result (λ error. error ≢ errors.Memory) }
+    {
+        let Some(progress) = self.progress(session) else {
+            return Err(CopyError::NoSession);
+        };
+        if self.is_past(now) {
+            Err(CopyError::MomentBack)
+        } else if progress.acknowledged < progress.taught {
+            Err(CopyError::BatchOut)
+        } else {
+            Ok(progress)
+        }
+    }
+
+    /// Returns why a copy of `kind` for `session` at `now` is refused if the history is full.
+    pub(crate) fn copy_refusal_when_full(
         &self,
-        full: bool,
         session: u32,
         kind: CopyKind,
         limit: usize,
         now: Moment,
-    ) -> Option<CopyError>
+    ) -> CopyError
         requires { 1 ≤ limit }
-        ensures refusal { result ≡ copy_refusal full self.now session kind limit now }
-        ensures timely { IfNone result (now < 2 ^ 63) }
+        ensures refusal { copy_refusal true self.now session kind limit now ≡ Some result }
+        ensures error { result ≢ errors.Memory }
     {
-        let Some(progress) = self.progress(session) else {
-            return Some(CopyError::NoSession);
+        let progress = match self.ready_to_copy(session, now) {
+            Ok(progress) => progress,
+            Err(error) => return error,
         };
-        if self.is_past(now) {
-            Some(CopyError::MomentBack)
-        } else if progress.acknowledged < progress.taught {
-            Some(CopyError::BatchOut)
-        } else if self
-            .first_unacked(progress.acknowledged, progress.bound, kind, now)
-            .is_none()
-        {
-            Some(CopyError::Nothing)
-        } else if full {
-            Some(CopyError::HistoryFull)
+        let first = self.first_unacked(progress.acknowledged, progress.bound, kind, now);
+        if first.is_none() {
+            CopyError::Nothing
         } else {
-            None
+            CopyError::HistoryFull
         }
     }
 

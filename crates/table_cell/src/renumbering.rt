@@ -20,7 +20,11 @@ impl Table {
         ensures stays { OnErr result (self.new ≡ self.old) }
     {
         self.stock = self.stock.renumbered(MapRows::new(self.alloc))?;
-        self.learned_run = LearnedRun { after: 0, last: 0 };
+        self.learned_run = LearnedRun {
+            after: 0,
+            last: 0,
+            since: self.latest,
+        };
         Ok(())
     }
 }

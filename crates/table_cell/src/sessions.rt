@@ -152,7 +152,6 @@ impl Table {
 
     /// Records that `session` was taught a batch whose last number is `last`. `now` becomes the latest moment.
     pub(crate) fn teach(&mut self, session: u32, last: u32, now: Moment)
-        requires { self.old.latest ≤ now }
         ensures { self.new ≡ record self.old { sessions = with_progress session (teaching last) self.old.sessions; latest = now } }
     {
         teach(&mut self.sessions, session, last);

@@ -13,13 +13,14 @@ ghost use Rattle.table_rows.specs.Rows.{IsFirstToEnd, is_live, row_at, rows_with
 ghost use Rattle.update_numbers.specs.Numbers.{Numbering, key_at, pairs_without, pushed};
 ghost use Rattle.table_cell.specs.Machine.{without};
 ghost use Rattle.table_cell.specs.Renumbering.{numbered_from};
-ghost use Rattle.table_cell.specs.Stock.{IsStock, is_among_without, left_for, number_of};
+ghost use Rattle.table_cell.specs.Stock.{AreNextInRisingKey, IsStock, is_among_without, left_for, number_of};
 
 use crate::above::Above;
 use std::alloc::Global;
 use std::collections::BTreeSet;
 use std::marker::Model;
-use table_rows::{RowEnd, Rows, is_live};
+use std::ops::Bound;
+use table_rows::{RowEnd, Rows};
 use table_types::{Key, Memory, Moment, Row};
 use update_numbers::Numbers;
 
@@ -120,7 +121,8 @@ impl<R: Rows> Stock<R> {
 
     /// Returns the number before the next one to assign.
     pub(crate) fn last_number(&self) -> u32
-        ensures { result ≡ self.now.next - 1 }
+        ensures number { result ≡ self.now.next - 1 }
+        ensures sound { IsStock self.now }
     {
         self.next().saturating_sub(1) as u32
     }
@@ -215,7 +217,7 @@ impl<R: Rows> Stock<R> {
         true
     }
 
-    /// Removes the rows that aren't live at `now`. Doesn't allocate.
+    /// Removes the rows that aren't live at `now`. Walks these alone, and doesn't allocate.
     pub(crate) fn drop_ended(&mut self, now: Moment)
         ensures { self.new ≡ record { rows = filter (λ e. is_live now e.1) self.old.rows; next = self.old.next } }
     {
@@ -241,17 +243,16 @@ impl<R: Rows> Stock<R> {
         Above::new(self.numbers.iter_above(number), &self.rows)
     }
 
-    /// Returns how many rows aren't live at `now`. Doesn't allocate.
+    /// Returns how many rows aren't live at `now`. Walks these alone, and doesn't allocate.
     pub(crate) fn count_ended(&self, now: Moment) -> usize
         ensures { result ≡ length (filter (λ e. not (is_live now e.1)) self.now.rows) }
     {
-        let mut ended = self.len();
-        for (_, row) in self.all() {
-            if is_live(row, now) {
-                ended -= 1;
-            }
-        }
-        ended
+        let first_live = RowEnd {
+            end: now.milliseconds() + 1,
+            number: 0,
+        };
+        let ended = (Bound::Excluded(first_live), Bound::Unbounded);
+        self.ends.range(ended).count()
     }
 
     /// Stores a copy of `row` under the next number in place of the key's.
@@ -282,5 +283,17 @@ impl<R: Rows> Stock<R> {
         ensures each { IfOk result (λ list. (key : Key) → row_at key list.items ≡ row_at key self.now.rows) }
     {
         self.rows.list()
+    }
+
+    /// Returns copies of the rows whose keys follow `after`, or of all rows, with their keys, in ascending order of key, at
+    /// most `most` of them.
+    pub(crate) fn list_after(
+        &self,
+        after: Option<&Key>,
+        most: usize,
+    ) -> Result<Vec<(Key, Row)>, Memory>
+        ensures { IfOk result (λ list. AreNextInRisingKey (option_copied after.entry) most self.now.rows list.items) }
+    {
+        self.rows.list_after(after, most)
     }
 }

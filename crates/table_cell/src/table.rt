@@ -7,7 +7,7 @@ ghost use Rattle.table_types.specs.Rows.{StoredRow};
 ghost use Rattle.table_rows.specs.Rows.{IsFirstToEnd, goes_past, is_live, row_at};
 ghost use Rattle.table_cell.specs.Cells.{IsNewFrom};
 ghost use Rattle.table_cell.specs.Machine.{Leaves, has_room, is_full, learned, live_row, new_table, stored, tracked};
-ghost use Rattle.table_cell.specs.Stock.{AreInRisingKey, left_for};
+ghost use Rattle.table_cell.specs.Stock.{AreInRisingKey, AreNextInRisingKey, left_for};
 
 use crate::learned_run::LearnedRun;
 use crate::progress::Progress;
@@ -38,7 +38,7 @@ impl Model for Table {
 
     ghost view = { λ t. record { definition = t.definition; size = t.size; nopurge = t.nopurge; rows = t.stock.rows; next = t.stock.next; latest = t.latest; sessions = t.sessions.items } };
 
-    ghost invariant = { λ t. IsLearnedRun t.learned_run.after t.learned_run.last t.stock.next t.latest t.stock.rows };
+    ghost invariant = { λ t. IsLearnedRun t.learned_run.after t.learned_run.last t.stock.next t.learned_run.since t.stock.rows };
 }
 
 impl Table {
@@ -64,6 +64,7 @@ impl Table {
             learned_run: LearnedRun {
                 after: 0,
                 last: first - 1,
+                since: Moment::least(),
             },
         }
     }
@@ -99,6 +100,18 @@ impl Table {
         ensures { IfOk result (λ list. AreInRisingKey self.now.rows list.items) }
     {
         self.stock.list()
+    }
+
+    /// Returns copies of the rows whose keys follow `after`, or of all rows, with their keys, in ascending order of key, at
+    /// most `most` of them.
+    pub(crate) fn rows_after(
+        &self,
+        after: Option<&Key>,
+        most: usize,
+    ) -> Result<Vec<(Key, Row)>, Memory>
+        ensures { IfOk result (λ list. AreNextInRisingKey (option_copied after.entry) most self.now.rows list.items) }
+    {
+        self.stock.list_after(after, most)
     }
 
     /// Returns whether the table may have at most `size` rows, and has `nopurge` or not.
@@ -255,31 +268,26 @@ impl Table {
         requires some { 1 ≤ self.old.size }
         requires number { row.number ≡ self.old.next }
         requires left { self.old.next < 2 ^ 32 }
-        requires later { self.old.latest ≤ now }
         ensures stored { OnOk result ((rest : List (Key × StoredRow)) × Leaves self.old key rest × (self.new ≡ stored self.old key row now rest)) }
         ensures stays { OnErr result (self.new ≡ self.old) }
     {
         let leaving = self.leaving()?;
-        let learned_run = self.run_with(&row, now);
+        let learned_run = self.run_with(&row);
         self.stock.put(key, row, leaving)?;
         self.learned_run = learned_run;
         self.latest = now;
         Ok(())
     }
 
-    /// Returns how many rows aren't live at `now`. Doesn't allocate.
+    /// Returns how many rows aren't live at `now`. Walks these alone, and doesn't allocate.
     pub(crate) fn count_ended(&self, now: Moment) -> usize
         ensures { result ≡ length (filter (λ row. not (is_live now row.1)) self.now.rows) }
     {
-        if self.are_live(now) {
-            return 0;
-        }
         self.stock.count_ended(now)
     }
 
-    /// Removes the rows that aren't live at `now`. Doesn't allocate.
+    /// Removes the rows that aren't live at `now`. Walks these alone, and doesn't allocate.
     pub(crate) fn purge(&mut self, now: Moment)
-        requires { self.old.latest ≤ now }
         ensures { self.new ≡ record self.old { rows = filter (λ row. is_live now row.1) self.old.rows; latest = now } }
     {
         self.latest = now;

@@ -33,7 +33,6 @@ fn store_row(
     requires some { 1 ≤ table.old.size }
     requires number { row.number ≡ table.old.next }
     requires left { table.old.next < 2 ^ 32 }
-    requires later { table.old.latest ≤ now }
     ensures stored { OnOk result ((rest : List (Key × StoredRow)) × Leaves table.old key rest × (table.new ≡ stored table.old key row now rest)) }
     ensures entry { IfOk result (λ entry. entry ≡ (event, reply)) }
     ensures event { OnOk result (history.new.items ≡ history.old.items ++ (event, reply) ∷ []) }

@@ -12,5 +12,5 @@ invariant_of-self-2 c =
     let leaving = c.in_ok-leaving.leaving in
     let put : c.put.new.self ≡ stocked (before.next + 1) (without key (left_for key leaving before.rows) ++ (key, c.args.row) ∷ []) =
     subst (λ (s : TableState). c.put.new.self ≡ stocked (s.next + 1) (without key (left_for key leaving s.rows) ++ (key, c.args.row) ∷ [])) c.self.view_is c.in_ok-put.ensures.put in
-    subst (λ (s : Stocked). IsLearnedRun run.after run.last s.next c.args.now s.rows) (sym put)
+    subst (λ (s : Stocked). IsLearnedRun run.after run.last s.next run.since s.rows) (sym put)
     (c.run_with-learned_run.ensures key (left_for key leaving before.rows) (c.in_ok-leaving.ensures.leaves key))
