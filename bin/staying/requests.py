@@ -98,12 +98,16 @@ def gets(trial):
 
 @check
 def headers(trial):
-    """show table gives a header for each table in rising id, as HAProxy does"""
+    """show table gives a header for each table in rising id, as HAProxy does, and the metrics say the same"""
     node = alone(trial, more=('size 2 500',))
     node.ask('track bin 00ff7f add bytes_in_cnt 9')
-    equal(node.ask('show table'), ['# table: %s, type: %s, size:%d, used:%d' % words for words in (
-        ('t1', 'integer', 1000000, 0), ('v4', 'ip', 500, 0), ('v6', 'ipv6', 1000000, 0), ('st', 'string', 1000000, 0),
-        ('bin', 'binary', 1000000, 1), ('r', 'integer', 1000000, 0))], 'the headers')
+    wanted = (('t1', 'integer', 1000000, 0), ('v4', 'ip', 500, 0), ('v6', 'ipv6', 1000000, 0), ('st', 'string', 1000000, 0),
+              ('bin', 'binary', 1000000, 1), ('r', 'integer', 1000000, 0))
+    equal(node.ask('show table'), ['# table: %s, type: %s, size:%d, used:%d' % words for words in wanted], 'the headers')
+    values = node.metrics()
+    for name, kind, size, used in wanted:
+        labels = '{name="%s",type="%s"}' % (name, kind)
+        equal([float(values['haproxy_sticktable_%s%s' % (what, labels)]) for what in ('size', 'used')], [size, used], 'the metrics of ' + name)
 
 
 def entries(node, name):
