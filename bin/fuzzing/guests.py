@@ -197,8 +197,8 @@ class Visitor:
             guest.sent.clear()
 
     def leave(self, how):
-        """Ends the connection."""
-        if self.guest is not None:
+        """Ends the connection, if there is one."""
+        if self.guest is not None and not self.guest.is_over:
             self.guest.pump(self.guest.said)
             self.guest.said = b''
             self.guest.end(how)

@@ -90,6 +90,7 @@ class Node:
         lines += ['admin ' + at % (host, self.admin_port)] if admin else []
         lines += ['peer ' + peer for peer in peers] + list(tables) + list(more)
         self.configuration = ''.join(line + '\n' for line in lines)
+        self.within = ()  # The words of a command line before those of the program.
         self.may_end = False
         self.admins = None
         self.child = None
@@ -107,7 +108,7 @@ class Node:
         """Starts it."""
         self.output, self.errors = tempfile.TemporaryFile(), tempfile.TemporaryFile()
         self.started = time.monotonic()
-        self.child = subprocess.Popen([self.trial.program, 'run'], stdin=subprocess.PIPE, stdout=self.output, stderr=self.errors)
+        self.child = subprocess.Popen([*self.within, self.trial.program, 'run'], stdin=subprocess.PIPE, stdout=self.output, stderr=self.errors)
         try:
             self.child.stdin.write(self.configuration.encode())
             self.child.stdin.close()

@@ -8,7 +8,7 @@ import time
 
 from peering.far import Door
 from peering.node import T1, Node, address
-from peering.trial import PATIENCE, Skipped, check, equal, require
+from peering.trial import PATIENCE, Skipped, between, check, equal, require, wait
 
 NEEDED = b'node n\nlisten 127.0.0.1:%d\n' + T1.encode() + b'\n'
 
@@ -113,6 +113,37 @@ def too_few_threads(trial):
         equal(run(threads), (4, b'', b'device\n'), 'the end with %d threads' % threads)
     time.sleep(0.3)
     equal(door.tries, [], 'connections of a node that could not start')
+
+
+@check
+def in_less_and_less_memory(trial):
+    """in less and less address space a node works until it is stopped, or makes no connection and says that memory or a thread is missing"""
+    door, worked, lacking, stackless = Door(trial), 0, 0, 0  # Between the first two a node works that has no thread for its session.
+    for megabytes in (1024, 768, *range(512, 80, -64), *range(80, 0, -2)):
+        node = Node(trial, peers=('b ' + address(door.port),), tables=(T1,))
+        node.within, node.may_end = ('prlimit', '--as=%d' % (megabytes << 20)), True
+        tries = len(door.tries)
+        node.launch()
+        wait(lambda: node.child.poll() is not None or len(door.fars) > tries, PATIENCE, 'a node in %d MB connects, or ends' % megabytes, node.said)
+        status = node.child.poll()
+        if status is None:
+            node.admins = wait(node.opened, PATIENCE, 'the admin port is open', node.said)
+            equal(node.ask('track t1 7 add gpc0 1'), 'reply 1 - 7 1 local', 'a track in %d MB' % megabytes)
+            far = door.fars[-1]
+            has_row = wait(lambda: far.rows('t1') == {b'\0\0\0\7': ((1,), None)} or far.over and 'over', PATIENCE, 'a row, or the end of the session')
+            require(has_row != 'over' or node.peer('b')['last_end'] == 'error', 'the end of the session:', node.ask('show peers'))
+            between(0, node.stop(), 5, 'seconds until it has ended')
+            worked += has_row != 'over'
+            continue
+        equal(len(door.tries), tries, 'connections of a node that could not start in %d MB' % megabytes)
+        if status == 127:
+            break
+        if status == -11:  # The stack has no room to grow.
+            stackless += 1
+            continue
+        require((status, node.said()) in ((3, b'memory\n'), (4, b'device\n')), 'the end in %d MB:' % megabytes, status, node.said())
+        lacking += 1
+    require(worked and lacking and stackless <= 4, 'sizes that work, in which something is missing, and without a stack:', worked, lacking, stackless)
 
 
 @check
