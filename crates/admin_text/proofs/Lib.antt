@@ -1,3 +1,4 @@
 mod AddressTexts
+mod FirstWordLaws
 mod PeerNames
 mod Tables

@@ -1,4 +1,5 @@
 pub mod Addresses
 pub mod Configurations
+pub mod FirstWords
 pub mod Peers
 pub mod TableSettings

@@ -1,10 +1,11 @@
 //! Configurations: what a node that stays is told when it starts.
-ghost use Rattle.std.specs.Prelude.{◌≡◌, ℕ, Err, IfOk};
+ghost use Rattle.std.specs.Prelude.{◌≡◌, ℕ, Err, IfOk, true};
 ghost use Rattle.node_text.specs.Scripts.{IsLineOf, line_count};
-ghost use Rattle.admin_text.specs.Configurations.{IsConfiguration};
+ghost use Rattle.admin_text.specs.Configurations.{IsConfiguration, lacks_line};
 
 use crate::configuration_lines::ConfigurationSoFar;
 use crate::error::ConfigurationError;
+use crate::first_words::has_line;
 use crate::peers::Peer;
 use crate::table_settings::TableSetting;
 use node_text::read_lines;
@@ -29,14 +30,26 @@ pub struct Configuration {
     pub tables: Vec<TableSetting>,
 }
 
+/// Returns whether `text` has no line whose first word is `node`, none with `listen`, or none with `table`.
+fn lacks_line(text: &[u8]) -> bool
+    ensures { result ≡ lacks_line text.now }
+{
+    !(has_line(text, b"node") && has_line(text, b"listen") && has_line(text, b"table"))
+}
+
 /// Reads a configuration, line by line.
 ///
-/// Each line ends with LF. An empty line and one that begins with `#` say nothing. `Line` names the first line that breaks a
-/// rule or a limit; `Configuration` means that the node's name, the address at which it listens, or a table is missing.
+/// Each line ends with LF. An empty line and one that begins with `#` say nothing. `Configuration` comes first, and means that no
+/// line begins with the word `node`, none with `listen`, or none with `table`. Otherwise `Line` names the first line that breaks a
+/// rule or a limit.
 pub fn read_configuration(alloc: Global, text: &[u8]) -> Result<Configuration, ConfigurationError>
     ensures configuration { IfOk result IsConfiguration }
+    ensures lacking { lacks_line text.now ≡ true → result ≡ Err ConfigurationError.Configuration }
     ensures line { (number : ℕ) → result ≡ Err (ConfigurationError.Line number) → IsLineOf (line_count text.now) number }
 {
+    if lacks_line(text) {
+        return Err(ConfigurationError::Configuration);
+    }
     let mut lines = ConfigurationSoFar::new(alloc);
     read_lines(alloc, text, &mut lines)?;
     lines.whole().ok_or(ConfigurationError::Configuration)

@@ -8,10 +8,10 @@ use thiserror::Error;
 /// Why a configuration wasn't read. What was read of it is dropped.
 #[derive(Clone, Copy, Debug, PartialEq, Eq, Error)]
 pub enum ConfigurationError {
-    /// The first line that breaks a rule or a limit has this number, from 1.
+    /// The text has a line of each kind that it needs, and its first line that breaks a rule or a limit has this number, from 1.
     #[error("line {0}: refused")]
     Line(usize),
-    /// No line is refused, but the node's name, the address at which it listens, or a table is missing.
+    /// No line's first word is `node`, or none's is `listen`, or none's is `table`, whatever else is wrong.
     #[error("configuration: refused")]
     Configuration,
     /// Memory ran out.

@@ -5,6 +5,7 @@ mod addresses;
 mod configuration_lines;
 mod configurations;
 mod error;
+mod first_words;
 mod peers;
 mod table_settings;
 

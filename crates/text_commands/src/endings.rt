@@ -23,7 +23,7 @@ pub enum Ending {
     Line(usize),
     /// No line is refused, but the scene lacks what the subcommand needs, or asks for what it can't do: `scene: refused`.
     Scene,
-    /// No line is refused, but the configuration lacks the node's name, the address at which it listens, or a table:
+    /// The configuration lacks a line for the node's name, for the address at which it listens, or for a table:
     /// `configuration: refused`.
     Configuration,
     /// The stream has this fault: `fault` and its name.
