@@ -327,6 +327,21 @@ def second_that_stays(trial):
 
 
 @check
+def gone_and_back(trial):
+    """a peer whose connection ends right behind its hello, and that connects again at once, is answered each time"""
+    node = node_of_b(trial)
+    for _ in range(60):
+        gone = kept_open(('127.0.0.1', node.port))
+        gone.sendall(hello('n', 'b'))
+        gone.close()
+        peer = kept_open(('127.0.0.1', node.port))
+        peer.sendall(hello('n', 'b'))
+        equal(status_of(peer, 3), b'200\n', 'the status')
+        peer.close()
+        time.sleep(0.02)
+
+
+@check
 def two_peers_apart(trial):
     """connections of two peers leave each other alone"""
     node = node_of_b(trial, peers=('b', 'c'))
