@@ -40,7 +40,7 @@ long_configurations() {
     checked_is 'line 4' 'a peer with a name of 256 bytes'
     { printf '%s' "$needed"; printf 'section %sn\n' "$longest"; } >"$scene"
     checked_is 'line 4' 'a section with a name of 256 bytes'
-    { printf 'node %sn\n' "$longest"; } >"$scene"
+    { printf 'node %sn\nlisten 10.0.0.5:10000\ntable 1 t1 integer 4 0\n' "$longest"; } >"$scene"
     checked_is 'line 1' 'a node with a name of 256 bytes'
 }
 

@@ -18,6 +18,7 @@ WRONG = (b'nod n', b'node', b'node -', b'node ' + b'n' * 256, b'node n m', b'nod
          b'stream 00', b'define 1', b'last 1 1', b'select 1', b'slot 1 a', b'prices 1', b'first 1 1', b'sessions 1', b'table', b'table 1',
          b'table 2147483648 x integer 4 0', b'table 4294967295 x integer 4 0', b'table 998 x integer 5 0', b'table 998 x integer 4 0 gpt9',
          b'\x00', b'\xff', b'-', b'.')
+NEEDED = (b'node', b'listen', b'table')
 ADDRESSES = (b'10.0.0.1:5', b'0.0.0.0:65535', b'255.255.255.255:1', b'[::1]:5', b'[::]:5', b'[2001:DB8::7]:9', b'[1:2:3:4:5:6:7:8]:5', b'[::ffff:1.2.3.4]:5')
 ADMINS = (b'127.0.0.1:5', b'127.255.255.255:65535', b'[::1]:9')
 
@@ -43,7 +44,8 @@ def random_lines(random):
 
 
 def make(random):
-    """Returns lines and what becomes of them: the number of the line that is refused, `taken`, `configuration`, or None if that isn't known."""
+    """Returns lines and what becomes of them: the number of the line that is refused, `taken`, `configuration`, or None if that isn't known.
+    A line that has to be there may be missing beside one that is refused."""
     lines = random_lines(random)
     at = random.randint(0, len(lines))
     what = random.randrange(6)
@@ -57,7 +59,9 @@ def make(random):
         lines.insert(at, lines[first])
         wanted = at + 1
     elif what == 2:
-        word = random.choice((b'node', b'listen'))
+        if random.random() < 0.5:
+            lines.insert(at, random.choice(WRONG))
+        word = random.choice(NEEDED)
         lines = [line for line in lines if line.split(b' ')[0] != word]
         wanted = 'configuration'
     elif what == 3:
@@ -82,15 +86,21 @@ def checked(program, data):
     return int(match[1]) if match[1] else 'configuration'
 
 
+def has_needed(lines):
+    """Whether lines have one each that begins with a word that has to be there."""
+    return set(NEEDED) <= {line.split(b' ')[0] for line in lines}
+
+
 def judge(program, case):
     lines = case['lines']
     data = b'\n'.join(lines) + case['end'] if lines else b''
     said = checked(program, data)
     require(case['wanted'] in (None, said), 'a configuration', 'is not answered %r but' % case['wanted'], said)
+    lines = data.split(b'\n')
+    require((said == 'configuration') == (not has_needed(lines)), 'a configuration', 'of which a line is missing, or none:', said, data)
     if isinstance(said, int):
-        lines = data.split(b'\n')
         require(1 <= said <= len(lines), 'a refused line', 'that is not there', said)
-        if said < len(lines):
+        if said < len(lines) and has_needed(lines[:said]):
             cut = checked(program, b''.join(line + b'\n' for line in lines[:said]))
             require(cut == said, 'a refused line', 'is taken without the lines after it', said, cut)
         before = checked(program, b''.join(line + b'\n' for line in lines[:said - 1]))

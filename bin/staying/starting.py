@@ -27,7 +27,8 @@ def ends(trial, words, text, status, errors):
 def refused_configurations(trial):
     """a configuration that breaks a rule is refused, with --check and without"""
     good = NEEDED % trial.ports.next()
-    for text, line in ((b'', None), (b'# nothing\n\n', None), (b'node n\n' + T1.encode() + b'\n', None), (good[:-1], 3), (good + b'nod m\n', 4),
+    for text, line in ((b'', None), (b'# nothing\n\n', None), (b'node n\n' + T1.encode() + b'\n', None), (b'nod m\nnode n\n' + T1.encode() + b'\n', None),
+                       (good[:-1], 3), (good + b'nod m\n', 4),
                        (good + b'node m\n', 4), (good + b'admin 10.0.0.1:9\n', 4), (good + b'admin 127.0.0.1:0\n', 4), (good + b'peer n\n', 4),
                        (good + b'peer b localhost:9\n', 4), (good + b'size 2 5\n', 4), (good + b'\n#\nsize 1 0\n', 6),
                        (good + b'moment 4294967296\n', 4), (good + b'table 2147483648 t2 integer 4 0\n', 4), (good + b'peer b\r\n', 4)):
