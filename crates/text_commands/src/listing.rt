@@ -1,11 +1,9 @@
-//! Calls that copy or read what a table has, and what is printed of them: batches, events and rows.
-ghost use Rattle.std.specs.Prelude.{◌≡◌, ◌+◌, ◌++◌, ◌≤◌, List, OnOk, Result, flat_map, length};
+//! What is printed of what a table has: batches, events and rows.
+ghost use Rattle.std.specs.Prelude.{◌≡◌, ◌+◌, ◌++◌, OnOk, flat_map, length};
 ghost use Rattle.table_types.specs.declared.key.Key.{Key};
-ghost use Rattle.table_types.specs.declared.update.Update.{Update};
 ghost use Rattle.table_types.specs.Rows.{StoredRow};
-ghost use Rattle.table_cell.specs.declared.errors.CopyError.{CopyError};
 ghost use Rattle.table_cell.specs.Stock.{AreInRisingKey};
-ghost use Rattle.table_cell.specs.Histories.{Copies, event_in, events_of, room_of};
+ghost use Rattle.table_cell.specs.Histories.{event_in, events_of, room_of};
 ghost use Rattle.node_text.specs.Updates.{update_line};
 ghost use Rattle.text_commands.specs.Answers.{Adds, batch_lines, copied, event_line, events_line, rows_lines, stored_row_line};
 ghost use Rattle.text_commands.specs.Running.{definition_of, with_batch};
@@ -13,28 +11,23 @@ ghost use Rattle.text_commands.specs.Running.{definition_of, with_batch};
 use crate::lines::{end_line, push_line, push_refusal};
 use node_text::{copy_refusal, push_event, push_event_reply, push_stored_row, push_update};
 use std::alloc::Global;
-use table_cell::{CellEvent, CellReply, TableCell};
-use table_types::{Batch, CopyKind, Key, Memory, Moment, Row, TableDef, Update};
+use table_cell::{CellEvent, CellReply, CopyError, TableCell};
+use table_types::{Batch, Key, Memory, Row, TableDef, Update};
 
-/// Copies rows for a session, appends the lines of the result, and appends the batch to `given`.
-pub(crate) fn copy(
+/// Appends the lines of what a table answered to a copy, and appends the batch to `given`.
+pub(crate) fn push_copied(
     alloc: Global,
-    cell: &mut TableCell,
+    table: &TableDef,
     given: &mut Vec<Batch>,
     text: &mut Vec<u8>,
-    session: u32,
-    kind: CopyKind,
-    limit: usize,
-    moment: Moment,
+    answer: Result<Batch, CopyError>,
 ) -> Result<(), Memory>
-    requires { (1 ≤ limit) × (limit ≤ 512) }
-    ensures { OnOk result ((r : Result (List Update) CopyError) × Copies cell.old session kind limit moment r cell.new
-        × Adds (copied (definition_of cell.new) (length given.old.items + 1) r) text.old.items text.new.items
-        × (given.new.items ≡ with_batch given.old.items r)) }
+    ensures lines { OnOk result (Adds (copied table.now (length given.old.items + 1) answer) text.old.items text.new.items) }
+    ensures given { OnOk result (given.new.items ≡ with_batch given.old.items answer) }
 {
-    match cell.copy(session, kind, limit, moment) {
+    match answer {
         Ok(batch) => {
-            push_batch(alloc, text, cell.definition(), given.len(), &batch)?;
+            push_batch(alloc, text, table, given.len(), &batch)?;
             Ok(given.push(batch)?)
         }
         Err(error) => push_refusal(text, copy_refusal(error)),

@@ -11,7 +11,7 @@ use crate::answers::{
 };
 use crate::cells::cell_of;
 use crate::endings::Ending;
-use crate::listing::{copy, push_event_at, push_events, push_rows};
+use crate::listing::{push_copied, push_event_at, push_events, push_rows};
 use node_text::{Call, Script};
 use std::alloc::Global;
 use table_cell::TableCell;
@@ -83,7 +83,10 @@ impl Run {
                 kind,
                 limit,
                 moment,
-            } => copy(alloc, cell, given, text, session, kind, limit, moment)?,
+            } => {
+                let answer = cell.copy(session, kind, limit, moment);
+                push_copied(alloc, cell.definition(), given, text, answer)?;
+            }
             Call::Open(session) => open(cell, text, session)?,
             Call::Close(session) => close(cell, text, session)?,
             Call::Track {
