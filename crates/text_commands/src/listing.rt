@@ -1,5 +1,5 @@
 //! What is printed of what a table has: batches, events and rows.
-ghost use Rattle.std.specs.Prelude.{◌≡◌, ◌+◌, ◌++◌, OnOk, flat_map, length};
+ghost use Rattle.std.specs.Prelude.{◌≡◌, ◌+◌, ◌++◌, List, OnOk, flat_map, length};
 ghost use Rattle.table_types.specs.declared.key.Key.{Key};
 ghost use Rattle.table_types.specs.Rows.{StoredRow};
 ghost use Rattle.table_cell.specs.Stock.{AreInRisingKey};
