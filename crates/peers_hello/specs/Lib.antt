@@ -1,3 +1,4 @@
 pub mod Lines
 pub mod Hellos
 pub mod Statuses
+pub mod Meetings

@@ -8,5 +8,5 @@ mod lines;
 mod status;
 
 pub use hello::{Answer, Hello};
-pub use laws::what_is_written_is_accepted;
+pub use laws::{what_follows_decides_nothing, what_is_written_is_accepted};
 pub use status::{Status, read_status};

@@ -168,7 +168,7 @@ on_comes asks settles c before now x m k over s mid e bytes more ts given acts o
     (ts ++ us, all.0, end, all.1, all.2, says_all, leaves_both settles c before now s e phase end y all.0 (left_by asks settles roster (left_by asks settles roster k ts) us) (left_by asks settles roster k (ts ++ us)) acts others left all.3 (left_append asks settles roster k ts us) again from)
 
 -- after the end no event follows
-none_follow : (settles : ℕ → ℕ → Bool) (s e : SessionState) (due left : List (ℕ × ℕ)) (steps : List (Event × List Action)) → s.phase ≡ phases.Ended → Hears settles s due steps e left → (steps ≡ []) × (e ≡ s)
+pub none_follow : (settles : ℕ → ℕ → Bool) (s e : SessionState) (due left : List (ℕ × ℕ)) (steps : List (Event × List Action)) → s.phase ≡ phases.Ended → Hears settles s due steps e left → (steps ≡ []) × (e ≡ s)
 none_follow settles s e due left [] ended hears = (refl, hears.0)
 none_follow settles s e due left (step ∷ steps) ended (mid, rest, goes, awaits, later) = absurd (subst (λ (p : Phase). GoesIn p s step.0 step.1 mid) ended goes)
 
@@ -261,7 +261,7 @@ piece_open settles c m x a k over s mid e bytes first given acts ts steps left s
     let again : b.reopened ≡ (a.reopened || list_any is_reopen acts) = moved.1.4 ∙ ap (λ (r : Bool). a.reopened || r) (sym (piece_reopens first given (acks_given m) acts silent (acks_reopen m) is)) in
     on_comes requested_in settles c a.reopened b.reopened x y k over s mid e bytes (heard_in steps) ts given acts (asked_in steps) left (phases.Open (acks_sent m)) here takes plainly moved.1.3 again stands later
 
-piece_comes : (settles : ℕ → ℕ → Bool) (c : Course) (x : Taking) (a k : Sharing) (over : List ℕ) (s mid e : SessionState) (bytes : List ℕ) (first acts : List Action) (steps : List (Event × List Action)) (left : List (ℕ × ℕ))
+pub piece_comes : (settles : ℕ → ℕ → Bool) (c : Course) (x : Taking) (a k : Sharing) (over : List ℕ) (s mid e : SessionState) (bytes : List ℕ) (first acts : List Action) (steps : List (Event × List Action)) (left : List (ℕ × ℕ))
     → says_nothing first → IsBytes ((x.unread ++ bytes) ++ heard_in steps) → x.roster ≡ c.intake.roster → Fits settles over [] a k
     → ReceivesBytes s (course_of c (fed x bytes) a []) first acts mid → Follows settles c steps e left → Hears settles mid (passed_on acts) steps e left
     → Comes requested_in settles c a.reopened x k over s (bytes ++ heard_in steps) (acts ++ asked_in steps) e left
@@ -286,7 +286,7 @@ piece_comes settles c x a k over s mid e bytes first acts steps left silent good
     by (Err halts.Memory) ts n gets ends concludes = absurd concludes
 
 -- actions that confirm as others do
-confirmed_same : (settles : ℕ → ℕ → Bool) (c : Course) (before now : Bool) (s e : SessionState) (phase : Phase) (end : Result (Unit {0}) Halt) (y : Taking) (k : Sharing) (acts others : List Action) (left : List (ℕ × ℕ))
+pub confirmed_same : (settles : ℕ → ℕ → Bool) (c : Course) (before now : Bool) (s e : SessionState) (phase : Phase) (end : Result (Unit {0}) Halt) (y : Taking) (k : Sharing) (acts others : List Action) (left : List (ℕ × ℕ))
     → confirms acts ≡ confirms others → (now || list_any is_reopen acts) ≡ (before || list_any is_reopen others) → Leaves settles c now (record { phase = phase; known = s.known; fault = s.fault; confirmed = s.confirmed }) end y k acts e left → Leaves settles c before s end y k others e left
 confirmed_same settles c before now s e phase (Ok u) y k acts others left same again (b, ends, answers, later) =
     (b, ends ∙ ap (λ (said : Bool). record { phase = phases.Open (course_of c (with_due y []) b (dues_of left)); known = s.known; fault = s.fault; confirmed = s.confirmed || said }) same, answers, later ∙ again)
@@ -372,7 +372,7 @@ bytes_come settles c s mid e x a k over acks rest left bytes acts steps good sam
     let is : rest ≡ passed_on acts = is_rest ∙ ap (λ (p : List (ℕ × ℕ)). p ++ passed_on acts) none in
     piece_comes settles c x a k over s mid e bytes [] acts steps left (refl, refl, refl) good same fits_now gets follows (subst (λ (p : List (ℕ × ℕ)). Hears settles mid p steps e left) is hears)
 
-follows_all : (settles : ℕ → ℕ → Bool) (c : Course) (e : SessionState) (left : List (ℕ × ℕ)) (steps : List (Event × List Action)) → Follows settles c steps e left
+pub follows_all : (settles : ℕ → ℕ → Bool) (c : Course) (e : SessionState) (left : List (ℕ × ℕ)) (steps : List (Event × List Action)) → Follows settles c steps e left
 follows_all settles c e left [] s x a k over acks good waits same opens fits hears = none_comes requested_in settles c s e x a k over acks left waits opens fits hears
 follows_all settles c e left ((events.Bytes bytes, acts) ∷ steps) s x a k over acks good waits same opens fits (mid, rest, goes, awaits, hears) =
     let grouped : x.unread ++ (bytes ++ heard_in steps) ≡ (x.unread ++ bytes) ++ heard_in steps = sym (append_assoc x.unread bytes (heard_in steps)) in
@@ -392,7 +392,7 @@ follows_all settles c e left ((events.Refused table, acts) ∷ steps) s x a k ov
 -- ---- from an open session
 
 -- what an open session shares
-abbrev sharing_of : Course → Sharing
+abbrev pub sharing_of : Course → Sharing
 sharing_of c = record { shares = c.shares; waits = c.waits; anew = false; reopened = false }
 
 open_comes : (settles : ℕ → ℕ → Bool) (c : Course) (s e : SessionState) (step : Event × List Action) (steps : List (Event × List Action)) (left : List (ℕ × ℕ))

@@ -35,3 +35,5 @@ mod AnswersInOrder
 mod MessagesInOrder
 mod HeardHoweverCut
 mod StandingInOrder
+mod GreetedHoweverCut
+mod GreetingInOrder

@@ -178,3 +178,8 @@ in_taught roster steps phases.Ended s event acts e stands kept goes ends = absur
 pub ends_taught : (roster : List Definition) (begun s e : SessionState) (steps : List (Event × List Action)) (event : Event) (acts : List Action) → IsBegun roster begun → Runs begun steps s → Goes s event acts e → ends_resync acts ≡ true → HasTaughtAll roster steps s event acts
 ends_taught roster begun s e steps event acts begins runs goes ends =
     in_taught roster steps s.phase s event acts e refl (run_kept (ids_of roster) [] steps begun s (begun_kept roster begun begins) runs) goes ends
+
+-- no answer is due before the session is open
+pub none_due_in_hello : (roster : List Definition) (begun s : SessionState) (steps : List (Event × List Action)) (greeter : Greeter) (bytes : List ℕ) (c : Course) → IsBegun roster begun → Runs begun steps s → s.phase ≡ phases.Hello greeter bytes c → c.due ≡ []
+none_due_in_hello roster begun s steps greeter bytes c begins runs is =
+    (subst (IsKeptIn (ids_of roster) steps) is (run_kept (ids_of roster) [] steps begun s (begun_kept roster begun begins) runs)).2

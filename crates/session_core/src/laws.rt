@@ -7,6 +7,7 @@ ghost use Rattle.session_core.specs.declared.action.Action.{Action};
 ghost use Rattle.session_core.specs.declared.event.Event.{Event};
 ghost use Rattle.peers_msg.specs.Integers.{IsBytes};
 ghost use Rattle.peers_msg.specs.Decoding.{together};
+ghost use Rattle.session_core.specs.declared.phase.Greeter.{Greeter};
 ghost use Rattle.session_core.specs.Phases as phases;
 ghost use Rattle.session_core.specs.Courses.{Course};
 ghost use Rattle.session_core.specs.Cutting.{AreFed, IsFedOut, without_acks};
@@ -96,6 +97,28 @@ pub fn any_answers()
     ensures reopened { (settles : ℕ → ℕ → Bool) (s e end : SessionState) (c : Course) (step other : Event × List Action) (steps others : List (Event × List Action)) (more rest : List ℕ) (left over : List (ℕ × ℕ)) →
         s.phase ≡ phases.Open c → HoldsBytes s.phase → IsBytes (heard_in (step ∷ steps) ++ more) →
         heard_in (step ∷ steps) ++ more ≡ heard_in (other ∷ others) ++ rest →
+        Hears settles s [] (step ∷ steps) e left → Hears settles s [] (other ∷ others) end over → IsFedOut more e → IsFedOut rest end →
+        left ≡ [] → over ≡ [] → is_open e.phase ≡ true →
+        list_any is_reopen (asked_in (step ∷ steps)) ≡ list_any is_reopen (asked_in (other ∷ others)) }
+{}
+
+/// `any_answers` holds from the first byte on. However the bytes of a session in Hello are cut into events, the rest of the
+/// hello or of the status and the messages after it, the same is told, once all are answered the session is the same, and its
+/// tables were reopened in both runs or in neither.
+pub fn any_greeting()
+    ensures told { (settles : ℕ → ℕ → Bool) (roster : List Definition) (begun s e end : SessionState) (before : List (Event × List Action)) (greeter : Greeter) (bytes : List ℕ) (c : Course) (step other : Event × List Action) (steps others : List (Event × List Action)) (more rest : List ℕ) (left over : List (ℕ × ℕ)) →
+        IsBegun roster begun → Runs begun before s → s.phase ≡ phases.Hello greeter bytes c → HoldsBytes s.phase →
+        IsBytes (heard_in (step ∷ steps) ++ more) → heard_in (step ∷ steps) ++ more ≡ heard_in (other ∷ others) ++ rest →
+        Hears settles s [] (step ∷ steps) e left → Hears settles s [] (other ∷ others) end over → IsFedOut more e → IsFedOut rest end →
+        told settles (step ∷ steps) ≡ told settles (other ∷ others) }
+    ensures same { (settles : ℕ → ℕ → Bool) (roster : List Definition) (begun s e end : SessionState) (before : List (Event × List Action)) (greeter : Greeter) (bytes : List ℕ) (c : Course) (step other : Event × List Action) (steps others : List (Event × List Action)) (more rest : List ℕ) (left over : List (ℕ × ℕ)) →
+        IsBegun roster begun → Runs begun before s → s.phase ≡ phases.Hello greeter bytes c → HoldsBytes s.phase →
+        IsBytes (heard_in (step ∷ steps) ++ more) → heard_in (step ∷ steps) ++ more ≡ heard_in (other ∷ others) ++ rest →
+        Hears settles s [] (step ∷ steps) e left → Hears settles s [] (other ∷ others) end over → IsFedOut more e → IsFedOut rest end →
+        (left ≡ []) ⊎ (e.phase ≡ phases.Ended) → (over ≡ []) ⊎ (end.phase ≡ phases.Ended) → e ≡ end }
+    ensures reopened { (settles : ℕ → ℕ → Bool) (roster : List Definition) (begun s e end : SessionState) (before : List (Event × List Action)) (greeter : Greeter) (bytes : List ℕ) (c : Course) (step other : Event × List Action) (steps others : List (Event × List Action)) (more rest : List ℕ) (left over : List (ℕ × ℕ)) →
+        IsBegun roster begun → Runs begun before s → s.phase ≡ phases.Hello greeter bytes c → HoldsBytes s.phase →
+        IsBytes (heard_in (step ∷ steps) ++ more) → heard_in (step ∷ steps) ++ more ≡ heard_in (other ∷ others) ++ rest →
         Hears settles s [] (step ∷ steps) e left → Hears settles s [] (other ∷ others) end over → IsFedOut more e → IsFedOut rest end →
         left ≡ [] → over ≡ [] → is_open e.phase ≡ true →
         list_any is_reopen (asked_in (step ∷ steps)) ≡ list_any is_reopen (asked_in (other ∷ others)) }

@@ -34,7 +34,7 @@ pub use error::SessionError;
 pub use event::Event;
 pub use laws::{
     a_fault_ends_the_session, a_step_exists, a_step_is_unique, any_answers, any_events,
-    confirmed_is_sent, resyncs_end_taught, unasked_is_no_step,
+    any_greeting, confirmed_is_sent, resyncs_end_taught, unasked_is_no_step,
 };
 pub use session::Session;
 pub use standing::Standing;
