@@ -25,7 +25,8 @@ from fuzzing.programs import FAULT_LINE, Complaint, require
 from fuzzing.received import spelled
 from fuzzing.rows import read_rows, without_moments
 from fuzzing.streams import OVER, Talk, spoilt
-from fuzzing.tables import FIRST_MOMENT, GREATEST, RATES, Table, counted, definition_data, edge
+from fuzzing.tables import FIRST_MOMENT, GREATEST, RATES, Table, counted, definition_data, edge, shape
+from peering.lessons import Misread, read_definition
 
 HELLO = b'HAProxyS 2.1\nb\na 1 1\n'
 ITS_HELLO = re.compile(rb'HAProxyS 2\.1\nb\na [0-9]+ [0-9]+\n')
@@ -260,7 +261,7 @@ class Far:
         one, and no definition among it took it away."""
         before, data = len(self.acks), self.said
         self.said = b''
-        if pieces == 1:
+        if pieces <= 1:
             self.pump(data)
         else:
             self.slow(data, pieces)
@@ -397,6 +398,24 @@ def stop(child, error):
         return
     child.communicate()
     require(child.returncode >= 0, 'signal', 'of a node, %d, and then: %s' % (-child.returncode, error))
+
+
+def moved_ids(stream):
+    """Returns the ids whose table a definition takes, or replaces by another. What is acknowledged of them depends on how the stream is cut
+    into reads."""
+    tables, holders, moved = {}, {}, set()
+    for _, class_byte, type_byte, data in framed(stream):
+        if (class_byte, type_byte) != (TABLE_CLASS, DEFINITION):
+            continue
+        try:
+            table = read_definition(data)
+        except Misread:  # A fault ends the session.
+            break
+        if tables.get(table.id, shape(table)) != shape(table):
+            moved.add(table.id)
+        moved |= {holders.get(table.name, table.id)} - {table.id}
+        tables[table.id], holders[table.name] = shape(table), table.id
+    return moved
 
 
 def judge_ending(session, ending, far, roster):
