@@ -1,8 +1,7 @@
 -- What a session tells of the bytes that open it and of those after them, however they are cut.
-use Rattle.std.proofs.Common.{◌≡◌, ◌⊎◌, inl, inr, ℕ, Bool, true, false, ◌||◌, ◌==◌, List, [], ◌∷◌, ◌++◌, Some, None, refl, sym, ap, ◌∙◌, subst, append_assoc}
+use Rattle.std.proofs.Common.{◌≡◌, inl, inr, ℕ, Bool, true, false, ◌==◌, List, [], ◌∷◌, ◌++◌, refl, sym, ap, ◌∙◌, subst, append_assoc}
 use Rattle.std.specs.Prelude.{drop}
 use Rattle.std.specs.Fmt.{decimal}
-use Rattle.std.specs.List.{list_any}
 use Rattle.std.proofs.lemmas.Bool.{false≢true}
 use Rattle.std.proofs.lemmas.List.{append-nil}
 use Rattle.table_types.specs.Tables.{Definition}
@@ -28,9 +27,9 @@ use Rattle.session_core.specs.Phases as phases
 use Rattle.session_core.specs.Actions.{confirms, sends_control, status_text}
 use Rattle.learner.specs.Intake.{fed}
 use Rattle.session_core.specs.Courses.{Course, course_fed}
-use Rattle.session_core.specs.Sessions.{Accepts, Connects, GoesIn, GoesHello, Greets, IsWelcomed, ReceivesBytes, SessionState, ended, in_phase}
+use Rattle.session_core.specs.Sessions.{Accepts, Connects, GoesIn, Greets, IsWelcomed, ReceivesBytes, SessionState, ended, in_phase}
 use Rattle.session_core.specs.Runs.{HoldsBytes, IsBegun, Runs}
-use Rattle.session_core.specs.Standing.{is_open, is_reopen}
+use Rattle.session_core.specs.Standing.{is_open}
 use Rattle.session_core.specs.Cutting.{IsFedOut}
 use Rattle.session_core.specs.Hearing.{Hears, asked_in, heard_in, passed_on, without_late}
 use Rattle.session_core.proofs.AnswersInOrder.{fits_first, requested_in}

@@ -1,17 +1,14 @@
 -- What a session that stays tells of the bytes that it hears, however they are cut, and whenever its tables answer.
-use Rattle.std.proofs.Common.{◌≡◌, ◌⊎◌, inl, inr, ℕ, Bool, true, false, not, ◌&&◌, ◌||◌, ◌==◌, cond, List, [], ◌∷◌, ◌++◌, Option, Some, None, Result, Ok, Err, refl, sym, ap, ◌∙◌, subst, append_assoc}
-use Rattle.std.specs.Prelude.{map}
+use Rattle.std.proofs.Common.{◌≡◌, ℕ, Bool, true, false, ◌&&◌, ◌||◌, ◌==◌, cond, List, [], ◌∷◌, ◌++◌, Option, Some, None, Result, Ok, Err, refl, sym, ap, ◌∙◌, subst, append_assoc}
 use Rattle.std.specs.List.{list_any}
 use Rattle.std.proofs.lemmas.Bool.{false≢true}
 use Rattle.std.proofs.lemmas.List.{append-nil}
 use Rattle.table_types.specs.Tables.{Definition}
 use Rattle.table_types.specs.declared.copies.Settled.{Settled}
 use Rattle.table_types.specs.declared.copies.Settled.TheVariants as settled
-use Rattle.table_types.specs.declared.update.Update.{Update}
 use Rattle.peers_msg.specs.Integers.{IsBytes}
 use Rattle.peers_msg.specs.declared.control.Control.{Control}
 use Rattle.peers_msg.specs.declared.control.Control.TheVariants as controls
-use Rattle.peers_msg.specs.declared.message.Message.{Message}
 use Rattle.peers_msg.proofs.CuttingIndependence.{front_good}
 use Rattle.learner.specs.declared.fault.Fault.{Fault}
 use Rattle.learner.specs.declared.taken.Taken.{Taken}
@@ -20,7 +17,6 @@ use Rattle.learner.specs.Intake.{Taking, IntakeNext, fed, rows_of}
 use Rattle.session_core.specs.declared.action.Action.{Action}
 use Rattle.session_core.specs.declared.action.Action.TheVariants as actions
 use Rattle.session_core.specs.declared.due.Due.{Due}
-use Rattle.session_core.specs.declared.due.Due.TheVariants as dues
 use Rattle.session_core.specs.declared.event.Event.{Event}
 use Rattle.session_core.specs.declared.event.Event.TheVariants as events
 use Rattle.session_core.specs.declared.halt.Halt.{Halt}
@@ -30,7 +26,7 @@ use Rattle.session_core.specs.Phases.{Phase}
 use Rattle.session_core.specs.Phases as phases
 use Rattle.session_core.specs.Actions.{confirms, is_confirmation, reopens, sends_control}
 use Rattle.session_core.specs.Acks.{ack_of}
-use Rattle.session_core.specs.Shares.{any_out, is_out, out_set, unquieted}
+use Rattle.session_core.specs.Shares.{any_out, is_out, out_set}
 use Rattle.session_core.specs.Courses.{Course, AreReceived, ack_received, acknowledged, acks_given, acks_sent, message_received, requested}
 use Rattle.session_core.specs.Sessions.{Concludes, Goes, GoesIn, GoesOpen, ReceivesBytes, SessionState, in_phase, is_asked, kind_of_fault}
 use Rattle.session_core.specs.Paces.{is_ahead}
@@ -39,11 +35,11 @@ use Rattle.session_core.specs.Standing.{HandsOn, StandingState, Stands, answer_o
 use Rattle.session_core.specs.StandingRuns.{At, BeginsToStay, CatchUp, Happening, Lasts, Tick, handed}
 use Rattle.session_core.specs.StandingSteps.{is_all}
 use Rattle.session_core.specs.Cutting.{IsFedOut}
-use Rattle.session_core.specs.Hearing.{AwaitsIn, HearsInTime, asked_in, heard_in, passed_on, without_late}
-use Rattle.session_core.proofs.AnswersInOrder.{Fits, Sharing, answered_in, fits_answered, fits_first, fits_late, fits_less, fits_passed, freed, over_after, settled_if}
-use Rattle.session_core.proofs.HeardHoweverCut.{Answers, AreAlike, Comes, Leaves, answer_next, answer_settles, come_alike, confirms_plain, end_told, none_comes, none_due, on_comes, out_comes, over_comes, over_with, piece_plain, piece_passes, piece_told, passed_acks, quiet_acks, stepped}
+use Rattle.session_core.specs.Hearing.{HearsInTime, asked_in, heard_in, passed_on, without_late}
+use Rattle.session_core.proofs.AnswersInOrder.{Fits, Sharing, answered_in, fits_answered, fits_first, fits_late, fits_less, fits_passed, over_after, settled_if}
+use Rattle.session_core.proofs.HeardHoweverCut.{Answers, AreAlike, Comes, answer_next, answer_settles, come_alike, confirms_plain, none_comes, none_due, on_comes, out_comes, over_comes, over_with, piece_plain, piece_passes, piece_told, passed_acks, quiet_acks, stepped}
 use Rattle.session_core.proofs.IntakeGoesOn.{append_good}
-use Rattle.session_core.proofs.MessagesInOrder.{ack_left, ack_told, control_left, control_told, course_of, due_of, dues_of, late_append, left_by, message_left, message_told, messages_move, or_false, taken_roster, over_append, over_by, passed_append, passed_reopens, plain, plain_append, plain_reopens, told_by}
+use Rattle.session_core.proofs.MessagesInOrder.{ack_left, ack_told, control_left, control_told, course_of, dues_of, late_append, left_by, message_left, message_told, messages_move, taken_roster, over_append, over_by, passed_append, passed_reopens, plain, plain_append, plain_reopens, told_by}
 use Rattle.session_core.proofs.SameHoweverFed.{after_good}
 use Rattle.session_core.proofs.StandingOnce.{asked_where_stands}
 use Rattle.session_core.proofs.StandingWork.{never_waits}
