@@ -16,7 +16,7 @@ use Rattle.peers_engine.specs.declared.errors.EngineError.{EngineError}
 use Rattle.peers_engine.specs.declared.errors.EngineError.TheVariants as errors
 use Rattle.peers_engine.specs.Calls.{IsCopied, IsLearned, IsReopened, IsSettled, IsTaken}
 use Rattle.teach_writer.specs.Lessons.{IsShortestLesson}
-use Rattle.peers_engine.specs.Doing.{Done, Fails, Falls, IsAtTable, IsLeft, IsRefusal, error_text}
+use Rattle.peers_engine.specs.Doing.{Done, Fails, Falls, FallsShort, IsAtTable, IsLeft, IsRefusal, error_text}
 use Rattle.peers_engine.proofs.TurnLaws.{OneDone, OneFails}
 
 -- a write failed
@@ -37,8 +37,8 @@ taken_as n now k s t table number event (inr (is, call)) = (refl, inr (ap (λ (x
 
 copied_as : (n now : ℕ) (k : KnownState) (s t : SeatState) (table : ℕ) (kind : CopyKind) (event : Event) → IsCopied n now s table kind t event
     → Done n now k s (actions.Copy table kind) [] (Some event) t
-copied_as n now k s t table kind event (inl (batch, is, call)) = (refl, inl (batch, ap (λ (x : Event). Some x) is, call))
-copied_as n now k s t table kind event (inr (is, call)) = (refl, inr (ap (λ (x : Event). Some x) is, call))
+copied_as n now k s t table kind event (c, inl (batch, is, call)) = (refl, inl (batch, ap (λ (x : Event). Some x) is, (c, call)))
+copied_as n now k s t table kind event (c, inr (is, call)) = (refl, inr (ap (λ (x : Event). Some x) is, (c, call)))
 
 -- an acknowledgement
 pub ack_done : (n now : ℕ) (k : KnownState) (s t : SeatState) (action : Action) (table number : ℕ) (known : Option (List ℕ)) (event : Event)
@@ -112,7 +112,7 @@ part_falls n now k s action kind error old new is falls =
 -- a table refused the action, or memory ran out
 pub refused_as : (error : EngineError) (n now : ℕ) (k : KnownState) (s t : SeatState) (act : Action) (known : Option (List ℕ)) → IsRefusal error → IsAtTable act → IsLeft n s act t
     → (out : List ℕ) × Fails n now k s act error out t × Appends known known out
-refused_as errors.Memory n now k s t act known refused at left = ([], (refused, at, refl, left), Appends-nil known)
+refused_as errors.Memory n now k s t act known refused at left = ([], inl (refused, at, refl, left), Appends-nil known)
 refused_as errors.Strange n now k s t act known refused at left = ([], (refused, at, refl, left), Appends-nil known)
 refused_as errors.Read n now k s t act known refused at left = absurd refused
 refused_as (errors.Write sent) n now k s t act known refused at left = absurd refused
@@ -122,6 +122,17 @@ pub call_refused : (n now : ℕ) (k : KnownState) (s t : SeatState) (action act 
     → action ≡ act → IsAtTable act → IsRefusal error → IsLeft n s act t → OneFails n now k s t action known known error
 call_refused n now k s t action act known error is at refused left =
     subst (λ (a : Action). OneFails n now k s t a known known error) (sym is) (refused_as error n now k s t act known refused at left)
+
+-- a lesson that wasn't written whole
+pub lesson_falls : (error : EngineError) (n now : ℕ) (k : KnownState) (s t : SeatState) (batch : List Update) (bytes : List ℕ) (answer : Option Event) (old new : Option (List ℕ))
+    → Done n now k s (actions.Teach batch) bytes answer t → FallsShort bytes error old new → OneFails n now k s t (actions.Teach batch) old new error
+lesson_falls errors.Memory n now k s t batch bytes answer old new done (sent, within, appended) =
+    (take sent bytes, inr (tt, sent, (bytes, answer, done, within, refl)), appended)
+lesson_falls (errors.Write sent) n now k s t batch bytes answer old new done falls =
+    falls_short (errors.Write sent) n now k s t (actions.Teach batch) bytes answer old new done falls
+lesson_falls errors.Read n now k s t batch bytes answer old new done falls = absurd falls
+lesson_falls errors.Strange n now k s t batch bytes answer old new done falls = absurd falls
+lesson_falls (errors.Session why) n now k s t batch bytes answer old new done falls = absurd falls
 
 -- a lesson that can't be made or written
 pub teach_fails : (n now : ℕ) (k known : KnownState) (s t : SeatState) (action : Action) (batch : List Update) (old new : Option (List ℕ)) (error : EngineError)

@@ -7,10 +7,10 @@ use Rattle.table_cell.specs.declared.events.CellReply.TheVariants as replies
 use Rattle.table_shards.specs.Holding.{Leaves}
 use Rattle.table_shards.specs.Noting.{Notes, if_full}
 use Rattle.table_shards.specs.Receipts.{SeatState}
-use Rattle.peers_engine.specs.Calls.{IsLearned}
+use Rattle.peers_engine.specs.Calls.{IsLearnedOn, IsSoundTable}
 
 -- a row is learned
-pub learned : (n now : ℕ) (s t : SeatState) (u : Update) (c e : CellState)
+pub learned : (n now : ℕ) (s t : SeatState) (u : Update) (c e : CellState) → IsSoundTable c
     → Notes (λ mid. Leaves (λ x r y. Learns x n u now r y) (events.Learn n u now) replies.Learn u.table c s (Ok tt) e mid) u.table n (events_of c) (if_full {A = Unit {0}} u.number now (Ok tt)) t
-    → IsLearned n now s u t
-learned n now s t u c e (mid, (reply, holds), left) = inl (reply, (c, e, (mid, holds, left)))
+    → IsLearnedOn c n now s u t
+learned n now s t u c e sound (mid, (reply, holds), left) = inl (reply, (sound, e, (mid, holds, left)))

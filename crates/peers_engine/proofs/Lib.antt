@@ -6,6 +6,7 @@ mod EndLaws
 mod HaltLaws
 mod OneActionLaws
 mod PiecesLaws
+mod RefusalLaws
 mod RunLaws
 mod StayCalmLaws
 mod StayLaws

@@ -7,6 +7,7 @@ use Rattle.std.proofs.lemmas.List.{append-nil}
 use Rattle.std.proofs.lemmas.List.Folds.{list_all-append}
 use Rattle.std.proofs.lemmas.List.Concat.{flat_map-append}
 use Rattle.table_types.specs.declared.update.Update.{Update}
+use Rattle.table_types.specs.declared.copies.CopyKind.{CopyKind}
 use Rattle.table_types.specs.declared.copies.Settled.{Settled}
 use Rattle.table_types.specs.declared.copies.Settled.TheVariants as settles
 use Rattle.peers_msg.specs.declared.control.ErrorKind.TheVariants as kinds
@@ -28,8 +29,9 @@ use Rattle.session_core.specs.Sessions.{SessionState, FinishesResync, GoesIn, Go
 use Rattle.session_core.specs.Paces.{awaits_names, has_passed, inferred, is_ahead, is_rested, push_time}
 use Rattle.session_core.specs.Standing.{Does, StandingState, Stands, TakesTurn, Ticks, TicksIn, Writes, answer_of_refusal, changed, finished_if, finishing, heartbeats, leaving, put_off, shared, teaches, without_tables}
 use Rattle.peers_engine.specs.Acting.{asked}
+use Rattle.peers_engine.specs.Calls.{IsCopiedLate, IsLearnedLate}
 use Rattle.peers_engine.specs.Doing.{Done}
-use Rattle.peers_engine.specs.Staying.{IsTold, IsToldIn, Performs, StandingWorker, as_standing, stays}
+use Rattle.peers_engine.specs.Staying.{IsPerformed, IsTold, IsToldIn, Performs, StandingWorker, as_standing, standing_kind, stays}
 use Rattle.peers_engine.proofs.CalmLaws.{done_answered, is_answer, is_answered}
 
 -- ---- kinds of actions
@@ -434,6 +436,31 @@ told_light s now (Some (events.Copied table batch)) steps e late told = absurd (
 
 -- ---- which answers come
 
+-- a call at the later moment is one at some moment
+learned_done : (n now : ℕ) (k : KnownState) (s t : SeatState) (u : Update) (out : List ℕ) (answer : Option Event) → out ≡ [] → answer ≡ None → IsLearnedLate n now s u t
+    → (at : ℕ) × Done n at k s (actions.Learn u) out answer t
+learned_done n now k s t u out answer written none (c, at, is, learned) = (at, (written, none, (c, learned)))
+
+copied_done : (n now : ℕ) (k : KnownState) (s t : SeatState) (table : ℕ) (kind : CopyKind) (out : List ℕ) (answer : Option Event) (event : Event) → out ≡ [] → answer ≡ Some event
+    → IsCopiedLate n now s table kind t event → (at : ℕ) × Done n at k s (actions.Copy table kind) out answer t
+copied_done n now k s t table kind out answer event written some (c, at, is, inl (batch, copied, call)) =
+    (at, (written, inl (batch, some ∙ ap (λ (x : Event). Some x) copied, (c, call))))
+copied_done n now k s t table kind out answer event written some (c, at, is, inr (nothing, call)) =
+    (at, (written, inr (some ∙ ap (λ (x : Event). Some x) nothing, (c, call))))
+
+-- what is performed is done at some moment
+done_at : (w : StandingWorker) (seat : SeatState) (act : Action) (out : List ℕ) (answer : Option Event) → IsPerformed w act out answer seat
+    → (at : ℕ) × Done w.number at w.session.session.known w.seat (as_standing act) out answer seat
+done_at w seat (actions.Learn u) out answer (written, none, learned) = learned_done w.number w.now w.session.session.known w.seat seat u out answer written none learned
+done_at w seat (actions.Copy table kind) out answer (written, event, some, copied) =
+    copied_done w.number w.now w.session.session.known w.seat seat table (standing_kind kind) out answer event written some copied
+done_at w seat (actions.Send bytes) out answer done = (w.now, done)
+done_at w seat (actions.Ack table number) out answer done = (w.now, done)
+done_at w seat (actions.Reopen table) out answer done = (w.now, done)
+done_at w seat (actions.Teach batch) out answer done = (w.now, done)
+done_at w seat (actions.Part kind) out answer done = (w.now, done)
+done_at w seat actions.Close out answer done = (w.now, done)
+
 mute_done : (n at : ℕ) (k : KnownState) (s t : SeatState) (act : Action) (out : List ℕ) (answer : Option Event) → is_mute act ≡ true → Done n at k s (as_standing act) out answer t → answer ≡ None
 mute_done n at k s t (actions.Send bytes) out answer mute (written, none, same) = none
 mute_done n at k s t (actions.Learn u) out answer mute (written, none, learned) = none
@@ -488,18 +515,20 @@ asked_of p answers first rest is one more =
 
 fair_performed : (w e : StandingWorker) (acts : List Action) (answers : List (Event × List Action)) (out : List ℕ) → are_fair acts ≡ true → Performs w acts answers out e → are_light (asked answers) ≡ true
 fair_performed w e [] answers out are (none, nothing, same) = asks_none is_light answers none
-fair_performed w e (act ∷ acts) answers out are (bytes, more, answer, first, rest, seat, mid, (at, later, done), told, after, is, written) =
+fair_performed w e (act ∷ acts) answers out are (bytes, more, answer, first, rest, seat, mid, performed, told, after, is, written) =
+    let done = done_at w seat act bytes answer performed in
     let both = and_parts (is_fair act) (are_fair acts) are in
     asked_of is_light answers first rest is
-    (told_light w.session w.now answer first mid (fair_done w.number at w.session.session.known w.seat seat act bytes answer both.0 done) told)
+    (told_light w.session w.now answer first mid (fair_done w.number done.0 w.session.session.known w.seat seat act bytes answer both.0 done.1) told)
     (fair_performed (stays w mid seat) e acts rest more both.1 after)
 
 light_performed : (w e : StandingWorker) (acts : List Action) (answers : List (Event × List Action)) (out : List ℕ) → are_light acts ≡ true → Performs w acts answers out e → are_mute (asked answers) ≡ true
 light_performed w e [] answers out are (none, nothing, same) = asks_none is_mute answers none
-light_performed w e (act ∷ acts) answers out are (bytes, more, answer, first, rest, seat, mid, (at, later, done), told, after, is, written) =
+light_performed w e (act ∷ acts) answers out are (bytes, more, answer, first, rest, seat, mid, performed, told, after, is, written) =
+    let done = done_at w seat act bytes answer performed in
     let both = and_parts (is_light act) (are_light acts) are in
     asked_of is_mute answers first rest is
-    (told_mute w.session w.now answer first mid (light_done w.number at w.session.session.known w.seat seat act bytes answer both.0 done) told)
+    (told_mute w.session w.now answer first mid (light_done w.number done.0 w.session.session.known w.seat seat act bytes answer both.0 done.1) told)
     (light_performed (stays w mid seat) e acts rest more both.1 after)
 
 told_nothing : (s : StandingState) (now : ℕ) (answer : Option Event) (steps : List (Event × List Action)) (e : StandingState) → answer ≡ None → IsTold s now answer steps e → steps ≡ []
@@ -507,10 +536,11 @@ told_nothing s now answer steps e none told = (subst (λ (x : Option Event). IsT
 
 mute_performed : (w e : StandingWorker) (acts : List Action) (answers : List (Event × List Action)) (out : List ℕ) → are_mute acts ≡ true → Performs w acts answers out e → answers ≡ []
 mute_performed w e [] answers out are (none, nothing, same) = none
-mute_performed w e (act ∷ acts) answers out are (bytes, more, answer, first, rest, seat, mid, (at, later, done), told, after, is, written) =
+mute_performed w e (act ∷ acts) answers out are (bytes, more, answer, first, rest, seat, mid, performed, told, after, is, written) =
+    let done = done_at w seat act bytes answer performed in
     let both = and_parts (is_mute act) (are_mute acts) are in
     is
-    ∙ (ap (λ (x : List (Event × List Action)). x ++ rest) (told_nothing w.session w.now answer first mid (mute_done w.number at w.session.session.known w.seat seat act bytes answer both.0 done) told)
+    ∙ (ap (λ (x : List (Event × List Action)). x ++ rest) (told_nothing w.session w.now answer first mid (mute_done w.number done.0 w.session.session.known w.seat seat act bytes answer both.0 done.1) told)
     ∙ mute_performed (stays w mid seat) e acts rest more both.1 after)
 
 -- ---- no request waits after answers
@@ -547,16 +577,18 @@ told_free s now (Some event) steps e answers free told = elim (was_told s now ev
 
 any_performed : (w e : StandingWorker) (acts : List Action) (answers : List (Event × List Action)) (out : List ℕ) → Performs w acts answers out e → are_fair (asked answers) ≡ true
 any_performed w e [] answers out (none, nothing, same) = asks_none is_fair answers none
-any_performed w e (act ∷ acts) answers out (bytes, more, answer, first, rest, seat, mid, (at, later, done), told, after, is, written) =
+any_performed w e (act ∷ acts) answers out (bytes, more, answer, first, rest, seat, mid, performed, told, after, is, written) =
+    let done = done_at w seat act bytes answer performed in
     asked_of is_fair answers first rest is
-    (told_fair w.session w.now answer first mid (done_answered w.number at w.session.session.known w.seat seat (as_standing act) bytes answer done) told)
+    (told_fair w.session w.now answer first mid (done_answered w.number done.0 w.session.session.known w.seat seat (as_standing act) bytes answer done.1) told)
     (any_performed (stays w mid seat) e acts rest more after)
 
 free_performed : (w e : StandingWorker) (acts : List Action) (answers : List (Event × List Action)) (out : List ℕ) → IsFree w.session → Performs w acts answers out e → IsFree e.session
 free_performed w e [] answers out free (none, nothing, same) = free_as w.session e.session (ap (λ (x : StandingWorker). x.session) same) free
-free_performed w e (act ∷ acts) answers out free (bytes, more, answer, first, rest, seat, mid, (at, later, done), told, after, is, written) =
+free_performed w e (act ∷ acts) answers out free (bytes, more, answer, first, rest, seat, mid, performed, told, after, is, written) =
+    let done = done_at w seat act bytes answer performed in
     free_performed (stays w mid seat) e acts rest more
-    (told_free w.session w.now answer first mid (done_answered w.number at w.session.session.known w.seat seat (as_standing act) bytes answer done) free told) after
+    (told_free w.session w.now answer first mid (done_answered w.number done.0 w.session.session.known w.seat seat (as_standing act) bytes answer done.1) free told) after
 
 -- ---- acknowledgements while no request waits
 
@@ -646,14 +678,15 @@ over_performed w e (act ∷ acts) answers out over (bytes, more, answer, first, 
 acks_performed : (w e : StandingWorker) (acts : List Action) (answers : List (Event × List Action)) (out : List ℕ) → are_light acts ≡ true → IsFree w.session → Performs w acts answers out e
     → IsNothingOrPart (asked answers) e.session.session
 acks_performed w e [] answers out light free (none, nothing, same) = inl (ap asked none)
-acks_performed w e (act ∷ acts) answers out light free (bytes, more, answer, first, rest, seat, mid, (at, later, done), told, after, is, written) =
+acks_performed w e (act ∷ acts) answers out light free (bytes, more, answer, first, rest, seat, mid, performed, told, after, is, written) =
+    let done = done_at w seat act bytes answer performed in
     let both = and_parts (is_light act) (are_light acts) light in
     let joined : asked answers ≡ asked first ++ asked rest = ap asked is ∙ flat_map-append (λ (step : Event × List Action). step.1) first rest in
-    elim (light_told w.number at w.now w.session.session.known w.seat seat act w.session mid answer first bytes both.0 free done told) [
+    elim (light_told w.number done.0 w.now w.session.session.known w.seat seat act w.session mid answer first bytes both.0 free done.1 told) [
       | inl none ↦
           at_asked (asked answers) (asked rest) e.session.session (joined ∙ ap (λ (x : List Action). x ++ asked rest) none)
           (acks_performed (stays w mid seat) e acts rest more both.1
-          (told_free w.session w.now answer first mid (done_answered w.number at w.session.session.known w.seat seat (as_standing act) bytes answer done) free told) after)
+          (told_free w.session w.now answer first mid (done_answered w.number done.0 w.session.session.known w.seat seat (as_standing act) bytes answer done.1) free told) after)
       | inr part ↦
           let over = over_performed (stays w mid seat) e acts rest more part.1 after in
           inr (joined ∙ (ap (λ (x : List Action). asked first ++ x) (ap asked over.0) ∙ (append-nil (asked first) ∙ part.0)), over.1)

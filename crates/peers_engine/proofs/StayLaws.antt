@@ -1,5 +1,5 @@
 -- A session that stays: from one action to a turn or a tick.
-use Rattle.std.proofs.Common.{◌≡◌, ◌≤◌, ◌<◌, ◌+◌, ℕ, List, [], ◌∷◌, ◌++◌, length, drop, get_or, Option, Some, None, refl, sym, ap, ◌∙◌, subst, append_assoc, arith}
+use Rattle.std.proofs.Common.{◌≡◌, ◌<◌, ◌+◌, ℕ, List, [], ◌∷◌, ◌++◌, length, drop, get_or, Option, Some, None, refl, sym, ap, ◌∙◌, subst, append_assoc}
 use Rattle.std.proofs.KnownBytes.{Appends-nil, Appends-trans, Consumes-nil}
 use Rattle.std.proofs.lemmas.List.{append-nil, drop_more}
 use Rattle.std.proofs.lemmas.List.Concat.{flat_map-append}
@@ -16,13 +16,12 @@ use Rattle.session_core.specs.declared.state.State.TheVariants as states
 use Rattle.session_core.specs.Sessions.{state_of}
 use Rattle.session_core.specs.Standing.{StandingState, Stands, Ticks}
 use Rattle.peers_engine.specs.Acting.{asked}
-use Rattle.peers_engine.specs.Calls.{IsCopied, IsLearned, IsReopened}
+use Rattle.peers_engine.specs.Calls.{IsCopiedLate, IsLearnedLate, IsReopened}
 use Rattle.peers_engine.specs.Reading.{IsRead}
-use Rattle.peers_engine.specs.Staying.{AreReopened, IsPerformed, IsTold, IsToldIn, Performs, Responds, RespondsTo, StandingWorker, TakesStandingTurn, TakesTick, as_standing, standing_kind, stays, without_request}
+use Rattle.peers_engine.specs.Staying.{AreReopened, IsPerformed, IsTold, IsToldIn, Performs, Responds, RespondsTo, StandingWorker, TakesStandingTurn, TakesTick, standing_kind, stays, without_request}
 use Rattle.peers_engine.specs.Turns.{first_event}
-use Rattle.peers_engine.proofs.AnswerLaws.{copy_done, learn_done, send_done}
+use Rattle.peers_engine.proofs.AnswerLaws.{send_done}
 use Rattle.peers_engine.proofs.StayCalmLaws.{tick_ends}
-use Rattle.peers_engine.proofs.TurnLaws.{OneDone}
 
 -- ---- one action
 
@@ -30,38 +29,30 @@ use Rattle.peers_engine.proofs.TurnLaws.{OneDone}
 abbrev pub HasPerformed : StandingWorker → Action → Option Event → SeatState → Option (List ℕ) → Option (List ℕ) → Type 0
 HasPerformed w act answer seat old new = (out : List ℕ) × IsPerformed w act out answer seat × Appends old new out
 
-pub performed_at : (w : StandingWorker) (seat : SeatState) (action act : Action) (answer : Option Event) (at : ℕ) (old new : Option (List ℕ))
-    → action ≡ act → w.now ≤ at → OneDone w.number at w.session.session.known w.seat seat (as_standing act) old new answer → HasPerformed w action answer seat old new
-performed_at w seat action act answer at old new is later (out, done, appended) =
-    subst (λ (a : Action). HasPerformed w a answer seat old new) (sym is) (out, (at, later, done), appended)
-
--- at the moment of the turn
-pub performed_now : (w : StandingWorker) (seat : SeatState) (action act : Action) (answer : Option Event) (old new : Option (List ℕ))
-    → action ≡ act → OneDone w.number w.now w.session.session.known w.seat seat (as_standing act) old new answer → HasPerformed w action answer seat old new
-performed_now w seat action act answer old new is done = performed_at w seat action act answer w.now old new is (omega arith) done
+pub performed_as : (w : StandingWorker) (seat : SeatState) (action act : Action) (answer : Option Event) (old new : Option (List ℕ))
+    → action ≡ act → HasPerformed w act answer seat old new → HasPerformed w action answer seat old new
+performed_as w seat action act answer old new is done = subst (λ (a : Action). HasPerformed w a answer seat old new) (sym is) done
 
 -- bytes that are written
 pub bytes_sent : (w : StandingWorker) (action : Action) (bytes sent : List ℕ) (old new : Option (List ℕ))
     → action ≡ actions.Send bytes → sent ≡ bytes → Appends old new (without_request sent) → HasPerformed w action None w.seat old new
 bytes_sent w action bytes sent old new is same appended =
-    performed_now w w.seat action (actions.Send bytes) None old new is
+    performed_as w w.seat action (actions.Send bytes) None old new is
     (send_done w.number w.now w.session.session.known w.seat (actions.Send (without_request bytes)) (without_request bytes) (without_request sent) old new refl (ap without_request same) appended)
 
 -- a row that is learned
 pub row_learned : (w : StandingWorker) (seat : SeatState) (action : Action) (u : Update) (known : Option (List ℕ))
-    → action ≡ actions.Learn u → ((at : ℕ) × (w.now ≤ at) × IsLearned w.number at w.seat u seat) → HasPerformed w action None seat known known
-row_learned w seat action u known is (at, later, learned) =
-    performed_at w seat action (actions.Learn u) None at known known is later
-    (learn_done w.number at w.session.session.known w.seat seat (actions.Learn u) u known refl learned)
+    → action ≡ actions.Learn u → IsLearnedLate w.number w.now w.seat u seat → HasPerformed w action None seat known known
+row_learned w seat action u known is learned =
+    performed_as w seat action (actions.Learn u) None known known is ([], (refl, refl, learned), Appends-nil known)
 
 -- a batch that is copied
 pub batch_copied : (w : StandingWorker) (seat : SeatState) (action : Action) (table : ℕ) (kind asked_for : CopyKind) (known : Option (List ℕ)) (event : Event)
-    → action ≡ actions.Copy table kind → asked_for ≡ standing_kind kind → ((at : ℕ) × (w.now ≤ at) × IsCopied w.number at w.seat table asked_for seat event)
+    → action ≡ actions.Copy table kind → asked_for ≡ standing_kind kind → IsCopiedLate w.number w.now w.seat table asked_for seat event
     → HasPerformed w action (Some event) seat known known
-batch_copied w seat action table kind asked_for known event is same (at, later, copied) =
-    performed_at w seat action (actions.Copy table kind) (Some event) at known known is later
-    (copy_done w.number at w.session.session.known w.seat seat (actions.Copy table (standing_kind kind)) table (standing_kind kind) known event refl
-    (subst (λ (k : CopyKind). IsCopied w.number at w.seat table k seat event) same copied))
+batch_copied w seat action table kind asked_for known event is same copied =
+    let at_kind = subst (λ (k : CopyKind). IsCopiedLate w.number w.now w.seat table k seat event) same copied in
+    performed_as w seat action (actions.Copy table kind) (Some event) known known is ([], (refl, event, refl, at_kind), Appends-nil known)
 
 -- ---- its answer
 

@@ -1,5 +1,5 @@
 -- A session that stays: how far an error lets it go.
-use Rattle.std.proofs.Common.{◌≡◌, ◌<◌, ◌+◌, ℕ, List, [], ◌∷◌, ◌++◌, length, drop, get_or, Option, Some, None, refl, sym, ap, ◌∙◌, subst, inl, inr, append_assoc, arith}
+use Rattle.std.proofs.Common.{◌≡◌, ◌<◌, ◌+◌, ℕ, List, [], ◌∷◌, ◌++◌, length, drop, get_or, Option, Some, None, refl, sym, ap, ◌∙◌, subst, inl, inr, append_assoc}
 use Rattle.std.proofs.KnownBytes.{Appends-nil, Appends-trans, Consumes-nil}
 use Rattle.std.proofs.lemmas.List.{append-nil, drop_more}
 use Rattle.std.specs.Prelude.{◌⊎◌, ◌≢◌}
@@ -18,7 +18,7 @@ use Rattle.peers_engine.specs.Acting.{IsLost, IsRefused, asked}
 use Rattle.peers_engine.specs.Calls.{IsReopened}
 use Rattle.peers_engine.specs.Doing.{Falls, IsAtTable, IsLeft, IsRefusal}
 use Rattle.peers_engine.specs.Reading.{IsRead}
-use Rattle.peers_engine.specs.Staying.{AreReopened, DoesNotStay, FailsToReopen, IsCutLate, IsFailed, IsPerformed, Performs, PerformsUntil, Responds, RespondsToUntil, RespondsUntil, StandingWorker, StopsStandingTurn, StopsTick, as_standing, stays, without_request}
+use Rattle.peers_engine.specs.Staying.{AreReopened, DoesNotStay, FailsToReopen, IsFailed, IsPerformed, IsStandingCut, Performs, PerformsUntil, Responds, RespondsToUntil, RespondsUntil, StandingWorker, StopsStandingTurn, StopsTick, as_standing, stays, without_request}
 use Rattle.peers_engine.specs.Turns.{first_event}
 use Rattle.peers_engine.proofs.AnswerLaws.{call_refused, send_falls}
 use Rattle.peers_engine.proofs.HaltLaws.{after_nothing, asked_on, more_answers}
@@ -35,7 +35,7 @@ HasFailed w act seat old new error = (out : List ℕ) × IsFailed w act error ou
 pub failed_now : (w : StandingWorker) (seat : SeatState) (action act : Action) (error : EngineError) (old new : Option (List ℕ))
     → action ≡ act → OneFails w.number w.now w.session.session.known w.seat seat (as_standing act) old new error → HasFailed w action seat old new error
 failed_now w seat action act error old new is (out, fails, appended) =
-    subst (λ (a : Action). HasFailed w a seat old new error) (sym is) (out, (w.now, omega arith, fails), appended)
+    subst (λ (a : Action). HasFailed w a seat old new error) (sym is) (out, fails, appended)
 
 -- bytes that aren't written whole
 pub bytes_fall : (w : StandingWorker) (action : Action) (bytes sent : List ℕ) (error : EngineError) (old new : Option (List ℕ))
@@ -61,8 +61,8 @@ AllUntil w acts e seat old new error =
 -- the next action fails
 pub perform_fails : (w mid : StandingWorker) (seat : SeatState) (all before rest given : List Action) (act : Action) (error : EngineError) (a b d : Option (List ℕ))
     → all ≡ before ++ (act ∷ rest) → AllPerformed w before given mid a b → HasFailed mid act seat b d error → AllUntil w all mid.session.session seat a d error
-perform_fails w mid seat all before rest given act error a b d is (answers, out, performed, kept, appended) (last, (at, later, fails), more) =
-    (answers, out ++ last, (before, act ∷ rest, out, last, mid, is, performed, inl (at, later, inl fails), refl, refl), Appends-trans a b d out last appended more)
+perform_fails w mid seat all before rest given act error a b d is (answers, out, performed, kept, appended) (last, fails, more) =
+    (answers, out ++ last, (before, act ∷ rest, out, last, mid, is, performed, inl (inl fails), refl, refl), Appends-trans a b d out last appended more)
 
 -- why the session doesn't go on after an answer
 abbrev pub IsNotTold : StandingState → ℕ → Option Event → StandingState → EngineError → Type 0
@@ -74,7 +74,7 @@ pub tell_fails : (w mid : StandingWorker) (e : StandingState) (seat : SeatState)
     → AllUntil w all e.session seat a d error
 tell_fails w mid e seat all before rest given act answer error a b d is (answers, out, performed, kept, appended) (bytes, done, more) (event, some, going, inl (refused, over)) =
     let last = subst (λ (x : Option Event). IsPerformed mid act bytes x seat) some done in
-    (answers, out ++ bytes, (before, act ∷ rest, out, bytes, mid, is, performed, inl (last.0, last.1, inr (event, last.2, going, refused)), refl, ap ended over), Appends-trans a b d out bytes appended more)
+    (answers, out ++ bytes, (before, act ∷ rest, out, bytes, mid, is, performed, inl (inr (event, last, going, refused)), refl, ap ended over), Appends-trans a b d out bytes appended more)
 tell_fails w mid e seat all before rest given act answer error a b d is (answers, out, performed, kept, appended) (bytes, done, more) (event, some, going, inr (acts, stands, memory)) =
     let one = one_performed mid e seat act answer ((event, acts) ∷ []) bytes done (told_some mid.session e mid.now answer event acts some going stands) in (
       answers ++ ((event, acts) ∷ []),
@@ -98,11 +98,11 @@ tell_fails w mid e seat all before rest given act answer error a b d is (answers
 
 -- an error comes at the first of these actions, or memory ran out for the last answer
 abbrev IsStopped : StandingWorker → List Action → List (Event × List Action) → EngineError → List ℕ → SeatState → Type 0
-IsStopped w rest answers error out seat = IsCutLate w rest error out seat ⊎ (IsLost answers error out × (seat ≡ w.seat))
+IsStopped w rest answers error out seat = IsStandingCut w rest error out seat ⊎ (IsLost answers error out × (seat ≡ w.seat))
 
 stopped_before : (w : StandingWorker) (seat : SeatState) (rest more : List Action) (answers : List (Event × List Action)) (error : EngineError) (out : List ℕ)
     → IsStopped w rest answers error out seat → IsStopped w (rest ++ more) answers error out seat
-stopped_before w seat [] more answers error out (inl (at, later, cut)) = absurd cut
+stopped_before w seat [] more answers error out (inl cut) = absurd cut
 stopped_before w seat (act ∷ rest) more answers error out (inl cut) = inl cut
 stopped_before w seat rest more answers error out (inr lost) = inr lost
 

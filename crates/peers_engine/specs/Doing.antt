@@ -58,15 +58,34 @@ abbrev pub Falls : List ℕ → EngineError → Option (List ℕ) → Option (Li
 Falls bytes (errors.Write sent) old new = (sent < length bytes) × Appends old new (take sent bytes)
 Falls bytes error old new = ⊥
 
+-- the same of a lesson's bytes, for which memory can run out too
+abbrev pub FallsShort : List ℕ → EngineError → Option (List ℕ) → Option (List ℕ) → Type 0
+FallsShort bytes errors.Memory old new = (sent : ℕ) × (sent < length bytes) × Appends old new (take sent bytes)
+FallsShort bytes error old new = Falls bytes error old new
+
 -- How an action that a table refuses leaves the seat: as it was; or with the receipt of the close, if the session was
 -- closed in the table and not opened anew.
 abbrev pub IsLeft : ℕ → SeatState → Action → SeatState → Type 0
 IsLeft n s (actions.Reopen table) t = (t ≡ s) ⊎ CallsClose n s table (Ok tt) t
 IsLeft n s act t = t ≡ s
 
--- An action fails, and leaves the seat: a write failed after some of its bytes, and the seat is as the action leaves it;
--- or a table refused it or memory ran out, and nothing was written.
-abbrev pub Fails : ℕ → ℕ → KnownState → SeatState → Action → EngineError → List ℕ → SeatState → Type 0
-Fails n now k s act (errors.Write sent) out t =
+-- a table refuses an action, or memory runs out for it, and nothing is written
+abbrev pub IsUndone : ℕ → SeatState → Action → EngineError → List ℕ → SeatState → Type 0
+IsUndone n s act error out t = IsRefusal error × IsAtTable act × (out ≡ []) × IsLeft n s act t
+
+-- an action is done, but exactly the first `sent` of its bytes are written, and not all
+abbrev pub IsCutOff : ℕ → ℕ → KnownState → SeatState → Action → ℕ → List ℕ → SeatState → Type 0
+IsCutOff n now k s act sent out t =
     (bytes : List ℕ) × (answer : Option Event) × Done n now k s act bytes answer t × (sent < length bytes) × (out ≡ take sent bytes)
-Fails n now k s act error out t = IsRefusal error × IsAtTable act × (out ≡ []) × IsLeft n s act t
+
+-- the action whose bytes are made while they are written
+abbrev pub IsTeach : Action → Type 0
+IsTeach (actions.Teach batch) = Unit {0}
+IsTeach act = ⊥
+
+-- An action fails, and leaves the seat: a write failed after some of its bytes, or memory ran out after some bytes of a
+-- lesson, and the seat is as the action leaves it; or a table refused it or memory ran out, and nothing was written.
+abbrev pub Fails : ℕ → ℕ → KnownState → SeatState → Action → EngineError → List ℕ → SeatState → Type 0
+Fails n now k s act (errors.Write sent) out t = IsCutOff n now k s act sent out t
+Fails n now k s act errors.Memory out t = IsUndone n s act errors.Memory out t ⊎ (IsTeach act × (sent : ℕ) × IsCutOff n now k s act sent out t)
+Fails n now k s act error out t = IsUndone n s act error out t

@@ -1,7 +1,7 @@
 -- A session that stays at work. Its turns differ from those of any other in three ways: a call on a table comes at the turn's
--- moment, or later if the table has a later one; a resync copies up to its session's bound; and the session requests no
+-- moment, or at the table's latest one if that is later; a resync copies up to its session's bound; and the session requests no
 -- resync by itself.
-use Rattle.std.specs.Prelude.{◌≡◌, ◌⊎◌, ◌≤◌, ℕ, nat_eq, Bool, true, false, List, [], ◌∷◌, ◌++◌, map, Option, Some, None, if◌then◌else◌}
+use Rattle.std.specs.Prelude.{◌≡◌, ◌≢◌, ◌⊎◌, ℕ, nat_eq, Bool, true, false, List, [], ◌∷◌, ◌++◌, Option, Some, None, if◌then◌else◌}
 use Rattle.std.specs.Cmp.Lexicographic.{pointwise}
 use Rattle.table_types.specs.declared.copies.CopyKind.{CopyKind}
 use Rattle.table_types.specs.declared.copies.CopyKind.TheVariants as copies
@@ -19,8 +19,8 @@ use Rattle.session_core.specs.Sessions.{SessionState, ended, state_of}
 use Rattle.session_core.specs.Standing.{StandingState, Stands, Ticks, sent_at}
 use Rattle.peers_engine.specs.declared.errors.EngineError.{EngineError}
 use Rattle.peers_engine.specs.declared.errors.EngineError.TheVariants as errors
-use Rattle.peers_engine.specs.Acting.{IsCut, IsLost, IsRefused, asked, worker}
-use Rattle.peers_engine.specs.Calls.{IsReopened}
+use Rattle.peers_engine.specs.Acting.{IsLost, IsRefused, asked}
+use Rattle.peers_engine.specs.Calls.{IsCopiedLate, IsLearnedLate, IsReopened}
 use Rattle.peers_engine.specs.Doing.{Done, Fails, IsLeft, IsRefusal}
 use Rattle.peers_engine.specs.Reading.{IsUnread}
 use Rattle.peers_engine.specs.Turns.{first_event}
@@ -61,10 +61,12 @@ as_standing (actions.Send bytes) = actions.Send (without_request bytes)
 as_standing (actions.Copy table kind) = actions.Copy table (standing_kind kind)
 as_standing act = act
 
--- an action is performed, as a session that stays does it, at the turn's moment or later
+-- an action is performed, as a session that stays does it
 abbrev pub IsPerformed : StandingWorker → Action → List ℕ → Option Event → SeatState → Type 0
-IsPerformed w act out answer seat =
-    (at : ℕ) × (w.now ≤ at) × Done w.number at w.session.session.known w.seat (as_standing act) out answer seat
+IsPerformed w (actions.Learn u) out answer seat = (out ≡ []) × (answer ≡ None) × IsLearnedLate w.number w.now w.seat u seat
+IsPerformed w (actions.Copy table kind) out answer seat =
+    (out ≡ []) × (event : Event) × (answer ≡ Some event) × IsCopiedLate w.number w.now w.seat table (standing_kind kind) seat event
+IsPerformed w act out answer seat = Done w.number w.now w.session.session.known w.seat (as_standing act) out answer seat
 
 -- The session receives an answer, if there is one, at the moment `now`: the events that it receives, each with what it then
 -- asks for. A session that is over receives nothing.
@@ -94,10 +96,9 @@ Performs w (act ∷ acts) answers out e =
 
 -- ---- what is performed up to an error
 
--- an action fails, as a session that stays performs it, at the turn's moment or later
+-- an action fails, as a session that stays performs it
 abbrev pub IsFailed : StandingWorker → Action → EngineError → List ℕ → SeatState → Type 0
-IsFailed w act error out seat =
-    (at : ℕ) × (w.now ≤ at) × Fails w.number at w.session.session.known w.seat (as_standing act) error out seat
+IsFailed w act error out seat = Fails w.number w.now w.session.session.known w.seat (as_standing act) error out seat
 
 -- the session refuses the event; or receives it, and memory runs out for what it asks for
 abbrev pub DoesNotStay : StandingState → ℕ → Event → EngineError → StandingState → Type 0
@@ -105,11 +106,13 @@ DoesNotStay s now event error e =
     (IsRefused s.session event error × (e.session ≡ ended s.session))
     ⊎ ((acts : List Action) × Stands s now event acts e × (error ≡ errors.Memory))
 
--- The first of the remaining actions was the last, as in any other session that does in its place what one that stays does,
--- at the turn's moment or later.
-abbrev pub IsCutLate : StandingWorker → List Action → EngineError → List ℕ → SeatState → Type 0
-IsCutLate w acts error out seat =
-    (at : ℕ) × (w.now ≤ at) × IsCut (worker w.session.session w.seat w.number at) (map as_standing acts) error out seat
+-- Why the first of the remaining actions was the last: it failed; or it was performed, and the session refused its answer.
+abbrev pub IsStandingCut : StandingWorker → List Action → EngineError → List ℕ → SeatState → Type 0
+IsStandingCut w [] error out seat = ⊥
+IsStandingCut w (act ∷ rest) error out seat =
+    IsFailed w act error out seat
+    ⊎ ((answer : Event) × IsPerformed w act out (Some answer) seat
+    × (state_of w.session.session.phase ≢ states.Ended) × IsRefused w.session.session answer error)
 
 -- The actions up to one were performed, and then an error came: the answers received, what was written, the session, except
 -- that it is then over, and the seat as it is then.
@@ -120,7 +123,7 @@ PerformsUntil w acts error answers out e seat =
     × (mid : StandingWorker)
     × (acts ≡ before ++ rest)
     × Performs w before answers first mid
-    × (IsCutLate mid rest error last seat ⊎ (IsLost answers error last × (seat ≡ mid.seat)))
+    × (IsStandingCut mid rest error last seat ⊎ (IsLost answers error last × (seat ≡ mid.seat)))
     × (out ≡ first ++ last)
     × (ended e ≡ ended mid.session.session)
 

@@ -1,4 +1,4 @@
-//! What stays the same throughout a turn.
+//! What stays the same while a session's worker is at work.
 
 use std::alloc::Global;
 use table_shards::Shards;
@@ -6,7 +6,7 @@ use table_types::Moment;
 
 /// What a session's worker needs, and what stays the same throughout a turn.
 #[derive(Drop)]
-pub(crate) struct Context<'a, H, G> {
+pub struct Context<'a, H, G> {
     /// The runtime with which the worker waits for locks.
     pub rt: &'a H,
     /// The allocator.

@@ -11,23 +11,25 @@ ghost use Rattle.peers_engine.specs.declared.errors.EngineError.TheVariants as e
 ghost use Rattle.peers_engine.specs.Acting.{Acts, Stops, asked, worker};
 ghost use Rattle.peers_engine.specs.Calls.{IsCopied, IsSettled};
 ghost use Rattle.teach_writer.specs.Lessons.{IsShortestLesson};
-ghost use Rattle.peers_engine.specs.Doing.{Fails, Falls, IsRefusal, error_text};
+ghost use Rattle.teach_writer.specs.Pieces.{bytes_left};
+ghost use Rattle.peers_engine.specs.Doing.{Fails, Falls, FallsShort, IsRefusal, error_text};
 
 use crate::answering::give_answer;
 use crate::context::Context;
 use crate::errors::EngineError;
 use crate::gate::{Gate, Stage};
 use crate::tables::{acknowledge, copy, learn, reopen, settle};
-use crate::writing::write_lesson;
+use crate::writing::{PiecesError, write_lesson, write_pieces};
 use known_state::Known;
 use peers_devices::Faults;
 use peers_msg::ErrorKind;
 use session_core::{Action, Event, Session};
+use std::alloc::Global;
 use std::io::Write;
 use std::sync::Wait;
 use table_shards::Seat;
 use table_types::{Batch, CopyKind};
-use teach_writer::{Lesson, teach};
+use teach_writer::Pieces;
 
 /// Writes all of the bytes.
 pub(crate) fn send<W: Write + Faults>(output: &mut W, bytes: &[u8]) -> Result<(), EngineError>
@@ -52,7 +54,7 @@ pub(crate) fn part<W: Write + Faults>(output: &mut W, kind: ErrorKind) -> Result
 }
 
 /// Copies a batch and, if there is one, stops at the gate.
-fn copy_batch<H: Wait, G: Gate>(
+pub fn copy_batch<H: Wait, G: Gate>(
     context: &Context<H, G>,
     seat: &mut Seat,
     table: u64,
@@ -71,16 +73,38 @@ fn copy_batch<H: Wait, G: Gate>(
 }
 
 /// Plans the lesson of a batch. No table's lock is held.
-fn plan<H, G>(context: &Context<H, G>, known: &Known, batch: &Batch) -> Result<Lesson, EngineError>
-    ensures lesson { IfOk result (λ lesson. IsShortestLesson known.now batch.now lesson.bytes lesson.known) }
+pub fn plan<H, G>(
+    context: &Context<H, G>,
+    known: &Known,
+    batch: &Batch,
+) -> Result<Pieces, EngineError>
+    ensures lesson { IfOk result (λ pieces. IsShortestLesson known.now batch.now (bytes_left pieces) pieces.known) }
     ensures refused { IfErr result IsRefusal }
 {
     if !batch.is_for(known.roster()) {
         return Err(EngineError::Strange);
     }
-    match teach(context.alloc, known, batch) {
-        Ok(lesson) => Ok(lesson),
+    match Pieces::new(context.alloc, known, batch) {
+        Ok(pieces) => Ok(pieces),
         Err(_) => Err(EngineError::Memory),
+    }
+}
+
+/// Writes a lesson, and returns what the learner knows after it. Fails with `Memory` if memory runs out for its next bytes;
+/// then any part of it may be written, but not all.
+fn send_pieces<W: Write + Faults>(
+    alloc: Global,
+    output: &mut W,
+    pieces: Pieces,
+) -> Result<Known, EngineError>
+    ensures sent { IfOk result (λ after. (after ≡ pieces.known) × Appends (W.contents output.old) (W.contents output.new) (bytes_left pieces)) }
+    ensures failed { IfErr result (λ e. FallsShort (bytes_left pieces) e (W.contents output.old) (W.contents output.new)) }
+    ensures unread { IfErr result (λ e. e ≢ errors.Read) }
+{
+    match write_pieces(alloc, output, pieces) {
+        Ok((_prices, after)) => Ok(after),
+        Err(PiecesError::Write { sent }) => Err(EngineError::Write { sent }),
+        Err(PiecesError::Memory { sent: _ }) => Err(EngineError::Memory),
     }
 }
 
@@ -100,12 +124,12 @@ pub(crate) fn teach_batch<H: Wait, G: Gate, W: Write + Faults>(
         × Appends (W.contents output.old) (W.contents output.new) out) }
     ensures unread { IfErr result (λ e. e ≢ errors.Read) }
 {
-    let lesson = plan(context, known, batch)?;
+    let pieces = plan(context, known, batch)?;
     context.gate.at(context.rt, Stage::Planned);
     settle(context, seat, batch)?;
-    send(output, lesson.bytes.as_slice())?;
+    let after = send_pieces(context.alloc, output, pieces)?;
     context.gate.at(context.rt, Stage::Written);
-    Ok(Event::Written(lesson.known))
+    Ok(Event::Written(after))
 }
 
 /// Performs one action of a session, gives the session its answer, if it has one, and appends what the session then asks
@@ -113,8 +137,9 @@ pub(crate) fn teach_batch<H: Wait, G: Gate, W: Write + Faults>(
 ///
 /// Fails with `Write` if not all of its bytes are written, and leaves the seat as the action does. Fails with `Memory`
 /// or `Strange` before any are if the action can't be done; the seat is then as it was, but for the receipt of the close
-/// if a table was closed and not opened anew. If the session refuses the answer, or memory runs out for what the answer
-/// asks for, the action was done, and the seat is as the action leaves it.
+/// if a table was closed and not opened anew. Fails with `Memory` in the middle of a lesson if memory runs out for its next
+/// bytes; the seat is then as the lesson leaves it. If the session refuses the answer, or memory runs out for what the
+/// answer asks for, the action was done, and the seat is as the action leaves it.
 pub(crate) fn do_action<H: Wait, G: Gate, W: Write + Faults>(
     context: &Context<H, G>,
     session: &mut Session,

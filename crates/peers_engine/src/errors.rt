@@ -23,7 +23,7 @@ pub enum EngineError {
         /// The number of bytes that went out.
         sent: usize,
     },
-    /// Memory ran out.
+    /// Memory ran out. Of a lesson, any part may have gone out before, but not all.
     #[error("memory")]
     Memory,
     /// A table refused a call for a reason that can't be passed on to the session; or the table doesn't exist, the seat

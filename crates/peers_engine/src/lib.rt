@@ -1,5 +1,6 @@
 //! Driving a session: its turns, the actions that it asks for, the gate at which its worker stops between its steps, and
-//! devices that fail after some calls. Each call on a table takes the table's lock for that call only.
+//! devices that fail after some calls. What a turn does with a batch is there for a worker without a session too. Each call
+//! on a table takes the table's lock for that call only.
 #![tactic(auto)]
 
 mod answering;
@@ -16,11 +17,14 @@ mod turning;
 mod worker;
 mod writing;
 
+pub use context::Context;
+pub use doing::{copy_batch, plan};
 pub use errors::EngineError;
 pub use fused::Fused;
 pub use gate::{AlwaysOpen, Gate, Stage};
 pub use peers_devices::{Counting, Faults};
 pub use staying::{StandingWorker, Stood, TableTally, Tally};
+pub use tables::{acknowledge, settle};
 pub use turned::Turned;
 pub use turning::turn;
 pub use worker::Worker;

@@ -8,15 +8,19 @@ ghost use Rattle.std.specs.Prelude.{◌≡◌, ◌≢◌, ◌↔◌, ℕ, List, 
 ghost use Rattle.std.specs.Io.KnownBytes.{Appends, Consumes, IsAtEnd};
 ghost use Rattle.peers_devices.specs.Failures.{Rose};
 ghost use Rattle.peers_msg.specs.declared.control.Control.TheVariants as controls;
+ghost use Rattle.session_core.specs.declared.error.SessionError.{SessionError};
+ghost use Rattle.session_core.specs.declared.error.SessionError.TheVariants as refusals;
 ghost use Rattle.session_core.specs.declared.event.Event.{Event};
+ghost use Rattle.session_core.specs.declared.event.Event.TheVariants as events;
 ghost use Rattle.session_core.specs.declared.state.State.TheVariants as states;
 ghost use Rattle.session_core.specs.Actions.{control_text};
-ghost use Rattle.session_core.specs.Sessions.{ended, state_of};
+ghost use Rattle.session_core.specs.Sessions.{Refuses, ended, state_of};
 ghost use Rattle.peers_engine.specs.declared.errors.EngineError.TheVariants as errors;
 ghost use Rattle.peers_engine.specs.declared.staying.Stood.TheVariants as stands;
 ghost use Rattle.peers_engine.specs.Doing.{Falls};
 ghost use Rattle.peers_engine.specs.Reading.{IsRead};
 ghost use Rattle.peers_engine.specs.Staying.{StopsStandingTurn, StopsTick, TakesStandingTurn, TakesTick, after_request, can_request, request_text, standing_worker};
+ghost use Rattle.peers_engine.specs.Turns.{first_event};
 
 use crate::context::Context;
 use crate::errors::EngineError;
@@ -131,6 +135,11 @@ impl StandingWorker {
             × Consumes (R.remaining input.old) (R.remaining input.new) read
             × Appends (W.contents output.old) (W.contents output.new) out) }
         ensures read { result ≡ Err errors.Read → Rose (R.failed input.old) (R.failed input.new) }
+        ensures refused { (e : SessionError) → e ≢ refusals.Memory
+            → Refuses self.old.session.session.phase (first_event (state_of self.old.session.session.phase)) e
+            → (result ≡ Err (errors.Session e)) × (input.new ≡ input.old) × (output.new ≡ output.old) }
+        ensures over { state_of self.old.session.session.phase ≡ states.Ended
+            → (result ≡ Err (errors.Session refusals.Ended)) × (input.new ≡ input.old) × (output.new ≡ output.old) }
         ensures seat { self.new.seat.number ≡ self.old.seat.number }
         ensures number { self.new.number ≡ self.old.number }
     {
@@ -175,6 +184,10 @@ impl StandingWorker {
         ensures stopped { IfErr result (λ e. (out : List ℕ) × StopsTick (standing_worker self.old.session self.old.seat self.old.number now) e out self.new.session.session self.new.seat
             × Appends (W.contents output.old) (W.contents output.new) out) }
         ensures unread { IfErr result (λ e. e ≢ errors.Read) }
+        ensures refused { (e : SessionError) → e ≢ refusals.Memory → Refuses self.old.session.session.phase events.Turn e
+            → (result ≡ Err (errors.Session e)) × (output.new ≡ output.old) }
+        ensures over { state_of self.old.session.session.phase ≡ states.Ended
+            → (result ≡ Err (errors.Session refusals.Ended)) × (output.new ≡ output.old) }
         ensures seat { self.new.seat.number ≡ self.old.seat.number }
         ensures number { self.new.number ≡ self.old.number }
     {

@@ -1,8 +1,8 @@
 //! The calls on tables that a session asks for. Each takes the table's lock for that call only. The seat keeps an
 //! answer that makes no event and lets the turn go on.
 
-ghost use Rattle.std.specs.Prelude.{◌≡◌, ◌⊎◌, ◌≤◌, ℕ, IfErr, IfOk, OnErr, OnOk, Ok};
-ghost use Rattle.peers_engine.specs.Calls.{CallsClose, CallsOpen, IsCopied, IsLearned, IsReopened, IsSettled, IsTaken};
+ghost use Rattle.std.specs.Prelude.{◌≡◌, ◌⊎◌, ℕ, max, IfErr, IfOk, OnErr, OnOk, Ok};
+ghost use Rattle.peers_engine.specs.Calls.{CallsClose, CallsOpen, IsCopied, IsCopiedLate, IsCopiedOn, IsLearned, IsLearnedLate, IsLearnedOn, IsReopened, IsSettled, IsSoundTable, IsTaken};
 ghost use Rattle.peers_engine.specs.Doing.{IsRefusal};
 
 use crate::context::Context;
@@ -28,6 +28,13 @@ fn lock<'a, H: Wait, G>(
     }
 }
 
+/// Does nothing. Each table under a lock is sound, and its history keeps its batches.
+fn note_sound(locked: &Locked)
+    ensures { IsSoundTable locked.now }
+{
+    let _events = locked.cell().events();
+}
+
 /// Returns the engine's error for a refusal that can't be passed on to the session. `memory` is the cell's own error
 /// for running out of memory.
 fn refused<E: Copy + PartialEq>(error: ShardError<E>, memory: E) -> EngineError
@@ -42,8 +49,7 @@ fn refused<E: Copy + PartialEq>(error: ShardError<E>, memory: E) -> EngineError
 
 /// Returns the turn's moment, or the table's latest one if that is later, so that the table doesn't refuse a call for its moment.
 fn late<H, G>(context: &Context<H, G>, locked: &Locked) -> Moment
-    ensures turn { context.now.moment ≤ result }
-    ensures table { locked.now.state.latest ≤ result }
+    ensures { result ≡ max context.now.moment locked.now.state.latest }
 {
     let latest = locked.cell().latest();
     if latest.milliseconds() < context.moment.milliseconds() {
@@ -62,10 +68,11 @@ fn learn_at(
     now: Moment,
 ) -> Result<(), EngineError>
     ensures seat { seat.new.number ≡ seat.old.number }
-    ensures learned { OnOk result (IsLearned number now seat.old update seat.new) }
+    ensures learned { OnOk result (IsLearnedOn locked.old number now seat.old update seat.new) }
     ensures refused { IfErr result IsRefusal }
     ensures stays { OnErr result (seat.new ≡ seat.old) }
 {
+    note_sound(locked);
     let table = update.table;
     match noted::learn(locked, seat, table, number, update, now) {
         Ok(()) => Ok(()),
@@ -96,17 +103,18 @@ pub(crate) fn learn_late<H: Wait, G>(
     update: Update,
 ) -> Result<(), EngineError>
     ensures seat { seat.new.number ≡ seat.old.number }
-    ensures learned { OnOk result ((at : ℕ) × (context.now.moment ≤ at) × IsLearned context.now.number at seat.old update seat.new) }
+    ensures learned { OnOk result (IsLearnedLate context.now.number context.now.moment seat.old update seat.new) }
     ensures refused { IfErr result IsRefusal }
     ensures stays { OnErr result (seat.new ≡ seat.old) }
 {
-    let mut locked = lock(context, update.table)?;
-    let now = late(context, &locked);
-    learn_at(&mut locked, context.number, seat, update, now)
+    let mut guard = lock(context, update.table)?;
+    let locked: &mut Locked = &mut guard;
+    let now = late(context, locked);
+    learn_at(locked, context.number, seat, update, now)
 }
 
 /// Passes on an acknowledgement.
-pub(crate) fn acknowledge<H: Wait, G>(
+pub fn acknowledge<H: Wait, G>(
     context: &Context<H, G>,
     seat: &mut Seat,
     table: u64,
@@ -117,8 +125,10 @@ pub(crate) fn acknowledge<H: Wait, G>(
     ensures refused { IfErr result IsRefusal }
     ensures stays { OnErr result (seat.new ≡ seat.old) }
 {
-    let mut locked = lock(context, table)?;
-    match noted::ack(&mut locked, seat, table, context.number, number) {
+    let mut guard = lock(context, table)?;
+    let locked: &mut Locked = &mut guard;
+    note_sound(locked);
+    match noted::ack(locked, seat, table, context.number, number) {
         Ok(settled) => Ok(Event::Settled(table, settled)),
         Err(ShardError::Cell(AckError::AckAhead)) => Ok(Event::Refused(table)),
         Err(error) => Err(refused(error, AckError::Memory)),
@@ -135,10 +145,11 @@ fn copy_at(
     now: Moment,
 ) -> Result<Event, EngineError>
     ensures seat { seat.new.number ≡ seat.old.number }
-    ensures answer { IfOk result (IsCopied number now seat.old table kind seat.new) }
+    ensures answer { IfOk result (IsCopiedOn locked.old number now seat.old table kind seat.new) }
     ensures refused { IfErr result IsRefusal }
     ensures stays { OnErr result (seat.new ≡ seat.old) }
 {
+    note_sound(locked);
     match noted::copy(locked, seat, table, number, kind, Batch::MOST, now) {
         Ok(batch) => Ok(Event::Copied(table, batch)),
         Err(ShardError::Cell(CopyError::Nothing)) => Ok(Event::Nothing(table)),
@@ -177,17 +188,18 @@ pub(crate) fn copy_late<H: Wait, G>(
     kind: CopyKind,
 ) -> Result<Event, EngineError>
     ensures seat { seat.new.number ≡ seat.old.number }
-    ensures answer { IfOk result (λ event. (at : ℕ) × (context.now.moment ≤ at) × IsCopied context.now.number at seat.old table kind seat.new event) }
+    ensures answer { IfOk result (IsCopiedLate context.now.number context.now.moment seat.old table kind seat.new) }
     ensures refused { IfErr result IsRefusal }
     ensures stays { OnErr result (seat.new ≡ seat.old) }
 {
-    let mut locked = lock(context, table)?;
-    let now = late(context, &locked);
-    copy_at(&mut locked, context.number, seat, table, kind, now)
+    let mut guard = lock(context, table)?;
+    let locked: &mut Locked = &mut guard;
+    let now = late(context, locked);
+    copy_at(locked, context.number, seat, table, kind, now)
 }
 
 /// Tests that `batch`, which is of one table, is the session's latest one.
-pub(crate) fn settle<H: Wait, G>(
+pub fn settle<H: Wait, G>(
     context: &Context<H, G>,
     seat: &mut Seat,
     batch: &Batch,
@@ -201,8 +213,10 @@ pub(crate) fn settle<H: Wait, G>(
         return Err(EngineError::Strange);
     };
     let table = first.table;
-    let mut locked = lock(context, table)?;
-    match noted::settle(&mut locked, seat, table, context.number, batch) {
+    let mut guard = lock(context, table)?;
+    let locked: &mut Locked = &mut guard;
+    note_sound(locked);
+    match noted::settle(locked, seat, table, context.number, batch) {
         Ok(()) => Ok(()),
         Err(_) => Err(EngineError::Strange),
     }
@@ -219,8 +233,10 @@ fn close<H: Wait, G>(
     ensures refused { IfErr result IsRefusal }
     ensures stays { OnErr result (seat.new ≡ seat.old) }
 {
-    let mut locked = lock(context, table)?;
-    match lent::close_session(&mut locked, seat, table, context.number) {
+    let mut guard = lock(context, table)?;
+    let locked: &mut Locked = &mut guard;
+    note_sound(locked);
+    match lent::close_session(locked, seat, table, context.number) {
         Ok(()) => Ok(()),
         Err(error) => Err(refused(error, CloseError::Memory)),
     }
@@ -233,8 +249,10 @@ fn open<H: Wait, G>(context: &Context<H, G>, seat: &mut Seat, table: u64) -> Res
     ensures refused { IfErr result IsRefusal }
     ensures stays { OnErr result (seat.new ≡ seat.old) }
 {
-    let mut locked = lock(context, table)?;
-    match lent::open_session(&mut locked, seat, table, context.number) {
+    let mut guard = lock(context, table)?;
+    let locked: &mut Locked = &mut guard;
+    note_sound(locked);
+    match lent::open_session(locked, seat, table, context.number) {
         Ok(()) => Ok(()),
         Err(error) => Err(refused(error, OpenError::Memory)),
     }

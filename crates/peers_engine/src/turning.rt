@@ -233,7 +233,8 @@ pub(crate) fn turn_and_end<H: Wait, G: Gate, R: Read + Faults, W: Write + Faults
 /// After an error the session is over. `turn` returns the seat in any case, with the receipts of what was done before the
 /// error, and with the latest answer that made no event. It returns `Read` only if the reader's count of failures rose,
 /// and `Write` only if the writer's count rose, a write took no byte, or more than a million writes failed without being
-/// counted; `sent` is below the length of what was being written. The turn skips a read that fails without being counted.
+/// counted; `sent` is below the length of what was being written. After `Memory` a part of a lesson, but not all of it, may
+/// be written. The turn skips a read that fails without being counted.
 pub fn turn<H: Wait, R: Read + Faults, W: Write + Faults, G: Gate>(
     rt: &H,
     alloc: Global,

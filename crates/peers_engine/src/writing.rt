@@ -65,8 +65,7 @@ fn gather(pieces: &mut Pieces, bytes: &mut Vec<u8>) -> Result<bool, Memory>
     ensures left { OnErr result (0 < length (bytes_left pieces.old)) }
 {
     bytes.clear();
-    while let Some(piece) = pieces.next()? {
-        bytes.extend_from_slice(piece.as_slice())?;
+    while pieces.append_next(bytes)? {
         if bytes.len() >= ENOUGH {
             return Ok(true);
         }

@@ -1,17 +1,22 @@
 //! Turns and ticks of a session that stays.
 
-ghost use Rattle.std.specs.Prelude.{◌≡◌, ◌≢◌, [], ℕ, List, Option, Err, IfErr, OnErr, OnOk};
+ghost use Rattle.std.specs.Prelude.{◌≡◌, ◌≢◌, [], ℕ, List, Option, Err, IfErr, IfOk, OnErr, OnOk};
 ghost use Rattle.std.specs.Io.KnownBytes.{Appends, Consumes, IsAtEnd};
 ghost use Rattle.peers_devices.specs.Failures.{Rose};
 ghost use Rattle.peers_msg.specs.declared.control.Control.TheVariants as controls;
+ghost use Rattle.session_core.specs.declared.error.SessionError.{SessionError};
+ghost use Rattle.session_core.specs.declared.error.SessionError.TheVariants as refusals;
 ghost use Rattle.session_core.specs.declared.event.Event.{Event};
+ghost use Rattle.session_core.specs.declared.event.Event.TheVariants as events;
 ghost use Rattle.session_core.specs.declared.state.State.TheVariants as states;
 ghost use Rattle.session_core.specs.Actions.{control_text};
-ghost use Rattle.session_core.specs.Sessions.{ended, state_of};
+ghost use Rattle.session_core.specs.Sessions.{Refuses, ended, state_of};
+ghost use Rattle.session_core.specs.Standing.{Stands, Ticks};
 ghost use Rattle.peers_engine.specs.declared.errors.EngineError.TheVariants as errors;
 ghost use Rattle.peers_engine.specs.Doing.{Falls, IsRefusal};
 ghost use Rattle.peers_engine.specs.Reading.{IsRead};
 ghost use Rattle.peers_engine.specs.Staying.{AreReopened, FailsToReopen, Responds, RespondsTo, RespondsToUntil, RespondsUntil, StopsStandingTurn, StopsTick, TakesStandingTurn, TakesTick, standing_worker};
+ghost use Rattle.peers_engine.specs.Turns.{first_event};
 
 use crate::context::Context;
 use crate::doing::send;
@@ -23,7 +28,7 @@ use crate::staying::tally::Tally;
 use crate::tables::reopen;
 use crate::turning::{are_pushes, first_event};
 use peers_devices::Faults;
-use session_core::{Action, Event, Standing, Ticked};
+use session_core::{Action, Event, SessionError, Standing, Ticked};
 use std::io::{Read, Write};
 use std::sync::Wait;
 use table_shards::Seat;
@@ -40,6 +45,17 @@ fn check_done(rest: &[Action]) -> Result<(), EngineError>
     } else {
         Err(EngineError::Strange)
     }
+}
+
+/// Gives the session an event, and returns what it asks for.
+fn give(session: &mut Standing, event: Event, now: Moment) -> Result<Vec<Action>, SessionError>
+    ensures stands { IfOk result (λ acts. Stands session.old now event acts.items session.new) }
+    ensures refused { IfErr result (λ e. Refuses session.old.session.phase event e) }
+    ensures exactly { (e : SessionError) → e ≢ refusals.Memory → event ≡ first_event (state_of session.old.session.phase)
+        → Refuses session.old.session.phase event e → result ≡ Err e }
+    ensures ended { OnErr result (session.new.session ≡ ended session.old.session) }
+{
+    session.on(event, now)
 }
 
 /// Gives the session an event, performs what it asks for, and then what the answers ask for, and their answers. Returns whether
@@ -62,8 +78,10 @@ fn respond<H: Wait, G: Gate, W: Write + Faults>(
     ensures failed { IfErr result (λ e. (out : List ℕ) × RespondsUntil (standing_worker session.old seat.old context.now.number context.now.moment) event e out session.new.session seat.new
         × Appends (W.contents output.old) (W.contents output.new) out) }
     ensures unread { IfErr result (λ e. e ≢ errors.Read) }
+    ensures refused { (e : SessionError) → e ≢ refusals.Memory → event ≡ first_event (state_of session.old.session.phase)
+        → Refuses session.old.session.phase event e → (result ≡ Err (errors.Session e)) × (output.new ≡ output.old) }
 {
-    let first = session.on(event, context.moment)?;
+    let first = give(session, event, context.moment)?;
     let may_idle = are_pushes(first.as_slice());
     let second = perform_all(context, session, output, seat, tally, first)?;
     let is_idle = may_idle && second.is_empty();
@@ -122,6 +140,9 @@ pub(crate) fn take_turn<H: Wait, G: Gate, R: Read + Faults, W: Write + Faults>(
         × Consumes (R.remaining input.old) (R.remaining input.new) read
         × Appends (W.contents output.old) (W.contents output.new) out) }
     ensures read { result ≡ Err errors.Read → Rose (R.failed input.old) (R.failed input.new) }
+    ensures refused { (e : SessionError) → e ≢ refusals.Memory
+        → Refuses session.old.session.phase (first_event (state_of session.old.session.phase)) e
+        → (result ≡ Err (errors.Session e)) × (input.new ≡ input.old) × (output.new ≡ output.old) }
 {
     let event = first_event(session.state());
     if respond(context, session, output, seat, tally, event)? {
@@ -148,6 +169,16 @@ fn reopen_all<H: Wait, G>(
     Ok(())
 }
 
+/// Gives the session a tick, and returns what it asks for.
+fn give_tick(session: &mut Standing, now: Moment) -> Result<Ticked, SessionError>
+    ensures ticks { IfOk result (λ t. Ticks session.old now t.left.items t.actions.items session.new) }
+    ensures refused { IfErr result (λ e. Refuses session.old.session.phase events.Turn e) }
+    ensures exactly { (e : SessionError) → e ≢ refusals.Memory → Refuses session.old.session.phase events.Turn e → result ≡ Err e }
+    ensures ended { OnErr result (session.new.session ≡ ended session.old.session) }
+{
+    session.tick(now)
+}
+
 /// Takes a tick, but leaves it to the caller to end the session after an error. Returns whether there was nothing to do. A tick
 /// asks for nothing that has an answer, so nothing is left to do after that.
 pub(crate) fn take_tick<H: Wait, G: Gate, W: Write + Faults>(
@@ -163,8 +194,10 @@ pub(crate) fn take_tick<H: Wait, G: Gate, W: Write + Faults>(
     ensures failed { IfErr result (λ e. (out : List ℕ) × StopsTick (standing_worker session.old seat.old context.now.number context.now.moment) e out session.new.session seat.new
         × Appends (W.contents output.old) (W.contents output.new) out) }
     ensures unread { IfErr result (λ e. e ≢ errors.Read) }
+    ensures refused { (e : SessionError) → e ≢ refusals.Memory → Refuses session.old.session.phase events.Turn e
+        → (result ≡ Err (errors.Session e)) × (output.new ≡ output.old) }
 {
-    let Ticked { left, actions } = session.tick(context.moment)?;
+    let Ticked { left, actions } = give_tick(session, context.moment)?;
     let is_idle = left.is_empty() && actions.is_empty();
     tally.note_left(left.as_slice());
     reopen_all(context, seat, left.as_slice())?;

@@ -3,7 +3,7 @@ use Rattle.std.proofs.lemmas.Result.{err_from_is_err_and}
 use Rattle.session_core.specs.declared.action.Action.TheVariants as actions
 use Rattle.peers_engine.specs.Staying.{standing_worker}
 use Rattle.peers_engine.proofs.AnswerLaws.{ack_done, close_done, part_done, part_falls, reopen_done, teach_done, teach_fails}
-use Rattle.peers_engine.proofs.StayLaws.{batch_copied, bytes_sent, performed_now, row_learned}
+use Rattle.peers_engine.proofs.StayLaws.{batch_copied, bytes_sent, performed_as, row_learned}
 use Rattle.peers_engine.proofs.UntilLaws.{bytes_fall, failed_now, table_fails}
 use Rattle.peers_engine.proofs.staying.performing.perform.Goals as goal
 
@@ -21,14 +21,14 @@ pub returns-in_ok-answer-in-Ack-clause-done : goal.returns-in_ok-answer-in-Ack-c
 returns-in_ok-answer-in-Ack-clause-done g c =
     let act = actions.Ack c.in-Ack.table c.in-Ack.number in
     let known = g.W.Write.contents c.args.output.now in
-    performed_now (standing_worker c.args.session.now c.args.seat.now c.args.context.now.number c.args.context.now.moment) c.acknowledge.new.seat c.args.action act (Some c.in_ok-answer-in-Ack.answer) known known c.in-Ack.is
+    performed_as (standing_worker c.args.session.now c.args.seat.now c.args.context.now.number c.args.context.now.moment) c.acknowledge.new.seat c.args.action act (Some c.in_ok-answer-in-Ack.answer) known known c.in-Ack.is
     (ack_done c.args.context.now.number c.args.context.now.moment c.args.session.now.session.known c.args.seat.now c.acknowledge.new.seat act c.in-Ack.table c.in-Ack.number known c.in_ok-answer-in-Ack.answer refl c.in_ok-answer-in-Ack.ensures.answer)
 
 pub returns-in_ok-reopen-in-Reopen-clause-done : goal.returns-in_ok-reopen-in-Reopen-clause-done
 returns-in_ok-reopen-in-Reopen-clause-done g c =
     let act = actions.Reopen c.in-Reopen.table in
     let known = g.W.Write.contents c.args.output.now in
-    performed_now (standing_worker c.args.session.now c.args.seat.now c.args.context.now.number c.args.context.now.moment) c.reopen.new.seat c.args.action act None known known c.in-Reopen.is
+    performed_as (standing_worker c.args.session.now c.args.seat.now c.args.context.now.number c.args.context.now.moment) c.reopen.new.seat c.args.action act None known known c.in-Reopen.is
     (reopen_done c.args.context.now.number c.args.context.now.moment c.args.session.now.session.known c.args.seat.now c.reopen.new.seat act c.in-Reopen.table known refl c.in_ok-reopen-in-Reopen.ensures.reopened)
 
 pub returns-in_ok-answer-in-Copy-clause-done : goal.returns-in_ok-answer-in-Copy-clause-done
@@ -41,7 +41,7 @@ returns-in_ok-answer-in-Teach-clause-done g c =
     let act = actions.Teach c.in-Teach.batch in
     let old = g.W.Write.contents c.args.output.now in
     let new = g.W.Write.contents c.teach_batch.new.output in
-    performed_now (standing_worker c.args.session.now c.args.seat.now c.args.context.now.number c.args.context.now.moment) c.teach_batch.new.seat c.args.action act (Some c.in_ok-answer-in-Teach.answer) old new c.in-Teach.is
+    performed_as (standing_worker c.args.session.now c.args.seat.now c.args.context.now.number c.args.context.now.moment) c.teach_batch.new.seat c.args.action act (Some c.in_ok-answer-in-Teach.answer) old new c.in-Teach.is
     (teach_done c.args.context.now.number c.args.context.now.moment c.known.result.now c.args.session.now.session.known c.args.seat.now c.teach_batch.new.seat act c.in-Teach.batch old new c.in_ok-answer-in-Teach.answer refl c.known.ensures c.in_ok-answer-in-Teach.ensures.taught)
 
 pub returns-in_ok-part-in-Part-clause-done : goal.returns-in_ok-part-in-Part-clause-done
@@ -49,13 +49,13 @@ returns-in_ok-part-in-Part-clause-done g c =
     let act = actions.Part c.in-Part.kind in
     let old = g.W.Write.contents c.args.output.now in
     let new = g.W.Write.contents c.part.new.output in
-    performed_now (standing_worker c.args.session.now c.args.seat.now c.args.context.now.number c.args.context.now.moment) c.args.seat.now c.args.action act None old new c.in-Part.is
+    performed_as (standing_worker c.args.session.now c.args.seat.now c.args.context.now.number c.args.context.now.moment) c.args.seat.now c.args.action act None old new c.in-Part.is
     (part_done c.args.context.now.number c.args.context.now.moment c.args.session.now.session.known c.args.seat.now act c.in-Part.kind old new refl c.in_ok-part-in-Part.ensures.ok)
 
 pub returns-in-Close-clause-done : goal.returns-in-Close-clause-done
 returns-in-Close-clause-done g c =
     let known = g.W.Write.contents c.args.output.now in
-    performed_now (standing_worker c.args.session.now c.args.seat.now c.args.context.now.number c.args.context.now.moment) c.args.seat.now c.args.action actions.Close None known known c.in-Close.is
+    performed_as (standing_worker c.args.session.now c.args.seat.now c.args.context.now.number c.args.context.now.moment) c.args.seat.now c.args.action actions.Close None known known c.in-Close.is
     (close_done c.args.context.now.number c.args.context.now.moment c.args.session.now.session.known c.args.seat.now actions.Close known refl)
 
 pub returns-in_err-send_bytes-in-Send-clause-failed : goal.returns-in_err-send_bytes-in-Send-clause-failed

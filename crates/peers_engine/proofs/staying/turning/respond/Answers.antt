@@ -10,7 +10,7 @@ pub returns-clause-done : goal.returns-clause-done
 returns-clause-done g c =
     let contents = g.W.Write.contents in
     responded (standing_worker c.args.session.now c.args.seat.now c.args.context.now.number c.args.context.now.moment) (standing_worker c.perform_all.new.session c.perform_all.new.seat c.args.context.now.number c.args.context.now.moment) (standing_worker c.perform_all-2.new.session c.perform_all-2.new.seat c.args.context.now.number c.args.context.now.moment) (standing_worker c.perform_all-3.new.session c.perform_all-3.new.seat c.args.context.now.number c.args.context.now.moment)
-    c.on.new.self c.args.event c.in_ok-first.first.items c.in_ok-second.second.items c.in_ok-third.third.items c.in_ok-rest.rest.items
+    c.give.new.session c.args.event c.in_ok-first.first.items c.in_ok-second.second.items c.in_ok-third.third.items c.in_ok-rest.rest.items
     (contents c.args.output.now) (contents c.perform_all.new.output) (contents c.perform_all-2.new.output) (contents c.perform_all-3.new.output)
     c.in_ok-first.ensures.stands c.in_ok-second.ensures.done c.in_ok-third.ensures.done c.in_ok-rest.ensures.done (sym c.as_slice-2.ensures.value ∙ c.in_ok-check_done.ensures.done)
 
@@ -19,14 +19,14 @@ returns-in_err-first-clause-failed g c =
     let contents = g.W.Write.contents in
     let p = err_from_is_err_and c.from_residual.result c.from_residual.ensures.1 in
     rw (p.1, p.2)
-    (not_received (standing_worker c.args.session.now c.args.seat.now c.args.context.now.number c.args.context.now.moment) c.on.new.self.session c.args.event (errors.Session c.in_err-first.field-0.0) (contents c.args.output.now) (c.in_err-first.field-0.0, c.in_err-first.ensures.refused, refl) c.in_err-first.ensures.ended)
+    (not_received (standing_worker c.args.session.now c.args.seat.now c.args.context.now.number c.args.context.now.moment) c.give.new.session.session c.args.event (errors.Session c.in_err-first.field-0.0) (contents c.args.output.now) (c.in_err-first.field-0.0, c.in_err-first.ensures.refused, refl) c.in_err-first.ensures.ended)
 
 pub returns-in_err-second-clause-failed : goal.returns-in_err-second-clause-failed
 returns-in_err-second-clause-failed g c =
     let contents = g.W.Write.contents in
     let p = err_from_is_err_and c.from_residual-in_err-second.result c.from_residual-in_err-second.ensures.1 in
     rw (p.1, p.2)
-    (first_stops (standing_worker c.args.session.now c.args.seat.now c.args.context.now.number c.args.context.now.moment) c.on.new.self c.perform_all.new.session.session c.perform_all.new.seat c.args.event c.in_ok-first.first.items c.in_err-second.field-0.0
+    (first_stops (standing_worker c.args.session.now c.args.seat.now c.args.context.now.number c.args.context.now.moment) c.give.new.session c.perform_all.new.session.session c.perform_all.new.seat c.args.event c.in_ok-first.first.items c.in_err-second.field-0.0
     (contents c.args.output.now) (contents c.perform_all.new.output)
     c.in_ok-first.ensures.stands c.in_err-second.ensures.failed)
 
@@ -35,7 +35,7 @@ returns-in_err-third-clause-failed g c =
     let contents = g.W.Write.contents in
     let p = err_from_is_err_and c.from_residual-in_err-third.result c.from_residual-in_err-third.ensures.1 in
     rw (p.1, p.2)
-    (second_stops (standing_worker c.args.session.now c.args.seat.now c.args.context.now.number c.args.context.now.moment) (standing_worker c.perform_all.new.session c.perform_all.new.seat c.args.context.now.number c.args.context.now.moment) c.on.new.self c.perform_all-2.new.session.session c.perform_all-2.new.seat c.args.event c.in_ok-first.first.items c.in_ok-second.second.items c.in_err-third.field-0.0
+    (second_stops (standing_worker c.args.session.now c.args.seat.now c.args.context.now.number c.args.context.now.moment) (standing_worker c.perform_all.new.session c.perform_all.new.seat c.args.context.now.number c.args.context.now.moment) c.give.new.session c.perform_all-2.new.session.session c.perform_all-2.new.seat c.args.event c.in_ok-first.first.items c.in_ok-second.second.items c.in_err-third.field-0.0
     (contents c.args.output.now) (contents c.perform_all.new.output) (contents c.perform_all-2.new.output)
     c.in_ok-first.ensures.stands c.in_ok-second.ensures.done c.in_err-third.ensures.failed)
 
@@ -44,7 +44,7 @@ returns-in_err-rest-clause-failed g c =
     let contents = g.W.Write.contents in
     let p = err_from_is_err_and c.from_residual-in_err-rest.result c.from_residual-in_err-rest.ensures.1 in
     rw (p.1, p.2)
-    (third_stops (standing_worker c.args.session.now c.args.seat.now c.args.context.now.number c.args.context.now.moment) (standing_worker c.perform_all.new.session c.perform_all.new.seat c.args.context.now.number c.args.context.now.moment) (standing_worker c.perform_all-2.new.session c.perform_all-2.new.seat c.args.context.now.number c.args.context.now.moment) c.on.new.self c.perform_all-3.new.session.session c.perform_all-3.new.seat c.args.event c.in_ok-first.first.items c.in_ok-second.second.items c.in_ok-third.third.items c.in_err-rest.field-0.0
+    (third_stops (standing_worker c.args.session.now c.args.seat.now c.args.context.now.number c.args.context.now.moment) (standing_worker c.perform_all.new.session c.perform_all.new.seat c.args.context.now.number c.args.context.now.moment) (standing_worker c.perform_all-2.new.session c.perform_all-2.new.seat c.args.context.now.number c.args.context.now.moment) c.give.new.session c.perform_all-3.new.session.session c.perform_all-3.new.seat c.args.event c.in_ok-first.first.items c.in_ok-second.second.items c.in_ok-third.third.items c.in_err-rest.field-0.0
     (contents c.args.output.now) (contents c.perform_all.new.output) (contents c.perform_all-2.new.output) (contents c.perform_all-3.new.output)
     c.in_ok-first.ensures.stands c.in_ok-second.ensures.done c.in_ok-third.ensures.done c.in_err-rest.ensures.failed)
 
@@ -53,7 +53,7 @@ returns-in_err-check_done-clause-failed g c =
     let contents = g.W.Write.contents in
     let p = err_from_is_err_and c.from_residual-in_err-check_done.result c.from_residual-in_err-check_done.ensures.1 in
     rw (p.1, p.2)
-    (rest_stops (standing_worker c.args.session.now c.args.seat.now c.args.context.now.number c.args.context.now.moment) (standing_worker c.perform_all.new.session c.perform_all.new.seat c.args.context.now.number c.args.context.now.moment) (standing_worker c.perform_all-2.new.session c.perform_all-2.new.seat c.args.context.now.number c.args.context.now.moment) (standing_worker c.perform_all-3.new.session c.perform_all-3.new.seat c.args.context.now.number c.args.context.now.moment) c.on.new.self c.args.event c.in_ok-first.first.items c.in_ok-second.second.items c.in_ok-third.third.items c.in_ok-rest.rest.items c.in_err-check_done.field-0.0
+    (rest_stops (standing_worker c.args.session.now c.args.seat.now c.args.context.now.number c.args.context.now.moment) (standing_worker c.perform_all.new.session c.perform_all.new.seat c.args.context.now.number c.args.context.now.moment) (standing_worker c.perform_all-2.new.session c.perform_all-2.new.seat c.args.context.now.number c.args.context.now.moment) (standing_worker c.perform_all-3.new.session c.perform_all-3.new.seat c.args.context.now.number c.args.context.now.moment) c.give.new.session c.args.event c.in_ok-first.first.items c.in_ok-second.second.items c.in_ok-third.third.items c.in_ok-rest.rest.items c.in_err-check_done.field-0.0
     (contents c.args.output.now) (contents c.perform_all.new.output) (contents c.perform_all-2.new.output) (contents c.perform_all-3.new.output)
     c.in_ok-first.ensures.stands c.in_ok-second.ensures.done c.in_ok-third.ensures.done c.in_ok-rest.ensures.done
     (λ none. c.in_err-check_done.ensures.strange.0 (c.as_slice-2.ensures.value ∙ none)) c.in_err-check_done.ensures.strange.1)

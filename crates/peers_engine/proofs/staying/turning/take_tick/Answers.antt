@@ -11,7 +11,7 @@ returns-clause-done g c =
     let contents = g.W.Write.contents in
     let given = c.in_ok-left.field-0 in
     ticked (standing_worker c.args.session.now c.args.seat.now c.args.context.now.number c.args.context.now.moment) (standing_worker c.perform_all.new.session c.perform_all.new.seat c.args.context.now.number c.args.context.now.moment)
-    c.tick.new.self c.reopen_all.new.seat given.left.items given.actions.items c.in_ok-perform_all.field-0.items
+    c.give_tick.new.session c.reopen_all.new.seat given.left.items given.actions.items c.in_ok-perform_all.field-0.items
     (contents c.args.output.now) (contents c.perform_all.new.output)
     c.in_ok-left.ensures.ticks
     (subst (λ (x : List ℕ). AreReopened c.args.context.now.number c.args.seat.now x c.reopen_all.new.seat) c.as_slice-2.ensures.value c.in_ok-reopen_all.ensures.reopened)
@@ -21,14 +21,14 @@ pub returns-in_err-left-clause-failed : goal.returns-in_err-left-clause-failed
 returns-in_err-left-clause-failed g c =
     let p = err_from_is_err_and c.from_residual.result c.from_residual.ensures.1 in
     rw (p.1, p.2)
-    (tick_refused (standing_worker c.args.session.now c.args.seat.now c.args.context.now.number c.args.context.now.moment) c.tick.new.self.session (errors.Session c.in_err-left.field-0.0) (g.W.Write.contents c.args.output.now) (c.in_err-left.field-0.0, c.in_err-left.ensures.refused, refl) c.in_err-left.ensures.ended)
+    (tick_refused (standing_worker c.args.session.now c.args.seat.now c.args.context.now.number c.args.context.now.moment) c.give_tick.new.session.session (errors.Session c.in_err-left.field-0.0) (g.W.Write.contents c.args.output.now) (c.in_err-left.field-0.0, c.in_err-left.ensures.refused, refl) c.in_err-left.ensures.ended)
 
 pub returns-in_err-reopen_all-clause-failed : goal.returns-in_err-reopen_all-clause-failed
 returns-in_err-reopen_all-clause-failed g c =
     let given = c.in_ok-left.field-0 in
     let p = err_from_is_err_and c.from_residual-in_err-reopen_all.result c.from_residual-in_err-reopen_all.ensures.1 in
     rw (p.1, p.2)
-    (tick_left (standing_worker c.args.session.now c.args.seat.now c.args.context.now.number c.args.context.now.moment) c.tick.new.self c.reopen_all.new.seat given.left.items given.actions.items c.in_err-reopen_all.field-0.0 (g.W.Write.contents c.args.output.now)
+    (tick_left (standing_worker c.args.session.now c.args.seat.now c.args.context.now.number c.args.context.now.moment) c.give_tick.new.session c.reopen_all.new.seat given.left.items given.actions.items c.in_err-reopen_all.field-0.0 (g.W.Write.contents c.args.output.now)
     c.in_ok-left.ensures.ticks c.in_err-reopen_all.ensures.refused
     (subst (λ (x : List ℕ). FailsToReopen c.args.context.now.number c.args.seat.now x c.reopen_all.new.seat) c.as_slice-2.ensures.value c.in_err-reopen_all.ensures.left))
 
@@ -38,7 +38,7 @@ returns-in_err-perform_all-clause-failed g c =
     let given = c.in_ok-left.field-0 in
     let p = err_from_is_err_and c.from_residual-in_err-perform_all.result c.from_residual-in_err-perform_all.ensures.1 in
     rw (p.1, p.2)
-    (tick_fails (standing_worker c.args.session.now c.args.seat.now c.args.context.now.number c.args.context.now.moment) c.tick.new.self c.perform_all.new.session.session c.reopen_all.new.seat c.perform_all.new.seat given.left.items given.actions.items c.in_err-perform_all.field-0.0
+    (tick_fails (standing_worker c.args.session.now c.args.seat.now c.args.context.now.number c.args.context.now.moment) c.give_tick.new.session c.perform_all.new.session.session c.reopen_all.new.seat c.perform_all.new.seat given.left.items given.actions.items c.in_err-perform_all.field-0.0
     (contents c.args.output.now) (contents c.perform_all.new.output)
     c.in_ok-left.ensures.ticks
     (subst (λ (x : List ℕ). AreReopened c.args.context.now.number c.args.seat.now x c.reopen_all.new.seat) c.as_slice-2.ensures.value c.in_ok-reopen_all.ensures.reopened)
