@@ -45,9 +45,12 @@ ending_after leaves s (Err error) = Some (broken_by s.fault error)
 abbrev pub moment_of : Pace → ℕ → ℕ
 moment_of pace before = if pace.stands then loaded_at else later_by (before + 1) loaded_at
 
--- the worker in the turn that follows `before` others
+-- the worker in a turn at a moment, and in the turn that follows `before` others
+abbrev pub turn_at : ℕ → Worker → WorkerAt
+turn_at now w = worker w.session w.seat w.number now
+
 abbrev pub turn_after : Pace → ℕ → Worker → WorkerAt
-turn_after pace before w = worker w.session w.seat w.number (moment_of pace before)
+turn_after pace before w = turn_at (moment_of pace before) w
 
 -- A turn takes the worker to another state, returns its result, and received and sent the bytes given. After an error the session
 -- is over.

@@ -20,7 +20,8 @@ ghost use Rattle.node_commands.specs.Printing.{IsText};
 
 use crate::node::auditing::audited;
 use crate::node::loading::{NodeTables, SESSION, opened};
-use crate::node::turns::{Pace, Played, play};
+use crate::node::sharing::Served;
+use crate::node::turns::{Pace, Turns, play};
 use crate::printing::session_text;
 use node_text::{Scene, read_scene};
 use peers_devices::{Faults, read_to_end, write_all};
@@ -182,36 +183,37 @@ pub(crate) fn early(ending: Ending) -> Ending
     }
 }
 
-/// Audits the tables with the seat of the only session, and returns the text of the session's `turns` turns and of the tables' rows.
-fn text_of(alloc: Global, tables: NodeTables, seat: Seat, turns: u32) -> Result<Vec<u8>, Ending>
-    ensures text { IfOk result (λ text. (a : AuditState) × IsAuditOf tables (seat ∷ []) a × IsText turns a.unlocked.tables text.items) }
+/// Audits the tables with the seats of the sessions, and returns the text of a session's `turns` turns and of the tables' rows.
+fn text_of(
+    alloc: Global,
+    tables: NodeTables,
+    seats: Vec<Seat>,
+    turns: u32,
+) -> Result<Vec<u8>, Ending>
+    ensures text { IfOk result (λ text. (a : AuditState) × IsAuditOf tables seats.items a × IsText turns a.unlocked.tables text.items) }
     ensures early { IfErr result (λ ending. (ending ≡ endings.Memory) ⊎ (ending ≡ endings.Device)) }
 {
-    let mut seats = Vec::with_capacity(alloc, 1)?;
-    seats.push(seat).map_err(Memory::from)?;
     let audit = audited(alloc, tables, seats)?;
     let text = session_text(alloc, turns, audit.tables())?;
     Ok(text)
 }
 
-/// Makes the report of a session that is over, from the seat as the session left it: the number of its turns, and the rows that the
-/// tables now have, once they are audited. Fails with the session's ending if no rows are printed after it, with `Device` if the
-/// audit finds a fault, and with `Memory` if memory runs out.
-fn report_of(
-    alloc: Global,
-    tables: NodeTables,
-    seat: Seat,
-    played: Played,
-) -> Result<Report, Ending>
-    ensures text { IfOk result (λ report. (a : AuditState) × IsAuditOf tables (seat ∷ []) a × IsText played.turns a.unlocked.tables report.text.items) }
-    ensures ending { IfOk result (λ report. report.ending ≡ played.ending) }
+/// Makes the report of the only session, which is over: the number of its turns, and the rows that the tables now have, once they are
+/// audited with its seat. Fails with the session's ending if no rows are printed after it, with `Device` if the audit finds a fault,
+/// and with `Memory` if memory runs out.
+fn report_of(alloc: Global, tables: NodeTables, served: Served) -> Result<Report, Ending>
+    ensures text { IfOk result (λ report. (a : AuditState) × IsAuditOf tables (served.worker.seat ∷ []) a × IsText served.played.turns a.unlocked.tables report.text.items) }
+    ensures ending { IfOk result (λ report. report.ending ≡ served.played.ending) }
     ensures early { IfErr result (λ ending. (ending ≡ endings.Memory) ⊎ (ending ≡ endings.Device)) }
 {
-    let Played { turns, ending } = played;
+    let Served { worker, played } = served;
+    let ending = played.ending;
     if !has_rows(ending) {
         return Err(early(ending));
     }
-    let text = text_of(alloc, tables, seat, turns)?;
+    let mut seats = Vec::with_capacity(alloc, 1)?;
+    seats.push(worker.seat).map_err(Memory::from)?;
+    let text = text_of(alloc, tables, seats, played.turns)?;
     let line = ending.line(alloc)?;
     Ok(Report { text, ending, line })
 }
@@ -273,17 +275,9 @@ impl Node {
             mut worker,
             pace,
         } = self;
-        let played = play(
-            rt,
-            alloc,
-            &tables.shards,
-            &mut worker,
-            pace,
-            turns,
-            from,
-            to,
-        );
-        report_of(alloc, tables, worker.seat, played)
+        let asked = Turns { pace, most: turns };
+        let played = play(rt, alloc, &tables.shards, &mut worker, asked, from, to);
+        report_of(alloc, tables, Served { worker, played })
     }
 }
 

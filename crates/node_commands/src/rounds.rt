@@ -7,21 +7,18 @@ mod table;
 mod tracking;
 mod worker;
 
-ghost use Rattle.std.specs.Prelude.{◌≡◌, ◌≢◌, ◌≤◌, ◌⊎◌, ◌+◌, ◌*◌, ◌∷◌, ◌++◌, [], ℕ, List, None, IfOk, IsTrue, OnOk, length};
+ghost use Rattle.std.specs.Prelude.{◌≡◌, ◌≢◌, ◌≤◌, ◌⊎◌, ◌+◌, ◌*◌, ◌∷◌, [], ℕ, List, IfOk, IsTrue, OnOk, length};
 ghost use Rattle.std.specs.List.{AllByRecursion};
 ghost use Rattle.std.specs.Io.KnownBytes.{Appends};
 ghost use Rattle.text_commands.specs.Endings.{line_of};
-ghost use Rattle.table_shards.specs.Audits.{AuditState, Audits, round_of_unlocked};
-ghost use Rattle.table_shards.specs.Receipts.{SeatState};
-ghost use Rattle.table_shards.specs.Rounds.{round_of_shards};
+ghost use Rattle.table_shards.specs.Audits.{AuditState};
 ghost use Rattle.node_commands.specs.Tracks.{GainsWork, HasDoneItsPart};
 ghost use Rattle.node_commands.specs.Rounds.{AreRounds, GoesOn, IsAudited, IsCountingTable, IsCutShort, IsRoundTable, IsTextOf};
 
+use crate::locks::{audit_of, lock, refused};
 use crate::printing::round_text;
 use crate::rounds::starting::{last_seat, track_from_gate, work_from_gate};
-use crate::rounds::table::{
-    SESSION, TABLE, is_counting_table, is_round_table, lock, new_table, refused, roster,
-};
+use crate::rounds::table::{SESSION, TABLE, is_counting_table, is_round_table, new_table, roster};
 use known_state::Known;
 pub use laws::a_round_counts_its_tracks;
 use peers_devices::{Faults, write_all};
@@ -171,8 +168,9 @@ fn has_counting_table(
     }
 }
 
-/// Runs the first round over a new table, whose session it opens, and audits it. Fails with `Device` unless the audited table is the
-/// round's: no contract of a lock says which cell it holds.
+/// Runs the first round over a new table, whose session it opens. Once its threads have ended, continues as the worker until there is
+/// nothing to copy, and audits the table. Fails with `Device` unless the audited table is the round's: no contract of a lock says
+/// which cell it holds.
 #[tactic(auto, using(crate::proofs::TrackLaws::parts_done, crate::proofs::TrackLaws::more_worked))]
 fn first_round<R: Threads + Wait + Sync, G: StartGate + Sync>(
     rt: &R,
@@ -189,8 +187,10 @@ fn first_round<R: Threads + Wait + Sync, G: StartGate + Sync>(
     let (shards, mut seats) = Shards::new(alloc, cells, asked.threads + 2)?;
     let mut own = last_seat(&mut seats, asked)?;
     open(rt, &shards, &mut own)?;
-    let done = run_threads(rt, alloc, gate, asked, &shards, seats, known)?;
-    let audit = audited(rt, alloc, shards, done, own, known)?;
+    let mut done = run_threads(rt, alloc, gate, asked, &shards, seats, known)?;
+    work(rt, alloc, &AlwaysOpen, &shards, &mut own, known)?;
+    done.push(own).map_err(Memory::from)?;
+    let audit = audit_of(alloc, shards, done)?;
     if has_round_table(alloc, &audit)? {
         Ok(audit)
     } else {
@@ -206,8 +206,8 @@ fn no_next(error: RoundError) -> Ending {
     }
 }
 
-/// Runs a round over the table that `before` rounds left, and audits it. Fails with `Device` unless the threads' keys count as many
-/// tracks as all rounds made: no contract of a lock says which cell it holds.
+/// Runs a round over the table that `before` rounds left, continues as the worker, and audits the table, as the first round does. Fails
+/// with `Device` unless the threads' keys count as many tracks as all rounds made: no contract of a lock says which cell it holds.
 #[tactic(auto, using(crate::proofs::TrackLaws::parts_done))]
 fn later_round<R: Threads + Wait + Sync, G: StartGate + Sync>(
     rt: &R,
@@ -226,9 +226,11 @@ fn later_round<R: Threads + Wait + Sync, G: StartGate + Sync>(
         Ok(next) => next,
         Err((error, _)) => return Err(no_next(error)),
     };
-    let own = last_seat(&mut seats, asked)?;
-    let done = run_threads(rt, alloc, gate, asked, &shards, seats, known)?;
-    let audit = audited(rt, alloc, shards, done, own, known)?;
+    let mut own = last_seat(&mut seats, asked)?;
+    let mut done = run_threads(rt, alloc, gate, asked, &shards, seats, known)?;
+    work(rt, alloc, &AlwaysOpen, &shards, &mut own, known)?;
+    done.push(own).map_err(Memory::from)?;
+    let audit = audit_of(alloc, shards, done)?;
     let count = (u64::from(before) + 1) * u64::from(asked.tracks);
     if has_counting_table(alloc, &audit, asked.threads, count)? {
         Ok(audit)
@@ -241,35 +243,10 @@ fn later_round<R: Threads + Wait + Sync, G: StartGate + Sync>(
 fn open<R: Wait>(rt: &R, shards: &Shards, seat: &mut Seat) -> Result<(), Ending>
     ensures { OnOk result (GainsWork seat.old seat.new) }
 {
-    let mut locked = lock(rt, shards)?;
+    let mut locked = lock(rt, shards, TABLE)?;
     match lent::open_session(&mut locked, seat, TABLE, SESSION) {
         Ok(()) => Ok(()),
         Err(error) => Err(refused(error, OpenError::Memory)),
-    }
-}
-
-/// Continues as the worker with the seat `own` until there is nothing to copy, and audits the table. `done` are the seats of the
-/// threads, which have ended.
-fn audited<R: Wait>(
-    rt: &R,
-    alloc: Global,
-    shards: Shards,
-    mut done: Vec<Seat>,
-    mut own: Seat,
-    known: &mut Known,
-) -> Result<Audit, Ending>
-    ensures audited { IfOk result (λ audit. Audits audit.unlocked audit.seats None) }
-    ensures seats { IfOk result (λ audit. (last : SeatState) × GainsWork own last × (audit.seats ≡ done.items ++ last ∷ [])) }
-    ensures same { IfOk result (λ audit. round_of_unlocked audit.unlocked ≡ round_of_shards shards) }
-{
-    work(rt, alloc, &AlwaysOpen, &shards, &mut own, known)?;
-    done.push(own).map_err(Memory::from)?;
-    let Ok(unlocked) = shards.unlock(alloc) else {
-        return Err(Ending::Memory);
-    };
-    match unlocked.audit(done) {
-        Ok(audit) => Ok(audit),
-        Err(_) => Err(Ending::Device),
     }
 }
 

@@ -1,39 +1,16 @@
 //! The audit of a node's tables, once its sessions are over.
 
-ghost use Rattle.std.specs.Prelude.{◌≡◌, ◌⊎◌, ◌∷◌, None, IfErr, IfOk, IsTrue};
-ghost use Rattle.table_shards.specs.Audits.{Audits, round_of_unlocked};
-ghost use Rattle.table_shards.specs.Rounds.{round_of_shards};
+ghost use Rattle.std.specs.Prelude.{◌≡◌, ◌⊎◌, IfErr, IfOk, IsTrue};
 ghost use Rattle.text_commands.specs.declared.endings.Ending.TheVariants as endings;
 ghost use Rattle.node_commands.specs.Auditing.{AreTablesOf, IsAuditOf, IsTableOf};
 
+use crate::locks::audit_of;
 use crate::node::loading::{FIRST, NodeTables};
 use std::alloc::Global;
 use table_cell::TableCell;
-use table_shards::{Audit, Seat, Shards, UnlockedTable};
+use table_shards::{Audit, Seat, UnlockedTable};
 use table_types::{Memory, TableDef};
 use text_commands::Ending;
-
-/// Joins a seat and the seats after it.
-fn joined(first: Seat, mut others: Vec<Seat>) -> Result<Vec<Seat>, Memory>
-    ensures { IfOk result (λ seats. seats.items ≡ first ∷ others.items) }
-{
-    others.insert(0, first).map_err(Memory::from)?;
-    Ok(others)
-}
-
-/// Takes the tables out of their locks and audits them with these seats.
-fn audit_of(alloc: Global, shards: Shards, seats: Vec<Seat>) -> Result<Audit, Ending>
-    ensures audit { IfOk result (λ a. Audits a.unlocked a.seats None × (a.seats ≡ seats.items) × (round_of_unlocked a.unlocked ≡ round_of_shards shards)) }
-    ensures early { IfErr result (λ ending. (ending ≡ endings.Memory) ⊎ (ending ≡ endings.Device)) }
-{
-    let Ok(unlocked) = shards.unlock(alloc) else {
-        return Err(Ending::Memory);
-    };
-    match unlocked.audit(seats) {
-        Ok(audit) => Ok(audit),
-        Err(_) => Err(Ending::Device),
-    }
-}
 
 /// Returns whether the table has this definition, and its history begins with the new table that the node made.
 fn is_table_of(definition: &TableDef, cell: &TableCell) -> bool
@@ -62,7 +39,11 @@ fn are_tables_of(definitions: &[TableDef], tables: &[UnlockedTable]) -> bool
 
 /// Audits the tables with the seat from which they were loaded and those of the sessions. Fails with `Device` if the audit finds a
 /// fault, or a table isn't the one that the node made; no contract of a lock says which table it holds.
-pub(crate) fn audited(alloc: Global, tables: NodeTables, seats: Vec<Seat>) -> Result<Audit, Ending>
+pub(crate) fn audited(
+    alloc: Global,
+    tables: NodeTables,
+    mut seats: Vec<Seat>,
+) -> Result<Audit, Ending>
     ensures audit { IfOk result (IsAuditOf tables seats.items) }
     ensures early { IfErr result (λ ending. (ending ≡ endings.Memory) ⊎ (ending ≡ endings.Device)) }
 {
@@ -71,8 +52,8 @@ pub(crate) fn audited(alloc: Global, tables: NodeTables, seats: Vec<Seat>) -> Re
         shards,
         loader,
     } = tables;
-    let all = joined(loader, seats)?;
-    let audit = audit_of(alloc, shards, all)?;
+    seats.insert(0, loader).map_err(Memory::from)?;
+    let audit = audit_of(alloc, shards, seats)?;
     if are_tables_of(roster.tables(), audit.tables()) {
         Ok(audit)
     } else {

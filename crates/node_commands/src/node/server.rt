@@ -36,26 +36,7 @@ fn waiting(alloc: Global, name: &Name, peer: &Name, roster: &Roster) -> Result<S
     Session::accept(alloc, own, peers, roster.copy(alloc)?, true)
 }
 
-/// Makes the worker of a session, which has the number before the seat's.
-fn worker_at(
-    alloc: Global,
-    name: &Name,
-    peer: &Name,
-    roster: &Roster,
-    seat: Seat,
-) -> Result<Worker, Memory>
-    ensures { IfOk result (λ worker. worker ≡ worker_at (accepting name.now (peer.now ∷ []) roster.now true) seat) }
-{
-    let session = waiting(alloc, name, peer, roster)?;
-    let number = seat.number().saturating_sub(1);
-    Ok(Worker {
-        session,
-        seat,
-        number,
-    })
-}
-
-/// Makes a worker for each seat, in order.
+/// Makes a worker for each seat, in order. Its session has the number before the seat's.
 #[tactic(auto, using(crate::proofs::SharingLaws::one_worker))]
 fn workers_at(
     alloc: Global,
@@ -68,7 +49,13 @@ fn workers_at(
 {
     let mut workers = Vec::with_capacity(alloc, seats.len())?;
     for seat in seats {
-        workers.push(worker_at(alloc, name, peer, roster, seat)?)?;
+        let session = waiting(alloc, name, peer, roster)?;
+        let number = seat.number().saturating_sub(1);
+        workers.push(Worker {
+            session,
+            seat,
+            number,
+        })?;
     }
     Ok(workers)
 }

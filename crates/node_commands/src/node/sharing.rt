@@ -5,7 +5,7 @@ ghost use Rattle.text_commands.specs.declared.endings.Ending.TheVariants as endi
 ghost use Rattle.node_commands.specs.Serving.{HasServed};
 ghost use Rattle.node_commands.specs.Sharing.{AllServed, AreKept, AreStarted};
 
-use crate::node::turns::{Pace, Played, play};
+use crate::node::turns::{Pace, Played, Turns, play};
 use crate::sockets::taken;
 use peers_devices::Counting;
 use peers_engine::Worker;
@@ -67,8 +67,7 @@ fn serve_one<H: Wait>(rt: &H, shards: &Shards, task: Task) -> Served
         alloc,
         shards,
         &mut worker,
-        pace,
-        turns,
+        Turns { pace, most: turns },
         &mut Counting::new(&stream),
         &mut Counting::new(&stream),
     );

@@ -2,7 +2,7 @@
 
 ghost use Rattle.std.specs.Prelude.{◌≡◌, ◌≤◌, ◌<◌, ◌+◌, ◌^◌, List, ℕ};
 ghost use Rattle.std.specs.Io.KnownBytes.{Appends, Consumes};
-ghost use Rattle.node_commands.specs.Turning.{Plays, Takes, broken_by, closed_by, ending_after, moment_of, turn_after};
+ghost use Rattle.node_commands.specs.Turning.{Plays, Takes, broken_by, closed_by, ending_after, moment_of, turn_at};
 
 use peers_devices::Faults;
 use peers_engine::{AlwaysOpen, EngineError, Turned, Worker};
@@ -22,6 +22,15 @@ pub struct Pace {
     /// Whether every turn comes at the moment at which the rows were loaded. Otherwise the first one comes a millisecond after it,
     /// and each other one a millisecond after the one before.
     pub(crate) stands: bool,
+}
+
+/// The turns that a session may take.
+#[derive(Clone, Copy, Debug)]
+pub(crate) struct Turns {
+    /// When they come, and when the session ends.
+    pub(crate) pace: Pace,
+    /// How many there are at most.
+    pub(crate) most: u32,
 }
 
 /// The course of a session: the number of turns that it made, and how it ended.
@@ -91,46 +100,43 @@ impl Pace {
     }
 }
 
-/// Takes the turn of the worker's session that follows `before` others.
+/// Takes a turn of the worker's session at the moment `now`.
 fn take_turn<H: Wait, R: Read + Faults, W: Write + Faults>(
     rt: &H,
     alloc: Global,
     shards: &Shards,
     worker: &mut Worker,
-    pace: Pace,
-    before: u32,
+    now: Moment,
     from: &mut R,
     to: &mut W,
 ) -> Result<Turned, EngineError>
-    requires { before + 1 < 2 ^ 32 }
-    ensures { (received sent : List ℕ) × Takes (turn_after pace before worker.old) result received sent (turn_after pace before worker.new)
+    ensures { (received sent : List ℕ) × Takes (turn_at now worker.old) result received sent (turn_at now worker.new)
         × Consumes (R.remaining from.old) (R.remaining from.new) received
         × Appends (W.contents to.old) (W.contents to.new) sent }
 {
-    let now = pace.moment(before);
     worker.turn(rt, alloc, from, to, &AlwaysOpen, shards, now)
 }
 
-/// Takes the turns of the worker's session, each at the moment that `pace` gives it: `turns` of them, or fewer if the session ends
-/// before.
+/// Takes the turns of the worker's session, each at the moment that its pace gives it: all that it may take, or fewer if the session
+/// ends before.
 pub(crate) fn play<H: Wait, R: Read + Faults, W: Write + Faults>(
     rt: &H,
     alloc: Global,
     shards: &Shards,
     worker: &mut Worker,
-    pace: Pace,
-    turns: u32,
+    turns: Turns,
     from: &mut R,
     to: &mut W,
 ) -> Played
-    ensures plays { (received sent : List ℕ) × Plays pace 0 worker.old turns result.turns result.ending received sent worker.new
+    ensures plays { (received sent : List ℕ) × Plays turns.pace 0 worker.old turns.most result.turns result.ending received sent worker.new
         × Consumes (R.remaining from.old) (R.remaining from.new) received
         × Appends (W.contents to.old) (W.contents to.new) sent }
-    ensures within { result.turns ≤ turns }
+    ensures within { result.turns ≤ turns.most }
 {
-    for before in 0..turns {
-        let turned = take_turn(rt, alloc, shards, worker, pace, before, from, to);
-        if let Some(ending) = ending_after(&worker.session, pace.leaves, turned) {
+    for before in 0..turns.most {
+        let now = turns.pace.moment(before);
+        let turned = take_turn(rt, alloc, shards, worker, now, from, to);
+        if let Some(ending) = ending_after(&worker.session, turns.pace.leaves, turned) {
             return Played {
                 turns: before + 1,
                 ending,
@@ -138,7 +144,7 @@ pub(crate) fn play<H: Wait, R: Read + Faults, W: Write + Faults>(
         }
     }
     Played {
-        turns,
+        turns: turns.most,
         ending: Ending::Done,
     }
 }

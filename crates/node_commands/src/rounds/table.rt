@@ -7,9 +7,7 @@ ghost use Rattle.table_shards.specs.Rounds.{begun};
 ghost use Rattle.node_commands.specs.Rounds.{HasCountAmong, IsCountingTable, IsRoundTable, round_table};
 
 use std::alloc::Global;
-use std::sync::{MutexGuard, Wait};
 use table_cell::TableCell;
-use table_shards::{Locked, ShardError, Shards};
 use table_types::{Cell, DataType, DefError, Key, KeyKind, Memory, Roster, Row, TableDef};
 use text_commands::Ending;
 
@@ -122,25 +120,4 @@ pub(crate) fn is_counting_table(
     }
     let rows = cell.rows()?;
     Ok(have_counted(rows.as_slice(), threads, count))
-}
-
-/// Waits for the table's lock and takes it.
-pub(crate) fn lock<'a, R: Wait>(
-    rt: &R,
-    shards: &'a Shards,
-) -> Result<MutexGuard<'a, Locked>, Ending> {
-    match shards.cell(TABLE) {
-        Some(lock) => Ok(lock.lock(rt)),
-        None => Err(Ending::Device),
-    }
-}
-
-/// Returns how a round ends if a call under the table's lock fails with `error`: `Memory` if memory ran out, and `Device`
-/// otherwise. `memory` is the table's own error for the former.
-pub(crate) fn refused<E: Copy + PartialEq>(error: ShardError<E>, memory: E) -> Ending {
-    if error == ShardError::Memory || error == ShardError::Cell(memory) {
-        Ending::Memory
-    } else {
-        Ending::Device
-    }
 }

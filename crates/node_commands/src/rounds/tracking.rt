@@ -3,7 +3,8 @@
 ghost use Rattle.std.specs.Prelude.{OnOk};
 ghost use Rattle.node_commands.specs.Tracks.{GainsTracks};
 
-use crate::rounds::table::{TABLE, lock, refused};
+use crate::locks::{lock, refused};
+use crate::rounds::table::TABLE;
 use std::sync::Wait;
 use table_cell::TrackError;
 use table_shards::held::lent;
@@ -17,7 +18,7 @@ fn track_once<R: Wait>(rt: &R, shards: &Shards, seat: &mut Seat, key: u32) -> Re
     ensures { OnOk result (GainsTracks key 1 seat.old seat.new) }
 {
     let change = Change::Add(DataType::Gpc0, 1);
-    let mut locked = lock(rt, shards)?;
+    let mut locked = lock(rt, shards, TABLE)?;
     let now = Moment::least();
     match lent::track(&mut locked, seat, TABLE, Key::Int(key), change, now) {
         Ok(()) => Ok(()),

@@ -4,7 +4,8 @@ ghost use Rattle.std.specs.Prelude.{◌≡◌, ℕ, IfOk, List, OnOk};
 ghost use Rattle.known_state.specs.Lessons.{IsLessonFor};
 ghost use Rattle.node_commands.specs.Tracks.{GainsWork};
 
-use crate::rounds::table::{SESSION, TABLE, lock, refused};
+use crate::locks::{lock, refused};
+use crate::rounds::table::{SESSION, TABLE};
 use known_state::Known;
 use peers_engine::{Gate, Stage};
 use std::alloc::Global;
@@ -20,7 +21,7 @@ use text_commands::Ending;
 fn copy<R: Wait>(rt: &R, shards: &Shards, seat: &mut Seat) -> Result<Option<Batch>, Ending>
     ensures { OnOk result (GainsWork seat.old seat.new) }
 {
-    let mut locked = lock(rt, shards)?;
+    let mut locked = lock(rt, shards, TABLE)?;
     match lent::copy(
         &mut locked,
         seat,
@@ -52,7 +53,7 @@ fn planned(alloc: Global, known: &Known, batch: &Batch) -> Result<Known, Ending>
 fn settle<R: Wait>(rt: &R, shards: &Shards, seat: &mut Seat, batch: &Batch) -> Result<(), Ending>
     ensures { OnOk result (seat.new ≡ seat.old) }
 {
-    let mut locked = lock(rt, shards)?;
+    let mut locked = lock(rt, shards, TABLE)?;
     match lent::settle(&mut locked, seat, TABLE, SESSION, batch) {
         Ok(()) => Ok(()),
         Err(_) => Err(Ending::Device),
@@ -71,7 +72,7 @@ fn acknowledge<R: Wait>(
     let Some(last) = batch.updates().last() else {
         return Err(Ending::Device);
     };
-    let mut locked = lock(rt, shards)?;
+    let mut locked = lock(rt, shards, TABLE)?;
     match lent::ack(&mut locked, seat, TABLE, SESSION, last.number) {
         Ok(_) => Ok(()),
         Err(error) => Err(refused(error, AckError::Memory)),

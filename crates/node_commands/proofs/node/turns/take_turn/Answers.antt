@@ -1,16 +1,14 @@
 use Rattle.std.proofs.Common.{◌≡◌}
 use Rattle.std.specs.Io.KnownBytes.{IsAtEnd}
 use Rattle.peers_engine.specs.Acting.{worker}
-use Rattle.node_commands.proofs.TurningLaws.{both_ways, taken_after}
+use Rattle.node_commands.proofs.TurningLaws.{both_ways}
 use Rattle.node_commands.proofs.node.turns.take_turn.Goals as goal
 
 pub returns : goal.returns
 returns g c =
     let w = c.args.worker.now in
     let e = c.turn.new.self in
-    let now = c.moment-now.result in
-    taken_after c.args.pace c.args.before now w e c.turn.result
-    (g.R.Read.remaining c.args.from.now) (g.R.Read.remaining c.turn.new.input) (g.W.Write.contents c.args.to.now) (g.W.Write.contents c.turn.new.output) c.moment-now.ensures
-    (both_ways (IsAtEnd (g.R.Read.remaining c.turn.new.input)) (c.turn.new.input ≡ c.args.from.now) (worker w.session w.seat w.number now) (worker e.session e.seat e.number now) c.turn.result
+    let now = c.args.now in
+    both_ways (IsAtEnd (g.R.Read.remaining c.turn.new.input)) (c.turn.new.input ≡ c.args.from.now) (worker w.session w.seat w.number now) (worker e.session e.seat e.number now) c.turn.result
     (g.R.Read.remaining c.args.from.now) (g.R.Read.remaining c.turn.new.input) (g.W.Write.contents c.args.to.now) (g.W.Write.contents c.turn.new.output)
-    c.turn.ensures.written c.turn.ensures.closed c.turn.ensures.stopped c.turn.ensures.ended)
+    c.turn.ensures.written c.turn.ensures.closed c.turn.ensures.stopped c.turn.ensures.ended
