@@ -1,16 +1,22 @@
 -- One track after another.
-use Rattle.std.proofs.Common.{◌≡◌, ◌∙◌, ◌+◌, ◌<◌, ◌≤◌, ℕ, List, [], ◌∷◌, ◌++◌, Ok, Result, true, arith, length, refl, sym, ap, subst, append-nil, append_assoc, length-append}
+use Rattle.std.proofs.Common.{◌≡◌, ◌∙◌, ◌+◌, ◌<◌, ◌≤◌, ℕ, List, [], ◌∷◌, ◌++◌, Ok, Result, true, arith, inl, inr, length, refl, sym, ap, subst, append-nil, append_assoc, length-append}
 use Rattle.std.specs.List.{AllByRecursion}
 use Rattle.table_types.specs.declared.change.Change.TheVariants as changes
+use Rattle.table_types.specs.declared.copies.CopyKind.{CopyKind}
 use Rattle.table_types.specs.declared.data_type.DataType.TheVariants as types
 use Rattle.table_types.specs.declared.key.Key.TheVariants as keys
+use Rattle.table_types.specs.declared.update.Update.{Update}
 use Rattle.table_cell.specs.Histories.{CellState, events_of}
 use Rattle.table_cell.specs.declared.events.CellEvent.{CellEvent}
 use Rattle.table_cell.specs.declared.events.CellEvent.TheVariants as events
 use Rattle.table_cell.specs.declared.events.CellReply.{CellReply}
-use Rattle.table_shards.specs.Receipts.{ReceiptState, SeatState, receipts_of}
+use Rattle.table_cell.specs.declared.events.CellReply.TheVariants as replies
+use Rattle.table_shards.specs.declared.answers.Answered.{Answered}
+use Rattle.table_shards.specs.Receipts.{ReceiptState, SeatState, receipts_of, with_answer}
 use Rattle.table_shards.specs.declared.errors.ShardError.{ShardError}
 use Rattle.table_shards.specs.Holding.{Holds, receipted}
+use Rattle.session_core.specs.declared.event.Event.{Event}
+use Rattle.peers_engine.specs.Calls.{IsCopied, IsSettled, IsTaken}
 use Rattle.table_shards.proofs.PageLaws.{one_more}
 use Rattle.table_shards.proofs.AllLaws.{all_both, all_end}
 use Rattle.node_commands.specs.Tracks.{GainsTracks, GainsWork, HasDoneItsPart, IsTrack, is_work}
@@ -90,6 +96,25 @@ pub held_worked : {A E : Type 0} (call : CellState → Result A E → CellState 
     (r : Result A (ShardError E)) (a : A) → is_work event ≡ true → r ≡ Ok a → Holds call (λ x. receipted 1 c s event (reply x)) 1 c s r e t → GainsWork s t
 held_worked call event reply c e s t r a work is holds =
     subst (GainsWork s) (sym (held_ok call (λ x. receipted 1 c s event (reply x)) 1 c e s t r a is holds)) (one_worked s c event (reply a) work)
+
+-- ---- calls of `peers_engine`
+
+-- an answer without an event adds no receipt
+pub answered : (s e : SeatState) (a : Answered) → e ≡ with_answer s a → GainsWork s e
+answered s e a is = subst (GainsWork s) (sym is) (refl, [], sym (append-nil (receipts_of 1 s)), tt)
+
+pub copied_worked : (now : ℕ) (s t : SeatState) (kind : CopyKind) (event : Event) → IsCopied 1 now s 1 kind t event → GainsWork s t
+copied_worked now s t kind event (c, inl (batch, same, (sound, e, (mid, (may, calls, receipt), left)))) =
+    subst (GainsWork s) (sym (left ∙ receipt)) (one_worked s c (events.Copy 1 kind 512 now) (replies.Copy batch) refl)
+copied_worked now s t kind event (c, inr (same, (sound, e, (mid, (may, calls, stays), left)))) = subst (λ (x : SeatState). GainsWork x t) stays (answered mid t _ left)
+
+pub taken_worked : (s t : SeatState) (number : ℕ) (event : Event) → IsTaken 1 s 1 number t event → GainsWork s t
+taken_worked s t number event (inl (settled, same, (c, sound, e, (mid, (may, calls, receipt), left)))) =
+    subst (GainsWork s) (sym (left ∙ receipt)) (one_worked s c (events.Ack 1 number) (replies.Ack settled) refl)
+taken_worked s t number event (inr (same, (c, sound, e, (mid, (may, calls, stays), left)))) = subst (λ (x : SeatState). GainsWork x t) stays (answered mid t _ left)
+
+pub settled_worked : (s t : SeatState) (batch : List Update) → IsSettled 1 s batch t → GainsWork s t
+settled_worked s t batch (u, first, c, sound, e, (mid, (may, calls, stays), left)) = subst (λ (x : SeatState). GainsWork x t) stays (answered mid t _ left)
 
 -- ---- all seats
 

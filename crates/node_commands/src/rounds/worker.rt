@@ -1,101 +1,82 @@
 //! The worker of a round's session. It plans a lesson for each change, but writes none: the round has no other node.
 
-ghost use Rattle.std.specs.Prelude.{◌≡◌, ℕ, IfOk, List, OnOk};
-ghost use Rattle.known_state.specs.Lessons.{IsLessonFor};
+ghost use Rattle.std.specs.Prelude.{◌≡◌, OnOk};
 ghost use Rattle.node_commands.specs.Tracks.{GainsWork};
 
-use crate::locks::{lock, refused};
 use crate::rounds::table::{SESSION, TABLE};
 use known_state::Known;
-use peers_engine::{Gate, Stage};
+use peers_engine::{Context, EngineError, Gate, Stage, acknowledge, copy_batch, plan, settle};
+use session_core::Event;
 use std::alloc::Global;
 use std::sync::Wait;
-use table_cell::{AckError, CopyError, TableCell};
-use table_shards::held::lent;
-use table_shards::{Seat, ShardError, Shards};
+use table_cell::TableCell;
+use table_shards::{Seat, Shards};
 use table_types::{Batch, CopyKind, Moment};
-use teach_writer::teach;
+use teach_writer::joined;
 use text_commands::Ending;
 
-/// Copies the updates that the session hasn't been taught yet, while it holds the lock. Returns `None` if there are none.
-fn copy<R: Wait>(rt: &R, shards: &Shards, seat: &mut Seat) -> Result<Option<Batch>, Ending>
+/// Returns how a round ends if a step of its worker fails with `error`: with `Memory` if memory ran out, and with `Device` otherwise.
+fn stopped(error: EngineError) -> Ending {
+    match error {
+        EngineError::Memory => Ending::Memory,
+        _ => Ending::Device,
+    }
+}
+
+/// Copies the updates that session 1 hasn't been taught yet, and stops at the gate. Returns `None` if there are none.
+#[tactic(auto, using(crate::proofs::TrackLaws::copied_worked))]
+fn copy<R: Wait, G: Gate>(
+    context: &Context<'_, R, G>,
+    seat: &mut Seat,
+) -> Result<Option<Batch>, Ending>
+    requires { context.now.number ≡ 1 }
     ensures { OnOk result (GainsWork seat.old seat.new) }
 {
-    let mut locked = lock(rt, shards, TABLE)?;
-    match lent::copy(
-        &mut locked,
-        seat,
-        TABLE,
-        SESSION,
-        CopyKind::Push,
-        Batch::MOST,
-        Moment::least(),
-    ) {
-        Ok(batch) => Ok(Some(batch)),
-        Err(ShardError::Cell(CopyError::Nothing)) => Ok(None),
-        Err(error) => Err(refused(error, CopyError::Memory)),
+    match copy_batch(context, seat, TABLE, CopyKind::Push) {
+        Ok(Event::Copied(_, batch)) => Ok(Some(batch)),
+        Ok(Event::Nothing(_)) => Ok(None),
+        Ok(_) => Err(Ending::Device),
+        Err(error) => Err(stopped(error)),
     }
 }
 
-/// Plans a lesson that teaches `batch` to a learner in the state `known`, and returns the learner's state after it. It holds no
-/// lock, and has no runtime to take one.
-fn planned(alloc: Global, known: &Known, batch: &Batch) -> Result<Known, Ending>
-    ensures { IfOk result (λ after. (bytes : List ℕ) × IsLessonFor known.now batch.now bytes after) }
-{
-    if !batch.is_for(known.roster()) {
-        return Err(Ending::Device);
-    }
-    let lesson = teach(alloc, known, batch)?;
-    Ok(lesson.known)
-}
-
-/// Settles the batch, while it holds the lock. The seat stays as it was.
-fn settle<R: Wait>(rt: &R, shards: &Shards, seat: &mut Seat, batch: &Batch) -> Result<(), Ending>
-    ensures { OnOk result (seat.new ≡ seat.old) }
-{
-    let mut locked = lock(rt, shards, TABLE)?;
-    match lent::settle(&mut locked, seat, TABLE, SESSION, batch) {
-        Ok(()) => Ok(()),
-        Err(_) => Err(Ending::Device),
-    }
-}
-
-/// Acknowledges the last number of the batch, while it holds the lock.
-fn acknowledge<R: Wait>(
-    rt: &R,
-    shards: &Shards,
+/// Acknowledges the last number of the batch.
+#[tactic(auto, using(crate::proofs::TrackLaws::taken_worked))]
+fn acknowledge_last<R: Wait, G: Gate>(
+    context: &Context<'_, R, G>,
     seat: &mut Seat,
     batch: &Batch,
 ) -> Result<(), Ending>
+    requires { context.now.number ≡ 1 }
     ensures { OnOk result (GainsWork seat.old seat.new) }
 {
     let Some(last) = batch.updates().last() else {
         return Err(Ending::Device);
     };
-    let mut locked = lock(rt, shards, TABLE)?;
-    match lent::ack(&mut locked, seat, TABLE, SESSION, last.number) {
-        Ok(_) => Ok(()),
-        Err(error) => Err(refused(error, AckError::Memory)),
+    match acknowledge(context, seat, TABLE, last.number) {
+        Ok(Event::Settled(_, _)) => Ok(()),
+        Ok(_) => Err(Ending::Device),
+        Err(error) => Err(stopped(error)),
     }
 }
 
-/// Plans, settles and acknowledges a batch. Calls the gate before the plan and after it.
+/// Plans a lesson for the batch, stops at the gate, and settles and acknowledges the batch.
+#[tactic(auto, using(crate::proofs::TrackLaws::settled_worked, crate::proofs::TrackLaws::more_worked))]
 fn teach_batch<R: Wait, G: Gate>(
-    rt: &R,
-    alloc: Global,
-    gate: &G,
-    shards: &Shards,
+    context: &Context<'_, R, G>,
     seat: &mut Seat,
     known: &mut Known,
     batch: &Batch,
 ) -> Result<(), Ending>
+    requires { context.now.number ≡ 1 }
     ensures { OnOk result (GainsWork seat.old seat.new) }
 {
-    gate.at(rt, Stage::Copied);
-    *known = planned(alloc, known, batch)?;
-    gate.at(rt, Stage::Planned);
-    settle(rt, shards, seat, batch)?;
-    acknowledge(rt, shards, seat, batch)
+    let pieces = plan(context, known, batch).map_err(stopped)?;
+    let lesson = joined(context.alloc, pieces)?;
+    *known = lesson.known;
+    context.gate.at(context.rt, Stage::Planned);
+    settle(context, seat, batch).map_err(stopped)?;
+    acknowledge_last(context, seat, batch)
 }
 
 /// Copies, plans, settles and acknowledges what session 1 of table 1 of `shards` hasn't been taught yet, until there is nothing to
@@ -115,11 +96,19 @@ pub fn work<R: Wait, G: Gate>(
 ) -> Result<(), Ending>
     ensures { OnOk result (GainsWork seat.old seat.new) }
 {
+    let context = Context {
+        rt,
+        alloc,
+        gate,
+        shards,
+        number: SESSION,
+        moment: Moment::least(),
+    };
     for _ in 0..TableCell::MOST_EVENTS {
-        let Some(batch) = copy(rt, shards, seat)? else {
+        let Some(batch) = copy(&context, seat)? else {
             return Ok(());
         };
-        teach_batch(rt, alloc, gate, shards, seat, known, &batch)?;
+        teach_batch(&context, seat, known, &batch)?;
     }
     Err(Ending::Device)
 }

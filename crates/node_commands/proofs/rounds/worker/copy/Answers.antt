@@ -1,12 +1,12 @@
-use Rattle.std.proofs.Common.{refl}
+use Rattle.std.proofs.Common.{ℕ, subst}
 use Rattle.table_types.specs.declared.copies.CopyKind.TheVariants as kinds
-use Rattle.table_cell.specs.Histories.{Copies}
-use Rattle.table_cell.specs.declared.events.CellEvent.TheVariants as events
-use Rattle.table_cell.specs.declared.events.CellReply.TheVariants as replies
-use Rattle.node_commands.proofs.TrackLaws.{held_worked}
+use Rattle.peers_engine.specs.Calls.{IsCopied}
+use Rattle.node_commands.proofs.TrackLaws.{copied_worked}
 use Rattle.node_commands.proofs.rounds.worker.copy.Goals as goal
 
-pub returns-in-Ok : goal.returns-in-Ok
-returns-in-Ok g c =
-    let now = c.least.result in
-    held_worked (λ d r e. Copies d 1 kinds.Push 512 now r e) (events.Copy 1 kinds.Push 512 now) replies.Copy c.deref_mut.result.now c.copy.new.locked c.args.seat.now c.copy.new.seat c.copy.result c.in-Ok.batch refl c.in-Ok.is c.copy.ensures
+pub returns-in-Ok-Copied : goal.returns-in-Ok-Copied
+returns-in-Ok-Copied g c =
+    let now = c.args.context.now.moment in
+    let event = c.in-Ok-Copied.field-0 in
+    copied_worked now c.args.seat.now c.copy_batch.new.seat kinds.Push event
+    (subst (λ (n : ℕ). IsCopied n now c.args.seat.now 1 kinds.Push c.copy_batch.new.seat event) c.requires c.in-Ok-Copied.ensures.answer)
