@@ -151,6 +151,20 @@ def rows_shown(trial):
 
 
 @check
+def rows_in_parts(trial):
+    """rows that are listed in several parts are all listed, each once, in rising key"""
+    node = alone(trial, tables=(T1,))
+    stored = 0
+    for count in (1, 511, 512, 513, 1024, 1025, 5000, 9000):
+        node.admins.send(''.join('track t1 %d add gpc0 1\n' % key for key in range(stored, count)))
+        for _ in range(stored, count):
+            require(node.admins.line().startswith('reply '), 'a track')
+        stored = count
+        equal(entries(node, 't1'), ['key=%d use=0 exp=0 gpc0=1' % key for key in range(count)], 'the table of %d rows' % count)
+        equal(node.ask('show rows'), ['row 1 - %d 1' % key for key in range(count)], 'the rows')
+
+
+@check
 def peers_shown(trial):
     """show peers gives each peer in the order of the configuration, and its tables while there is a session"""
     node = node_of_b(trial, peers=('b', 'c'), tables=KINDS[:2])

@@ -21,8 +21,11 @@ use table_shards::held::lent;
 use table_shards::{Seat, ShardError};
 use table_types::{Change, Key, Memory, Row, TableDef};
 
-/// A requester that has this many bytes of answers writes them before it answers the next request.
+/// A requester that has this many bytes of answers writes them before it answers the next request, or lists further rows.
 const MANY_ANSWERS: usize = 65_536;
+
+/// How many rows of a table are copied at once, while its lock is held, to be listed.
+const PART: usize = 512;
 
 /// What a client sent: the beginning of a line, and the answers to the lines before it.
 #[derive(Drop)]
@@ -30,6 +33,8 @@ pub(crate) struct Reading {
     alloc: Global,
     line: Vec<u8>,
     answers: Vec<u8>,
+    /// How many bytes of the answers are whole: all but what the request that is being answered has so far.
+    whole: usize,
     /// The page that the client requests by HTTP. The requester answers it once it has read the head of the request.
     page: Option<Request>,
 }
@@ -41,6 +46,7 @@ impl Reading {
             alloc,
             line: Vec::new(alloc),
             answers: Vec::new(alloc),
+            whole: 0,
             page: None,
         }
     }
@@ -49,7 +55,17 @@ impl Reading {
     fn write<W: Write>(&mut self, output: &mut W) -> io::Result<()> {
         output.write_all(self.answers.as_slice())?;
         self.answers.clear();
+        self.whole = 0;
         Ok(())
+    }
+
+    /// Writes the answers that aren't written yet if they are many.
+    fn write_many<W: Write>(&mut self, output: &mut W) -> io::Result<()> {
+        if self.answers.len() >= MANY_ANSWERS {
+            self.write(output)
+        } else {
+            Ok(())
+        }
     }
 }
 
@@ -62,6 +78,15 @@ enum After {
     Closes,
     /// It is closed, and the node stops.
     Stops,
+}
+
+/// Which rows of a table are listed, and how.
+#[derive(Clone, Copy, Debug, PartialEq, Eq)]
+enum Form {
+    /// The live ones, as HAProxy prints them.
+    Live,
+    /// All of them, as lines of the program.
+    All,
 }
 
 /// Who answers the requests of one connection after another.
@@ -151,28 +176,29 @@ impl<'a> Requester<'a> {
         reading: &mut Reading,
         output: &mut W,
     ) -> io::Result<After> {
-        let before = reading.answers.len();
-        match self.answer_line(rt, reading) {
+        reading.whole = reading.answers.len();
+        match self.answer_line(rt, reading, output) {
             Ok(after) => Ok(after),
             Err(error) => {
-                reading.answers.truncate(before);
+                reading.answers.truncate(reading.whole);
                 let _closed = self.close(rt, reading, output)?;
-                Err(error.into())
+                Err(error)
             }
         }
     }
 
     /// Answers the request of a line. A node that stops answers none.
-    fn answer_line<R: Wait + Clock>(
+    fn answer_line<R: Wait + Clock, W: Write>(
         &mut self,
         rt: &R,
         reading: &mut Reading,
-    ) -> Result<After, AllocError> {
+        output: &mut W,
+    ) -> io::Result<After> {
         if self.node.stops() {
             return Ok(After::Closes);
         }
         if reading.page.is_some() {
-            return self.answer_head(rt, reading);
+            return Ok(self.answer_head(rt, reading)?);
         }
         if reading.line.len() > MOST_REQUEST {
             push_answer(&mut reading.answers, Answer::Refused)?;
@@ -186,8 +212,8 @@ impl<'a> Requester<'a> {
             reading.line.as_slice(),
         );
         match read {
-            Ok(request) => self.answer_request(rt, reading, request),
-            Err(LineError::Memory) => Err(AllocError),
+            Ok(request) => self.answer_request(rt, reading, request, output),
+            Err(LineError::Memory) => Err(AllocError.into()),
             Err(_) => {
                 push_refused(&mut reading.answers, reading.line.as_slice())?;
                 Ok(After::GoesOn)
@@ -214,39 +240,27 @@ impl<'a> Requester<'a> {
     }
 
     /// Answers a request.
-    fn answer_request<R: Wait + Clock>(
+    fn answer_request<R: Wait + Clock, W: Write>(
         &mut self,
         rt: &R,
         reading: &mut Reading,
         request: Request,
-    ) -> Result<After, AllocError> {
-        let text = &mut reading.answers;
+        output: &mut W,
+    ) -> io::Result<After> {
         match request {
             Request::Track { table, key, change } => {
                 if !self.wait_to_track(rt) {
                     return Ok(After::Closes);
                 }
-                self.track(rt, text, table, key, change)?;
+                self.track(rt, &mut reading.answers, table, key, change)?;
             }
-            Request::Get { table, key } => self.get(rt, text, table, &key)?,
-            Request::ShowTables => {
-                self.show_tables(rt, text)?;
-                push_answer(text, Answer::End)?;
-            }
-            Request::ShowTable(table) => {
-                self.show_table(rt, text, table)?;
-                push_answer(text, Answer::End)?;
-            }
-            Request::ShowRows => {
-                self.show_rows(rt, text)?;
-                push_answer(text, Answer::End)?;
-            }
-            Request::ShowPeers => {
-                self.show_peers(rt, text)?;
-                push_answer(text, Answer::End)?;
-            }
+            Request::Get { table, key } => self.get(rt, &mut reading.answers, table, &key)?,
+            Request::ShowTables => self.show_tables(rt, &mut reading.answers)?,
+            Request::ShowTable(table) => self.show_table(rt, reading, table, output)?,
+            Request::ShowRows => self.show_rows(rt, reading, output)?,
+            Request::ShowPeers => self.show_peers(rt, &mut reading.answers)?,
             Request::Stop => {
-                push_answer(text, Answer::Done)?;
+                push_answer(&mut reading.answers, Answer::Done)?;
                 return Ok(After::Stops);
             }
             page @ (Request::Metrics | Request::OtherPage) => reading.page = Some(page),
@@ -357,53 +371,105 @@ impl<'a> Requester<'a> {
         )
     }
 
-    /// Appends the header of each table, in ascending order of id.
+    /// Appends the header of each table, in ascending order of id, and ends the listing.
     fn show_tables<R: Wait>(&self, rt: &R, text: &mut Vec<u8>) -> Result<(), AllocError> {
         for table in self.node.roster.tables() {
             if let Some(setting) = self.setting(Some(table.id())) {
                 self.show_header(rt, text, setting)?;
             }
         }
-        Ok(())
+        push_answer(text, Answer::End)
     }
 
-    /// Returns copies of a table's rows.
-    fn rows_of<R: Wait>(&self, rt: &R, table: u64) -> Result<Vec<(Key, Row)>, AllocError> {
+    /// Returns copies of the rows of a table that come after the key `after`, or of its first rows: a `PART` of them, or fewer if there
+    /// are no more.
+    fn rows_after<R: Wait>(
+        &self,
+        rt: &R,
+        table: u64,
+        after: Option<&Key>,
+    ) -> Result<Vec<(Key, Row)>, AllocError> {
         match lock(rt, self.node, table) {
-            Some(locked) => locked.cell().rows().map_err(|_| AllocError),
+            Some(locked) => locked
+                .cell()
+                .rows_after(after, PART)
+                .map_err(|_| AllocError),
             None => Ok(Vec::new(self.node.alloc)),
         }
     }
 
-    /// Appends the header of a table, and its live rows.
-    fn show_table<R: Wait + Clock>(
+    /// Appends a part of the rows of a table: its live ones as HAProxy prints them, or all as lines of the program.
+    fn push_part<R: Wait + Clock>(
         &self,
         rt: &R,
         text: &mut Vec<u8>,
-        table: Option<u64>,
+        table: &TableDef,
+        rows: &[(Key, Row)],
+        form: Form,
     ) -> Result<(), AllocError> {
-        let Some(setting) = self.setting(table) else {
-            return push_answer(text, Answer::NoTable);
-        };
-        self.show_header(rt, text, setting)?;
-        let rows = self.rows_of(rt, setting.definition.id())?;
-        let now = self.node.clock.now(rt);
-        push_live_rows(
-            self.node.alloc,
-            text,
-            &setting.definition,
-            rows.as_slice(),
-            now,
-        )
+        match form {
+            Form::Live => {
+                let now = self.node.clock.now(rt);
+                push_live_rows(self.node.alloc, text, table, rows, now)
+            }
+            Form::All => push_rows(text, table, rows),
+        }
     }
 
-    /// Appends the rows of all tables.
-    fn show_rows<R: Wait>(&self, rt: &R, text: &mut Vec<u8>) -> Result<(), AllocError> {
-        for table in self.node.roster.tables() {
-            let rows = self.rows_of(rt, table.id())?;
-            push_rows(text, table, rows.as_slice())?;
+    /// Appends the rows of a table, part after part, and writes the answers whenever they are many. The table's lock is held for a part
+    /// at a time, and not while answers are written. Wakes the peers' workers first, since a write may wait.
+    fn list_rows<R: Wait + Clock, W: Write>(
+        &mut self,
+        rt: &R,
+        reading: &mut Reading,
+        table: &TableDef,
+        form: Form,
+        output: &mut W,
+    ) -> io::Result<()> {
+        self.tell_peers(rt);
+        let mut after = None;
+        for _ in rt.forever() {
+            let mut rows = self.rows_after(rt, table.id(), after.as_ref())?;
+            self.push_part(rt, &mut reading.answers, table, rows.as_slice(), form)?;
+            reading.write_many(output)?;
+            if rows.len() < PART {
+                return Ok(());
+            }
+            after = rows.pop().map(|(key, _)| key);
         }
-        Ok(())
+        unreachable!()
+    }
+
+    /// Appends the header of a table and its live rows, and ends the listing.
+    fn show_table<R: Wait + Clock, W: Write>(
+        &mut self,
+        rt: &R,
+        reading: &mut Reading,
+        table: Option<u64>,
+        output: &mut W,
+    ) -> io::Result<()> {
+        match self.setting(table) {
+            Some(setting) => {
+                self.show_header(rt, &mut reading.answers, setting)?;
+                self.list_rows(rt, reading, &setting.definition, Form::Live, output)?;
+            }
+            None => push_answer(&mut reading.answers, Answer::NoTable)?,
+        }
+        Ok(push_answer(&mut reading.answers, Answer::End)?)
+    }
+
+    /// Appends the rows of all tables, and ends the listing.
+    fn show_rows<R: Wait + Clock, W: Write>(
+        &mut self,
+        rt: &R,
+        reading: &mut Reading,
+        output: &mut W,
+    ) -> io::Result<()> {
+        let node = self.node;
+        for table in node.roster.tables() {
+            self.list_rows(rt, reading, table, Form::All, output)?;
+        }
+        Ok(push_answer(&mut reading.answers, Answer::End)?)
     }
 
     /// Returns what the session that stands did in each table, to be reported.
@@ -453,14 +519,15 @@ impl<'a> Requester<'a> {
         Ok(reports)
     }
 
-    /// Appends the node and its peers.
+    /// Appends the node and its peers, and ends the listing.
     fn show_peers<R: Wait + Clock>(&self, rt: &R, text: &mut Vec<u8>) -> Result<(), AllocError> {
         let now = self.node.clock.now(rt);
         let up_to_date = self.node.catching_up.is_up_to_date(rt);
         let configuration = &self.node.configuration;
         push_node(text, &configuration.node, now, up_to_date)?;
         let reports = self.peer_reports(rt, self.node.clock.milliseconds(rt))?;
-        push_peers(text, &configuration.section, reports.as_slice())
+        push_peers(text, &configuration.section, reports.as_slice())?;
+        push_answer(text, Answer::End)
     }
 
     /// Returns what is counted of each table.
