@@ -8,7 +8,6 @@ use crate::clock::milliseconds;
 use crate::devices::is_pause;
 use crate::node::Node;
 use crate::slot::{Arrival, Slot};
-use admin_port::PeerState;
 use node_text::push_number;
 use peers_hello::{Answer, Hello};
 use std::alloc::Global;
@@ -32,7 +31,7 @@ const LOOK: u64 = 50;
 /// How long a door waits for a connection before it looks around, in milliseconds.
 const ACCEPT: u64 = 100;
 
-/// How long a door watches whether a connection stays, if a session with its peer stands, in milliseconds.
+/// How long a door watches whether a connection stays, if its peer has another, in milliseconds.
 const STAY: u64 = 300;
 
 /// The doors of a node. One free door at a time waits for the next connection. While none is free, the one whose connection
@@ -159,8 +158,8 @@ fn read_more(stream: &TcpStream, bytes: &mut Vec<u8>) -> More {
     }
 }
 
-/// Returns whether a connection stays for a while. While a session with its peer stands, a connection may be one that the peer drops
-/// at once, since it already has the other.
+/// Returns whether a connection stays for a while. If its peer has another, it may be one that the peer drops at once, since it already
+/// has the other, or has dropped since.
 fn stays(stream: &TcpStream) -> bool {
     if stream.set_read_timeout(Some(milliseconds(STAY))).is_err() {
         return false;
@@ -284,10 +283,8 @@ impl<'a, R: Wait + Clock> Door<'a, R> {
         let Some(slot) = slot_of(self.node, name) else {
             return;
         };
-        let status = slot.status(self.rt);
-        let stands = status.state != PeerState::Down;
-        drop(status);
-        if !stands || stays(&stream) {
+        let is_first = !slot.has_session(self.rt) && !slot.has_arrival(self.rt);
+        if is_first || stays(&stream) {
             slot.arrive(self.rt, Arrival { stream, bytes });
         }
     }

@@ -39,13 +39,14 @@ impl Slot {
     }
 
     /// Has a connection wait for the worker, in the place of one that waits already. Shuts down the connection of the session that
-    /// stands, so that its worker doesn't wait for it.
+    /// stands, so that its worker doesn't wait for it. It does so before the worker can take the one that waits, since that would
+    /// otherwise be the one to be shut down.
     pub(crate) fn arrive<R: Wait>(&self, rt: &R, arrival: Arrival) {
         let mut waiting = self.arrival.lock(rt);
+        self.shut(rt);
         let former = mem::replace(&mut *waiting, Some(arrival));
         drop(waiting);
         drop(former);
-        self.shut(rt);
         self.bell.ring(rt);
     }
 
@@ -69,7 +70,7 @@ impl Slot {
         drop(former);
     }
 
-    /// Returns whether a session stands.
+    /// Returns whether a session stands, or its hello isn't over.
     pub(crate) fn has_session<R: Wait>(&self, rt: &R) -> bool {
         let present = self.present.lock(rt);
         present.is_some()
