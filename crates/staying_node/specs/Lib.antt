@@ -1,2 +1,4 @@
 pub mod CatchingUp
 pub mod Doors
+pub mod Ends
+pub mod Renewals

@@ -109,6 +109,11 @@ impl<'a, R> Intake<'a, R> {
 }
 
 impl<'a, R: Wait> Intake<'a, R> {
+    /// Returns how many bytes arrived on the connection.
+    pub(crate) fn arrived(&self) -> u64 {
+        self.inbox.total(self.rt)
+    }
+
     /// Takes a piece from the inbox. Returns whether there may be more.
     fn refill(&mut self) -> io::Result<bool> {
         self.sifted.clear();

@@ -9,6 +9,7 @@ mod catching_up;
 mod clock;
 mod devices;
 mod doors;
+mod ends;
 mod fault_counts;
 mod inbox;
 mod intake;

@@ -61,22 +61,24 @@ fn connection_of(arrival: Arrival) -> Option<Connection> {
     })
 }
 
-/// Returns a connection to work with, if there is one: one that waits, or one that this node makes now if `attempts`.
+/// Returns a connection to work with, if there is one: one that waits, or one that this node makes now if `attempts`. There is none
+/// while no session may stand.
 fn next_connection<N: Net<Listener = TcpListener, Stream = TcpStream> + Wait>(
-    rt: &N,
-    node: &Node,
-    slot: &Slot,
-    peer: usize,
+    place: &Place<'_, N>,
     attempts: bool,
 ) -> Option<Connection> {
-    if let Some(arrival) = slot.take_arrival(rt) {
+    let node = place.node;
+    if node.is_paused() {
+        return None;
+    }
+    if let Some(arrival) = place.slot.take_arrival(place.rt) {
         return connection_of(arrival);
     }
     if !attempts {
         return None;
     }
-    let address = node.configuration.peers.get(peer)?.address?;
-    let Ok(stream) = connected(rt, &address) else {
+    let address = node.configuration.peers.get(place.peer)?.address?;
+    let Ok(stream) = connected(place.rt, &address) else {
         return None;
     };
     Some(Connection {
@@ -108,13 +110,9 @@ pub(crate) fn keep_peer<
         if node.stops() {
             return;
         }
-        if node.is_paused() {
-            slot.bell.wait(rt, seen, milliseconds(REST));
-            continue;
-        }
         let now = node.clock.milliseconds(rt);
         let attempts = now >= attempt;
-        match next_connection(rt, node, slot, peer, attempts) {
+        match next_connection(&place, attempts) {
             Some(connection) => {
                 seat = hold(&place, seat, connection);
                 attempt = next_attempt(rt, slot, node.clock.milliseconds(rt));

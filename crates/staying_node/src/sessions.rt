@@ -1,6 +1,7 @@
 //! A session with a peer, from its connection to its end.
 
 use crate::clock::milliseconds;
+use crate::ends::{end_of_closed, end_of_error};
 use crate::inbox::{Inbox, receive};
 use crate::intake::Intake;
 use crate::node::Node;
@@ -11,17 +12,16 @@ use crate::tables::{close, forget, number_of, reopen};
 use crate::ticks::{Ticks, Traffic};
 use admin_port::{PassedOver, PeerRole, PeerState, SessionEnd};
 use node_text::push_number;
-use peers_engine::{EngineError, StandingWorker, Stood};
+use peers_engine::{StandingWorker, Stood};
 use peers_hello::Hello;
 use session_core::{Controls, Session, Standing, State};
-use std::alloc::Global;
 use std::net::{Shutdown, TcpStream};
 use std::sync::Wait;
 use std::thread;
 use std::thread::{Scope, Threads};
 use std::time::Clock;
 use table_shards::Seat;
-use table_types::{Memory, Moment, Name, Roster};
+use table_types::{Memory, Moment, Name};
 
 /// A peer's place in a node that runs.
 #[derive(Drop)]
@@ -42,14 +42,14 @@ pub(crate) struct Connection {
     pub(crate) bytes: Vec<u8>,
 }
 
-/// Makes the session of a connection.
+/// Makes the session of a connection with a peer.
 fn session_of(
-    alloc: Global,
     node: &Node,
     peer: &Name,
     role: PeerRole,
     up_to_date: bool,
 ) -> Result<Session, Memory> {
+    let alloc = node.alloc;
     let own = node.configuration.node.copy(alloc)?;
     let roster = node.roster.copy(alloc)?;
     match role {
@@ -70,29 +70,13 @@ fn session_of(
     }
 }
 
-/// Makes the worker of a connection, or gives the seat back.
-fn worker_of(
-    node: &Node,
-    peer: usize,
-    seat: Seat,
-    role: PeerRole,
-    up_to_date: bool,
-    now: Moment,
-) -> Result<StandingWorker, Seat> {
-    let alloc = node.alloc;
-    let Some(named) = node.configuration.peers.get(peer) else {
-        return Err(seat);
-    };
-    let Ok(session) = session_of(alloc, node, &named.name, role, up_to_date) else {
-        return Err(seat);
-    };
-    let Ok(standing) = Standing::new(alloc, session, now) else {
-        return Err(seat);
-    };
-    match StandingWorker::new(alloc, standing, seat, number_of(peer), &node.roster) {
-        Ok(worker) => Ok(worker),
-        Err((_, seat)) => Err(seat),
-    }
+/// Makes the session of a connection, which stays from now on. Returns `None` if memory runs out.
+fn standing_of<N: Wait + Clock>(place: &Place<'_, N>, role: PeerRole) -> Option<Standing> {
+    let node = place.node;
+    let peer = node.configuration.peers.get(place.peer)?;
+    let up_to_date = node.catching_up.is_up_to_date(place.rt);
+    let session = session_of(node, &peer.name, role, up_to_date).ok()?;
+    Standing::new(node.alloc, session, node.clock.now(place.rt)).ok()
 }
 
 /// The work with a session that stands.
@@ -103,7 +87,6 @@ struct Work<'a, N> {
     /// The index of the peer.
     peer: usize,
     slot: &'a Slot,
-    inbox: &'a Inbox,
     from: Intake<'a, N>,
     to: Outbox<'a, N>,
     worker: StandingWorker,
@@ -128,6 +111,41 @@ struct Work<'a, N> {
 }
 
 impl<'a, N: Wait + Clock> Work<'a, N> {
+    /// Returns the work with a session that has just been connected, at a peer's place.
+    fn new(
+        place: Place<'a, N>,
+        role: PeerRole,
+        from: Intake<'a, N>,
+        to: Outbox<'a, N>,
+        worker: StandingWorker,
+    ) -> Work<'a, N> {
+        let Place {
+            rt,
+            node,
+            slot,
+            peer,
+        } = place;
+        Work {
+            rt,
+            node,
+            peer,
+            slot,
+            from,
+            to,
+            worker,
+            role,
+            up_to_date: false,
+            begun: false,
+            asking: None,
+            rows: (0, 0),
+            teaching: false,
+            idle: 0,
+            ticks: Ticks::new(node.clock.milliseconds(rt)),
+            left: Vec::new(node.alloc),
+            passes_over: false,
+        }
+    }
+
     /// Works until the session ends, and returns why it did.
     fn work(&mut self) -> SessionEnd {
         let rt = self.rt;
@@ -227,7 +245,7 @@ impl<'a, N: Wait + Clock> Work<'a, N> {
         match turned {
             Ok(Stood::Worked | Stood::Idled) => self.look(now),
             Ok(Stood::Closed) => Some(self.closed()),
-            Err(error) => Some(end_of(error)),
+            Err(error) => Some(end_of_error(error)),
         }
     }
 
@@ -250,7 +268,7 @@ impl<'a, N: Wait + Clock> Work<'a, N> {
         match ticked {
             Ok(Stood::Worked | Stood::Idled) => None,
             Ok(Stood::Closed) => Some(SessionEnd::Silent),
-            Err(error) => Some(end_of(error)),
+            Err(error) => Some(end_of_error(error)),
         }
     }
 
@@ -272,7 +290,7 @@ impl<'a, N: Wait + Clock> Work<'a, N> {
         self.begin_asking();
         match self.worker.request(&mut self.to, now) {
             Ok(_) => None,
-            Err(error) => Some(end_of(error)),
+            Err(error) => Some(end_of_error(error)),
         }
     }
 
@@ -426,7 +444,7 @@ impl<'a, N: Wait + Clock> Work<'a, N> {
             heartbeats_sent: self.worker.tally.heartbeats,
             heartbeats_received: self.worker.session.controls().heartbeats,
             bytes_sent: self.to.total,
-            bytes_received: self.inbox.total(self.rt),
+            bytes_received: self.from.arrived(),
             passed_over: self.passed_over(),
         }
     }
@@ -469,15 +487,12 @@ impl<'a, N: Wait + Clock> Work<'a, N> {
 
     /// Returns why a session is over that no error ended.
     fn closed(&self) -> SessionEnd {
-        if let Some(fault) = self.fault() {
+        let fault = self.fault();
+        if let Some(fault) = fault {
             self.node.faults.count(self.rt, fault);
             self.log(&[b"fault", fault.as_bytes()]);
-            SessionEnd::Fault
-        } else if self.from.ended {
-            SessionEnd::End
-        } else {
-            SessionEnd::Error
         }
+        end_of_closed(fault.is_some(), self.from.ended)
     }
 
     /// Notes that the session is over, and that a resync under way is broken.
@@ -517,109 +532,61 @@ fn role_name(role: PeerRole) -> &'static str {
     }
 }
 
-/// Returns why a session ended that an error ended.
-fn end_of(error: EngineError) -> SessionEnd {
-    match error {
-        EngineError::Read | EngineError::Write { sent: _ } => SessionEnd::Device,
-        EngineError::Session(_) | EngineError::Memory | EngineError::Strange => SessionEnd::Error,
-    }
-}
-
-/// Holds a session over a connection until it ends, and gives the seat back.
+/// Holds a session over a connection until it ends, and gives the seat back. While the session stands, its worker owns the seat.
 pub(crate) fn hold<N: Threads + Wait + Clock + Sync>(
     place: &Place<'_, N>,
     mut seat: Seat,
     connection: Connection,
 ) -> Seat {
+    let node = place.node;
     let number = number_of(place.peer);
-    let mut seat = if reopen(place.rt, place.node, &mut seat, number) {
-        hold_open(place, seat, connection)
-    } else {
-        seat
-    };
-    close(place.rt, place.node, &mut seat, number);
+    if reopen(place.rt, node, &mut seat, number) {
+        if let Some(session) = standing_of(place, connection.role) {
+            match StandingWorker::new(node.alloc, session, seat, number, &node.roster) {
+                Ok(worker) => {
+                    let worker = hold_over(place, worker, connection);
+                    seat = worker.seat;
+                }
+                Err((_, refused)) => seat = refused,
+            }
+        }
+    }
+    close(place.rt, node, &mut seat, number);
     seat
 }
 
-/// Holds a session that is open in each table, and gives the seat back.
-fn hold_open<N: Threads + Wait + Clock + Sync>(
+/// Holds a session that is open in each table over a connection, unless memory runs out. Gives its worker back.
+fn hold_over<N: Threads + Wait + Clock + Sync>(
     place: &Place<'_, N>,
-    seat: Seat,
+    worker: StandingWorker,
     connection: Connection,
-) -> Seat {
-    let rt = place.rt;
-    let node = place.node;
-    let slot = place.slot;
-    let peer = place.peer;
+) -> StandingWorker {
+    let (rt, node, slot) = (place.rt, place.node, place.slot);
     let Connection {
         stream,
         role,
         bytes,
     } = connection;
     let Ok(roster) = node.roster.copy(node.alloc) else {
-        return seat;
+        return worker;
     };
-    let up_to_date = node.catching_up.is_up_to_date(rt);
-    let now = node.clock.now(rt);
-    match worker_of(node, peer, seat, role, up_to_date, now) {
-        Ok(worker) => {
-            let inbox = Inbox::new(bytes);
-            slot.set_present(rt, stream.try_clone().ok());
-            let here = Place {
-                rt: &*rt,
-                node: &*node,
-                slot: &*slot,
-                peer,
-            };
-            let worker = hold_over(here, &inbox, &stream, role, roster, worker);
-            slot.set_present(rt, None);
-            let StandingWorker { seat, .. } = worker;
-            seat
-        }
-        Err(seat) => seat,
-    }
-}
-
-/// Holds a session over a connection that is open in each table, and gives its worker back.
-fn hold_over<'a, N: Threads + Wait + Clock + Sync>(
-    place: Place<'a, N>,
-    inbox: &'a Inbox,
-    stream: &'a TcpStream,
-    role: PeerRole,
-    roster: Roster,
-    worker: StandingWorker,
-) -> StandingWorker {
-    let Place {
-        rt,
-        node,
-        slot,
-        peer,
-    } = place;
+    let inbox = Inbox::new(bytes);
+    slot.set_present(rt, stream.try_clone().ok());
     let mut status = slot.status(rt);
     status.connect(role);
     drop(status);
-    let mut work = Work {
-        rt,
-        node,
-        peer,
-        slot,
-        inbox,
-        from: Intake::new(rt, node.alloc, inbox, roster, lines_of(role)),
-        to: Outbox::new(rt, node.clock, stream),
-        worker,
-        role,
-        up_to_date: false,
-        begun: false,
-        asking: None,
-        rows: (0, 0),
-        teaching: false,
-        idle: 0,
-        ticks: Ticks::new(node.clock.milliseconds(rt)),
-        left: Vec::new(node.alloc),
-        passes_over: false,
+    let from = Intake::new(&*rt, node.alloc, &inbox, roster, lines_of(role));
+    let to = Outbox::new(&*rt, node.clock, &stream);
+    let here = Place {
+        rt: &*rt,
+        node: &*node,
+        slot: &*slot,
+        peer: place.peer,
     };
+    let mut work = Work::new(here, role, from, to, worker);
     work.catch_up();
-    work_and_read(rt, &mut work, stream, inbox, slot);
+    work_and_read(rt, &mut work, &stream, &inbox, slot);
+    slot.set_present(rt, None);
     let Work { worker, .. } = work;
     worker
 }

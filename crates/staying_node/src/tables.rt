@@ -1,5 +1,8 @@
 //! Calls on the tables that no session asks for.
 
+ghost use Rattle.std.specs.Prelude.{◌≡◌};
+ghost use Rattle.staying_node.specs.Renewals.{Renews, is_spent};
+
 use crate::node::Node;
 use std::sync::{MutexGuard, Wait};
 use std::time::Clock;
@@ -57,14 +60,26 @@ pub(crate) fn forget(seat: &mut Seat, table: u64) {
     }
 }
 
-/// Returns whether most numbers of a table are assigned, so that it is to get new ones.
-fn is_spent(locked: &Locked) -> bool {
+/// Returns whether a table is to get new numbers.
+fn is_spent(locked: &Locked) -> bool
+    ensures { result ≡ is_spent locked.now }
+{
     locked.cell().next_number() >= RENEWAL
 }
 
-/// Gives a table new numbers if most are assigned. Returns whether that has still to be done, since a session is open in the table.
-fn renumber(locked: &mut Locked, seat: &Seat, table: u64) -> bool {
-    is_spent(locked) && lent::renumber(locked, seat, table).is_err()
+/// Gives a table new numbers if its next one is `RENEWAL` or more. Returns whether that has still to be done, since a session is open in
+/// the table or memory ran out.
+#[tactic(auto, using(crate::proofs::RenewalLaws::renews, crate::proofs::RenewalLaws::waits))]
+fn renumber(locked: &mut Locked, seat: &Seat, table: u64) -> bool
+    ensures { Renews locked.old result locked.new }
+{
+    if !is_spent(locked) {
+        return false;
+    }
+    match lent::renumber(locked, seat, table) {
+        Ok(()) => false,
+        Err(_) => true,
+    }
 }
 
 /// Purges a table if a row of it has ended.
