@@ -17,6 +17,7 @@ static SILENT_HOUR: Stay = Stay {
     steps: 7_200,
     tracks: 0,
     keys: 0,
+    renews: 0,
 };
 
 /// Each side sends a heartbeat after each 3 s in which it sent nothing: 3,600 s have 1,200 of them. The side that connected sent one
@@ -26,6 +27,7 @@ fn a_silent_hour(rt: HostRuntime) {
     let stayed = stay_on(&rt, rt.alloc(), &SILENT_HOUR);
     let expected = Stayed {
         heartbeats: (1_201, 1_200),
+        next: 1,
         rows: 0,
         equal: true,
         stand: true,
@@ -47,6 +49,7 @@ static BUSY_MINUTES: Stay = Stay {
     steps: 1_200,
     tracks: 2,
     keys: 10,
+    renews: 0,
 };
 
 #[test]
@@ -54,6 +57,37 @@ fn ten_busy_minutes(rt: HostRuntime) {
     let stayed = stay_on(&rt, rt.alloc(), &BUSY_MINUTES);
     let expected = Stayed {
         heartbeats: (1, 0),
+        next: 601,
+        rows: 10,
+        equal: true,
+        stand: true,
+    };
+    assert_eq!(rt; stayed, Some(expected));
+}
+
+/// The same ten minutes, in which the table gets new numbers four times, 100 s before the end for the last time: its ten rows then
+/// have the numbers 1 to 10, and 100 changes come after that.
+static RENEWALS: Stay = Stay {
+    tables: Tables {
+        roster: &[T1],
+        tables: &[T1],
+        rows: &[],
+        are_full: false,
+        are_open: true,
+    },
+    step: 500,
+    steps: 1_200,
+    tracks: 2,
+    keys: 10,
+    renews: 250,
+};
+
+#[test]
+fn learns_across_renewals(rt: HostRuntime) {
+    let stayed = stay_on(&rt, rt.alloc(), &RENEWALS);
+    let expected = Stayed {
+        heartbeats: (5, 0),
+        next: 111,
         rows: 10,
         equal: true,
         stand: true,

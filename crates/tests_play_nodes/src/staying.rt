@@ -7,7 +7,7 @@ use crate::tables::{Role, Tables};
 use crate::waiting::Waiting;
 use peers_devices::Counting;
 use peers_engine::{StandingWorker, Stood};
-use session_core::{Standing, State};
+use session_core::{Session, Standing, State};
 use std::alloc::Global;
 use std::sync::Wait;
 use table_shards::held::lent;
@@ -44,6 +44,9 @@ pub struct Stay {
     pub tracks: u32,
     /// How many keys are tracked in turn.
     pub keys: u32,
+    /// After how many steps, again and again, both sessions end, `t1` gets new numbers at the joiner, and other sessions begin; 0 for
+    /// never.
+    pub renews: u32,
 }
 
 /// What two sides came to.
@@ -51,6 +54,8 @@ pub struct Stay {
 pub struct Stayed {
     /// The heartbeats that the joiner and the server sent.
     pub heartbeats: (u64, u64),
+    /// The number that the next change of `t1` takes at the joiner.
+    pub next: u64,
     /// The number of rows of `t1` that the server has.
     pub rows: usize,
     /// Whether the joiner has the same keys and cells there.
@@ -150,6 +155,27 @@ impl Stayer {
         self.worker.seat.forget(1);
         Some(())
     }
+
+    /// Ends the session in `t1`, gives the table new numbers if `renews`, and begins another session.
+    fn begin_anew<H: Wait>(
+        &mut self,
+        rt: &H,
+        alloc: Global,
+        session: Session,
+        renews: bool,
+        now: Moment,
+    ) -> Option<()> {
+        let seat = &mut self.worker.seat;
+        let mut locked = self.shards.cell(1)?.lock(rt);
+        lent::close_session(&mut locked, seat, 1, 1).ok()?;
+        if renews {
+            lent::renumber(&mut locked, seat, 1).ok()?;
+        }
+        lent::open_session(&mut locked, seat, 1, 1).ok()?;
+        drop(locked);
+        self.worker.session = Standing::new(alloc, session, now).ok()?;
+        Some(())
+    }
 }
 
 /// Returns whether two lists of rows have the same keys and cells, in order.
@@ -163,6 +189,12 @@ fn are_equal(rows: &[(Key, Row)], others: &[(Key, Row)]) -> bool {
         }
     }
     true
+}
+
+/// Returns the number that the next change of `t1` takes.
+fn next_number<H: Wait>(rt: &H, shards: &Shards) -> Option<u64> {
+    let locked = shards.cell(1)?.lock(rt);
+    Some(locked.cell().next_number())
 }
 
 impl Pair {
@@ -188,14 +220,33 @@ impl Pair {
         server.go_on(rt, alloc, to_server, to_joiner, now, 8)
     }
 
+    /// Ends both sessions, gives `t1` new numbers at the joiner, and lets other sessions begin.
+    fn renew<H: Wait>(
+        &mut self,
+        rt: &H,
+        alloc: Global,
+        tables: &Tables,
+        now: Moment,
+    ) -> Option<()> {
+        let joining = tables.session(alloc, Role::Connects)?;
+        let serving = tables.session(alloc, Role::Accepts)?;
+        self.joiner.begin_anew(rt, alloc, joining, true, now)?;
+        self.server.begin_anew(rt, alloc, serving, false, now)?;
+        self.to_joiner = Pipe::new(alloc);
+        self.to_server = Pipe::new(alloc);
+        Some(())
+    }
+
     /// Returns what both sides came to.
     fn stayed<H: Wait>(&self, rt: &H) -> Option<Stayed> {
+        let next = next_number(rt, &self.joiner.shards)?;
         let here = rows(rt, &self.joiner.shards, 1)?;
         let there = rows(rt, &self.server.shards, 1)?;
         let joiner = &self.joiner.worker;
         let server = &self.server.worker;
         Some(Stayed {
             heartbeats: (joiner.tally.heartbeats, server.tally.heartbeats),
+            next,
             rows: there.len(),
             equal: are_equal(here.as_slice(), there.as_slice()),
             stand: joiner.session.state() == State::Ready && server.session.state() == State::Ready,
@@ -212,6 +263,9 @@ impl Pair {
             if stay.tracks > 0 && step % stay.tracks == 0 {
                 let key = (step / stay.tracks) % stay.keys.max(1);
                 self.joiner.track(rt, key, moment)?;
+            }
+            if stay.renews > 0 && step % stay.renews == 0 {
+                self.renew(rt, alloc, &stay.tables, moment)?;
             }
             self.go_on(rt, alloc, moment)?;
         }
