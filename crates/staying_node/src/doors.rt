@@ -14,6 +14,7 @@ use std::alloc::Global;
 use std::io::{Read, Write};
 use std::net::{TcpListener, TcpStream};
 use std::os::fd::OwnedFd;
+use std::sync::atomic::{AtomicU64, Ordering};
 use std::sync::{Mutex, Wait};
 use std::time::Clock;
 use std::{io, thread};
@@ -31,7 +32,7 @@ const LOOK: u64 = 50;
 /// How long a door waits for a connection before it looks around, in milliseconds.
 const ACCEPT: u64 = 100;
 
-/// How long a door watches whether a connection stays, if its peer has another, in milliseconds.
+/// How long a door keeps a connection whose peer has another one, in milliseconds: a multiple of `LOOK`.
 const STAY: u64 = 300;
 
 /// The doors of a node. One free door at a time waits for the next connection. While none is free, the one whose connection
@@ -42,6 +43,8 @@ pub(crate) struct Doors {
     silent: Mutex<Vec<Option<u64>>>,
     /// Whoever has this lock waits for the next connection.
     turn: Mutex<()>,
+    /// How many connections were accepted.
+    accepted: AtomicU64,
 }
 
 /// Returns whether a door isn't free, and its connection hasn't been silent for longer than since `own`.
@@ -86,6 +89,7 @@ impl Doors {
         Ok(Doors {
             silent: Mutex::new(silent),
             turn: Mutex::new(()),
+            accepted: AtomicU64::new(0),
         })
     }
 
@@ -110,7 +114,7 @@ enum Found {
     /// The hello of the peer with this name.
     Peer(Name),
     /// Another connection, for which the door closes its own.
-    Other(TcpStream),
+    Other(Arrival),
     /// Nothing to hand over: the hello was refused, wasn't whole in time, or the connection ended.
     Nothing,
 }
@@ -158,17 +162,12 @@ fn read_more(stream: &TcpStream, bytes: &mut Vec<u8>) -> More {
     }
 }
 
-/// Returns whether a connection stays for a while. If its peer has another, it may be one that the peer drops at once, since it already
-/// has the other, or has dropped since.
-fn stays(stream: &TcpStream) -> bool {
-    if stream.set_read_timeout(Some(milliseconds(STAY))).is_err() {
-        return false;
-    }
+/// Watches a connection for at most `LOOK`, and returns whether its peer has dropped it.
+fn is_over(stream: &TcpStream) -> bool {
     let mut byte = [0u8; 1];
     match stream.peek(&mut byte) {
-        Ok(0) => false,
-        Ok(_) => true,
-        Err(error) => is_pause(error.kind()),
+        Ok(count) => count == 0,
+        Err(error) => !is_pause(error.kind()),
     }
 }
 
@@ -198,9 +197,16 @@ struct Door<'a, R> {
 
 impl<'a, R: Wait + Clock> Door<'a, R> {
     /// Waits for a connection, for at most `ACCEPT`, and returns it.
-    fn accept(&self) -> Option<TcpStream> {
+    fn accept(&self) -> Option<Arrival> {
         match self.listener.accept() {
-            Ok((stream, _)) => greeted(stream).ok(),
+            Ok((stream, _)) => {
+                let number = self.doors.accepted.fetch_add(1, Ordering::SeqCst);
+                Some(Arrival {
+                    number,
+                    stream: greeted(stream).ok()?,
+                    bytes: Vec::new(self.node.alloc),
+                })
+            }
             Err(error) => {
                 if !is_pause(error.kind()) {
                     thread::sleep(self.rt, milliseconds(ACCEPT));
@@ -211,15 +217,15 @@ impl<'a, R: Wait + Clock> Door<'a, R> {
     }
 
     /// Waits for the next connection. Returns `None` once the node stops.
-    fn next(&self) -> Option<TcpStream> {
+    fn next(&self) -> Option<Arrival> {
         let rt = self.rt;
         let _turn = self.doors.turn.lock(rt);
         for _ in rt.forever() {
             if self.node.stops() {
                 return None;
             }
-            if let Some(stream) = self.accept() {
-                return Some(stream);
+            if let Some(arrival) = self.accept() {
+                return Some(arrival);
             }
         }
         unreachable!()
@@ -255,15 +261,15 @@ impl<'a, R: Wait + Clock> Door<'a, R> {
     }
 
     /// Reads a hello until it is whole.
-    fn hello(&self, stream: &TcpStream, bytes: &mut Vec<u8>) -> Found {
+    fn hello(&self, arrival: &mut Arrival) -> Found {
         let rt = self.rt;
         let begun = self.node.clock.milliseconds(rt);
         self.doors.set(rt, self.index, Some(begun));
         for _ in rt.forever() {
-            if let Some(found) = self.answer(stream, bytes.as_slice()) {
+            if let Some(found) = self.answer(&arrival.stream, arrival.bytes.as_slice()) {
                 return found;
             }
-            match read_more(stream, bytes) {
+            match read_more(&arrival.stream, &mut arrival.bytes) {
                 More::Came => {
                     let now = self.node.clock.milliseconds(rt);
                     self.doors.set(rt, self.index, Some(now));
@@ -278,23 +284,29 @@ impl<'a, R: Wait + Clock> Door<'a, R> {
         unreachable!()
     }
 
-    /// Hands a connection to the worker of its peer, if it stays.
-    fn hand_over(&self, name: &Name, stream: TcpStream, bytes: Vec<u8>) {
+    /// Hands a connection to the worker of its peer, at once if the worker has no other one. If it has, or had one that was accepted
+    /// after this one, this may be the one that the peer drops, so it is handed over only if it isn't over after `STAY`.
+    fn hand_over(&self, name: &Name, mut arrival: Arrival) {
         let Some(slot) = slot_of(self.node, name) else {
             return;
         };
-        let is_first = !slot.has_session(self.rt) && !slot.has_arrival(self.rt);
-        if is_first || stays(&stream) {
-            slot.arrive(self.rt, Arrival { stream, bytes });
+        for _ in 0..STAY / LOOK {
+            match slot.offer(self.rt, arrival) {
+                None => return,
+                Some(kept) => arrival = kept,
+            }
+            if is_over(&arrival.stream) {
+                return;
+            }
         }
+        slot.arrive(self.rt, arrival);
     }
 
     /// Takes a connection. Returns another one, for which it closes the first.
-    fn take(&self, stream: TcpStream) -> Option<TcpStream> {
-        let mut bytes = Vec::new(self.node.alloc);
-        match self.hello(&stream, &mut bytes) {
+    fn take(&self, mut arrival: Arrival) -> Option<Arrival> {
+        match self.hello(&mut arrival) {
             Found::Peer(name) => {
-                self.hand_over(&name, stream, bytes);
+                self.hand_over(&name, arrival);
                 None
             }
             Found::Other(other) => Some(other),
@@ -309,14 +321,14 @@ impl<'a, R: Wait + Clock> Door<'a, R> {
         }
         let mut next = None;
         for _ in self.rt.forever() {
-            let stream = match next {
-                Some(stream) => stream,
+            let arrival = match next {
+                Some(arrival) => arrival,
                 None => match self.next() {
-                    Some(stream) => stream,
+                    Some(arrival) => arrival,
                     None => return,
                 },
             };
-            next = self.take(stream);
+            next = self.take(arrival);
             self.doors.set(self.rt, self.index, None);
         }
     }

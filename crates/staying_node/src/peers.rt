@@ -50,7 +50,7 @@ fn next_attempt<R: Wait>(rt: &R, slot: &Slot, now: u64) -> u64 {
 
 /// Makes the connection of an arrival.
 fn connection_of(arrival: Arrival) -> Option<Connection> {
-    let Arrival { stream, bytes } = arrival;
+    let Arrival { stream, bytes, .. } = arrival;
     let Ok(stream) = prepared(stream) else {
         return None;
     };

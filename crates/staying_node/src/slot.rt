@@ -7,13 +7,24 @@ use std::mem;
 use std::net::{Shutdown, TcpStream};
 use std::sync::{Mutex, MutexGuard, Wait};
 
-/// A connection of a peer whose hello named it and this node.
+/// A connection that a door accepted.
 #[derive(Drop)]
 pub(crate) struct Arrival {
+    /// Its number. One that is accepted later has a greater number.
+    pub(crate) number: u64,
     /// The connection.
     pub(crate) stream: TcpStream,
     /// The bytes that were read from it: its hello, and what came with it.
     pub(crate) bytes: Vec<u8>,
+}
+
+/// The connections that come to the worker of a peer: those whose hello named the peer and this node.
+#[derive(Drop)]
+struct Arrivals {
+    /// The one that waits for the worker.
+    waiting: Option<Arrival>,
+    /// The greatest number of those that came.
+    latest: u64,
 }
 
 /// The place of a peer: what wakes its worker, a connection that waits for it, and what is known of it.
@@ -21,7 +32,7 @@ pub(crate) struct Arrival {
 pub(crate) struct Slot {
     /// What wakes the peer's worker.
     pub(crate) bell: Bell,
-    arrival: Mutex<Option<Arrival>>,
+    arrivals: Mutex<Arrivals>,
     /// The connection of the session that stands.
     present: Mutex<Option<TcpStream>>,
     status: Mutex<PeerStatus>,
@@ -32,34 +43,52 @@ impl Slot {
     pub(crate) fn new(alloc: Global) -> Slot {
         Slot {
             bell: Bell::new(),
-            arrival: Mutex::new(None),
+            arrivals: Mutex::new(Arrivals {
+                waiting: None,
+                latest: 0,
+            }),
             present: Mutex::new(None),
             status: Mutex::new(PeerStatus::new(alloc)),
         }
     }
 
+    /// Has a connection wait for the worker if none waits, no session stands, and none came that was accepted after it. Otherwise gives
+    /// it back.
+    pub(crate) fn offer<R: Wait>(&self, rt: &R, arrival: Arrival) -> Option<Arrival> {
+        let mut arrivals = self.arrivals.lock(rt);
+        if arrivals.waiting.is_some() || arrival.number < arrivals.latest || self.has_session(rt) {
+            return Some(arrival);
+        }
+        arrivals.latest = arrival.number;
+        arrivals.waiting = Some(arrival);
+        drop(arrivals);
+        self.bell.ring(rt);
+        None
+    }
+
     /// Has a connection wait for the worker, in the place of one that waits already. Shuts down the connection of the session that
-    /// stands, so that its worker doesn't wait for it. It does so before the worker can take the one that waits, since that would
-    /// otherwise be the one to be shut down.
+    /// stands, so that its worker doesn't wait for it. The worker can only afterwards take the one that waits now, so this never shuts
+    /// that one down.
     pub(crate) fn arrive<R: Wait>(&self, rt: &R, arrival: Arrival) {
-        let mut waiting = self.arrival.lock(rt);
+        let mut arrivals = self.arrivals.lock(rt);
         self.shut(rt);
-        let former = mem::replace(&mut *waiting, Some(arrival));
-        drop(waiting);
+        arrivals.latest = arrivals.latest.max(arrival.number);
+        let former = mem::replace(&mut arrivals.waiting, Some(arrival));
+        drop(arrivals);
         drop(former);
         self.bell.ring(rt);
     }
 
     /// Returns whether a connection waits.
     pub(crate) fn has_arrival<R: Wait>(&self, rt: &R) -> bool {
-        let waiting = self.arrival.lock(rt);
-        waiting.is_some()
+        let arrivals = self.arrivals.lock(rt);
+        arrivals.waiting.is_some()
     }
 
     /// Takes the connection that waits, if there is one.
     pub(crate) fn take_arrival<R: Wait>(&self, rt: &R) -> Option<Arrival> {
-        let mut waiting = self.arrival.lock(rt);
-        mem::replace(&mut *waiting, None)
+        let mut arrivals = self.arrivals.lock(rt);
+        mem::replace(&mut arrivals.waiting, None)
     }
 
     /// Notes the connection of the session that stands, or that none does.
