@@ -1,4 +1,4 @@
-use Rattle.std.proofs.Common.{◌≡◌, ◌∙◌, ap}
+use Rattle.std.proofs.Common.{◌∙◌, ap}
 use Rattle.std.specs.Prelude.{bytes_eq}
 use Rattle.admin_text.proofs.FirstWordLaws.{found_line, last_line, other_line}
 use Rattle.admin_text.proofs.first_words.has_line.Goals as goal
