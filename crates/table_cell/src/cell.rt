@@ -205,9 +205,9 @@ impl TableCell {
     }
 
     /// Returns copies of the rows whose keys follow `after`, or of all rows if it is `None`, with their keys, in ascending
-    /// order of key, at most `most` of them. A list of fewer says that no more rows follow. So a table can be listed in parts,
-    /// each under a short lock; a table that changes between two parts shows each part as it is then. Takes time linear in
-    /// `most`, and logarithmic in the number of rows.
+    /// order of key, at most `most` of them. A list of fewer says that no more rows follow. So a table can be listed in
+    /// parts, each under a short lock; a table that changes between two parts shows each part as it is then. Takes time
+    /// linear in `most`, and logarithmic in the number of rows.
     pub fn rows_after(&self, after: Option<&Key>, most: usize) -> Result<Vec<(Key, Row)>, Memory>
         ensures { IfOk result (λ list. AreNextInRisingKey (option_copied after.entry) most self.now.state.rows list.items) }
     {

@@ -247,6 +247,8 @@ impl<R: Rows> Stock<R> {
     pub(crate) fn count_ended(&self, now: Moment) -> usize
         ensures { result ≡ length (filter (λ e. not (is_live now e.1)) self.now.rows) }
     {
+        // No row has this end, since numbers are at least 1. In the order in which rows end, it stands between the rows that
+        // aren't live and those that are.
         let first_live = RowEnd {
             end: now.milliseconds() + 1,
             number: 0,

@@ -11,8 +11,8 @@ use std::marker::Model;
 use std::ops::Bound;
 use table_types::{Key, Memory, Row};
 
-/// The rows of a table in an ordered map by key. Each call but `list` and `copy` takes time logarithmic in the number of
-/// rows.
+/// The rows of a table in an ordered map by key. Each call but `list`, `list_after` and `copy` takes time logarithmic in the
+/// number of rows.
 #[derive(Drop)]
 pub struct MapRows {
     alloc: Global,

@@ -40,7 +40,7 @@ pub struct Pieces {
     names: Vec<PlannedName>,
     /// The index of the next update to send.
     index: usize,
-    /// Whether `next` returned `None`.
+    /// Whether `next` returned `None`, or `append_next` false.
     ended: bool,
     prices: Vec<u64>,
 }
@@ -116,7 +116,7 @@ impl Pieces {
     }
 
     /// Appends the bytes of the next message to `bytes`, and returns whether one was left. After `Memory` the same message is
-    /// still the next one.
+    /// still the next one, and `bytes` may end with more than it had.
     pub fn append_next(&mut self, bytes: &mut Vec<u8>) -> Result<bool, Memory>
         ensures more { IfOk result (λ more. more ≡ true → (m : Message) × (bytes.new.items ≡ bytes.old.items ++ spelled m)
             × IsNext self.old (Some (spelled m)) self.new) }
@@ -153,8 +153,8 @@ impl Pieces {
         Ok(Some(bytes))
     }
 
-    /// Returns the lesson's prices and what the learner knows after the lesson, if `next` has returned `None`, and the
-    /// pieces as they are otherwise.
+    /// Returns the lesson's prices and what the learner knows after the lesson, if `next` has returned `None` or
+    /// `append_next` false, and the pieces as they are otherwise.
     pub fn end(self) -> Result<(Vec<u64>, Known), Pieces>
         ensures ended { IfOk result (λ end. (self.ended ≡ true) × (self.messages ≡ []) × (end.0.items ≡ self.prices) × (end.1 ≡ self.known)) }
         ensures early { IfErr result (λ pieces. (self.ended ≡ false) × (pieces ≡ self)) }

@@ -16,9 +16,9 @@ use Rattle.tolerant_intake.specs.declared.passed_over.Cause.{Cause}
 use Rattle.tolerant_intake.specs.declared.passed_over.PassedOver.{PassedOver}
 use Rattle.tolerant_intake.specs.Counts.{none_passed, counted}
 
--- the node's roster; the state of the strict intake that has read what went out; the last number of each table as the peer
--- counts; the tables outside the profile, by the peer's ids; what was passed over; the bytes of an unfinished message; and whether all that
--- comes goes out as it is
+-- the node's roster; the state of the strict intake that has read what went out; the last number of each table as the
+-- peer counts; the tables outside the profile, by the peer's ids; what was passed over; the bytes of an unfinished
+-- message; and whether all that comes goes out as it is
 pub record Sifting : Type 0 where
   pub roster : List Definition
   pub state : State
