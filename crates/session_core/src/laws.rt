@@ -76,13 +76,14 @@ pub fn any_events()
         (without_acks acts ≡ without_acks given) × (e ≡ end) }
 {}
 
-/// However the bytes of an open session are cut into events, and wherever the answers of its tables come in between, `told`
-/// the same is told: the same rows to learn, the same acknowledgements to pass on but for late ones, the same confirmations
-/// and the same end, in the same order. An acknowledgement is late if an earlier one of its table settles the batch that is
-/// out: it is passed on only if it comes before the answer. Once all are answered, `same` the session is the same, with the
-/// same resync under way or waiting, and `reopened` its tables were reopened in both runs or in neither. How often they are
-/// reopened, and before which row, depends on the cut: a request waits for the answers that are due. In both runs the same
-/// numbers settle a batch, no table refuses a number, and all of the bytes are heard or the session ends.
+/// However the bytes of an open session are cut into events, and wherever the answers of its tables come in between, the
+/// same is told (`told`): the same rows to learn, the same acknowledgements to pass on but for late ones, the same
+/// confirmations and the same end, in the same order. An acknowledgement is late if an earlier one of its table settles the
+/// batch that is out: it is passed on only if it comes before the answer. Once all are answered, or the session is over, the
+/// session is the same (`same`), with the same resync under way or waiting. Once all are answered, and if the session is
+/// still open, its tables were reopened in both runs or in neither (`reopened`). How often they are reopened, and before which
+/// row, depends on the cut: a request waits while a batch is out. In both runs the same numbers settle a batch, no table
+/// refuses a number, and all of the bytes are heard or the session ends.
 pub fn any_answers()
     ensures told { (settles : ℕ → ℕ → Bool) (s e end : SessionState) (c : Course) (step other : Event × List Action) (steps others : List (Event × List Action)) (more rest : List ℕ) (left over : List (ℕ × ℕ)) →
         s.phase ≡ phases.Open c → HoldsBytes s.phase → IsBytes (heard_in (step ∷ steps) ++ more) →
@@ -103,8 +104,8 @@ pub fn any_answers()
 {}
 
 /// `any_answers` holds from the first byte on. However the bytes of a session in Hello are cut into events, the rest of the
-/// hello or of the status and the messages after it, the same is told, once all are answered the session is the same, and its
-/// tables were reopened in both runs or in neither.
+/// hello or of the status and the messages after it, the same is told. Once all are answered, or the session is over, the
+/// session is the same. Once all are answered, and if it is then open, its tables were reopened in both runs or in neither.
 pub fn any_greeting()
     ensures told { (settles : ℕ → ℕ → Bool) (roster : List Definition) (begun s e end : SessionState) (before : List (Event × List Action)) (greeter : Greeter) (bytes : List ℕ) (c : Course) (step other : Event × List Action) (steps others : List (Event × List Action)) (more rest : List ℕ) (left over : List (ℕ × ℕ)) →
         IsBegun roster begun → Runs begun before s → s.phase ≡ phases.Hello greeter bytes c → HoldsBytes s.phase →
