@@ -42,19 +42,50 @@ fn are_same_replies(one: &Option<Row>, other: &Option<Row>) -> bool {
     }
 }
 
-/// Returns whether both hold the same rows.
-fn hold_the_same<R: Rows, S: Rows>(one: &R, other: &S) -> Result<bool, Memory> {
-    let one = one.list()?;
-    let other = other.list()?;
+fn are_same_rows(one: &[(Key, Row)], other: &[(Key, Row)]) -> bool {
     if one.len() != other.len() {
-        return Ok(false);
+        return false;
     }
     for (index, entry) in one.iter().enumerate() {
         if !entry.0.is_same(&other[index].0) || !entry.1.is_same(&other[index].1) {
+            return false;
+        }
+    }
+    true
+}
+
+/// Returns whether both hold the same rows.
+fn hold_the_same<R: Rows, S: Rows>(one: &R, other: &S) -> Result<bool, Memory> {
+    let list = one.list()?;
+    let listed = other.list()?;
+    Ok(are_same_rows(list.as_slice(), listed.as_slice()))
+}
+
+/// Returns whether both list the same rows after a key, or from the first one on: none, one, two, and all.
+fn list_the_same_after<R: Rows, S: Rows>(
+    one: &R,
+    other: &S,
+    after: Option<&Key>,
+) -> Result<bool, Memory> {
+    for most in [0, 1, 2, one.len()] {
+        let list = one.list_after(after, most)?;
+        let listed = other.list_after(after, most)?;
+        if list.len() > most || !are_same_rows(list.as_slice(), listed.as_slice()) {
             return Ok(false);
         }
     }
     Ok(true)
+}
+
+/// Returns whether both list the same parts: from the first key on, and after each of the keys 0 to 51, whether it has a row or
+/// not.
+fn list_the_same_parts<R: Rows, S: Rows>(one: &R, other: &S) -> Result<bool, Memory> {
+    for key in 0..52 {
+        if !list_the_same_after(one, other, Some(&Key::Int(key)))? {
+            return Ok(false);
+        }
+    }
+    list_the_same_after(one, other, None)
 }
 
 /// Returns whether both return the same for the calls of the places from `first` to before `last`.
@@ -82,13 +113,14 @@ fn agree_in_all(alloc: Global) -> Result<bool, Memory> {
     let mut map_copy = map.copy()?;
     let mut list_copy = list.copy()?;
     let ended = reply_the_same(&mut map, &mut list, alloc, 1_101, 2_201)?;
-    let same = hold_the_same(&map, &list)?;
+    let same = hold_the_same(&map, &list)? && list_the_same_parts(&map, &list)?;
     let copies_ended = reply_the_same(&mut map_copy, &mut list_copy, alloc, 1_101, 2_201)?;
     let copies_same = hold_the_same(&map_copy, &list_copy)? && hold_the_same(&map_copy, &map)?;
     Ok(begun && ended && same && copies_ended && copies_same && map.len() > 10)
 }
 
-/// Returns whether both agree over the whole list, and over its second half from copies made in the middle.
+/// Returns whether both agree over the whole list, after which they also list the same parts, and over its second half from
+/// copies made in the middle.
 pub fn agree(alloc: Global) -> Option<bool> {
     agree_in_all(alloc).ok()
 }

@@ -11,6 +11,7 @@ pub mod copies;
 pub mod ends;
 pub mod growth;
 pub mod holders;
+pub mod listed;
 pub mod locks;
 pub mod next_rounds;
 pub mod numbers;

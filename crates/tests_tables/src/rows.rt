@@ -1,8 +1,9 @@
-//! The order in which rows end, the types that hold rows, and batches that come twice.
+//! The order in which rows end, the types that hold rows, rows listed in parts, and batches that come twice.
 
 use tests_play_tables::copies::come_twice;
 use tests_play_tables::ends::{Entry, end_in_order};
 use tests_play_tables::holders::agree;
+use tests_play_tables::listed::{Part, first_otherwise};
 
 static ENTRIES: [Entry; 6] = [
     (5, None),
@@ -21,6 +22,23 @@ fn rows_end_in_order(rt: HostRuntime) {
 #[test]
 fn both_holders_of_rows_agree(rt: HostRuntime) {
     assert!(rt; agree(rt.alloc()) == Some(true));
+}
+
+/// Parts of the rows of the keys 3, 5 and 7.
+static PARTS: [Part; 8] = [
+    (None, 0, &[]),
+    (None, 2, &[3, 5]),
+    (None, 3, &[3, 5, 7]),
+    (None, 9, &[3, 5, 7]),
+    (Some(2), 1, &[3]),
+    (Some(3), 1, &[5]),
+    (Some(4), 9, &[5, 7]),
+    (Some(7), 9, &[]),
+];
+
+#[test]
+fn rows_are_listed_in_parts(rt: HostRuntime) {
+    assert_eq!(rt; first_otherwise(rt.alloc(), &[7, 3, 5], &PARTS), Some(None));
 }
 
 #[test]
