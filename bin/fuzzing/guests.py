@@ -122,7 +122,7 @@ class Guest(Far):
         if is_small and is_sound:
             self.in_time(lambda: len(self.acks) - before >= len(due), 'an acknowledgement', lambda: (due, self.acks[before:]))
             require(self.acks[before:] == due, 'acknowledgements', 'are other than one for each table:', self.acks[before:], due)
-            self.is_behind = False
+            self.is_behind = self.is_behind and not due
         self.acknowledge()
 
     def repeat(self):
@@ -207,10 +207,20 @@ class Visitor:
     def end(self):
         """Judges what sound sessions came to."""
         if all(guest.learner.fault is None and guest.learner.sure for guest in self.guests) and self.case['sound'] and self.guests:
+            self.catch_up()
             self.judge_acks()
             self.judge_rows()
         if not self.case['sound'] and self.guest is not None and self.case['rounds'] > 1:
             self.leave('leave')
+
+    def catch_up(self):
+        """Waits until the node has read all, if it may not have: the end of a resync comes after that."""
+        guest = self.guest
+        if not guest.is_over and (guest.said or guest.is_behind):
+            guest.pump(guest.said)
+            guest.said = b''
+            guest.ask()
+            self.has_asked = True
 
     def judge_acks(self):
         for guest in self.guests:

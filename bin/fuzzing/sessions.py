@@ -126,7 +126,7 @@ def random_session(random, roster, updates):
 class Far:
     """One end of a connection. `came` is all that was read, and `sent` what was sent after the hello. `learner` knows what a learner has of
     the messages said. `limit` is how long the other end may take, in seconds, and `patience` how long the far side waits for what may
-    not come. `is_behind` is whether acknowledgements that nobody waited for may still come."""
+    not come. `is_behind` is whether the other end may not have read yet what was sent, since nobody waited for an acknowledgement."""
 
     def __init__(self, peer, limit, learner):
         peer.setblocking(False)
@@ -268,9 +268,9 @@ class Far:
         due = self.learner.acks()
         self.learner.owing.difference_update(at for at, _ in due)
         awaited = [ack for ack in due if ack[0] not in self.replaced]
-        self.replaced.clear()
         self.in_time(lambda: set(awaited) <= set(self.acks[before:]), 'an acknowledgement', lambda: (awaited, self.acks[before:]))
-        self.is_behind = len(awaited) < len(due) or self.is_behind and not awaited
+        self.is_behind = bool(self.replaced) or self.is_behind and not awaited
+        self.replaced.clear()
 
     def ask(self):
         """Asks for a resync and acknowledges what comes."""
