@@ -1,11 +1,12 @@
 //! Two nodes that stay connected, by a clock that the test moves.
 
 use tests_play_data::parts::T1;
+use tests_play_nodes::days::{Day, Passed, pass};
 use tests_play_nodes::staying::{Stay, Stayed, stay_on};
 use tests_play_nodes::tables::Tables;
 
-/// An hour in which nothing happens, in steps of half a second.
-static SILENT_HOUR: Stay = Stay {
+/// A day in which nothing happens, in steps of half a second.
+static SILENT_DAY: Stay = Stay {
     tables: Tables {
         roster: &[T1],
         tables: &[T1],
@@ -14,19 +15,19 @@ static SILENT_HOUR: Stay = Stay {
         are_open: true,
     },
     step: 500,
-    steps: 7_200,
+    steps: 172_800,
     tracks: 0,
     keys: 0,
     renews: 0,
 };
 
-/// Each side sends a heartbeat after each 3 s in which it sent nothing: 3,600 s have 1,200 of them. The side that connected sent one
+/// Each side sends a heartbeat after each 3 s in which it sent nothing: 86,400 s have 28,800 of them. The side that connected sent one
 /// more at once, in the place of a resync request.
 #[test]
-fn a_silent_hour(rt: HostRuntime) {
-    let stayed = stay_on(&rt, rt.alloc(), &SILENT_HOUR);
+fn a_silent_day(rt: HostRuntime) {
+    let stayed = stay_on(&rt, rt.alloc(), &SILENT_DAY);
     let expected = Stayed {
-        heartbeats: (1_201, 1_200),
+        heartbeats: (28_801, 28_800),
         next: 1,
         rows: 0,
         equal: true,
@@ -93,4 +94,38 @@ fn learns_across_renewals(rt: HostRuntime) {
         stand: true,
     };
     assert_eq!(rt; stayed, Some(expected));
+}
+
+/// A day in which one of ten keys is tracked each second, what a node sends is delayed by half a second now and then, the connection breaks
+/// after 500 s, and a node starts again after 1,000 s, in the mean.
+static DAY: Day = Day {
+    tables: Tables {
+        roster: &[T1],
+        tables: &[T1],
+        rows: &[],
+        are_full: false,
+        are_open: true,
+    },
+    seed: 1,
+    steps: 172_800,
+    keys: 10,
+    tracks: 2,
+    delays: 4,
+    cuts: 1_000,
+    starts: 2_000,
+};
+
+/// How often the connection breaks, and how often a node starts again, follows from the seed alone.
+#[test]
+fn a_day(rt: HostRuntime) {
+    let passed = pass(&rt, rt.alloc(), &DAY);
+    let expected = Passed {
+        cuts: 154,
+        starts: 81,
+        rows: 10,
+        equal: true,
+        stand: true,
+        short: true,
+    };
+    assert_eq!(rt; passed, Some(expected));
 }

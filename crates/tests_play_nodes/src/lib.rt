@@ -5,6 +5,7 @@
 #![tactic(auto)]
 
 pub mod cuttings;
+pub mod days;
 pub mod devices;
 pub mod failures;
 pub mod far_sides;

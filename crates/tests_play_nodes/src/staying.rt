@@ -10,6 +10,7 @@ use peers_engine::{StandingWorker, Stood};
 use session_core::{Session, Standing, State};
 use std::alloc::Global;
 use std::sync::Wait;
+use table_cell::TableCell;
 use table_shards::held::lent;
 use table_shards::{Seat, Shards};
 use table_types::{Change, DataType, Key, Moment, Row};
@@ -17,8 +18,8 @@ use table_types::{Change, DataType, Key, Moment, Row};
 /// A side of a session that stays: the session at work, its tables, and a seat from which keys are tracked.
 #[derive(Drop)]
 pub(crate) struct Stayer {
-    worker: StandingWorker,
-    shards: Shards,
+    pub(crate) worker: StandingWorker,
+    pub(crate) shards: Shards,
     tracker: Seat,
 }
 
@@ -130,7 +131,7 @@ impl Stayer {
         Some(())
     }
 
-    /// Adds 1 to gpc0 of a key, and drops what a long history has.
+    /// Adds 1 to gpc0 of a key, and drops what is no longer needed.
     pub(crate) fn track<H: Wait>(&mut self, rt: &H, key: u32, now: Moment) -> Option<()> {
         let mut locked = self.shards.cell(1)?.lock(rt);
         let change = Change::Add(DataType::Gpc0, 1);
@@ -143,12 +144,14 @@ impl Stayer {
             now,
         )
         .ok()?;
-        if locked
-            .cell()
-            .events()
-            .saturating_sub(locked.cell().dropped())
-            >= 1_024
-        {
+        drop(locked);
+        self.tidy(rt)
+    }
+
+    /// Drops what a long history has, and the receipts of both seats.
+    pub(crate) fn tidy<H: Wait>(&mut self, rt: &H) -> Option<()> {
+        let mut locked = self.shards.cell(1)?.lock(rt);
+        if history(locked.cell()) >= 1_024 {
             lent::slide(&mut locked, &self.tracker, 1).ok()?;
         }
         self.tracker.forget(1);
@@ -156,8 +159,14 @@ impl Stayer {
         Some(())
     }
 
+    /// Returns whether the history of `t1` has at most 1,024 events.
+    pub(crate) fn is_short<H: Wait>(&self, rt: &H) -> Option<bool> {
+        let locked = self.shards.cell(1)?.lock(rt);
+        Some(history(locked.cell()) <= 1_024)
+    }
+
     /// Ends the session in `t1`, gives the table new numbers if `renews`, and begins another session.
-    fn begin_anew<H: Wait>(
+    pub(crate) fn begin_anew<H: Wait>(
         &mut self,
         rt: &H,
         alloc: Global,
@@ -178,8 +187,13 @@ impl Stayer {
     }
 }
 
+/// Returns the number of events in the history of a table.
+fn history(cell: &TableCell) -> u64 {
+    cell.events().saturating_sub(cell.dropped())
+}
+
 /// Returns whether two lists of rows have the same keys and cells, in order.
-fn are_equal(rows: &[(Key, Row)], others: &[(Key, Row)]) -> bool {
+pub(crate) fn are_equal(rows: &[(Key, Row)], others: &[(Key, Row)]) -> bool {
     if rows.len() != others.len() {
         return false;
     }
