@@ -162,11 +162,15 @@ fn read_more(stream: &TcpStream, bytes: &mut Vec<u8>) -> More {
     }
 }
 
-/// Watches a connection for at most `LOOK`, and returns whether its peer has dropped it.
-fn is_over(stream: &TcpStream) -> bool {
+/// Watches a connection for `LOOK`, and returns whether its peer has dropped it, which isn't seen behind bytes that are unread.
+fn is_over<R: Wait + Clock>(rt: &R, stream: &TcpStream) -> bool {
     let mut byte = [0u8; 1];
     match stream.peek(&mut byte) {
-        Ok(count) => count == 0,
+        Ok(0) => true,
+        Ok(_) => {
+            thread::sleep(rt, milliseconds(LOOK));
+            false
+        }
         Err(error) => !is_pause(error.kind()),
     }
 }
@@ -295,7 +299,7 @@ impl<'a, R: Wait + Clock> Door<'a, R> {
                 None => return,
                 Some(kept) => arrival = kept,
             }
-            if is_over(&arrival.stream) {
+            if is_over(self.rt, &arrival.stream) {
                 return;
             }
         }

@@ -51,12 +51,12 @@ impl Reading {
         }
     }
 
-    /// Writes the answers that aren't written yet.
+    /// Writes the answers that aren't written yet. None is left after a failure either, so that no byte is written twice.
     fn write<W: Write>(&mut self, output: &mut W) -> io::Result<()> {
-        output.write_all(self.answers.as_slice())?;
+        let written = output.write_all(self.answers.as_slice());
         self.answers.clear();
         self.whole = 0;
-        Ok(())
+        written
     }
 
     /// Writes the answers that aren't written yet if they are many.
