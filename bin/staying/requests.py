@@ -206,8 +206,8 @@ def peers_in_each_state(trial):
     far.gets(FINISHED, 2)
     wait(lambda: node.peer('b')['state'] == 'ready', 2, 'the peer is ready')
     time.sleep(0.5)
-    stood = 1000 * (time.monotonic() - far.asked)
-    between(500, int(node.peer('b')['since']), stood, 'ms since the session began')
+    since = int(node.peer('b')['since'])
+    between(500, since, 1000 * (time.monotonic() - far.asked) + 1, 'ms since the session began')
 
 
 @check
