@@ -1,4 +1,4 @@
--- What acknowledgements and resync requests do to what is shared, whenever the acknowledgements are answered.
+-- How acknowledgements and resync requests change a session's shares, whenever its tables answer the acknowledgements.
 use Rattle.std.proofs.Common.{◌≡◌, ◌≢◌, ◌⊎◌, inl, inr, ℕ, Bool, true, false, not, ◌&&◌, ◌||◌, ◌==◌, cond, List, [], ◌∷◌, ◌++◌, refl, sym, ap, ◌∙◌, subst}
 use Rattle.std.specs.List.{list_any}
 use Rattle.std.proofs.lemmas.Bool.{cases_eq, eq-eqb, ne_eqb, false≢true}
@@ -205,8 +205,8 @@ requested_out t a = out_requested t (any_out a.shares) a
 
 -- ---- a session among its tables
 
--- The tables `over` have settled all. The acknowledgements `acks` await their answers, and `k` is what is shared once they
--- are answered.
+-- The tables `over` have settled all. The acknowledgements `acks` await their answers, and `k` is what is shared once the
+-- tables have answered them.
 abbrev pub Fits : (ℕ → ℕ → Bool) → List ℕ → List (ℕ × ℕ) → Sharing → Sharing → Type 0
 Fits settles over acks a k =
     (all_answered settles acks a ≡ k)
@@ -232,7 +232,7 @@ between u true true less lesser same = same
 between u false w less lesser same = less refl
 between u true false less lesser same = absurd (false≢true (sym (lesser refl)))
 
--- the first acknowledgement is answered
+-- a table answers the first acknowledgement
 pub fits_answered : (settles : ℕ → ℕ → Bool) (over : List ℕ) (table number : ℕ) (acks : List (ℕ × ℕ)) (a k : Sharing) → Fits settles over ((table, number) ∷ acks) a k → Fits settles over acks (answered_in settles (table, number) a) k
 fits_answered settles over table number acks a k (answers, gone, same) =
     let b : Sharing = answered_in settles (table, number) a in (

@@ -97,7 +97,7 @@ pub passed_reopens : (ss : List Share) → passed_on (reopens ss) ≡ []
 passed_reopens [] = refl
 passed_reopens (s ∷ ss) = passed_reopens ss
 
--- ---- what a message asks for, and leaves, if each acknowledgement is answered at once
+-- ---- what a message asks for, and leaves, if the tables answer each acknowledgement at once
 
 abbrev pub ack_told : Sharing → Option (ℕ × ℕ) → List Action
 ack_told k (Some (table, number)) = cond (is_out table k.shares) (actions.Ack table number ∷ []) []

@@ -77,12 +77,13 @@ pub fn any_events()
 {}
 
 /// However the bytes of an open session are cut into events, and wherever the answers of its tables come in between, the
-/// same is told (`told`): the same rows to learn, the same acknowledgements to pass on but for late ones, the same
-/// confirmations and the same end, in the same order. An acknowledgement is late if an earlier one of its table settles the
-/// batch that is out: it is passed on only if it comes before the answer. Once all are answered, or the session is over, the
-/// session is the same (`same`), with the same resync under way or waiting. Once all are answered, and if the session is
-/// still open, its tables were reopened in both runs or in neither (`reopened`). How often they are reopened, and before which
-/// row, depends on the cut: a request waits while a batch is out. In both runs the same numbers settle a batch, no table
+/// session asks its caller for the same (`told`): the same rows to learn, the same acknowledgements to pass on but for late
+/// ones, the same confirmations and the same end, in the same order. An acknowledgement is late if an earlier one of its table
+/// settles the batch that is out: the session passes it on only if it comes before the table's answer to that one. Once the
+/// tables have answered all acknowledgements, or the session is over, the session is the same (`same`), with the same resync
+/// under way or waiting. If the tables have answered all of them and the session is still open, it asked to reopen tables in
+/// both runs or in neither (`reopened`). How often it asks for that, and before which row, depends on the cut: a request waits
+/// while a batch is out. In both runs the same numbers settle a batch, no table
 /// refuses a number, and all of the bytes are heard or the session ends.
 pub fn any_answers()
     ensures told { (settles : ℕ → ℕ → Bool) (s e end : SessionState) (c : Course) (step other : Event × List Action) (steps others : List (Event × List Action)) (more rest : List ℕ) (left over : List (ℕ × ℕ)) →
@@ -104,8 +105,9 @@ pub fn any_answers()
 {}
 
 /// `any_answers` holds from the first byte on. However the bytes of a session in Hello are cut into events, the rest of the
-/// hello or of the status and the messages after it, the same is told. Once all are answered, or the session is over, the
-/// session is the same. Once all are answered, and if it is then open, its tables were reopened in both runs or in neither.
+/// hello or of the status and the messages after it, the session asks its caller for the same. Once the tables have answered
+/// all acknowledgements, or the session is over, the session is the same. If the tables have answered all of them and it is
+/// open, it asked to reopen tables in both runs or in neither.
 pub fn any_greeting()
     ensures told { (settles : ℕ → ℕ → Bool) (roster : List Definition) (begun s e end : SessionState) (before : List (Event × List Action)) (greeter : Greeter) (bytes : List ℕ) (c : Course) (step other : Event × List Action) (steps others : List (Event × List Action)) (more rest : List ℕ) (left over : List (ℕ × ℕ)) →
         IsBegun roster begun → Runs begun before s → s.phase ≡ phases.Hello greeter bytes c → HoldsBytes s.phase →

@@ -164,9 +164,9 @@ pub fn a_standing_step_exists()
 {}
 
 /// However the bytes of an open session that stays are cut into events, at whatever moments, and wherever the answers of its
-/// tables come in between, the same is told (`told`), as `any_answers` says of a session: the same rows, acknowledgements but
-/// for late ones, confirmations and end, in the same order. Once all are answered, or the session is over, the session is the
-/// same (`same`). Its pace needn't be: it has the moments, and for each table the last number that the remote peer
+/// tables come in between, the session asks its caller for the same (`told`), as `any_answers` says of any session: the same
+/// rows, acknowledgements but for late ones, confirmations and end, in the same order. Once the tables have answered all
+/// acknowledgements, or the session is over, the session is the same (`same`). Its pace needn't be: it has the moments, and for each table the last number that the remote peer
 /// acknowledged, late or not. Nor is it compared whether a resync request waits.
 pub fn any_moments()
     ensures told { (settles : ℕ → ℕ → Bool) (roster : List Definition) (begun s e end : StandingState) (c : Course) (before : List Happening) (one other : Happening) (steps others : List Happening) (more rest : List ℕ) (left over : List (ℕ × ℕ)) →
