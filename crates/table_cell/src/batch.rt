@@ -7,22 +7,7 @@ ghost use Rattle.table_types.specs.Batches.{IsBatchFor};
 
 use crate::errors::CopyError;
 use crate::table::Table;
-use std::alloc::Global;
-use table_types::{Batch, BatchError, CopyKind, Memory, Moment, TableDef, Update};
-
-/// Makes a batch of `updates`, which fit the table, so that only memory can run out.
-fn batch_of(alloc: Global, definition: &TableDef, updates: Vec<Update>) -> Result<Batch, Memory>
-    requires { IsBatchFor (definition.now ∷ []) updates.items }
-    ensures { IfOk result (λ batch. batch ≡ updates.items) }
-{
-    match Batch::of_table(alloc, definition, updates) {
-        Ok(made) => Ok(made),
-        Err(error) => {
-            prove!(error == BatchError::Memory);
-            Err(Memory)
-        }
-    }
-}
+use table_types::{Batch, CopyKind, Moment, Update};
 
 impl Table {
     /// Returns the updates of a copy: the rows that the session hasn't acknowledged, at most `limit` of them.
@@ -75,7 +60,7 @@ impl Table {
             }
             Err(error) => return Err(error),
         };
-        let Ok(batch) = batch_of(self.alloc, &self.definition, updates) else {
+        let Ok(batch) = Batch::of_fitting(self.alloc, updates) else {
             return Err(CopyError::Memory);
         };
         Ok(batch)

@@ -1,10 +1,11 @@
 //! Batches: updates that are taught together.
 
-ghost use Rattle.std.specs.Prelude.{◌≡◌, ◌≢◌, ◌↔◌, ◌+◌, ◌≤◌, ◌∷◌, [], None, Err, IfOk, IfErr, IsTrue, Some, length, option_copied};
+ghost use Rattle.std.specs.Prelude.{◌≡◌, ◌≢◌, ◌↔◌, ◌+◌, ◌≤◌, ◌∷◌, [], List, None, Err, IfOk, IfErr, IsTrue, Some, length, option_copied};
 ghost use Rattle.table_types.specs.declared.batch.BatchError.{BatchError};
 ghost use Rattle.table_types.specs.declared.batch.BatchError.TheVariants as errors;
 ghost use Rattle.table_types.specs.Batches.{fault_in, batch_fault, faults_from, IsBatchFor};
 ghost use Rattle.table_types.specs.Rosters.{table_at};
+ghost use Rattle.table_types.specs.Tables.{Definition};
 
 use crate::items::Items;
 use crate::memory::Memory;
@@ -35,6 +36,14 @@ pub enum BatchError {
     /// Memory ran out.
     #[error("memory")]
     Memory,
+}
+
+impl From<Memory> for BatchError {
+    ghost from_gives = { λ _ e. e ≡ errors.Memory };
+
+    fn from(_refused: Memory) -> BatchError {
+        BatchError::Memory
+    }
 }
 
 /// At most 512 updates that fit the tables of the roster for which the batch was made. Copies of a batch share its
@@ -98,18 +107,6 @@ fn fault_of_table(table: &TableDef, updates: &[Update]) -> Option<BatchError>
     None
 }
 
-/// Makes a batch of the updates.
-fn shared(alloc: Global, updates: Vec<Update>) -> Result<Batch, BatchError>
-    requires { length updates.items ≤ 512 }
-    ensures made { IfOk result (λ batch. batch ≡ updates.items) }
-    ensures refused { IfErr result (λ e. e ≡ errors.Memory) }
-{
-    match Arc::new(alloc, Items::new(updates)) {
-        Ok(updates) => Ok(Batch { updates }),
-        Err(_) => Err(BatchError::Memory),
-    }
-}
-
 impl Batch {
     /// The most updates that a batch can have.
     pub const MOST: usize = 512;
@@ -127,7 +124,7 @@ impl Batch {
         if let Some(fault) = fault_of(roster, updates.as_slice()) {
             return Err(fault);
         }
-        shared(alloc, updates)
+        Ok(Batch::of_fitting(alloc, updates)?)
     }
 
     /// Makes a batch of the updates, in this order, all of them of one table. It is a batch for every roster that has
@@ -147,7 +144,18 @@ impl Batch {
         if let Some(fault) = fault_of_table(table, updates.as_slice()) {
             return Err(fault);
         }
-        shared(alloc, updates)
+        Ok(Batch::of_fitting(alloc, updates)?)
+    }
+
+    /// Makes a batch of the updates, in this order, which are known to be one for some roster, so that none is tested.
+    pub fn of_fitting(alloc: Global, updates: Vec<Update>) -> Result<Batch, Memory>
+        requires { (roster : List Definition) × IsBatchFor roster updates.items }
+        ensures { IfOk result (λ batch. batch ≡ updates.items) }
+    {
+        match Arc::new(alloc, Items::new(updates)) {
+            Ok(updates) => Ok(Batch { updates }),
+            Err(_) => Err(Memory),
+        }
     }
 
     /// Returns whether the batch is one for `roster`, whatever roster or table it was made for.

@@ -17,15 +17,18 @@ fn repeated(alloc: Global, given: &[UpdateParts], times: u32) -> Option<Vec<Upda
     Some(updates)
 }
 
-fn fault_of(alloc: Global, given: &[UpdateParts], times: u32) -> Option<Option<BatchError>> {
-    let updates = repeated(alloc, given, times)?;
-    Some(Batch::new(alloc, &alone(alloc, &T1)?, updates).err())
+/// Returns what the updates are refused for as a batch of a roster of `t1` alone, and as one of `t1` itself.
+fn faults_of(alloc: Global, given: &[UpdateParts], times: u32) -> Option<[Option<BatchError>; 2]> {
+    let roster = alone(alloc, &T1)?;
+    let of_roster = Batch::new(alloc, &roster, repeated(alloc, given, times)?);
+    let of_table = Batch::of_table(alloc, roster.table(T1.id)?, repeated(alloc, given, times)?);
+    Some([of_roster.err(), of_table.err()])
 }
 
 /// Returns the index of the first batch that is refused for another fault, or accepted though it has one.
 pub fn first_failing(alloc: Global, all: &[Parts]) -> Option<usize> {
     for (place, (given, times, fault)) in all.iter().enumerate() {
-        if fault_of(alloc, *given, *times) != Some(*fault) {
+        if faults_of(alloc, *given, *times) != Some([*fault, *fault]) {
             return Some(place);
         }
     }
