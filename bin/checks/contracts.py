@@ -1,5 +1,5 @@
 #!/usr/bin/env python3
-"""Tests that what README.md and docs/PROMISES.md name as contracts is there.
+"""Tests that what README.md and docs/*.md name as contracts is there.
 
 Looks at each code span of a cell that names a contract, and at each span of the text with `crate::`: `CRATE::NAME` or
 `CRATE::TYPE::NAME`, with the labels of its clauses after commas. A later span of the cell may leave out the crate and the
@@ -109,7 +109,7 @@ def complaints(sources, path):
 
 def main():
     sources = Sources(TOP)
-    said = [it for name in ("README.md", "docs/PROMISES.md") for it in complaints(sources, TOP / name)]
+    said = [it for path in (TOP / "README.md", *sorted(TOP.glob("docs/*.md"))) for it in complaints(sources, path)]
     for it in said:
         print(it)
     return 1 if said else 0
