@@ -16,6 +16,7 @@ use crate::state::State;
 use learner::Intake;
 use peers_msg::Control;
 use std::alloc::Global;
+use std::collections::VecDeque;
 use std::marker::Model;
 use table_types::{CopyKind, Memory, Roster};
 
@@ -34,7 +35,7 @@ pub(crate) struct Course {
     /// Whether a resync request of the remote peer is deferred.
     pub(crate) waits: bool,
     /// The actions not answered yet, in the order in which their answers are due.
-    pub(crate) due: Vec<Due>,
+    pub(crate) due: VecDeque<Due>,
     /// The control messages received, which no contract counts.
     pub(crate) controls: Controls,
 }
@@ -58,10 +59,10 @@ fn push_reopens(actions: &mut Vec<Action>, shares: &[Share]) -> Result<(), Memor
 }
 
 /// Returns whether `first` is the first answer due.
-pub(crate) fn is_due(due: &[Due], first: Due) -> bool
-    ensures { result ≡ is_due first due.now }
+pub(crate) fn is_due(due: &VecDeque<Due>, first: Due) -> bool
+    ensures { result ≡ is_due first due.now.items }
 {
-    match due.first() {
+    match due.front() {
         Some(due) => *due == first,
         None => false,
     }
@@ -80,7 +81,7 @@ impl Course {
             asked: None,
             teaching: false,
             waits: false,
-            due: Vec::new(alloc),
+            due: VecDeque::new(alloc),
             controls: Controls::none(),
         })
     }
@@ -99,10 +100,10 @@ impl Course {
         ensures unasked { OnErr result (is_due first self.old.due ≡ false) }
         ensures error { IfErr result (λ e. e ≡ errors.Unasked) }
     {
-        if !is_due(self.due.as_slice(), first) {
+        if !is_due(&self.due, first) {
             return Err(SessionError::Unasked);
         }
-        self.due.remove(0);
+        self.due.pop_front();
         Ok(())
     }
 
@@ -166,7 +167,7 @@ impl Course {
         ensures { OnOk result (self.new ≡ record self.old { asked = Some table; due = dues.Copy table ∷ [] }) }
     {
         self.due.clear();
-        self.due.push(Due::Copy(table))?;
+        self.due.push_back(Due::Copy(table))?;
         self.asked = Some(table);
         Ok(())
     }
@@ -175,7 +176,7 @@ impl Course {
     pub(crate) fn owe_lesson(&mut self) -> Result<(), Memory>
         ensures { OnOk result (self.new ≡ record self.old { due = dues.Teach ∷ self.old.due }) }
     {
-        self.due.insert(0, Due::Teach)?;
+        self.due.push_front(Due::Teach)?;
         Ok(())
     }
 

@@ -96,7 +96,7 @@ impl Course {
     {
         if is_out(self.shares.as_slice(), table) {
             push(actions, Action::Ack { table, number })?;
-            self.due.push(Due::Ack(table))?;
+            self.due.push_back(Due::Ack(table))?;
         }
         Ok(())
     }

@@ -265,7 +265,7 @@ impl Stay {
         ensures refused { IfErr result (λ e. (known : KnownState) → Refuses (phase_of self.now.machine.stage self.now.machine.course) (events.Written known) e) }
     {
         match &self.machine.stage {
-            Stage::Open if is_due(self.machine.course.due.as_slice(), Due::Teach) => Ok(()),
+            Stage::Open if is_due(&self.machine.course.due, Due::Teach) => Ok(()),
             Stage::Open | Stage::New(_) | Stage::Hello(_, _) => Err(SessionError::Unasked),
             Stage::Ended => Err(SessionError::Ended),
         }
