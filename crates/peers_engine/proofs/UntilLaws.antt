@@ -2,7 +2,7 @@
 use Rattle.std.proofs.Common.{◌≡◌, ◌<◌, ◌+◌, ℕ, List, [], ◌∷◌, ◌++◌, length, drop, get_or, Option, Some, None, refl, sym, ap, ◌∙◌, subst, inl, inr, append_assoc}
 use Rattle.std.proofs.KnownBytes.{Appends-nil, Appends-trans, Consumes-nil}
 use Rattle.std.proofs.lemmas.List.{append-nil, drop_more}
-use Rattle.std.specs.Prelude.{◌⊎◌, ◌≢◌}
+use Rattle.std.specs.Prelude.{◌⊎◌, ◌≢◌, Result, Ok, Err, IfErr, OnErr}
 use Rattle.std.specs.Io.KnownBytes.{Appends, Consumes}
 use Rattle.table_shards.specs.Receipts.{SeatState}
 use Rattle.session_core.specs.declared.action.Action.{Action}
@@ -50,6 +50,13 @@ pub table_fails : (w : StandingWorker) (seat : SeatState) (action act : Action) 
 table_fails w seat action act error known is at refused left =
     failed_now w seat action act error known known is
     (call_refused w.number w.now w.session.session.known w.seat seat (as_standing act) (as_standing act) known error refl at refused left)
+
+-- the same of the result of a call
+pub call_fails : {X : Type 0} (w : StandingWorker) (seat : SeatState) (action act : Action) (known : Option (List ℕ)) (result : Result X EngineError)
+    → action ≡ act → IsAtTable (as_standing act) → IfErr result IsRefusal → OnErr result (IsLeft w.number w.seat (as_standing act) seat)
+    → IfErr result (λ error. HasFailed w action seat known known error)
+call_fails {X} w seat action act known (Ok x) is at refused left = tt
+call_fails {X} w seat action act known (Err error) is at refused left = table_fails w seat action act error known is at refused left
 
 -- ---- one action after another
 

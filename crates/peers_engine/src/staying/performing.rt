@@ -1,6 +1,6 @@
 //! Performing the actions of a session that stays.
 
-ghost use Rattle.std.specs.Prelude.{◌≡◌, ◌≢◌, ◌↔◌, ◌++◌, ℕ, true, List, Option, Some, IfErr, IfOk, OnOk};
+ghost use Rattle.std.specs.Prelude.{◌≡◌, ◌≢◌, ◌↔◌, ◌++◌, ℕ, true, List, None, Some, IfErr, IfOk, IsTrue, OnOk};
 ghost use Rattle.std.specs.Io.KnownBytes.{Appends};
 ghost use Rattle.session_core.specs.declared.action.Action.{Action};
 ghost use Rattle.session_core.specs.declared.event.Event.{Event};
@@ -9,7 +9,7 @@ ghost use Rattle.session_core.specs.Sessions.{state_of};
 ghost use Rattle.session_core.specs.Standing.{Stands};
 ghost use Rattle.peers_engine.specs.declared.errors.EngineError.TheVariants as errors;
 ghost use Rattle.peers_engine.specs.Acting.{asked};
-ghost use Rattle.peers_engine.specs.Doing.{Falls};
+ghost use Rattle.peers_engine.specs.Doing.{Falls, IsAnswered};
 ghost use Rattle.peers_engine.specs.Staying.{DoesNotStay, IsFailed, IsPerformed, IsTold, Performs, PerformsUntil, is_request, standing_kind, standing_worker, without_request};
 
 use crate::context::Context;
@@ -67,18 +67,29 @@ fn send_bytes<W: Write + Faults>(
     send(output, bytes)
 }
 
-/// Performs one action of a session that stays, and returns its answer, if it has one.
-fn perform<H: Wait, G: Gate, W: Write + Faults>(
+/// Returns whether the session awaits an answer to the action.
+fn is_answered(action: &Action) -> bool
+    ensures { IsTrue result ↔ IsAnswered action.now }
+{
+    matches!(
+        action,
+        Action::Ack { .. } | Action::Copy { .. } | Action::Teach(_)
+    )
+}
+
+/// Performs an action of a session that stays, and returns the answer, which the session awaits.
+fn answer_of<H: Wait, G: Gate, W: Write + Faults>(
     context: &Context<H, G>,
     session: &Standing,
     output: &mut W,
     seat: &mut Seat,
     tally: &mut Tally,
     action: Action,
-) -> Result<Option<Event>, EngineError>
+) -> Result<Event, EngineError>
+    requires answered { IsAnswered action }
     ensures seat { seat.new.number ≡ seat.old.number }
     ensures done { IfOk result (λ answer. (out : List ℕ)
-        × IsPerformed (standing_worker session.now seat.old context.now.number context.now.moment) action out answer seat.new
+        × IsPerformed (standing_worker session.now seat.old context.now.number context.now.moment) action out (Some answer) seat.new
         × Appends (W.contents output.old) (W.contents output.new) out) }
     ensures failed { IfErr result (λ e. (out : List ℕ)
         × IsFailed (standing_worker session.now seat.old context.now.number context.now.moment) action e out seat.new
@@ -86,39 +97,52 @@ fn perform<H: Wait, G: Gate, W: Write + Faults>(
     ensures unread { IfErr result (λ e. e ≢ errors.Read) }
 {
     match action {
-        Action::Send(bytes) => {
-            send_bytes(output, tally, bytes.as_slice())?;
-            Ok(None)
+        Action::Ack { table, number } => {
+            tally.note_ack(table, number);
+            acknowledge(context, seat, table, number)
         }
+        Action::Copy { table, kind } => copy_late(context, seat, table, standing_kind(kind)),
+        Action::Teach(batch) => {
+            let answer = teach_batch(context, session.known(), output, seat, &batch)?;
+            tally.count_taught(&batch);
+            Ok(answer)
+        }
+        Action::Send(_) | Action::Learn(_) | Action::Reopen(_) | Action::Part(_) | Action::Close =>
+            unreachable!(),
+    }
+}
+
+/// Performs an action of a session that stays to which the session awaits no answer.
+fn perform<H: Wait, G: Gate, W: Write + Faults>(
+    context: &Context<H, G>,
+    session: &Standing,
+    output: &mut W,
+    seat: &mut Seat,
+    tally: &mut Tally,
+    action: Action,
+) -> Result<(), EngineError>
+    requires silent { IsAnswered action → ⊥ }
+    ensures seat { seat.new.number ≡ seat.old.number }
+    ensures done { OnOk result ((out : List ℕ)
+        × IsPerformed (standing_worker session.now seat.old context.now.number context.now.moment) action out None seat.new
+        × Appends (W.contents output.old) (W.contents output.new) out) }
+    ensures failed { IfErr result (λ e. (out : List ℕ)
+        × IsFailed (standing_worker session.now seat.old context.now.number context.now.moment) action e out seat.new
+        × Appends (W.contents output.old) (W.contents output.new) out) }
+    ensures unread { IfErr result (λ e. e ≢ errors.Read) }
+{
+    match action {
+        Action::Send(bytes) => send_bytes(output, tally, bytes.as_slice()),
         Action::Learn(update) => {
             let (table, number) = (update.table, update.number);
             learn_late(context, seat, update)?;
             tally.count_learned(table, number);
-            Ok(None)
+            Ok(())
         }
-        Action::Ack { table, number } => {
-            tally.note_ack(table, number);
-            let answer = acknowledge(context, seat, table, number)?;
-            Ok(Some(answer))
-        }
-        Action::Reopen(table) => {
-            reopen(context, seat, table)?;
-            Ok(None)
-        }
-        Action::Copy { table, kind } => {
-            let answer = copy_late(context, seat, table, standing_kind(kind))?;
-            Ok(Some(answer))
-        }
-        Action::Teach(batch) => {
-            let answer = teach_batch(context, session.known(), output, seat, &batch)?;
-            tally.count_taught(&batch);
-            Ok(Some(answer))
-        }
-        Action::Part(kind) => {
-            part(output, kind)?;
-            Ok(None)
-        }
-        Action::Close => Ok(None),
+        Action::Reopen(table) => reopen(context, seat, table),
+        Action::Part(kind) => part(output, kind),
+        Action::Close => Ok(()),
+        Action::Ack { .. } | Action::Copy { .. } | Action::Teach(_) => unreachable!(),
     }
 }
 
@@ -148,27 +172,22 @@ pub(crate) fn is_over(session: &Standing) -> bool
     session.state() == State::Ended
 }
 
-/// Gives the session an answer, if there is one, and appends what the session then asks for. Gives nothing to a session that
-/// is over.
+/// Gives the session an answer, and appends what the session then asks for. Gives nothing to a session that is over.
 fn tell(
     session: &mut Standing,
     now: Moment,
-    answer: Option<Event>,
+    answer: Event,
     given: &mut Vec<Action>,
 ) -> Result<(), EngineError>
-    ensures told { OnOk result ((steps : List (Event × List Action)) × IsTold session.old now answer steps session.new
+    ensures told { OnOk result ((steps : List (Event × List Action)) × IsTold session.old now (Some answer) steps session.new
         × (given.new.items ≡ given.old.items ++ asked steps)) }
-    ensures stuck { IfErr result (λ e. (event : Event) × (answer ≡ Some event) × (state_of session.old.session.phase ≢ states.Ended)
-        × DoesNotStay session.old now event e session.new) }
+    ensures stuck { IfErr result (λ e. (state_of session.old.session.phase ≢ states.Ended) × DoesNotStay session.old now answer e session.new) }
     ensures unread { IfErr result (λ e. e ≢ errors.Read) }
 {
-    let Some(event) = answer else {
-        return Ok(());
-    };
     if is_over(session) {
         return Ok(());
     }
-    tell_event(session, now, event, given)
+    tell_event(session, now, answer, given)
 }
 
 /// Performs the actions in order, gives the session each answer, and returns what it then asks for.
@@ -192,8 +211,12 @@ pub(crate) fn perform_all<H: Wait, G: Gate, W: Write + Faults>(
 {
     let mut given = Vec::new(context.alloc);
     for action in actions {
-        let answer = perform(context, session, output, seat, tally, action)?;
-        tell(session, context.moment, answer, &mut given)?;
+        if is_answered(&action) {
+            let answer = answer_of(context, session, output, seat, tally, action)?;
+            tell(session, context.moment, answer, &mut given)?;
+        } else {
+            perform(context, session, output, seat, tally, action)?;
+        }
     }
     Ok(given)
 }
