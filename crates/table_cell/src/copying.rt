@@ -6,12 +6,11 @@ ghost use Rattle.table_types.specs.declared.data_type.Shape.{Shape};
 ghost use Rattle.table_types.specs.Changes.{cell_types};
 ghost use Rattle.table_types.specs.Tables.{has_its_period, is_definition};
 ghost use Rattle.table_types.specs.Updates.{value_fits};
-ghost use Rattle.table_types.specs.Rotation.{turned};
 ghost use Rattle.table_rows.specs.Rows.{is_live};
 ghost use Rattle.table_cell.specs.Machine.{in_reach, is_copied, is_unacked, last_number};
 ghost use Rattle.table_cell.specs.Parts.{is_in_reach};
-ghost use Rattle.table_cell.specs.Soundness.{CellsFit, EndFits, EntryFits, IsSound};
-ghost use Rattle.table_cell.specs.Copying.{life_left, update_of, value_of, values_of};
+ghost use Rattle.table_cell.specs.Soundness.{CellsFit, EntryFits, IsSound};
+ghost use Rattle.table_cell.specs.Copying.{update_of, value_of, values_of};
 
 use crate::table::Table;
 use std::alloc::Global;
@@ -21,48 +20,16 @@ use table_types::{
     rotate,
 };
 
-/// Returns whether a copy of `kind` includes the row.
-fn is_copied(kind: CopyKind, row: &Row) -> bool
-    ensures { result ≡ is_copied kind row.now }
-{
-    match kind {
-        CopyKind::Push => !row.is_learned(),
-        CopyKind::Resync | CopyKind::Standing => true,
-    }
-}
-
-/// Returns whether the row is in the reach of a copy of `kind` for a session with this `bound`.
-fn is_in_reach(kind: CopyKind, bound: u32, row: &Row) -> bool
-    ensures { result ≡ is_in_reach kind bound row.now }
-{
-    match kind {
-        CopyKind::Push | CopyKind::Resync => true,
-        CopyKind::Standing => row.number() <= bound,
-    }
-}
-
-/// Returns whether a copy of `kind` at `now` includes the row if it is in its reach.
-fn is_copied_at(kind: CopyKind, row: &Row, now: Moment) -> bool
-    ensures { result ≡ (is_copied kind row.now && is_live now row.now) }
-{
-    is_copied(kind, row) && is_live(row, now)
-}
-
 /// Returns whether a copy of `kind` at `now`, for a session with this `bound`, includes the row.
 fn is_chosen(kind: CopyKind, bound: u32, row: &Row, now: Moment) -> bool
     ensures { result ≡ (is_in_reach kind bound row.now && (is_copied kind row.now && is_live now row.now)) }
 {
-    is_in_reach(kind, bound, row) && is_copied_at(kind, row, now)
-}
-
-/// Returns the cell as of `now`: rotated, if it is a rate with a period.
-fn turned(cell: Cell, period: Option<u32>, now: Moment) -> Cell
-    ensures { result ≡ turned now period cell }
-{
-    match period {
-        Some(period) => rotate(cell, period, now),
-        None => cell,
-    }
+    let is_copied = match kind {
+        CopyKind::Push => !row.is_learned(),
+        CopyKind::Resync => true,
+        CopyKind::Standing => row.number() <= bound,
+    };
+    is_copied && is_live(row, now)
 }
 
 /// Returns the value of a cell in an update at `now`. The age of a rate's period must fit the value.
@@ -103,21 +70,14 @@ fn values_of(
         let Some((cell, others)) = rest.split_first() else {
             return Ok(values);
         };
-        values = values.with(alloc, value_of(turned(*cell, entry.1, now), now))?;
+        let turned = match entry.1 {
+            Some(period) => rotate(*cell, period, now),
+            None => *cell,
+        };
+        values = values.with(alloc, value_of(turned, now))?;
         rest = others;
     }
     Ok(values)
-}
-
-/// Returns the remaining life of a row in milliseconds, and 0 if it never expires.
-fn life_left(row: &Row, expire: u32, now: Moment) -> u32
-    requires { EndFits now expire row.now.ends }
-    ensures { result ≡ life_left now row.now.ends }
-{
-    match row.ends() {
-        Some(end) => end.milliseconds().saturating_sub(now.milliseconds()) as u32,
-        None => 0,
-    }
 }
 
 /// Returns the row as an update at `now`.
@@ -132,6 +92,11 @@ fn update_of(
     requires fits { EntryFits definition.now now (key.now, row.now) }
     ensures { IfOk result (λ update. update ≡ update_of definition.now now (key.now, row.now)) }
 {
+    // The remaining life in milliseconds, and 0 if the row never expires.
+    let life = match row.ends() {
+        Some(end) => end.milliseconds().saturating_sub(now.milliseconds()) as u32,
+        None => 0,
+    };
     let values = values_of(alloc, definition.types(), row.cells(), now)?;
     let name = match row.name() {
         Some(name) => Some(name.copy(alloc)?),
@@ -140,7 +105,7 @@ fn update_of(
     Ok(Update {
         table: definition.id(),
         number: row.number(),
-        life: Some(life_left(row, definition.expire(), now)),
+        life: Some(life),
         key: key.copy(alloc)?,
         values,
         name,
