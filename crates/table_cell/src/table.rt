@@ -6,7 +6,7 @@ ghost use Rattle.table_types.specs.declared.key.Key.{Key};
 ghost use Rattle.table_types.specs.Rows.{StoredRow};
 ghost use Rattle.table_rows.specs.Rows.{IsFirstToEnd, goes_past, is_live, row_at};
 ghost use Rattle.table_cell.specs.Cells.{IsNewFrom};
-ghost use Rattle.table_cell.specs.Machine.{Leaves, has_room, is_full, learned, live_row, new_table, stored, tracked};
+ghost use Rattle.table_cell.specs.Machine.{Leaves, is_full, learned, new_table, stored, tracked};
 ghost use Rattle.table_cell.specs.Stock.{AreInRisingKey, AreNextInRisingKey, left_for};
 
 use crate::learned_run::LearnedRun;
@@ -167,13 +167,6 @@ impl Table {
         now.milliseconds() < self.latest.milliseconds()
     }
 
-    /// Returns whether a row of `key` displaces no other: the key has a row, or there is room for one more.
-    pub(crate) fn has_room(&self, key: &Key) -> bool
-        ensures { result ≡ has_room self.now key.now }
-    {
-        self.stock.len() < self.size || self.stock.row(key).is_some()
-    }
-
     fn are_live(&self, now: Moment) -> bool
         ensures { result ≡ list_all (λ e. is_live now e.1) self.now.rows }
     {
@@ -203,17 +196,10 @@ impl Table {
     pub(crate) fn is_full(&self, key: &Key, now: Moment) -> bool
         ensures { result ≡ is_full self.now key.now now }
     {
-        self.nopurge && !self.has_room(key) && self.are_live(now)
-    }
-
-    /// Returns the row of `key`, if it is live.
-    fn live_row(&self, key: &Key, now: Moment) -> Option<&Row>
-        ensures { option_copied result ≡ live_row key.now now self.now }
-    {
-        match self.stock.row(key) {
-            Some(row) if is_live(row, now) => Some(row),
-            _ => None,
-        }
+        self.nopurge
+            && self.stock.len() >= self.size
+            && self.stock.row(key).is_none()
+            && self.are_live(now)
     }
 
     /// Returns the next number to assign. There must be one left.
@@ -229,7 +215,10 @@ impl Table {
         requires { self.now.next < 2 ^ 32 }
         ensures { IfOk result (λ row. row ≡ tracked self.now key.now change.now now) }
     {
-        let live = self.live_row(key, now);
+        let live = match self.stock.row(key) {
+            Some(row) if is_live(row, now) => Some(row),
+            _ => None,
+        };
         Row::tracked(self.alloc, &self.definition, live, change, self.next(), now)
     }
 
