@@ -229,13 +229,6 @@ impl<R: Rows> Stock<R> {
         }
     }
 
-    /// Returns the rows with their keys, in ascending order of number. Doesn't allocate.
-    fn all(&self) -> Above<'_, R>
-        ensures { result ≡ self.now.rows }
-    {
-        Above::new(self.numbers.iter_above(0), &self.rows)
-    }
-
     /// Returns the rows above `number` with their keys, in ascending order of number. Doesn't allocate.
     pub(crate) fn above(&self, number: u32) -> Above<'_, R>
         ensures { result ≡ filter (λ e. nat_lt number e.1.number) self.now.rows }
@@ -273,7 +266,8 @@ impl<R: Rows> Stock<R> {
         ensures { IfOk result (λ stock. stock ≡ record { rows = numbered_from 1 self.now.rows; next = length self.now.rows + 1 }) }
     {
         let mut stock = Stock::new(self.alloc, rows, 1);
-        for (key, row) in self.all() {
+        // Numbers are at least 1, so these are all rows.
+        for (key, row) in self.above(0) {
             stock.store_copy(key, row)?;
         }
         Ok(stock)

@@ -1,9 +1,17 @@
-use Rattle.std.proofs.Common.{◌≡◌, ◌+◌, List, length, suc, ap, subst, arith}
+use Rattle.std.proofs.Common.{◌≡◌, ◌∙◌, ◌+◌, List, length, suc, ap, refl, subst, arith}
 use Rattle.table_types.specs.declared.key.Key.{Key}
 use Rattle.table_types.specs.Rows.{StoredRow}
 use Rattle.table_cell.specs.Stock.{IsStock, Stocked}
 use Rattle.table_cell.proofs.RenumberLaws.{one_stored, rise_count}
+use Rattle.table_cell.proofs.StockSteps.{all_above}
 use Rattle.table_cell.proofs.stock.Stock.renumbered.Goals as goal
+
+pub loop-key-init : goal.loop-key-init
+loop-key-init g c =
+    let sound = subst IsStock c.self.view_is c.self.invariant.kept.sound in
+    let all : c.into_iter-key-iterator.result ≡ c.args.self.now.rows =
+    c.into_iter-key-iterator.ensures.into_iter_gives ∙ c.above-key-items.ensures ∙ all_above 1 c.args.self.now.next c.args.self.now.rows (omega arith) sound.numbers in
+    rw (all, c.new-stock.ensures) (refl, omega arith)
 
 pub store_copy-requires : goal.store_copy-requires
 store_copy-requires g c =
