@@ -118,13 +118,6 @@ pub agree_where : (b : Bool) (c : CellState) (began : ℕ) (ss : List SeatState)
 agree_where true c began ss own after rise once = agrees c began ss own after once rise
 agree_where false c began ss own after rise not_so = λ agree. not_so agree.once
 
--- if they aren't
-pub agree_not : (b : Bool) (c : CellState) (began : ℕ) (ss : List SeatState) → b ≡ false
-    → MatchBool b (AllByRecursion (λ r. began < r.place) (all_receipts (id_of c) ss)) (AllByRecursion (λ r. began < r.place) (all_receipts (id_of c) ss) → ⊥)
-    → MatchBool b (Agree c began ss) (Agree c began ss → ⊥)
-agree_not true c began ss not_so after = absurd (true≢false not_so)
-agree_not false c began ss not_so before = λ agree. before (agrees_after c began ss agree)
-
 abbrev Once : ℕ → ℕ → List SeatState → ℕ → Type 0
 Once t began ss last = (place : ℕ) → began < place → place ≤ last → times place (all_receipts t ss) ≡ 1
 
@@ -138,8 +131,8 @@ agree_at b c began ss t last is_table is_last own after rise once =
     (subst (λ (id : ℕ). AllByRecursion (λ (s : SeatState). PlacesRise 0 (receipts_of id s) (seen_of id s)) ss) is_table rise)
     (subst (λ (n : ℕ). MatchBool b (Once (id_of c) began ss n) (Once (id_of c) began ss n → ⊥)) is_last (subst (λ (id : ℕ). MatchBool b (Once id began ss last) (Once id began ss last → ⊥)) is_table once))
 
-pub agree_not_at : (b : Bool) (c : CellState) (began : ℕ) (ss : List SeatState) (t : ℕ) → t ≡ id_of c → b ≡ false
-    → MatchBool b (AllByRecursion (λ r. began < r.place) (all_receipts t ss)) (AllByRecursion (λ r. began < r.place) (all_receipts t ss) → ⊥)
-    → MatchBool b (Agree c began ss) (Agree c began ss → ⊥)
-agree_not_at b c began ss t is_table not_so after =
-    agree_not b c began ss not_so (subst (λ (id : ℕ). MatchBool b (AllByRecursion (λ (r : ReceiptState). began < r.place) (all_receipts id ss)) (AllByRecursion (λ (r : ReceiptState). began < r.place) (all_receipts id ss) → ⊥)) is_table after)
+-- if some receipt isn't of a later place
+pub agree_not_at : (c : CellState) (began : ℕ) (ss : List SeatState) (t : ℕ) → t ≡ id_of c
+    → (AllByRecursion (λ r. began < r.place) (all_receipts t ss) → ⊥) → Agree c began ss → ⊥
+agree_not_at c began ss t is_table before agree =
+    before (subst (λ (id : ℕ). AllByRecursion (λ (r : ReceiptState). began < r.place) (all_receipts id ss)) (sym is_table) (agrees_after c began ss agree))

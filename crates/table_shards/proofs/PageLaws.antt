@@ -1,6 +1,7 @@
 -- A seat's pages: how one is found, and how one more receipt changes them.
-use Rattle.std.proofs.Common.{◌≡◌, ℕ, ◌+◌, ◌<◌, ◌==◌, true, false, List, [], ◌∷◌, ◌++◌, length, get_or, set, take, drop, Option, Some, None, refl, sym, ap, ◌∙◌, subst, arith, true≢false, append-nil, length-set, take-append-drop, get_or-set_same, eq-eqb, ne_eqb, inl, inr}
+use Rattle.std.proofs.Common.{◌≡◌, ℕ, ◌+◌, ◌<◌, ◌==◌, true, false, List, [], ◌∷◌, ◌++◌, length, get_or, set, take, drop, Option, Some, None, refl, sym, ap, ◌∙◌, subst, arith, true≢false, append-nil, take-append-drop, eq-eqb, ne_eqb, inl, inr}
 use Rattle.std.specs.List.{AllByRecursion}
+use Rattle.std.proofs.Math.Seq.{map-set_same}
 use Rattle.std.proofs.lemmas.List.{take-set, drop-set, drop_more, get_or_default, take_more}
 use Rattle.std.proofs.lemmas.Bool.{cases_Bool}
 use Rattle.std.proofs.lemmas.Bool.Decides.{nat_tests}
@@ -84,17 +85,9 @@ written t r q ps i here so =
     ap (λ (s : List PageState). pages_with t r s) states ∙ put_end t r before (page_state p ∷ behind) here.first ∙ ap (λ (s : List PageState). before ++ s) (put_here t r (page_state p) behind same) in
     states_after ∙ ap (λ (s : PageState). before ++ s ∷ behind) so ∙ sym put
 
--- a page that was borrowed and is unchanged
-pub lent_stays : (ps : List Page) (i : ℕ) (old new : Page) → i < length ps → old ≡ get_or ps i old → page_state new ≡ page_state old → page_state new ≡ page_state (get_or ps i new)
-lent_stays ps i old new lt is so = so ∙ ap page_state (is ∙ get_or_default ps i old new lt)
-
--- a page that is put back unchanged
-pub page_stays : (t : ℕ) (q : Page) (ps : List Page) (i : ℕ) → IsPageAt t ps i → page_state q ≡ page_state (get_or ps i q) → IsPageAt t (set ps i q) i
-page_stays t q ps i here so = record {
-  below = omega (arith, length-set ps i q, here.below);
-  table_is = λ d. ap (λ (p : Page). p.table) (get_or-set_same ps i q d here.below) ∙ ap (λ (s : PageState). s.table) so ∙ here.table_is q;
-  first = ap (λ (qs : List Page). page_at t (page_states qs)) (take-set ps i q) ∙ here.first;
-}
+-- a page that was borrowed and is put back unchanged
+pub lent_stays : (ps : List Page) (i : ℕ) (old new : Page) → i < length ps → old ≡ get_or ps i old → page_state new ≡ page_state old → page_states (set ps i new) ≡ page_states ps
+lent_stays ps i old new lt is so = map-set_same page_state ps i new new (so ∙ ap page_state (is ∙ get_or_default ps i old new lt))
 
 -- ---- a new page
 

@@ -1,14 +1,11 @@
 //! Comparing receipts with a table's history.
 
-ghost use Rattle.std.specs.Prelude.{◌≡◌, ◌↔◌, ◌∷◌, ◌++◌, [], List, IsTrue};
+ghost use Rattle.std.specs.Prelude.{◌≡◌, ◌↔◌, IsTrue};
 ghost use Rattle.std.specs.Bool.{MatchBool};
-ghost use Rattle.std.specs.List.{AllByRecursion};
-ghost use Rattle.table_shards.specs.Agreement.{Agree, AreEntries, Compares, IsEntry, Strays, lesser};
-ghost use Rattle.table_shards.specs.Receipts.{SeatState};
+ghost use Rattle.table_shards.specs.Agreement.{AreEntries, Compares, IsEntry, Strays, lesser};
 
 use crate::counts::{are_of_round, are_once};
 use crate::receipt::{Receipt, are_same_events, are_same_replies};
-use crate::receipts::Receipts;
 use crate::seat::Seat;
 use table_cell::TableCell;
 
@@ -24,23 +21,16 @@ fn is_entry(cell: &TableCell, receipt: &Receipt) -> bool
     }
 }
 
-/// Returns whether all the receipts are the table's events.
-fn are_entries(cell: &TableCell, receipts: Receipts<'_>) -> bool
-    ensures { MatchBool result (AllByRecursion (IsEntry cell.now) receipts.entry) (AllByRecursion (IsEntry cell.now) receipts.entry → ⊥) }
+/// Returns whether the seat's receipts of the table are the table's events.
+fn has_entries(cell: &TableCell, seat: &Seat) -> bool
+    ensures { MatchBool result (AreEntries cell.now seat.now) (AreEntries cell.now seat.now → ⊥) }
 {
-    for receipt in receipts {
+    for receipt in seat.receipts(cell.definition().id()) {
         if !is_entry(cell, receipt) {
             return false;
         }
     }
     true
-}
-
-/// Returns whether the seat's receipts of the table are the table's events.
-fn has_entries(cell: &TableCell, seat: &Seat) -> bool
-    ensures { MatchBool result (AreEntries cell.now seat.now) (AreEntries cell.now seat.now → ⊥) }
-{
-    are_entries(cell, seat.receipts(cell.definition().id()))
 }
 
 fn lesser(least: Option<u32>, number: u32) -> u32
@@ -52,38 +42,18 @@ fn lesser(least: Option<u32>, number: u32) -> u32
     }
 }
 
-/// Returns the least number of a stray seat so far, after one more seat. A seat is a stray if it has a receipt that isn't
+/// Returns the least number of a stray seat, or `None` if there is none. A seat is a stray if it has a receipt that isn't
 /// the table's event at its place.
-fn with_seat(cell: &TableCell, least: Option<u32>, seat: &Seat) -> Option<u32>
-    ensures { (before : List SeatState) → Strays cell.now before least → Strays cell.now (before ++ seat.now ∷ []) result }
-{
-    if has_entries(cell, seat) {
-        least
-    } else {
-        Some(lesser(least, seat.number()))
-    }
-}
-
-/// Returns the least number of a stray seat, or `None` if there is none.
 fn least_stray(cell: &TableCell, seats: &[Seat]) -> Option<u32>
     ensures { Strays cell.now seats.now result }
 {
     let mut least = None;
     for seat in seats {
-        least = with_seat(cell, least, seat);
+        if !has_entries(cell, seat) {
+            least = Some(lesser(least, seat.number()));
+        }
     }
     least
-}
-
-/// Returns whether the receipts, all of which are the table's events, are its events after the first `from`, one for
-/// one.
-fn are_one_for_one(cell: &TableCell, from: u64, seats: &[Seat]) -> bool
-    requires { AllByRecursion (AreEntries cell.now) seats.now }
-    ensures { MatchBool result (Agree cell.now from seats.now) (Agree cell.now from seats.now → ⊥) }
-{
-    let table = cell.definition().id();
-    let last = cell.events();
-    are_of_round(table, from, seats) && are_once(table, from, last, seats)
 }
 
 /// Compares the seats' receipts of the table with its events after the first `from`. Returns `None` if each of these
@@ -97,7 +67,9 @@ pub fn compare(cell: &TableCell, from: u64, seats: &[Seat]) -> Option<u32>
     if stray.is_some() {
         return stray;
     }
-    if are_one_for_one(cell, from, seats) {
+    // All the receipts are the table's events. They must also be its events after the first `from`, one for one.
+    let table = cell.definition().id();
+    if are_of_round(table, from, seats) && are_once(table, from, cell.events(), seats) {
         None
     } else {
         Some(0)

@@ -70,16 +70,6 @@ pub fn write(page: &mut Page, receipt: Receipt)
     page.receipts.push_reserved(receipt);
 }
 
-/// Makes room for one more receipt on the page at `index`.
-fn make_room_at(pages: &mut Vec<Page>, index: usize, table: u64) -> Result<(), Memory>
-    requires { IsPageAt table pages.old.items index }
-    ensures here { IsPageAt table pages.new.items index }
-    ensures room { OnOk result (HoldsAt HasRoom pages.new.items index) }
-    ensures stays { page_states pages.new.items ≡ page_states pages.old.items }
-{
-    make_room(&mut pages[index])
-}
-
 /// Makes room for one more receipt of `table`, which changes no page.
 pub fn make_room_for(alloc: Global, pages: &mut Vec<Page>, table: u64) -> Result<Room, Memory>
     ensures room { IfOk result (HasRoomIn table pages.new) }
@@ -87,7 +77,7 @@ pub fn make_room_for(alloc: Global, pages: &mut Vec<Page>, table: u64) -> Result
 {
     match index_of(pages.as_slice(), table) {
         Some(index) => {
-            make_room_at(pages, index, table)?;
+            make_room(&mut pages[index])?;
             Ok(Room::OnPage(index))
         }
         None => {
@@ -138,20 +128,13 @@ pub fn write_in(pages: &mut Vec<Page>, room: Room, table: u64, receipt: Receipt)
     }
 }
 
-/// Drops the receipts on the page, if it is the page of `table`.
-fn forget_page(page: &mut Page, alloc: Global, table: u64)
-    ensures { page_state page.new ≡ forgotten_page table (page_state page.old) }
-{
-    if page.table == table {
-        page.receipts = Blocks::new(alloc);
-    }
-}
-
 /// Drops the receipts of `table`. What was seen of it stays.
 pub fn forget(pages: &mut [Page], alloc: Global, table: u64)
     ensures { page_states pages.new ≡ map (forgotten_page table) (page_states pages.old) }
 {
     for page in pages.iter_mut() {
-        forget_page(page, alloc, table);
+        if page.table == table {
+            page.receipts = Blocks::new(alloc);
+        }
     }
 }
