@@ -57,34 +57,11 @@ fn status_text(alloc: Global, code: u16) -> Result<Items<u8>, Memory>
     Ok(Items::new(bytes))
 }
 
-/// Returns the bytes of a hello.
-fn hello_text(alloc: Global, hello: &Hello) -> Result<Items<u8>, Memory>
-    ensures { IfOk result (λ bytes. bytes ≡ hello_text hello.now) }
-{
-    Ok(Items::new(hello.write(alloc)?))
-}
-
 /// Returns the action that sends `hello`, with which this node opens the handshake.
 pub(crate) fn greeting(alloc: Global, hello: &Hello) -> Result<Vec<Action>, Memory>
     ensures { IfOk result (λ acts. acts.items ≡ actions.Send (hello_text hello.now) ∷ []) }
 {
-    only(alloc, Action::Send(hello_text(alloc, hello)?))
-}
-
-/// Returns the action that accepts a hello.
-fn welcome(alloc: Global) -> Result<Vec<Action>, Memory>
-    ensures { IfOk result (λ acts. acts.items ≡ actions.Send (status_text 200) ∷ []) }
-{
-    only(alloc, Action::Send(status_text(alloc, 200)?))
-}
-
-/// Returns the actions that refuse a hello with `code`.
-fn turn_away(alloc: Global, code: u16) -> Result<Vec<Action>, Memory>
-    ensures { IfOk result (λ acts. acts.items ≡ actions.Send (status_text code) ∷ (actions.Close ∷ [])) }
-{
-    let mut actions = only(alloc, Action::Send(status_text(alloc, code)?))?;
-    push(&mut actions, Action::Close)?;
-    Ok(actions)
+    only(alloc, Action::Send(Items::new(hello.write(alloc)?)))
 }
 
 /// Returns the action that requests a resync.
@@ -124,10 +101,14 @@ fn receive_hello(
     match Hello::read(alloc, bytes, own, peers)? {
         Answer::More => Ok(Handshake::Incomplete),
         Answer::Accepted(_, used) => {
-            let answer = welcome(alloc)?;
+            let answer = only(alloc, Action::Send(status_text(alloc, 200)?))?;
             Ok(Handshake::Accepted { used, answer })
         }
-        Answer::Refused(code, _) => Ok(Handshake::Refused(turn_away(alloc, code)?)),
+        Answer::Refused(code, _) => {
+            let mut actions = only(alloc, Action::Send(status_text(alloc, code)?))?;
+            push(&mut actions, Action::Close)?;
+            Ok(Handshake::Refused(actions))
+        }
     }
 }
 

@@ -10,7 +10,7 @@ ghost use Rattle.session_core.specs.declared.phase.Greeter.TheVariants as greete
 ghost use Rattle.session_core.specs.Phases as phases;
 ghost use Rattle.session_core.specs.declared.phase.Stage.TheVariants as stages;
 ghost use Rattle.session_core.specs.Courses.{course_fed, none_due, acks_sent, acks_given};
-ghost use Rattle.session_core.specs.Sessions.{Goes, GoesOpen, Keeps, Concludes, Refuses, IsWhy, is_asked_open, phase_of, seen, going, kind_of_breach, kind_of_fault, state_of};
+ghost use Rattle.session_core.specs.Sessions.{Goes, GoesOpen, Keeps, Concludes, Refuses, IsWhy, is_asked_open, phase_of, seen, going, kind_of_fault, state_of};
 
 use crate::action::{Action, confirms, only, push};
 use crate::course::Course;
@@ -40,24 +40,15 @@ pub(crate) struct Machine {
     pub(crate) confirmed: bool,
 }
 
-/// Returns the error message that answers a breach.
-fn kind_of_breach(breach: Breach) -> ErrorKind
-    ensures { result ≡ kind_of_breach breach }
-{
-    if breach == Breach::SizeLimit {
-        ErrorKind::SizeLimit
-    } else {
-        ErrorKind::Protocol
-    }
-}
-
 /// Returns the error message that answers a fault.
 fn kind_of(fault: Fault) -> ErrorKind
     ensures { result ≡ kind_of_fault fault }
 {
     match fault {
-        Fault::Breach(breach) => kind_of_breach(breach),
-        Fault::Memory | Fault::Closed | Fault::EmptySlot | Fault::NoNumber => ErrorKind::Protocol,
+        Fault::Breach(Breach::SizeLimit) => ErrorKind::SizeLimit,
+        Fault::Breach(_) | Fault::Memory | Fault::Closed | Fault::EmptySlot | Fault::NoNumber => {
+            ErrorKind::Protocol
+        }
     }
 }
 
