@@ -1,11 +1,10 @@
 //! The course of an open session.
 
-ghost use Rattle.std.specs.Prelude.{◌≡◌, ◌∷◌, ◌++◌, [], Some, None, Ok, true, false, IfOk, IfErr, IsOk, OnOk, OnErr, length};
+ghost use Rattle.std.specs.Prelude.{◌≡◌, ◌++◌, Some, None, Ok, true, false, IfOk, IfErr, IsOk, OnOk, OnErr, length};
 ghost use Rattle.session_core.specs.declared.error.SessionError.TheVariants as errors;
 ghost use Rattle.session_core.specs.Shares.{out_set, quiet_set, unquieted};
 ghost use Rattle.session_core.specs.Actions.{reopens};
-ghost use Rattle.session_core.specs.Courses.{course_begun, teaching_anew, table_to_ask, kind_of, is_due, none_due, Answered, finished, state_of_course};
-ghost use Rattle.session_core.specs.declared.due.Due.TheVariants as dues;
+ghost use Rattle.session_core.specs.Courses.{course_begun, teaching_anew, table_to_ask, is_due, none_due, Answered, finished, state_of_course};
 
 use crate::action::{Action, push};
 use crate::controls::Controls;
@@ -18,7 +17,7 @@ use peers_msg::Control;
 use std::alloc::Global;
 use std::collections::VecDeque;
 use std::marker::Model;
-use table_types::{CopyKind, Memory, Roster};
+use table_types::{Memory, Roster};
 
 /// The course of a session: what it received from the remote peer, and the state of its teaching.
 #[derive(Drop)]
@@ -117,17 +116,6 @@ impl Course {
         next_table(self.shares.as_slice(), self.asked, self.teaching)
     }
 
-    /// Returns which rows to copy.
-    pub(crate) fn kind(&self) -> CopyKind
-        ensures { result ≡ kind_of self.now.teaching }
-    {
-        if self.teaching {
-            CopyKind::Resync
-        } else {
-            CopyKind::Push
-        }
-    }
-
     /// Returns the state of the open session.
     pub(crate) fn state(&self) -> State
         ensures { result ≡ state_of_course self.now.teaching }
@@ -159,24 +147,6 @@ impl Course {
         unquiet(self.shares.as_mut_slice());
         self.teaching = true;
         self.waits = false;
-        Ok(())
-    }
-
-    /// Makes the copy from `table` the only answer due.
-    pub(crate) fn ask(&mut self, table: u64) -> Result<(), Memory>
-        ensures { OnOk result (self.new ≡ record self.old { asked = Some table; due = dues.Copy table ∷ [] }) }
-    {
-        self.due.clear();
-        self.due.push_back(Due::Copy(table))?;
-        self.asked = Some(table);
-        Ok(())
-    }
-
-    /// Makes the answer to `Teach` the first one due.
-    pub(crate) fn owe_lesson(&mut self) -> Result<(), Memory>
-        ensures { OnOk result (self.new ≡ record self.old { due = dues.Teach ∷ self.old.due }) }
-    {
-        self.due.push_front(Due::Teach)?;
         Ok(())
     }
 

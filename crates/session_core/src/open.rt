@@ -13,7 +13,7 @@ use crate::error::SessionError;
 use crate::receiving::only_control;
 use crate::share::{all_quiet, any_out};
 use std::alloc::Global;
-use table_types::{Batch, Settled};
+use table_types::{Batch, CopyKind, Memory, Settled};
 
 impl Course {
     /// Handles a turn: asks the next table for a batch, if there is one.
@@ -26,8 +26,13 @@ impl Course {
         }
         match self.table_to_ask() {
             Some(table) => {
-                let kind = self.kind();
-                self.ask(table)?;
+                let kind = if self.teaching {
+                    CopyKind::Resync
+                } else {
+                    CopyKind::Push
+                };
+                self.due.push_back(Due::Copy(table)).map_err(Memory::from)?;
+                self.asked = Some(table);
                 Ok(only(alloc, Action::Copy { table, kind })?)
             }
             None => Ok(Vec::new(alloc)),
@@ -46,7 +51,7 @@ impl Course {
     {
         self.answer(Due::Copy(table))?;
         self.set_out(table, true);
-        self.owe_lesson()?;
+        self.due.push_front(Due::Teach).map_err(Memory::from)?;
         Ok(only(alloc, Action::Teach(batch))?)
     }
 
