@@ -1,7 +1,7 @@
 //! How far the remote peer has acknowledged what it was taught.
 
 ghost use Rattle.std.specs.Prelude.{◌≡◌, IfOk};
-ghost use Rattle.session_core.specs.Paces.{progress_of, last_number, copied_in, acknowledged_in, ack_in, noted, is_ahead, is_number, inferred, is_overdue, tables_to_leave, stores_names, may_lose_names, awaits_names};
+ghost use Rattle.session_core.specs.Paces.{progress_of, last_number, copied_in, acknowledged_in, noted, is_ahead, is_number, inferred, is_overdue, tables_to_leave, stores_names, may_lose_names, awaits_names};
 ghost use Rattle.std.specs.List.{list_any};
 
 use crate::action::Action;
@@ -93,23 +93,13 @@ fn note_ack(progress: &mut [Progress], table: u64, number: u32)
     }
 }
 
-/// Returns the table and the number of an acknowledgement that is passed on.
-fn ack_in(action: &Action) -> Option<(u64, u32)>
-    ensures { result ≡ ack_in action.now }
-{
-    match action {
-        Action::Ack { table, number } => Some((*table, *number)),
-        _ => None,
-    }
-}
-
 /// Notes the acknowledgements that the actions pass on.
 pub(crate) fn note_acks(progress: &mut Vec<Progress>, actions: &[Action])
     ensures { progress.new.items ≡ noted actions.now progress.old.items }
 {
     for action in actions {
-        if let Some((table, number)) = ack_in(action) {
-            note_ack(progress.as_mut_slice(), table, number);
+        if let Action::Ack { table, number } = action {
+            note_ack(progress.as_mut_slice(), *table, *number);
         }
     }
 }

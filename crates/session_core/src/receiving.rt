@@ -7,7 +7,7 @@ ghost use Rattle.peers_msg.specs.Spelling.{stream_of};
 ghost use Rattle.session_core.specs.declared.action.Action.{Action};
 ghost use Rattle.session_core.specs.declared.halt.Halt.TheVariants as halts;
 ghost use Rattle.session_core.specs.Shares.{any_out, is_out};
-ghost use Rattle.session_core.specs.Actions.{control_text, sends_control, sends_acks};
+ghost use Rattle.session_core.specs.Actions.{control_text, sends_control};
 ghost use Rattle.session_core.specs.Courses.{Course, course_fed, requested, acknowledged, said, message_received, is_failure, Receives, AreReceived, IsHalted, ReceivesAll, acks_sent, acks_given};
 
 use crate::acks::ack_of;
@@ -58,16 +58,6 @@ fn stream_of(alloc: Global, messages: &[Message]) -> Result<Items<u8>, Memory>
         append(&mut bytes, message)?;
     }
     Ok(Items::new(bytes))
-}
-
-/// Appends the action that sends these acknowledgements, if there are any.
-fn push_acks(alloc: Global, actions: &mut Vec<Action>, acks: &[Message]) -> Result<(), Memory>
-    ensures { OnOk result (actions.new.items ≡ actions.old.items ++ sends_acks acks.now) }
-{
-    if acks.is_empty() {
-        return Ok(());
-    }
-    push(actions, Action::Send(stream_of(alloc, acks)?))
 }
 
 impl Course {
@@ -179,7 +169,7 @@ impl Course {
         self.receive_all(alloc, actions)
     }
 
-    /// Appends the action that sends the acknowledgements that are due.
+    /// Appends the action that sends the acknowledgements that are due, if there are any.
     pub(crate) fn send_acks(
         &mut self,
         alloc: Global,
@@ -189,6 +179,9 @@ impl Course {
         ensures course { OnOk result (self.new ≡ acks_sent self.old) }
     {
         let acks = self.intake.acks()?;
-        push_acks(alloc, actions, acks.as_slice())
+        if acks.is_empty() {
+            return Ok(());
+        }
+        push(actions, Action::Send(stream_of(alloc, acks.as_slice())?))
     }
 }

@@ -1,7 +1,7 @@
 //! The tables of a roster, as a session shares them.
 
 ghost use Rattle.std.specs.Prelude.{◌≡◌, IfOk, map};
-ghost use Rattle.session_core.specs.Shares.{holds_up, any_out, is_out, all_quiet, out_set, quiet_set, unquieted, may_copy, first_to_copy, through, past, next_table, shares_of};
+ghost use Rattle.session_core.specs.Shares.{any_out, is_out, all_quiet, out_set, quiet_set, unquieted, may_copy, first_to_copy, through, past, next_table, shares_of};
 
 use std::alloc::Global;
 use table_types::{Memory, TableDef};
@@ -18,13 +18,6 @@ pub(crate) struct Share {
 }
 
 impl Share {
-    /// Returns whether the table delays the beginning of a resync.
-    fn holds_up(self) -> bool
-        ensures { result ≡ holds_up self }
-    {
-        self.out
-    }
-
     /// Returns whether a batch may be copied from the table.
     fn may_copy(self, teaching: bool) -> bool
         ensures { result ≡ may_copy teaching self }
@@ -60,7 +53,7 @@ pub(crate) fn any_out(shares: &[Share]) -> bool
     ensures { result ≡ any_out shares.now }
 {
     for share in shares {
-        if share.holds_up() {
+        if share.out {
             return true;
         }
     }
