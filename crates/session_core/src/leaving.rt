@@ -2,7 +2,6 @@
 
 ghost use Rattle.std.specs.Prelude.{◌≡◌, ◌==◌, ◌++◌, not, filter, OnOk};
 ghost use Rattle.std.specs.List.{list_any};
-ghost use Rattle.session_core.specs.Courses.{ack_received};
 ghost use Rattle.session_core.specs.Standing.{begun_resync, caught_up_in, finishing, leaving, put_off, without_tables};
 
 use crate::action::Action;
@@ -43,21 +42,6 @@ impl Course {
     {
         self.begin_teaching(actions)?;
         self.finish(alloc, actions)
-    }
-
-    /// Passes on the acknowledgement, if there is one.
-    pub(crate) fn pass_on(
-        &mut self,
-        ack: Option<(u64, u32)>,
-        actions: &mut Vec<Action>,
-    ) -> Result<(), Memory>
-        ensures actions { OnOk result (actions.new.items ≡ actions.old.items ++ (ack_received self.old ack).0) }
-        ensures course { OnOk result (self.new ≡ (ack_received self.old ack).1) }
-    {
-        match ack {
-            Some((table, number)) => self.acknowledge(table, number, actions),
-            None => Ok(()),
-        }
     }
 
     /// Leaves the tables with these ids. All resyncs end as partial from then on.

@@ -2,7 +2,7 @@
 
 ghost use Rattle.std.specs.Prelude.{◌≡◌, ◌||◌, ◌&&◌, Some, true, false, not, IfOk};
 ghost use Rattle.session_core.specs.Shares.{any_out};
-ghost use Rattle.session_core.specs.Paces.{pace_at, renewed, is_rested, has_passed, silence_time, heartbeat_time, push_time, awaits_names};
+ghost use Rattle.session_core.specs.Paces.{pace_at, renewed, is_rested, has_passed, push_time, awaits_names};
 ghost use Rattle.session_core.specs.Courses.{table_to_ask};
 ghost use Rattle.session_core.specs.Standing.{task_at};
 
@@ -97,31 +97,6 @@ impl Pace {
         ensures { self.new ≡ record self.old { left = left || self.old.left } }
     {
         self.left = left || self.left;
-    }
-
-    /// Notes that a resync begins, and whether bytes were sent.
-    pub(crate) fn begin(&mut self, sends: bool, now: u64)
-        ensures { self.new ≡ record self.old { sent = renewed sends now self.old.sent; reopened = Some now; requested = false } }
-    {
-        if sends {
-            self.sent = now;
-        }
-        self.reopened = Some(now);
-        self.requested = false;
-    }
-
-    /// Returns whether the session is silent: it has received nothing for `times::SILENCE`.
-    pub(crate) fn is_silent(&self, now: u64) -> bool
-        ensures { result ≡ has_passed silence_time self.now.heard now }
-    {
-        has_passed(times::SILENCE, self.heard, now)
-    }
-
-    /// Returns whether a heartbeat is owed: nothing has been sent for `times::HEARTBEAT`.
-    pub(crate) fn owes_heartbeat(&self, now: u64) -> bool
-        ensures { result ≡ has_passed heartbeat_time self.now.sent now }
-    {
-        has_passed(times::HEARTBEAT, self.sent, now)
     }
 
     /// Returns whether the last resync, if there was one, began long enough ago.

@@ -13,7 +13,7 @@ ghost use Rattle.session_core.specs.Phases as phases;
 ghost use Rattle.session_core.specs.Courses.{is_due, none_due};
 ghost use Rattle.session_core.specs.Sessions.{Keeps, Refuses, IsWhy, phase_of, is_asked};
 ghost use Rattle.session_core.specs.Paces.{has_passed, heartbeat_time, is_ahead};
-ghost use Rattle.session_core.specs.Standing.{stood, is_open, brings_bytes, is_lesson, is_send, is_reopen, is_requested, without_reopens, Listens, Does, task_at, TakesTurn, Writes, Stands, Ticks, TicksIn, HandsOn, answer_of_refusal, any_left, heartbeats, caught_up};
+ghost use Rattle.session_core.specs.Standing.{stood, brings_bytes, is_send, is_reopen, is_requested, without_reopens, Listens, Does, TakesTurn, Writes, Stands, Ticks, TicksIn, HandsOn, answer_of_refusal, any_left, heartbeats, caught_up};
 
 use crate::action::Action;
 use crate::course::is_due;
@@ -26,6 +26,8 @@ use crate::phase::Stage;
 use crate::progress::{inferred, is_ahead, last_number, note_acks, note_copy, tables_to_leave};
 use crate::receiving::push_control;
 use crate::share::copy_of;
+use crate::times;
+use crate::times::has_passed;
 use known_state::Known;
 use peers_msg::Control;
 use std::alloc::Global;
@@ -60,37 +62,16 @@ fn brings_bytes(event: &Event) -> bool
     }
 }
 
-/// Returns whether an event says that a lesson was written.
-fn is_lesson(event: &Event) -> bool
-    ensures { result ≡ is_lesson event.now }
-{
-    matches!(event, Event::Written(_))
-}
-
-/// Returns whether an action sends bytes.
-fn is_send(action: &Action) -> bool
-    ensures { result ≡ is_send action.now }
-{
-    matches!(action, Action::Send(_))
-}
-
 /// Returns whether one of the actions sends bytes.
 fn any_send(actions: &[Action]) -> bool
     ensures { result ≡ list_any is_send actions.now }
 {
     for action in actions {
-        if is_send(action) {
+        if matches!(action, Action::Send(_)) {
             return true;
         }
     }
     false
-}
-
-/// Returns whether bytes are sent: a lesson was written, or one of the actions sends some.
-fn sends(lesson: bool, actions: &[Action]) -> bool
-    ensures { result ≡ (lesson || list_any is_send actions.now) }
-{
-    lesson || any_send(actions)
 }
 
 /// Returns whether an action reopens the session in a table.
@@ -127,14 +108,6 @@ fn any_left(left: &[u64]) -> bool
 }
 
 impl Stay {
-    /// Returns whether the session is open.
-    fn is_open(&self) -> bool
-        ensures result { result ≡ is_open (phase_of self.now.machine.stage self.now.machine.course) }
-        ensures stage { result ≡ true → self.now.machine.stage ≡ stages.Open }
-    {
-        matches!(&self.machine.stage, Stage::Open)
-    }
-
     /// Hands the event on to the session.
     fn hand_on(
         &mut self,
@@ -147,11 +120,11 @@ impl Stay {
         ensures kept { OnErr result (Keeps self.old.machine self.new.machine) }
     {
         let hears = brings_bytes(&event);
-        let lesson = is_lesson(&event);
-        let was_open = self.is_open();
+        let lesson = matches!(event, Event::Written(_));
+        let was_open = matches!(self.machine.stage, Stage::Open);
         let actions = self.machine.step(alloc, event)?;
-        let sent = sends(lesson, actions.as_slice());
-        self.pace.note(sent, hears, was_open, now);
+        let sends = lesson || any_send(actions.as_slice());
+        self.pace.note(sends, hears, was_open, now);
         Ok(actions)
     }
 
@@ -215,7 +188,10 @@ impl Stay {
         }
         let mut actions = Vec::new(alloc);
         self.machine.course.begin_resync(alloc, &mut actions)?;
-        self.pace.begin(any_send(actions.as_slice()), now);
+        self.pace
+            .note(any_send(actions.as_slice()), false, true, now);
+        self.pace.reopened = Some(now);
+        self.pace.requested = false;
         Ok(actions)
     }
 
@@ -230,20 +206,6 @@ impl Stay {
         Ok(Vec::new(alloc))
     }
 
-    /// Takes a turn of an open session.
-    fn turn_open(&mut self, alloc: Global, now: u64) -> Result<Vec<Action>, SessionError>
-        requires { self.old.machine.stage ≡ stages.Open }
-        ensures turns { IfOk result (λ acts. Does (task_at now self.old.pace self.old.machine.course) (stood self.old) self.old.machine.course now acts.items (stood self.new)) }
-        ensures refused { IfErr result (λ e. IsWhy (none_due self.old.machine.course.due) e) }
-        ensures kept { OnErr result (Keeps self.old.machine self.new.machine) }
-    {
-        match self.pace.task(&self.machine.course, now) {
-            Task::Copy => self.hand_on(alloc, Event::Turn, now),
-            Task::Rest => self.rest(alloc),
-            Task::Begin => self.begin_resync(alloc, now),
-        }
-    }
-
     /// Takes a turn.
     fn turn(&mut self, alloc: Global, now: u64) -> Result<Vec<Action>, SessionError>
         ensures turns { IfOk result (λ acts. TakesTurn (phase_of self.old.machine.stage self.old.machine.course) (stood self.old) now acts.items (stood self.new)) }
@@ -251,7 +213,11 @@ impl Stay {
         ensures kept { OnErr result (Keeps self.old.machine self.new.machine) }
     {
         match &self.machine.stage {
-            Stage::Open => self.turn_open(alloc, now),
+            Stage::Open => match self.pace.task(&self.machine.course, now) {
+                Task::Copy => self.hand_on(alloc, Event::Turn, now),
+                Task::Rest => self.rest(alloc),
+                Task::Begin => self.begin_resync(alloc, now),
+            },
             Stage::New(_) | Stage::Hello(_, _) | Stage::Ended => {
                 self.hand_on(alloc, Event::Turn, now)
             }
@@ -285,7 +251,11 @@ impl Stay {
         self.check_lesson()?;
         let ack = inferred(self.pace.progress.as_slice(), self.machine.course.asked);
         let mut actions = Vec::new(alloc);
-        self.machine.course.pass_on(ack, &mut actions)?;
+        if let Some((table, number)) = ack {
+            self.machine
+                .course
+                .acknowledge(table, number, &mut actions)?;
+        }
         self.hand_on(alloc, Event::Written(known), now)?;
         Ok(actions)
     }
@@ -367,7 +337,7 @@ impl Stay {
     fn beat(&self, alloc: Global, actions: &mut Vec<Action>, now: u64) -> Result<(), Memory>
         ensures { OnOk result (actions.new.items ≡ actions.old.items ++ heartbeats (has_passed heartbeat_time self.now.pace.sent now)) }
     {
-        if !self.pace.owes_heartbeat(now) {
+        if !has_passed(times::HEARTBEAT, self.pace.sent, now) {
             return Ok(());
         }
         push_control(alloc, actions, Control::Heartbeat)
@@ -432,7 +402,7 @@ impl Stay {
         ensures kept { OnErr result (Keeps self.old.machine self.new.machine) }
     {
         self.check_turn()?;
-        if self.pace.is_silent(now) {
+        if has_passed(times::SILENCE, self.pace.heard, now) {
             self.tick_silent(alloc)
         } else {
             self.tick_heard(alloc, now)

@@ -1,9 +1,9 @@
-use Rattle.std.proofs.Common.{sym, ◌∙◌}
+use Rattle.std.proofs.Common.{rules}
 use Rattle.session_core.specs.Standing.{stood}
 use Rattle.session_core.proofs.SilentTicks.{silent_ticks}
 use Rattle.session_core.proofs.stay.Stay.tick.Goals as goal
 
-pub returns-then-is_silent-clause-ticks : goal.returns-then-is_silent-clause-ticks
-returns-then-is_silent-clause-ticks c =
+pub returns-then-has_passed-clause-ticks : goal.returns-then-has_passed-clause-ticks
+returns-then-has_passed-clause-ticks c =
     let s = stood c.args.self.now in
-    silent_ticks c.tick_silent.result s (stood c.tick_silent.new.self) c.args.now c.in_ok-check_turn.ensures.asked (sym c.is_silent.ensures ∙ c.if-is_silent.true) (c.tick_silent.ensures.ticks s.session.phase c.args.now)
+    silent_ticks c.tick_silent.result s (stood c.tick_silent.new.self) c.args.now c.in_ok-check_turn.ensures.asked (search rules) (c.tick_silent.ensures.ticks s.session.phase c.args.now)
