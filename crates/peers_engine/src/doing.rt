@@ -2,6 +2,7 @@
 
 ghost use Rattle.std.specs.Prelude.{◌≡◌, ◌≢◌, ◌∷◌, ◌++◌, [], IfErr, IfOk, OnErr, OnOk, List, ℕ};
 ghost use Rattle.std.specs.Io.KnownBytes.{Appends};
+ghost use Rattle.table_types.specs.Batches.{IsBatchFor};
 ghost use Rattle.known_state.specs.Known.{KnownState};
 ghost use Rattle.session_core.specs.declared.action.Action.{Action};
 ghost use Rattle.session_core.specs.declared.action.Action.TheVariants as actions;
@@ -72,7 +73,8 @@ pub fn copy_batch<H: Wait, G: Gate>(
     Ok(copied)
 }
 
-/// Plans the lesson of a batch. No table's lock is held.
+/// Plans the lesson of a batch. No table's lock is held. Fails with `Strange` only if the batch isn't one for the tables of the
+/// known state.
 pub fn plan<H, G>(
     context: &Context<H, G>,
     known: &Known,
@@ -80,6 +82,7 @@ pub fn plan<H, G>(
 ) -> Result<Pieces, EngineError>
     ensures lesson { IfOk result (λ pieces. IsShortestLesson known.now batch.now (bytes_left pieces) pieces.known) }
     ensures refused { IfErr result IsRefusal }
+    ensures strange { IfErr result (λ e. e ≡ errors.Strange → IsBatchFor known.now.roster batch.now → ⊥) }
 {
     if !batch.is_for(known.roster()) {
         return Err(EngineError::Strange);
