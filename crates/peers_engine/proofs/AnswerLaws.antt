@@ -1,7 +1,7 @@
 -- The answers of the calls that perform an action.
 use Rattle.std.proofs.Common.{◌≡◌, ℕ, List, [], Option, Some, None, Result, Ok, Err, IfErr, refl, sym, ap, subst, inl, inr}
 use Rattle.std.proofs.KnownBytes.{Appends-nil}
-use Rattle.std.specs.Prelude.{OnErr, take}
+use Rattle.std.specs.Prelude.{◌<◌, OnErr, length, take}
 use Rattle.std.specs.Io.KnownBytes.{Appends}
 use Rattle.table_types.specs.declared.update.Update.{Update}
 use Rattle.table_types.specs.declared.copies.CopyKind.{CopyKind}
@@ -16,7 +16,7 @@ use Rattle.peers_engine.specs.declared.errors.EngineError.{EngineError}
 use Rattle.peers_engine.specs.declared.errors.EngineError.TheVariants as errors
 use Rattle.peers_engine.specs.Calls.{IsCopied, IsLearned, IsReopened, IsSettled, IsTaken}
 use Rattle.teach_writer.specs.Lessons.{IsShortestLesson}
-use Rattle.peers_engine.specs.Doing.{Done, Fails, Falls, FallsShort, IsAtTable, IsLeft, IsRefusal, error_text}
+use Rattle.peers_engine.specs.Doing.{Done, Fails, Falls, IsAtTable, IsLeft, IsRefusal, error_text}
 use Rattle.peers_engine.proofs.TurnLaws.{OneDone, OneFails}
 
 -- a write failed
@@ -123,16 +123,11 @@ pub call_refused : (n now : ℕ) (k : KnownState) (s t : SeatState) (action act 
 call_refused n now k s t action act known error is at refused left =
     subst (λ (a : Action). OneFails n now k s t a known known error) (sym is) (refused_as error n now k s t act known refused at left)
 
--- a lesson that wasn't written whole
-pub lesson_falls : (error : EngineError) (n now : ℕ) (k : KnownState) (s t : SeatState) (batch : List Update) (bytes : List ℕ) (answer : Option Event) (old new : Option (List ℕ))
-    → Done n now k s (actions.Teach batch) bytes answer t → FallsShort bytes error old new → OneFails n now k s t (actions.Teach batch) old new error
-lesson_falls errors.Memory n now k s t batch bytes answer old new done (sent, within, appended) =
+-- a lesson for whose next bytes memory ran out
+pub lesson_cut : (n now : ℕ) (k : KnownState) (s t : SeatState) (batch : List Update) (bytes : List ℕ) (answer : Option Event) (sent : ℕ) (old new : Option (List ℕ))
+    → Done n now k s (actions.Teach batch) bytes answer t → sent < length bytes → Appends old new (take sent bytes) → OneFails n now k s t (actions.Teach batch) old new errors.Memory
+lesson_cut n now k s t batch bytes answer sent old new done within appended =
     (take sent bytes, inr (tt, sent, (bytes, answer, done, within, refl)), appended)
-lesson_falls (errors.Write sent) n now k s t batch bytes answer old new done falls =
-    falls_short (errors.Write sent) n now k s t (actions.Teach batch) bytes answer old new done falls
-lesson_falls errors.Read n now k s t batch bytes answer old new done falls = absurd falls
-lesson_falls errors.Strange n now k s t batch bytes answer old new done falls = absurd falls
-lesson_falls (errors.Session why) n now k s t batch bytes answer old new done falls = absurd falls
 
 -- a lesson that can't be made or written
 pub teach_fails : (n now : ℕ) (k known : KnownState) (s t : SeatState) (action : Action) (batch : List Update) (old new : Option (List ℕ)) (error : EngineError)

@@ -65,11 +65,6 @@ abbrev pub Falls : List ℕ → EngineError → Option (List ℕ) → Option (Li
 Falls bytes (errors.Write sent) old new = (sent < length bytes) × Appends old new (take sent bytes)
 Falls bytes error old new = ⊥
 
--- the same of a lesson's bytes, for which memory can run out too
-abbrev pub FallsShort : List ℕ → EngineError → Option (List ℕ) → Option (List ℕ) → Type 0
-FallsShort bytes errors.Memory old new = (sent : ℕ) × (sent < length bytes) × Appends old new (take sent bytes)
-FallsShort bytes error old new = Falls bytes error old new
-
 -- How an action that a table refuses leaves the seat: as it was; or with the receipt of the close, if the session was
 -- closed in the table and not opened anew.
 abbrev pub IsLeft : ℕ → SeatState → Action → SeatState → Type 0

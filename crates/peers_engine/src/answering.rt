@@ -4,30 +4,12 @@ ghost use Rattle.std.specs.Prelude.{◌≡◌, ◌≢◌, ◌++◌, IfErr, List,
 ghost use Rattle.session_core.specs.declared.action.Action.{Action};
 ghost use Rattle.session_core.specs.declared.event.Event.{Event};
 ghost use Rattle.session_core.specs.declared.state.State.TheVariants as states;
-ghost use Rattle.session_core.specs.Sessions.{Goes, state_of};
+ghost use Rattle.session_core.specs.Sessions.{state_of};
 ghost use Rattle.peers_engine.specs.Acting.{DoesNotGoOn, IsGiven, asked};
 
 use crate::errors::EngineError;
 use session_core::{Action, Event, Session, State};
 use table_types::Moment;
-
-/// Gives a session an event, and appends what the session then asks for.
-fn give_event(
-    session: &mut Session,
-    now: Moment,
-    event: Event,
-    given: &mut Vec<Action>,
-) -> Result<(), EngineError>
-    ensures goes { OnOk result ((acts : List Action) × Goes session.old event acts session.new
-        × (given.new.items ≡ given.old.items ++ acts)) }
-    ensures stuck { IfErr result (λ e. DoesNotGoOn session.old event e session.new) }
-{
-    let mut more = session.on(event, now)?;
-    match given.append(&mut more) {
-        Ok(()) => Ok(()),
-        Err(_) => Err(EngineError::Memory),
-    }
-}
 
 /// Gives the session the answer to an action, and appends what the session then asks for. Gives nothing to a session that
 /// is over.
@@ -44,5 +26,9 @@ pub(crate) fn give_answer(
     if session.state() == State::Ended {
         return Ok(());
     }
-    give_event(session, now, answer, given)
+    let mut more = session.on(answer, now)?;
+    match given.append(&mut more) {
+        Ok(()) => Ok(()),
+        Err(_) => Err(EngineError::Memory),
+    }
 }

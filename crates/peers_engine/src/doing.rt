@@ -13,7 +13,7 @@ ghost use Rattle.peers_engine.specs.Acting.{Acts, Stops, asked, worker};
 ghost use Rattle.peers_engine.specs.Calls.{IsCopied, IsSettled};
 ghost use Rattle.teach_writer.specs.Lessons.{IsShortestLesson};
 ghost use Rattle.teach_writer.specs.Pieces.{bytes_left};
-ghost use Rattle.peers_engine.specs.Doing.{Fails, Falls, FallsShort, IsAnswered, IsRefusal, error_text};
+ghost use Rattle.peers_engine.specs.Doing.{Fails, Falls, IsAnswered, IsRefusal, error_text};
 
 use crate::answering::give_answer;
 use crate::context::Context;
@@ -25,7 +25,6 @@ use known_state::Known;
 use peers_devices::Faults;
 use peers_msg::ErrorKind;
 use session_core::{Action, Event, Session};
-use std::alloc::Global;
 use std::io::Write;
 use std::sync::Wait;
 use table_shards::Seat;
@@ -93,26 +92,8 @@ pub fn plan<H, G>(
     }
 }
 
-/// Writes a lesson, and returns what the learner knows after it. Fails with `Memory` if memory runs out for its next bytes;
-/// then any part of it may be written, but not all.
-fn send_pieces<W: Write + Faults>(
-    alloc: Global,
-    output: &mut W,
-    pieces: Pieces,
-) -> Result<Known, EngineError>
-    ensures sent { IfOk result (λ after. (after ≡ pieces.known) × Appends (W.contents output.old) (W.contents output.new) (bytes_left pieces)) }
-    ensures failed { IfErr result (λ e. FallsShort (bytes_left pieces) e (W.contents output.old) (W.contents output.new)) }
-    ensures unread { IfErr result (λ e. e ≢ errors.Read) }
-{
-    match write_pieces(alloc, output, pieces) {
-        Ok((_prices, after)) => Ok(after),
-        Err(PiecesError::Write { sent }) => Err(EngineError::Write { sent }),
-        Err(PiecesError::Memory { sent: _ }) => Err(EngineError::Memory),
-    }
-}
-
 /// Writes the lesson of a batch, starting from `known`. The batch must be the session's latest one when the writing
-/// begins.
+/// begins. If memory runs out for the lesson's next bytes, any part of it may be written, but not all.
 pub(crate) fn teach_batch<H: Wait, G: Gate, W: Write + Faults>(
     context: &Context<H, G>,
     known: &Known,
@@ -130,7 +111,11 @@ pub(crate) fn teach_batch<H: Wait, G: Gate, W: Write + Faults>(
     let pieces = plan(context, known, batch)?;
     context.gate.at(context.rt, Stage::Planned);
     settle(context, seat, batch)?;
-    let after = send_pieces(context.alloc, output, pieces)?;
+    let after = match write_pieces(context.alloc, output, pieces) {
+        Ok((_prices, after)) => after,
+        Err(PiecesError::Write { sent }) => return Err(EngineError::Write { sent }),
+        Err(PiecesError::Memory { sent: _ }) => return Err(EngineError::Memory),
+    };
     context.gate.at(context.rt, Stage::Written);
     Ok(Event::Written(after))
 }

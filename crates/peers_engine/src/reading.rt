@@ -1,6 +1,6 @@
 //! Reading from the remote peer.
 
-ghost use Rattle.std.specs.Prelude.{◌≡◌, Err, IfErr, IfOk, List, ℕ, vec_len};
+ghost use Rattle.std.specs.Prelude.{◌≡◌, Err, IfErr, IfOk, List, ℕ};
 ghost use Rattle.std.specs.Io.KnownBytes.{Consumes, IsAtEnd, Keeps};
 ghost use Rattle.peers_devices.specs.Failures.{Rose};
 ghost use Rattle.peers_engine.specs.declared.errors.EngineError.TheVariants as errors;
@@ -9,19 +9,12 @@ ghost use Rattle.peers_engine.specs.Reading.{IsRead, IsUnread};
 use crate::errors::EngineError;
 use peers_devices::{Faults, rose};
 use session_core::Event;
-use std::alloc::{AllocError, Global};
+use std::alloc::Global;
 use std::io::Read;
 use table_types::Items;
 
 /// The most bytes that one read takes.
 const MOST_BYTES: usize = 4096;
-
-/// Returns a buffer for one read.
-fn room(alloc: Global) -> Result<Vec<u8>, AllocError>
-    ensures { IfOk result (λ bytes. vec_len bytes ≡ 4096) }
-{
-    vec![in alloc; 0; MOST_BYTES]
-}
 
 /// Reads once, and returns the event, if there is one. A read that fails without being counted, as an interrupted one
 /// may, gives none.
@@ -39,7 +32,7 @@ pub(crate) fn read_event<R: Read + Faults>(
     ensures unwritten { IfErr result IsUnread }
 {
     let earlier = input.failures();
-    let mut bytes = room(alloc).map_err(|_| EngineError::Memory)?;
+    let mut bytes = vec![in alloc; 0; MOST_BYTES].map_err(|_| EngineError::Memory)?;
     match input.read(bytes.as_mut_slice()) {
         Ok(0) => Ok(Some(Event::End)),
         Ok(count) => {

@@ -23,10 +23,11 @@ ghost use Rattle.peers_engine.specs.Staying.{StopsStandingTurn, StopsTick, Takes
 ghost use Rattle.peers_engine.specs.Turns.{first_event};
 
 use crate::context::Context;
+use crate::doing::send;
 use crate::errors::EngineError;
 use crate::gate::AlwaysOpen;
-use crate::staying::performing::is_over;
-use crate::staying::turning::{end, request, take_tick, take_turn};
+use crate::staying::performing::{RESYNC_REQUEST, is_over};
+use crate::staying::turning::{end, take_tick, take_turn};
 use peers_devices::Faults;
 use session_core::{Standing, State};
 use std::alloc::Global;
@@ -70,16 +71,6 @@ fn outcome(session: &Standing, idle: bool) -> Stood
         Stood::Idled
     } else {
         Stood::Worked
-    }
-}
-
-/// Returns whether a session in this state can request a resync: only an open one can.
-fn can_request(state: State) -> bool
-    ensures { result ≡ can_request state }
-{
-    match state {
-        State::Ready | State::Teaching => true,
-        State::New | State::Hello | State::Ended => false,
     }
 }
 
@@ -230,10 +221,10 @@ impl StandingWorker {
         ensures seat { self.new.seat ≡ self.old.seat }
         ensures number { self.new.number ≡ self.old.number }
     {
-        if !can_request(self.session.state()) {
+        if !matches!(self.session.state(), State::Ready | State::Teaching) {
             return Ok(false);
         }
-        match request(output) {
+        match send(output, &RESYNC_REQUEST) {
             Ok(()) => {
                 self.session.note_sent(now);
                 Ok(true)

@@ -6,11 +6,10 @@ ghost use Rattle.session_core.specs.declared.action.Action.{Action};
 ghost use Rattle.session_core.specs.declared.event.Event.{Event};
 ghost use Rattle.session_core.specs.declared.state.State.TheVariants as states;
 ghost use Rattle.session_core.specs.Sessions.{state_of};
-ghost use Rattle.session_core.specs.Standing.{Stands};
 ghost use Rattle.peers_engine.specs.declared.errors.EngineError.TheVariants as errors;
 ghost use Rattle.peers_engine.specs.Acting.{asked};
 ghost use Rattle.peers_engine.specs.Doing.{Falls, IsAnswered};
-ghost use Rattle.peers_engine.specs.Staying.{DoesNotStay, IsFailed, IsPerformed, IsTold, Performs, PerformsUntil, is_request, standing_kind, standing_worker, without_request};
+ghost use Rattle.peers_engine.specs.Staying.{DoesNotStay, IsFailed, IsPerformed, IsTold, Performs, PerformsUntil, standing_kind, standing_worker, without_request};
 
 use crate::context::Context;
 use crate::doing::{part, send, teach_batch};
@@ -25,6 +24,12 @@ use std::sync::Wait;
 use table_shards::Seat;
 use table_types::{CopyKind, Moment};
 
+/// The bytes of a resync request.
+pub(crate) const RESYNC_REQUEST: [u8; 2] = [0, 0];
+
+/// The bytes of a heartbeat.
+const HEARTBEAT: [u8; 2] = [0, 4];
+
 /// Returns the kind of a copy of a session that stays.
 fn standing_kind(kind: CopyKind) -> CopyKind
     ensures { result ≡ standing_kind kind }
@@ -33,18 +38,6 @@ fn standing_kind(kind: CopyKind) -> CopyKind
         CopyKind::Push => CopyKind::Push,
         CopyKind::Resync | CopyKind::Standing => CopyKind::Standing,
     }
-}
-
-/// Returns whether the bytes are a resync request.
-fn is_request(bytes: &[u8]) -> bool
-    ensures { result ≡ is_request bytes.now }
-{
-    bytes == [0, 0].as_slice()
-}
-
-/// Returns whether the bytes are a heartbeat.
-fn is_heartbeat(bytes: &[u8]) -> bool {
-    bytes == [0, 4].as_slice()
 }
 
 /// Writes bytes that a session that stays sends: a heartbeat in the place of a resync request.
@@ -57,11 +50,11 @@ fn send_bytes<W: Write + Faults>(
     ensures failed { IfErr result (λ e. Falls (without_request bytes.now) e (W.contents output.old) (W.contents output.new)) }
     ensures unread { IfErr result (λ e. e ≢ errors.Read) }
 {
-    if is_request(bytes) {
+    if bytes == RESYNC_REQUEST.as_slice() {
         tally.count_heartbeat();
-        return send(output, &[0, 4]);
+        return send(output, &HEARTBEAT);
     }
-    if is_heartbeat(bytes) {
+    if bytes == HEARTBEAT.as_slice() {
         tally.count_heartbeat();
     }
     send(output, bytes)
@@ -146,25 +139,6 @@ fn perform<H: Wait, G: Gate, W: Write + Faults>(
     }
 }
 
-/// Gives the session an event, and appends what the session then asks for.
-fn tell_event(
-    session: &mut Standing,
-    now: Moment,
-    event: Event,
-    given: &mut Vec<Action>,
-) -> Result<(), EngineError>
-    ensures stands { OnOk result ((acts : List Action) × Stands session.old now event acts session.new
-        × (given.new.items ≡ given.old.items ++ acts)) }
-    ensures stuck { IfErr result (λ e. DoesNotStay session.old now event e session.new) }
-    ensures unread { IfErr result (λ e. e ≢ errors.Read) }
-{
-    let mut more = session.on(event, now)?;
-    match given.append(&mut more) {
-        Ok(()) => Ok(()),
-        Err(_) => Err(EngineError::Memory),
-    }
-}
-
 /// Returns whether the session is over.
 pub(crate) fn is_over(session: &Standing) -> bool
     ensures { (result ≡ true) ↔ (state_of session.now.session.phase ≡ states.Ended) }
@@ -187,7 +161,11 @@ fn tell(
     if is_over(session) {
         return Ok(());
     }
-    tell_event(session, now, answer, given)
+    let mut more = session.on(answer, now)?;
+    match given.append(&mut more) {
+        Ok(()) => Ok(()),
+        Err(_) => Err(EngineError::Memory),
+    }
 }
 
 /// Performs the actions in order, gives the session each answer, and returns what it then asks for.

@@ -1,25 +1,22 @@
 //! Turns and ticks of a session that stays.
 
-ghost use Rattle.std.specs.Prelude.{◌≡◌, ◌≢◌, [], ℕ, List, Option, Err, IfErr, IfOk, OnErr, OnOk};
+ghost use Rattle.std.specs.Prelude.{◌≡◌, ◌≢◌, ℕ, List, Option, Err, IfErr, IfOk, OnErr, OnOk};
 ghost use Rattle.std.specs.Io.KnownBytes.{Appends, Consumes, IsAtEnd};
 ghost use Rattle.peers_devices.specs.Failures.{Rose};
-ghost use Rattle.peers_msg.specs.declared.control.Control.TheVariants as controls;
 ghost use Rattle.session_core.specs.declared.error.SessionError.{SessionError};
 ghost use Rattle.session_core.specs.declared.error.SessionError.TheVariants as refusals;
 ghost use Rattle.session_core.specs.declared.event.Event.{Event};
 ghost use Rattle.session_core.specs.declared.event.Event.TheVariants as events;
 ghost use Rattle.session_core.specs.declared.state.State.TheVariants as states;
-ghost use Rattle.session_core.specs.Actions.{control_text};
 ghost use Rattle.session_core.specs.Sessions.{Refuses, ended, state_of};
 ghost use Rattle.session_core.specs.Standing.{Stands, Ticks};
 ghost use Rattle.peers_engine.specs.declared.errors.EngineError.TheVariants as errors;
-ghost use Rattle.peers_engine.specs.Doing.{Falls, IsRefusal};
+ghost use Rattle.peers_engine.specs.Doing.{IsRefusal};
 ghost use Rattle.peers_engine.specs.Reading.{IsRead};
 ghost use Rattle.peers_engine.specs.Staying.{AreReopened, FailsToReopen, Responds, RespondsTo, RespondsToUntil, RespondsUntil, StopsStandingTurn, StopsTick, TakesStandingTurn, TakesTick, standing_worker};
 ghost use Rattle.peers_engine.specs.Turns.{first_event};
 
 use crate::context::Context;
-use crate::doing::send;
 use crate::errors::EngineError;
 use crate::gate::Gate;
 use crate::reading::read_event;
@@ -33,19 +30,6 @@ use std::io::{Read, Write};
 use std::sync::Wait;
 use table_shards::Seat;
 use table_types::Moment;
-
-/// Fails with `Strange` if there is more to do.
-fn check_done(rest: &[Action]) -> Result<(), EngineError>
-    ensures done { OnOk result (rest.now ≡ []) }
-    ensures strange { IfErr result (λ e. (rest.now ≢ []) × (e ≡ errors.Strange)) }
-    ensures unread { IfErr result (λ e. e ≢ errors.Read) }
-{
-    if rest.is_empty() {
-        Ok(())
-    } else {
-        Err(EngineError::Strange)
-    }
-}
 
 /// Gives the session an event, and returns what it asks for.
 fn give(session: &mut Standing, event: Event, now: Moment) -> Result<Vec<Action>, SessionError>
@@ -87,7 +71,9 @@ fn respond<H: Wait, G: Gate, W: Write + Faults>(
     let is_idle = may_idle && second.is_empty();
     let third = perform_all(context, session, output, seat, tally, second)?;
     let rest = perform_all(context, session, output, seat, tally, third)?;
-    check_done(rest.as_slice())?;
+    if !rest.is_empty() {
+        return Err(EngineError::Strange);
+    }
     Ok(is_idle)
 }
 
@@ -203,14 +189,6 @@ pub(crate) fn take_tick<H: Wait, G: Gate, W: Write + Faults>(
     reopen_all(context, seat, left.as_slice())?;
     perform_all(context, session, output, seat, tally, actions)?;
     Ok(is_idle)
-}
-
-/// Writes a resync request.
-pub(crate) fn request<W: Write + Faults>(output: &mut W) -> Result<(), EngineError>
-    ensures ok { OnOk result (Appends (W.contents output.old) (W.contents output.new) (control_text controls.ResyncRequest)) }
-    ensures failed { IfErr result (λ e. Falls (control_text controls.ResyncRequest) e (W.contents output.old) (W.contents output.new)) }
-{
-    send(output, &[0, 0])
 }
 
 /// Ends the session after an error.

@@ -1,11 +1,10 @@
-use Rattle.std.proofs.Common.{Some, subst, sym, refl}
+use Rattle.std.proofs.Common.{Some, refl}
 use Rattle.std.proofs.lemmas.Result.{err_from_is_err_and}
-use Rattle.known_state.specs.Known.{KnownState}
 use Rattle.session_core.specs.declared.action.Action.TheVariants as actions
 use Rattle.session_core.specs.declared.event.Event.TheVariants as events
-use Rattle.teach_writer.specs.Lessons.{IsShortestLesson}
 use Rattle.teach_writer.specs.Pieces.{bytes_left}
-use Rattle.peers_engine.proofs.AnswerLaws.{lesson_falls, refused_as}
+use Rattle.peers_engine.specs.declared.errors.EngineError.TheVariants as errors
+use Rattle.peers_engine.proofs.AnswerLaws.{falls_short, lesson_cut, refused_as}
 use Rattle.peers_engine.proofs.doing.teach_batch.Goals as goal
 
 pub returns-in_err-settle-clause-failed : goal.returns-in_err-settle-clause-failed
@@ -14,19 +13,18 @@ returns-in_err-settle-clause-failed g c =
     rw (p.1, p.2)
     (refused_as c.in_err-settle.field-0.0 c.args.context.now.number c.args.context.now.moment c.args.known.now c.args.seat.now c.settle.new.seat (actions.Teach c.args.batch.now) (g.W.Write.contents c.args.output.now) c.in_err-settle.ensures.refused tt c.in_err-settle.ensures.stays)
 
-pub returns-in_err-after-clause-failed : goal.returns-in_err-after-clause-failed
-returns-in_err-after-clause-failed g c =
+pub returns-in-Err-Write-clause-failed : goal.returns-in-Err-Write-clause-failed
+returns-in-Err-Write-clause-failed g c =
     let pieces = c.in_ok-pieces.pieces in
-    let p = err_from_is_err_and c.from_residual-in_err-after.result c.from_residual-in_err-after.ensures.1 in
-    rw (p.1, p.2)
-    (lesson_falls c.in_err-after.field-0.0 c.args.context.now.number c.args.context.now.moment c.args.known.now c.args.seat.now c.settle.new.seat c.args.batch.now (bytes_left pieces) (Some (events.Written pieces.known))
-    (g.W.Write.contents c.args.output.now) (g.W.Write.contents c.send_pieces.new.output) (pieces.known, c.in_ok-pieces.ensures.lesson, refl, c.in_ok-settle.ensures.settled) c.in_err-after.ensures.failed)
+    let fault = c.in-Err-Write in
+    falls_short (errors.Write fault.sent) c.args.context.now.number c.args.context.now.moment c.args.known.now c.args.seat.now c.settle.new.seat (actions.Teach c.args.batch.now) (bytes_left pieces) (Some (events.Written pieces.known))
+    (g.W.Write.contents c.args.output.now) (g.W.Write.contents c.write_pieces.new.output)
+    (pieces.known, c.in_ok-pieces.ensures.lesson, refl, c.in_ok-settle.ensures.settled) (rw fault.field-0-is at fault.ensures.within, rw fault.field-0-is at fault.ensures.sent)
 
-pub returns-clause-taught : goal.returns-clause-taught
-returns-clause-taught g c =
+pub returns-in-Err-Memory-clause-failed : goal.returns-in-Err-Memory-clause-failed
+returns-in-Err-Memory-clause-failed g c =
     let pieces = c.in_ok-pieces.pieces in
-    let after = c.in_ok-after.after in
-    let sent = c.in_ok-after.ensures.sent in
-    let taught : IsShortestLesson c.args.known.now c.args.batch.now (bytes_left pieces) after =
-    subst (λ (k : KnownState). IsShortestLesson c.args.known.now c.args.batch.now (bytes_left pieces) k) (sym sent.0) c.in_ok-pieces.ensures.lesson in
-    (bytes_left pieces, after, taught, refl, c.in_ok-settle.ensures.settled, sent.1)
+    let fault = c.in-Err-Memory in
+    lesson_cut c.args.context.now.number c.args.context.now.moment c.args.known.now c.args.seat.now c.settle.new.seat c.args.batch.now (bytes_left pieces) (Some (events.Written pieces.known)) fault.field-0-0
+    (g.W.Write.contents c.args.output.now) (g.W.Write.contents c.write_pieces.new.output)
+    (pieces.known, c.in_ok-pieces.ensures.lesson, refl, c.in_ok-settle.ensures.settled) (rw fault.field-0-is at fault.ensures.within) (rw fault.field-0-is at fault.ensures.sent)

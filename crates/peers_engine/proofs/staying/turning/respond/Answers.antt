@@ -1,5 +1,8 @@
-use Rattle.std.proofs.Common.{◌∙◌, refl, sym}
+use Rattle.std.proofs.Common.{◌≡◌, ◌∙◌, ℕ, List, [], arith, ap, length, nat_eq, refl, sym}
+use Rattle.std.proofs.lemmas.Bool.{eqb-true, false≢true}
+use Rattle.std.proofs.lemmas.List.{nil_from_length}
 use Rattle.std.proofs.lemmas.Result.{err_from_is_err_and}
+use Rattle.session_core.specs.declared.action.Action.{Action}
 use Rattle.peers_engine.specs.declared.errors.EngineError.TheVariants as errors
 use Rattle.peers_engine.specs.Staying.{standing_worker}
 use Rattle.peers_engine.proofs.StayLaws.{responded}
@@ -9,10 +12,12 @@ use Rattle.peers_engine.proofs.staying.turning.respond.Goals as goal
 pub returns-clause-done : goal.returns-clause-done
 returns-clause-done g c =
     let contents = g.W.Write.contents in
+    let empty = eqb-true _ _ (sym c.is_empty.ensures ∙ c.if-not-is_empty.false) in
     responded (standing_worker c.args.session.now c.args.seat.now c.args.context.now.number c.args.context.now.moment) (standing_worker c.perform_all.new.session c.perform_all.new.seat c.args.context.now.number c.args.context.now.moment) (standing_worker c.perform_all-2.new.session c.perform_all-2.new.seat c.args.context.now.number c.args.context.now.moment) (standing_worker c.perform_all-3.new.session c.perform_all-3.new.seat c.args.context.now.number c.args.context.now.moment)
     c.give.new.session c.args.event c.in_ok-first.first.items c.in_ok-second.second.items c.in_ok-third.third.items c.in_ok-rest.rest.items
     (contents c.args.output.now) (contents c.perform_all.new.output) (contents c.perform_all-2.new.output) (contents c.perform_all-3.new.output)
-    c.in_ok-first.ensures.stands c.in_ok-second.ensures.done c.in_ok-third.ensures.done c.in_ok-rest.ensures.done (sym c.as_slice-2.ensures.value ∙ c.in_ok-check_done.ensures.done)
+    c.in_ok-first.ensures.stands c.in_ok-second.ensures.done c.in_ok-third.ensures.done c.in_ok-rest.ensures.done
+    (nil_from_length c.in_ok-rest.rest.items (omega (arith, c.in_ok-rest.rest.ok, empty)))
 
 pub returns-in_err-first-clause-failed : goal.returns-in_err-first-clause-failed
 returns-in_err-first-clause-failed g c =
@@ -48,12 +53,13 @@ returns-in_err-rest-clause-failed g c =
     (contents c.args.output.now) (contents c.perform_all.new.output) (contents c.perform_all-2.new.output) (contents c.perform_all-3.new.output)
     c.in_ok-first.ensures.stands c.in_ok-second.ensures.done c.in_ok-third.ensures.done c.in_err-rest.ensures.failed)
 
-pub returns-in_err-check_done-clause-failed : goal.returns-in_err-check_done-clause-failed
-returns-in_err-check_done-clause-failed g c =
+pub returns-then-not-is_empty-clause-failed : goal.returns-then-not-is_empty-clause-failed
+returns-then-not-is_empty-clause-failed g c =
     let contents = g.W.Write.contents in
-    let p = err_from_is_err_and c.from_residual-in_err-check_done.result c.from_residual-in_err-check_done.ensures.1 in
-    rw (p.1, p.2)
-    (rest_stops (standing_worker c.args.session.now c.args.seat.now c.args.context.now.number c.args.context.now.moment) (standing_worker c.perform_all.new.session c.perform_all.new.seat c.args.context.now.number c.args.context.now.moment) (standing_worker c.perform_all-2.new.session c.perform_all-2.new.seat c.args.context.now.number c.args.context.now.moment) (standing_worker c.perform_all-3.new.session c.perform_all-3.new.seat c.args.context.now.number c.args.context.now.moment) c.give.new.session c.args.event c.in_ok-first.first.items c.in_ok-second.second.items c.in_ok-third.third.items c.in_ok-rest.rest.items c.in_err-check_done.field-0.0
+    let some : c.in_ok-rest.rest.items ≡ [] → ⊥ = λ none.
+    let len : c.in_ok-rest.rest.len ≡ 0 = omega (arith, c.in_ok-rest.rest.ok, ap (λ (acts : List Action). length acts) none) in
+    false≢true (sym c.if-not-is_empty.true ∙ (c.is_empty.ensures ∙ ap (λ (n : ℕ). nat_eq n 0) len)) in
+    rest_stops (standing_worker c.args.session.now c.args.seat.now c.args.context.now.number c.args.context.now.moment) (standing_worker c.perform_all.new.session c.perform_all.new.seat c.args.context.now.number c.args.context.now.moment) (standing_worker c.perform_all-2.new.session c.perform_all-2.new.seat c.args.context.now.number c.args.context.now.moment) (standing_worker c.perform_all-3.new.session c.perform_all-3.new.seat c.args.context.now.number c.args.context.now.moment) c.give.new.session c.args.event c.in_ok-first.first.items c.in_ok-second.second.items c.in_ok-third.third.items c.in_ok-rest.rest.items errors.Strange
     (contents c.args.output.now) (contents c.perform_all.new.output) (contents c.perform_all-2.new.output) (contents c.perform_all-3.new.output)
     c.in_ok-first.ensures.stands c.in_ok-second.ensures.done c.in_ok-third.ensures.done c.in_ok-rest.ensures.done
-    (λ none. c.in_err-check_done.ensures.strange.0 (c.as_slice-2.ensures.value ∙ none)) c.in_err-check_done.ensures.strange.1)
+    some refl
