@@ -1,10 +1,10 @@
 #!/usr/bin/env python3
-"""Tests that what README.md and docs/*.md name as contracts is there.
+"""Tests that each contract that README.md and docs/*.md name exists.
 
-Looks at each code span of a cell that names a contract, and at each span of the text with `crate::`: `CRATE::NAME` or
-`CRATE::TYPE::NAME`, with the labels of its clauses after commas. A later span of the cell may leave out the crate and the
-type. A span that names no function may name a type, a trait, a module or a definition. Prints each span that names nothing,
-with its line, and then has status 1.
+Looks at each code span in the columns `Contract` and `Where` of a table, and at each span elsewhere that begins with a crate:
+`CRATE::NAME` or `CRATE::TYPE::NAME`, with the labels of its clauses after commas. In a cell, a later span may leave out the crate and
+the type, or be the label of a clause alone; one that names no function may name a type, a trait, a module or a definition. Prints each
+span that names nothing, with its line, and then has status 1.
 """
 
 import pathlib
@@ -16,70 +16,100 @@ FUNCTION = re.compile(r"^ *(?:pub(?:\([a-z]+\))? )?(?:const )?(?:unsafe )?fn ([a
 OWNER = re.compile(r"^(?:pub(?:\([a-z]+\))? )?(?:impl|trait)\b(?:<.*?>(?= ))?(.*)")
 TYPE = re.compile(r"^(?:pub(?:\([a-z]+\))? )?(?:struct|enum|trait) (\w+)")
 CLAUSE = re.compile(r"^ *ensures\*? ([a-z_0-9]+) \{")
-DEFINED = re.compile(r"^ *(?:\w+ )?pub (?:(?:abbrev|record|data) )?(\w+) ", re.M)
-CELLS = ("Contract", "Where")
+DEFINED = re.compile(r"^(?:\w+ )?pub (?:(?:abbrev|record|data) )?(\w+) ", re.M)
+FIELD = re.compile(r"^ +pub (\w+) :", re.M)
+COLUMNS = ("Contract", "Where")
 SPAN = re.compile(r"`([^`]+)`")
-NAMED = re.compile(r"[A-Za-z_0-9]+(?:::[A-Za-z_0-9]+)*(?:, [a-z_0-9]+)*")
+NAMED = re.compile(r"\w+(?:::\w+)*(?:, [a-z_0-9]+)*")
 
 
-class Sources:
-    """The functions of the crates with their clauses, their types, and the definitions."""
+class Crate:
+    """What a crate has that a document can name."""
 
-    def __init__(self, top):
-        self.crates = {it.name for it in (top / "crates").iterdir()}
-        self.clauses, self.calls, self.known = {}, set(), {*self.crates}
-        for path in sorted(top.glob("crates/*/src/**/*.rt")):
-            crate, _src, *modules = path.relative_to(top / "crates").with_suffix("").parts
-            self.known.update({path.stem, "::".join(modules)})
-            self.read(crate, path.read_text(encoding="utf-8"))
-        for path in top.glob("crates/*/specs/**/*.antt"):
-            self.known.update(DEFINED.findall(path.read_text(encoding="utf-8")))
+    def __init__(self, folder):
+        # The labels of each function's clauses, by the function's name, after its type if it has one. Functions of one name in
+        # several modules have one entry.
+        self.clauses = {}
+        # Its types, traits and modules, and its definitions; and the fields of these.
+        self.names, self.modules, self.fields = set(), set(), set()
+        for path in sorted(folder.glob("src/**/*.rt")):
+            module = path.relative_to(folder / "src").with_suffix("").parts
+            self.modules.add("::".join(module))
+            self.names.add(module[-1])
+            self.read(path.read_text(encoding="utf-8"))
+        for path in folder.glob("specs/**/*.antt"):
+            text = path.read_text(encoding="utf-8")
+            self.names.update(DEFINED.findall(text))
+            self.fields.update(FIELD.findall(text))
 
-    def read(self, crate, text):
-        owner, call = "", None
+    def read(self, text):
+        owner, labels = "", None
         for line in text.split("\n"):
             if found := OWNER.match(line):
                 *traits, of = (re.sub(r"\W.*", "", it.strip()) for it in found[1].split(" for "))
-                self.known.update(traits)
+                self.names.update(traits)
                 owner = of + "::"
             elif line.startswith("}"):
                 owner = ""
             if found := TYPE.match(line):
-                self.known.add(found[1])
+                self.names.add(found[1])
             if found := FUNCTION.match(line):
-                call = self.clauses.setdefault(f"{crate}::{owner}{found[1]}", set())
-                self.calls.add(f"{crate}::{found[1]}")
-            if (found := CLAUSE.match(line)) and call is not None:
-                call.add(found[1])
+                labels = self.clauses.setdefault(owner + found[1], set())
+            if (found := CLAUSE.match(line)) and labels is not None:
+                labels.add(found[1])
+
+    def function(self, path):
+        """Returns the name of the function that the path ends in: one of a type, or a free one of a module."""
+        *above, name = path
+        if above and f"{above[-1]}::{name}" in self.clauses:
+            return f"{above[-1]}::{name}"
+        is_free = not above or any(it == "::".join(above) or it.endswith("::" + "::".join(above)) for it in self.modules)
+        return name if is_free and name in self.clauses else None
+
+    def has_part(self, name):
+        """Returns whether a type has a function of this name, or a definition has a field of it."""
+        return name in self.fields or any(it.endswith("::" + name) for it in self.clauses)
 
 
 class Reader:
     """Reads the spans of a cell in turn: what a span leaves out is that of the span before it."""
 
-    def __init__(self, sources, crate):
-        self.sources, self.crate, self.owner, self.labels = sources, crate, "", set()
+    def __init__(self, crates, crate):
+        self.crates, self.crate, self.owner, self.labels = crates, crate, [], set()
 
     def missing(self, span):
         """Returns what the span names that isn't there."""
         name, *labels = span.split(", ")
-        parts = name.split("::")
-        if len(parts) > 1 and parts[0] in self.sources.crates:
-            self.crate, self.owner = parts.pop(0), ""
-        if len(parts) > 1:
-            self.owner = parts[-2] + "::"
+        path = name.split("::")
+        is_whole = len(path) > 1 and path[0] in self.crates
+        if is_whole:
+            self.crate, self.owner = path.pop(0), []
+        if len(path) > 1:
+            self.owner = path[:-1]
         if name in self.labels and not labels:
             return []
-        tried = ("::".join(parts[-2:]), self.owner + parts[-1], parts[-1])
-        found = next((it for it in tried if f"{self.crate}::{it}" in self.sources.clauses), None)
+        crate = self.crates.get(self.crate)
+        found = crate and (crate.function(path) or crate.function([*self.owner, *path]))
         if found:
-            self.labels = self.sources.clauses[f"{self.crate}::{found}"]
-            return [it for it in labels if it not in self.labels]
-        is_known = "::".join(parts) in self.sources.known or f"{self.crate}::{'::'.join(parts)}" in self.sources.calls
-        return [] if is_known and not labels else [name]
+            self.labels |= crate.clauses[found]
+            return [it for it in labels if it not in crate.clauses[found]]
+        if not labels and self.is_named(crate, path, is_whole):
+            return []
+        return [name]
+
+    def is_named(self, crate, path, is_whole):
+        """Returns whether the path names something other than a function. A span without a crate may name that of another."""
+        if "::".join(path) in self.crates:
+            return True
+        if is_whole:
+            return path[-1] in crate.names if len(path) == 1 else "::".join(path) in crate.modules
+        if len(path) > 1:
+            return crate is not None and "::".join(path) in crate.modules
+        return any(path[0] in it.names for it in self.crates.values()) or crate is not None and crate.has_part(path[0])
 
 
 def cells(lines):
-    """Yields the number of each line of interest, whether it is a cell that names contracts, and its text."""
+    """Yields each part of the text with the number of its line, and whether it is a cell that names contracts."""
     column = None
     for number, line in enumerate(lines, 1):
         if not line.startswith("|"):
@@ -87,29 +117,34 @@ def cells(lines):
             yield number, False, line
             continue
         texts = [it.strip() for it in line.strip().strip("|").split("|")]
-        named = [it for it in CELLS if it in texts]
-        if named:
-            column = texts.index(named[0])
-        elif column is not None and column < len(texts):
-            yield number, True, texts[column]
+        for place, text in enumerate(texts):
+            yield number, place == column, text
+        named = [it for it in COLUMNS if it in texts]
+        column = texts.index(named[0]) if named else column
 
 
-def complaints(sources, path):
-    crate = ""
+def complaints(crates, path):
+    section = ""
     for number, is_cell, text in cells(path.read_text(encoding="utf-8").split("\n")):
-        if heading := re.match(r"#.*\(`(\w+)`", text):
-            crate = heading[1]
-        reader = Reader(sources, crate)
+        if text.startswith("#"):
+            heading = re.search(r"\(`(\w+)`", text)
+            section = heading[1] if heading else ""
+        reader = Reader(crates, section)
         for span in SPAN.findall(text):
-            is_call = "::" in span and span.split("::")[0] in sources.crates
-            if NAMED.fullmatch(span) and (is_cell or is_call):
-                if lost := reader.missing(span):
-                    yield f"{path.name}:{number}: `{span}`: there is no {', '.join(lost)}"
+            if not is_cell and not ("::" in span and span.split("::")[0] in crates):
+                continue
+            if NAMED.fullmatch(span):
+                lost = reader.missing(span)
+            else:
+                # A cell has no other spans but signs, and the text has expressions too.
+                lost = [span] if is_cell and re.search(r"\w", span) else []
+            if lost:
+                yield f"{path.relative_to(TOP)}:{number}: `{span}`: there is no {', '.join(lost)}"
 
 
 def main():
-    sources = Sources(TOP)
-    said = [it for path in (TOP / "README.md", *sorted(TOP.glob("docs/*.md"))) for it in complaints(sources, path)]
+    crates = {it.name: Crate(it) for it in sorted((TOP / "crates").iterdir()) if it.is_dir()}
+    said = [it for path in (TOP / "README.md", *sorted(TOP.glob("docs/*.md"))) for it in complaints(crates, path)]
     for it in said:
         print(it)
     return 1 if said else 0

@@ -113,14 +113,31 @@ abbrev pub AllPerformed : StandingWorker → List Action → List Action → Sta
 AllPerformed w acts given e old new =
     (answers : List (Event × List Action)) × (out : List ℕ) × Performs w acts answers out e × (given ≡ asked answers) × Appends old new out
 
-pub one_more_performed : (w mid : StandingWorker) (e : StandingState) (seat : SeatState) (before given more : List Action) (act : Action) (answer : Option Event) (a b d : Option (List ℕ))
-    → AllPerformed w before given mid a b → HasPerformed mid act answer seat b d
-    → ((steps : List (Event × List Action)) × IsTold mid.session mid.now answer steps e × (more ≡ given ++ asked steps))
-    → AllPerformed w (before ++ (act ∷ [])) more (stays mid e seat) a d
-one_more_performed w mid e seat before given more act answer a b d (answers, out, performed, kept, appended) (bytes, done, then) (steps, told, is) = (
+-- one action is performed, its answer, if it has one, is received, what that asks for is kept, and the bytes are written
+abbrev pub IsOnePerformed : StandingWorker → Action → List Action → List Action → StandingWorker → Option (List ℕ) → Option (List ℕ) → Type 0
+IsOnePerformed w act given more e old new =
+    (answers : List (Event × List Action)) × (out : List ℕ) × Performs w (act ∷ []) answers out e × (more ≡ given ++ asked answers) × Appends old new out
+
+-- it has no answer
+pub silently_performed : (w : StandingWorker) (seat : SeatState) (act : Action) (given : List Action) (old new : Option (List ℕ))
+    → HasPerformed w act None seat old new → IsOnePerformed w act given given (stays w w.session seat) old new
+silently_performed w seat act given old new (out, done, appended) =
+    ([], out, one_performed w w.session seat act None [] out done (refl, refl), sym (append-nil given), appended)
+
+-- its answer is received
+pub performed_and_told : (w : StandingWorker) (e : StandingState) (seat : SeatState) (act : Action) (answer : Event) (given more : List Action) (old new : Option (List ℕ))
+    → HasPerformed w act (Some answer) seat old new
+    → ((steps : List (Event × List Action)) × IsTold w.session w.now (Some answer) steps e × (more ≡ given ++ asked steps))
+    → IsOnePerformed w act given more (stays w e seat) old new
+performed_and_told w e seat act answer given more old new (out, done, appended) (steps, told, kept) =
+    (steps, out, one_performed w e seat act (Some answer) steps out done told, kept, appended)
+
+pub one_more_performed : (w mid e : StandingWorker) (before given more : List Action) (act : Action) (a b d : Option (List ℕ))
+    → AllPerformed w before given mid a b → IsOnePerformed mid act given more e b d → AllPerformed w (before ++ (act ∷ [])) more e a d
+one_more_performed w mid e before given more act a b d (answers, out, performed, kept, appended) (steps, bytes, one, is, then) = (
   answers ++ steps,
   out ++ bytes,
-  performs_on w mid (stays mid e seat) before (act ∷ []) answers steps out bytes performed (one_performed mid e seat act answer steps bytes done told),
+  performs_on w mid e before (act ∷ []) answers steps out bytes performed one,
   is ∙ (ap (λ (x : List Action). x ++ asked steps) kept ∙ sym (flat_map-append (λ (step : Event × List Action). step.1) answers steps)),
   Appends-trans a b d out bytes appended then,
 )

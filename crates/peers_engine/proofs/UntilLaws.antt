@@ -71,6 +71,21 @@ pub perform_fails : (w mid : StandingWorker) (seat : SeatState) (all before rest
 perform_fails w mid seat all before rest given act error a b d is (answers, out, performed, kept, appended) (last, fails, more) =
     (answers, out ++ last, (before, act ∷ rest, out, last, mid, is, performed, inl (inl fails), refl, refl), Appends-trans a b d out last appended more)
 
+-- an error comes at the first of these actions, or memory ran out for the last answer
+abbrev IsStopped : StandingWorker → List Action → List (Event × List Action) → EngineError → List ℕ → SeatState → Type 0
+IsStopped w rest answers error out seat = IsStandingCut w rest error out seat ⊎ (IsLost answers error out × (seat ≡ w.seat))
+
+stopped_before : (w : StandingWorker) (seat : SeatState) (rest more : List Action) (answers : List (Event × List Action)) (error : EngineError) (out : List ℕ)
+    → IsStopped w rest answers error out seat → IsStopped w (rest ++ more) answers error out seat
+stopped_before w seat [] more answers error out (inl cut) = absurd cut
+stopped_before w seat (act ∷ rest) more answers error out (inl cut) = inl cut
+stopped_before w seat rest more answers error out (inr lost) = inr lost
+
+stopped_after : (w : StandingWorker) (seat : SeatState) (rest : List Action) (first answers : List (Event × List Action)) (error : EngineError) (out : List ℕ)
+    → IsStopped w rest answers error out seat → IsStopped w rest (first ++ answers) error out seat
+stopped_after w seat rest first answers error out (inl cut) = inl cut
+stopped_after w seat rest first answers error out (inr ((some, memory, nothing), same)) = inr ((after_nothing first answers some, memory, nothing), same)
+
 -- why the session doesn't go on after an answer
 abbrev pub IsNotTold : StandingState → ℕ → Option Event → StandingState → EngineError → Type 0
 IsNotTold s now answer e error =
@@ -101,22 +116,49 @@ tell_fails w mid e seat all before rest given act answer error a b d is (answers
       Appends-trans a b d out bytes appended more,
     )
 
+nothing_performed : (w : StandingWorker) (old : Option (List ℕ)) → AllPerformed w [] [] w old old
+nothing_performed w old = ([], [], (refl, refl, refl), refl, Appends-nil old)
+
+-- an action alone fails
+pub fails_at_once : (w : StandingWorker) (seat : SeatState) (act : Action) (error : EngineError) (old new : Option (List ℕ))
+    → HasFailed w act seat old new error → AllUntil w (act ∷ []) w.session.session seat old new error
+fails_at_once w seat act error old new fails =
+    perform_fails w w seat (act ∷ []) [] [] [] act error old old new refl (nothing_performed w old) fails
+
+-- the session doesn't go on after the answer to an action alone
+pub is_untold : (w : StandingWorker) (e : StandingState) (seat : SeatState) (act : Action) (answer : Event) (error : EngineError) (old new : Option (List ℕ))
+    → HasPerformed w act (Some answer) seat old new → (state_of w.session.session.phase ≢ states.Ended) × DoesNotStay w.session w.now answer error e
+    → AllUntil w (act ∷ []) e.session seat old new error
+is_untold w e seat act answer error old new done (going, stuck) =
+    tell_fails w w e seat (act ∷ []) [] [] [] act (Some answer) error old old new refl (nothing_performed w old) done (answer, refl, going, stuck)
+
+-- the same after others
+until_on : (s mid : StandingWorker) (e : SessionState) (seat : SeatState) (before rest : List Action) (act : Action) (error : EngineError) (answers more : List (Event × List Action)) (out last : List ℕ)
+    → Performs s before answers out mid → PerformsUntil mid (act ∷ []) error more last e seat → PerformsUntil s (before ++ (act ∷ rest)) error (answers ++ more) (out ++ last) e seat
+until_on s mid e seat before rest act error answers more out last performed (done, left, first, cut, then, is, also, why, written, over) = (
+  before ++ done,
+  left ++ rest,
+  out ++ first,
+  cut,
+  then,
+  ap (λ (x : List Action). before ++ (x ++ rest)) is ∙ (ap (λ (x : List Action). before ++ x) (append_assoc done left rest) ∙ sym (append_assoc before done (left ++ rest))),
+  performs_on s mid then before done answers more out first performed also,
+  stopped_after then seat (left ++ rest) answers more error cut (stopped_before then seat left rest more error cut why),
+  ap (λ (x : List ℕ). out ++ x) written ∙ sym (append_assoc out first cut),
+  over,
+)
+
+pub one_until : (s mid : StandingWorker) (e : SessionState) (seat : SeatState) (all before rest given : List Action) (act : Action) (error : EngineError) (a b d : Option (List ℕ))
+    → all ≡ before ++ (act ∷ rest) → AllPerformed s before given mid a b → AllUntil mid (act ∷ []) e seat b d error → AllUntil s all e seat a d error
+one_until s mid e seat all before rest given act error a b d is (answers, out, performed, kept, appended) (more, last, until, then) = (
+  answers ++ more,
+  out ++ last,
+  subst (λ (x : List Action). PerformsUntil s x error (answers ++ more) (out ++ last) e seat) (sym is)
+      (until_on s mid e seat before rest act error answers more out last performed until),
+  Appends-trans a b d out last appended then,
+)
+
 -- ---- one event
-
--- an error comes at the first of these actions, or memory ran out for the last answer
-abbrev IsStopped : StandingWorker → List Action → List (Event × List Action) → EngineError → List ℕ → SeatState → Type 0
-IsStopped w rest answers error out seat = IsStandingCut w rest error out seat ⊎ (IsLost answers error out × (seat ≡ w.seat))
-
-stopped_before : (w : StandingWorker) (seat : SeatState) (rest more : List Action) (answers : List (Event × List Action)) (error : EngineError) (out : List ℕ)
-    → IsStopped w rest answers error out seat → IsStopped w (rest ++ more) answers error out seat
-stopped_before w seat [] more answers error out (inl cut) = absurd cut
-stopped_before w seat (act ∷ rest) more answers error out (inl cut) = inl cut
-stopped_before w seat rest more answers error out (inr lost) = inr lost
-
-stopped_after : (w : StandingWorker) (seat : SeatState) (rest : List Action) (first answers : List (Event × List Action)) (error : EngineError) (out : List ℕ)
-    → IsStopped w rest answers error out seat → IsStopped w rest (first ++ answers) error out seat
-stopped_after w seat rest first answers error out (inl cut) = inl cut
-stopped_after w seat rest first answers error out (inr ((some, memory, nothing), same)) = inr ((after_nothing first answers some, memory, nothing), same)
 
 -- the actions, and what their answers asked for, are performed up to an error
 abbrev UntilAll : StandingWorker → List Action → EngineError → List (Event × List Action) → List ℕ → SessionState → SeatState → Type 0

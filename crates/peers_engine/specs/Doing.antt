@@ -40,12 +40,12 @@ Done n now k s (actions.Teach batch) out answer t =
 Done n now k s (actions.Part kind) out answer t = (out ≡ error_text kind) × (answer ≡ None) × (t ≡ s)
 Done n now k s actions.Close out answer t = (out ≡ []) × (answer ≡ None) × (t ≡ s)
 
--- an action whose answer the session awaits
-abbrev pub IsAnswered : Action → Type 0
-IsAnswered (actions.Ack table number) = Unit {0}
-IsAnswered (actions.Copy table kind) = Unit {0}
-IsAnswered (actions.Teach batch) = Unit {0}
-IsAnswered act = ⊥
+-- an action that has an answer
+abbrev pub HasAnswer : Action → Type 0
+HasAnswer (actions.Ack table number) = Unit {0}
+HasAnswer (actions.Copy table kind) = Unit {0}
+HasAnswer (actions.Teach batch) = Unit {0}
+HasAnswer act = ⊥
 
 -- the error if a table refuses an action, or if memory runs out
 abbrev pub IsRefusal : EngineError → Type 0

@@ -13,7 +13,7 @@ ghost use Rattle.peers_engine.specs.Acting.{Acts, Stops, asked, worker};
 ghost use Rattle.peers_engine.specs.Calls.{IsCopied, IsSettled};
 ghost use Rattle.teach_writer.specs.Lessons.{IsShortestLesson};
 ghost use Rattle.teach_writer.specs.Pieces.{bytes_left};
-ghost use Rattle.peers_engine.specs.Doing.{Fails, Falls, IsAnswered, IsRefusal, error_text};
+ghost use Rattle.peers_engine.specs.Doing.{Fails, Falls, HasAnswer, IsRefusal, error_text};
 
 use crate::answering::give_answer;
 use crate::context::Context;
@@ -120,11 +120,10 @@ pub(crate) fn teach_batch<H: Wait, G: Gate, W: Write + Faults>(
     Ok(Event::Written(after))
 }
 
-/// Performs an action whose answer the session awaits, gives the session the answer, and appends what the session then
-/// asks for. Fails as `do_action` does.
-//
-// An answer may hold a known state, of 4 KiB, so no other action's call has room for one.
-fn do_answered<H: Wait, G: Gate, W: Write + Faults>(
+/// Performs an action that has an answer, gives the session the answer, and appends what the session then asks for. Fails as
+/// `do_action` does.
+// An answer may hold a known state of 4 KiB. Here, so that calls for the other actions don't make room for one.
+fn do_with_answer<H: Wait, G: Gate, W: Write + Faults>(
     context: &Context<H, G>,
     session: &mut Session,
     output: &mut W,
@@ -132,7 +131,7 @@ fn do_answered<H: Wait, G: Gate, W: Write + Faults>(
     action: Action,
     given: &mut Vec<Action>,
 ) -> Result<(), EngineError>
-    requires answered { IsAnswered action }
+    requires has_answer { HasAnswer action }
     ensures seat { seat.new.number ≡ seat.old.number }
     ensures done { OnOk result ((answers : List (Event × List Action)) × (out : List ℕ)
         × Acts (worker session.old seat.old context.now.number context.now.moment) (action ∷ []) answers out (worker session.new seat.new context.now.number context.now.moment)
@@ -194,7 +193,7 @@ pub(crate) fn do_action<H: Wait, G: Gate, W: Write + Faults>(
         Action::Part(kind) => part(output, kind),
         Action::Close => Ok(()),
         Action::Ack { .. } | Action::Copy { .. } | Action::Teach(_) => {
-            do_answered(context, session, output, seat, action, given)
+            do_with_answer(context, session, output, seat, action, given)
         }
     }
 }

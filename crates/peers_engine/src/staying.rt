@@ -26,7 +26,7 @@ use crate::context::Context;
 use crate::doing::send;
 use crate::errors::EngineError;
 use crate::gate::AlwaysOpen;
-use crate::staying::performing::{RESYNC_REQUEST, is_over};
+use crate::staying::performing::{RESYNC_REQUEST_BYTES, is_over};
 use crate::staying::turning::{end, take_tick, take_turn};
 use peers_devices::Faults;
 use session_core::{Standing, State};
@@ -224,7 +224,7 @@ impl StandingWorker {
         if !matches!(self.session.state(), State::Ready | State::Teaching) {
             return Ok(false);
         }
-        match send(output, &RESYNC_REQUEST) {
+        match send(output, &RESYNC_REQUEST_BYTES) {
             Ok(()) => {
                 self.session.note_sent(now);
                 Ok(true)

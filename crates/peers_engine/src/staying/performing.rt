@@ -1,6 +1,6 @@
 //! Performing the actions of a session that stays.
 
-ghost use Rattle.std.specs.Prelude.{◌≡◌, ◌≢◌, ◌↔◌, ◌++◌, ℕ, true, List, None, Some, IfErr, IfOk, IsTrue, OnOk};
+ghost use Rattle.std.specs.Prelude.{◌≡◌, ◌≢◌, ◌↔◌, ◌∷◌, ◌++◌, [], ℕ, true, List, Some, IfErr, IfOk, OnOk};
 ghost use Rattle.std.specs.Io.KnownBytes.{Appends};
 ghost use Rattle.session_core.specs.declared.action.Action.{Action};
 ghost use Rattle.session_core.specs.declared.event.Event.{Event};
@@ -8,7 +8,7 @@ ghost use Rattle.session_core.specs.declared.state.State.TheVariants as states;
 ghost use Rattle.session_core.specs.Sessions.{state_of};
 ghost use Rattle.peers_engine.specs.declared.errors.EngineError.TheVariants as errors;
 ghost use Rattle.peers_engine.specs.Acting.{asked};
-ghost use Rattle.peers_engine.specs.Doing.{Falls, IsAnswered};
+ghost use Rattle.peers_engine.specs.Doing.{Falls, HasAnswer};
 ghost use Rattle.peers_engine.specs.Staying.{DoesNotStay, IsFailed, IsPerformed, IsTold, Performs, PerformsUntil, standing_kind, standing_worker, without_request};
 
 use crate::context::Context;
@@ -25,10 +25,10 @@ use table_shards::Seat;
 use table_types::{CopyKind, Moment};
 
 /// The bytes of a resync request.
-pub(crate) const RESYNC_REQUEST: [u8; 2] = [0, 0];
+pub(crate) const RESYNC_REQUEST_BYTES: [u8; 2] = [0, 0];
 
 /// The bytes of a heartbeat.
-const HEARTBEAT: [u8; 2] = [0, 4];
+const HEARTBEAT_BYTES: [u8; 2] = [0, 4];
 
 /// Returns the kind of a copy of a session that stays.
 fn standing_kind(kind: CopyKind) -> CopyKind
@@ -50,27 +50,17 @@ fn send_bytes<W: Write + Faults>(
     ensures failed { IfErr result (λ e. Falls (without_request bytes.now) e (W.contents output.old) (W.contents output.new)) }
     ensures unread { IfErr result (λ e. e ≢ errors.Read) }
 {
-    if bytes == RESYNC_REQUEST.as_slice() {
+    if bytes == RESYNC_REQUEST_BYTES.as_slice() {
         tally.count_heartbeat();
-        return send(output, &HEARTBEAT);
+        return send(output, &HEARTBEAT_BYTES);
     }
-    if bytes == HEARTBEAT.as_slice() {
+    if bytes == HEARTBEAT_BYTES.as_slice() {
         tally.count_heartbeat();
     }
     send(output, bytes)
 }
 
-/// Returns whether the session awaits an answer to the action.
-fn is_answered(action: &Action) -> bool
-    ensures { IsTrue result ↔ IsAnswered action.now }
-{
-    matches!(
-        action,
-        Action::Ack { .. } | Action::Copy { .. } | Action::Teach(_)
-    )
-}
-
-/// Performs an action of a session that stays, and returns the answer, which the session awaits.
+/// Performs an action of a session that stays that has an answer, and returns the answer.
 fn answer_of<H: Wait, G: Gate, W: Write + Faults>(
     context: &Context<H, G>,
     session: &Standing,
@@ -79,7 +69,7 @@ fn answer_of<H: Wait, G: Gate, W: Write + Faults>(
     tally: &mut Tally,
     action: Action,
 ) -> Result<Event, EngineError>
-    requires answered { IsAnswered action }
+    requires has_answer { HasAnswer action }
     ensures seat { seat.new.number ≡ seat.old.number }
     ensures done { IfOk result (λ answer. (out : List ℕ)
         × IsPerformed (standing_worker session.now seat.old context.now.number context.now.moment) action out (Some answer) seat.new
@@ -102,40 +92,6 @@ fn answer_of<H: Wait, G: Gate, W: Write + Faults>(
         }
         Action::Send(_) | Action::Learn(_) | Action::Reopen(_) | Action::Part(_) | Action::Close =>
             unreachable!(),
-    }
-}
-
-/// Performs an action of a session that stays to which the session awaits no answer.
-fn perform<H: Wait, G: Gate, W: Write + Faults>(
-    context: &Context<H, G>,
-    session: &Standing,
-    output: &mut W,
-    seat: &mut Seat,
-    tally: &mut Tally,
-    action: Action,
-) -> Result<(), EngineError>
-    requires silent { IsAnswered action → ⊥ }
-    ensures seat { seat.new.number ≡ seat.old.number }
-    ensures done { OnOk result ((out : List ℕ)
-        × IsPerformed (standing_worker session.now seat.old context.now.number context.now.moment) action out None seat.new
-        × Appends (W.contents output.old) (W.contents output.new) out) }
-    ensures failed { IfErr result (λ e. (out : List ℕ)
-        × IsFailed (standing_worker session.now seat.old context.now.number context.now.moment) action e out seat.new
-        × Appends (W.contents output.old) (W.contents output.new) out) }
-    ensures unread { IfErr result (λ e. e ≢ errors.Read) }
-{
-    match action {
-        Action::Send(bytes) => send_bytes(output, tally, bytes.as_slice()),
-        Action::Learn(update) => {
-            let (table, number) = (update.table, update.number);
-            learn_late(context, seat, update)?;
-            tally.count_learned(table, number);
-            Ok(())
-        }
-        Action::Reopen(table) => reopen(context, seat, table),
-        Action::Part(kind) => part(output, kind),
-        Action::Close => Ok(()),
-        Action::Ack { .. } | Action::Copy { .. } | Action::Teach(_) => unreachable!(),
     }
 }
 
@@ -168,6 +124,71 @@ fn tell(
     }
 }
 
+/// Performs an action of a session that stays that has an answer, gives the session the answer, and appends what the session
+/// then asks for.
+// An answer may hold a known state of 4 KiB. Here, so that calls for the other actions don't make room for one.
+fn perform_with_answer<H: Wait, G: Gate, W: Write + Faults>(
+    context: &Context<H, G>,
+    session: &mut Standing,
+    output: &mut W,
+    seat: &mut Seat,
+    tally: &mut Tally,
+    action: Action,
+    given: &mut Vec<Action>,
+) -> Result<(), EngineError>
+    requires has_answer { HasAnswer action }
+    ensures seat { seat.new.number ≡ seat.old.number }
+    ensures done { OnOk result ((answers : List (Event × List Action)) × (out : List ℕ)
+        × Performs (standing_worker session.old seat.old context.now.number context.now.moment) (action ∷ []) answers out (standing_worker session.new seat.new context.now.number context.now.moment)
+        × (given.new.items ≡ given.old.items ++ asked answers)
+        × Appends (W.contents output.old) (W.contents output.new) out) }
+    ensures failed { IfErr result (λ e. (answers : List (Event × List Action)) × (out : List ℕ)
+        × PerformsUntil (standing_worker session.old seat.old context.now.number context.now.moment) (action ∷ []) e answers out session.new.session seat.new
+        × Appends (W.contents output.old) (W.contents output.new) out) }
+    ensures unread { IfErr result (λ e. e ≢ errors.Read) }
+{
+    let answer = answer_of(context, session, output, seat, tally, action)?;
+    tell(session, context.moment, answer, given)
+}
+
+/// Performs one action of a session that stays, gives the session its answer, if it has one, and appends what the session then
+/// asks for.
+fn perform<H: Wait, G: Gate, W: Write + Faults>(
+    context: &Context<H, G>,
+    session: &mut Standing,
+    output: &mut W,
+    seat: &mut Seat,
+    tally: &mut Tally,
+    action: Action,
+    given: &mut Vec<Action>,
+) -> Result<(), EngineError>
+    ensures seat { seat.new.number ≡ seat.old.number }
+    ensures done { OnOk result ((answers : List (Event × List Action)) × (out : List ℕ)
+        × Performs (standing_worker session.old seat.old context.now.number context.now.moment) (action ∷ []) answers out (standing_worker session.new seat.new context.now.number context.now.moment)
+        × (given.new.items ≡ given.old.items ++ asked answers)
+        × Appends (W.contents output.old) (W.contents output.new) out) }
+    ensures failed { IfErr result (λ e. (answers : List (Event × List Action)) × (out : List ℕ)
+        × PerformsUntil (standing_worker session.old seat.old context.now.number context.now.moment) (action ∷ []) e answers out session.new.session seat.new
+        × Appends (W.contents output.old) (W.contents output.new) out) }
+    ensures unread { IfErr result (λ e. e ≢ errors.Read) }
+{
+    match action {
+        Action::Send(bytes) => send_bytes(output, tally, bytes.as_slice()),
+        Action::Learn(update) => {
+            let (table, number) = (update.table, update.number);
+            learn_late(context, seat, update)?;
+            tally.count_learned(table, number);
+            Ok(())
+        }
+        Action::Reopen(table) => reopen(context, seat, table),
+        Action::Part(kind) => part(output, kind),
+        Action::Close => Ok(()),
+        Action::Ack { .. } | Action::Copy { .. } | Action::Teach(_) => {
+            perform_with_answer(context, session, output, seat, tally, action, given)
+        }
+    }
+}
+
 /// Performs the actions in order, gives the session each answer, and returns what it then asks for.
 pub(crate) fn perform_all<H: Wait, G: Gate, W: Write + Faults>(
     context: &Context<H, G>,
@@ -189,12 +210,7 @@ pub(crate) fn perform_all<H: Wait, G: Gate, W: Write + Faults>(
 {
     let mut given = Vec::new(context.alloc);
     for action in actions {
-        if is_answered(&action) {
-            let answer = answer_of(context, session, output, seat, tally, action)?;
-            tell(session, context.moment, answer, &mut given)?;
-        } else {
-            perform(context, session, output, seat, tally, action)?;
-        }
+        perform(context, session, output, seat, tally, action, &mut given)?;
     }
     Ok(given)
 }

@@ -3,46 +3,51 @@ use Rattle.std.proofs.lemmas.Result.{IfErr-weaker, err_from_is_err_and, on_ok_we
 use Rattle.session_core.specs.declared.action.Action.TheVariants as actions
 use Rattle.peers_engine.specs.Staying.{standing_worker}
 use Rattle.peers_engine.proofs.AnswerLaws.{close_done, part_done, part_falls, reopen_done}
-use Rattle.peers_engine.proofs.StayLaws.{bytes_sent, performed_as, row_learned}
-use Rattle.peers_engine.proofs.UntilLaws.{bytes_fall, call_fails, failed_now, table_fails}
+use Rattle.peers_engine.proofs.StayLaws.{bytes_sent, performed_as, row_learned, silently_performed}
+use Rattle.peers_engine.proofs.UntilLaws.{bytes_fall, call_fails, failed_now, fails_at_once, table_fails}
 use Rattle.peers_engine.proofs.staying.performing.perform.Goals as goal
 
 pub returns-in-Send-clause-done : goal.returns-in-Send-clause-done
 returns-in-Send-clause-done g c =
     on_ok_weaker c.send_bytes.result
-    (λ sent. bytes_sent (standing_worker c.args.session.now c.args.seat.now c.args.context.now.number c.args.context.now.moment) c.args.action c.in-Send.bytes c.as_slice.result.now (g.W.Write.contents c.args.output.now) (g.W.Write.contents c.send_bytes.new.output) c.in-Send.is c.as_slice.ensures sent)
+    (λ sent. silently_performed (standing_worker c.args.session.now c.args.seat.now c.args.context.now.number c.args.context.now.moment) c.args.seat.now c.args.action c.args.given.now.items (g.W.Write.contents c.args.output.now) (g.W.Write.contents c.send_bytes.new.output)
+    (bytes_sent (standing_worker c.args.session.now c.args.seat.now c.args.context.now.number c.args.context.now.moment) c.args.action c.in-Send.bytes c.as_slice.result.now (g.W.Write.contents c.args.output.now) (g.W.Write.contents c.send_bytes.new.output) c.in-Send.is c.as_slice.ensures sent))
     c.send_bytes.ensures.sent
 
 pub returns-in-Send-clause-failed : goal.returns-in-Send-clause-failed
 returns-in-Send-clause-failed g c =
     IfErr-weaker c.send_bytes.result _ _
-    (λ error falls. bytes_fall (standing_worker c.args.session.now c.args.seat.now c.args.context.now.number c.args.context.now.moment) c.args.action c.in-Send.bytes c.as_slice.result.now error (g.W.Write.contents c.args.output.now) (g.W.Write.contents c.send_bytes.new.output) c.in-Send.is c.as_slice.ensures falls)
+    (λ error falls. fails_at_once (standing_worker c.args.session.now c.args.seat.now c.args.context.now.number c.args.context.now.moment) c.args.seat.now c.args.action error (g.W.Write.contents c.args.output.now) (g.W.Write.contents c.send_bytes.new.output)
+    (bytes_fall (standing_worker c.args.session.now c.args.seat.now c.args.context.now.number c.args.context.now.moment) c.args.action c.in-Send.bytes c.as_slice.result.now error (g.W.Write.contents c.args.output.now) (g.W.Write.contents c.send_bytes.new.output) c.in-Send.is c.as_slice.ensures falls))
     c.send_bytes.ensures.failed
 
 pub returns-in_ok-learn_late-in-Learn-clause-done : goal.returns-in_ok-learn_late-in-Learn-clause-done
 returns-in_ok-learn_late-in-Learn-clause-done g c =
-    row_learned (standing_worker c.args.session.now c.args.seat.now c.args.context.now.number c.args.context.now.moment) c.learn_late.new.seat c.args.action c.in-Learn.update
-    (g.W.Write.contents c.args.output.now) c.in-Learn.is c.in_ok-learn_late-in-Learn.ensures.learned
+    silently_performed (standing_worker c.args.session.now c.args.seat.now c.args.context.now.number c.args.context.now.moment) c.learn_late.new.seat c.args.action c.args.given.now.items (g.W.Write.contents c.args.output.now) (g.W.Write.contents c.args.output.now)
+    (row_learned (standing_worker c.args.session.now c.args.seat.now c.args.context.now.number c.args.context.now.moment) c.learn_late.new.seat c.args.action c.in-Learn.update (g.W.Write.contents c.args.output.now) c.in-Learn.is c.in_ok-learn_late-in-Learn.ensures.learned)
 
 pub returns-in_err-learn_late-in-Learn-clause-failed : goal.returns-in_err-learn_late-in-Learn-clause-failed
 returns-in_err-learn_late-in-Learn-clause-failed g c =
     let p = err_from_is_err_and c.from_residual.result c.from_residual.ensures.1 in
     rw (p.1, p.2)
-    (table_fails (standing_worker c.args.session.now c.args.seat.now c.args.context.now.number c.args.context.now.moment) c.learn_late.new.seat c.args.action (actions.Learn c.in-Learn.update) c.in_err-learn_late-in-Learn.field-0.0
-    (g.W.Write.contents c.args.output.now) c.in-Learn.is tt c.in_err-learn_late-in-Learn.ensures.refused c.in_err-learn_late-in-Learn.ensures.stays)
+    (fails_at_once (standing_worker c.args.session.now c.args.seat.now c.args.context.now.number c.args.context.now.moment) c.learn_late.new.seat c.args.action c.in_err-learn_late-in-Learn.field-0.0 (g.W.Write.contents c.args.output.now) (g.W.Write.contents c.args.output.now)
+    (table_fails (standing_worker c.args.session.now c.args.seat.now c.args.context.now.number c.args.context.now.moment) c.learn_late.new.seat c.args.action (actions.Learn c.in-Learn.update) c.in_err-learn_late-in-Learn.field-0.0 (g.W.Write.contents c.args.output.now) c.in-Learn.is tt c.in_err-learn_late-in-Learn.ensures.refused c.in_err-learn_late-in-Learn.ensures.stays))
 
 pub returns-in-Reopen-clause-done : goal.returns-in-Reopen-clause-done
 returns-in-Reopen-clause-done g c =
     let act = actions.Reopen c.in-Reopen.table in
     let known = g.W.Write.contents c.args.output.now in
     on_ok_weaker c.reopen.result
-    (λ reopened. performed_as (standing_worker c.args.session.now c.args.seat.now c.args.context.now.number c.args.context.now.moment) c.reopen.new.seat c.args.action act None known known c.in-Reopen.is
-    (reopen_done c.args.context.now.number c.args.context.now.moment c.args.session.now.session.known c.args.seat.now c.reopen.new.seat act c.in-Reopen.table known refl reopened))
+    (λ reopened. silently_performed (standing_worker c.args.session.now c.args.seat.now c.args.context.now.number c.args.context.now.moment) c.reopen.new.seat c.args.action c.args.given.now.items known known
+    (performed_as (standing_worker c.args.session.now c.args.seat.now c.args.context.now.number c.args.context.now.moment) c.reopen.new.seat c.args.action act None known known c.in-Reopen.is
+    (reopen_done c.args.context.now.number c.args.context.now.moment c.args.session.now.session.known c.args.seat.now c.reopen.new.seat act c.in-Reopen.table known refl reopened)))
     c.reopen.ensures.reopened
 
 pub returns-in-Reopen-clause-failed : goal.returns-in-Reopen-clause-failed
 returns-in-Reopen-clause-failed g c =
-    call_fails (standing_worker c.args.session.now c.args.seat.now c.args.context.now.number c.args.context.now.moment) c.reopen.new.seat c.args.action (actions.Reopen c.in-Reopen.table) (g.W.Write.contents c.args.output.now) c.reopen.result c.in-Reopen.is tt c.reopen.ensures.refused c.reopen.ensures.left
+    IfErr-weaker c.reopen.result _ _
+    (λ error fails. fails_at_once (standing_worker c.args.session.now c.args.seat.now c.args.context.now.number c.args.context.now.moment) c.reopen.new.seat c.args.action error (g.W.Write.contents c.args.output.now) (g.W.Write.contents c.args.output.now) fails)
+    (call_fails (standing_worker c.args.session.now c.args.seat.now c.args.context.now.number c.args.context.now.moment) c.reopen.new.seat c.args.action (actions.Reopen c.in-Reopen.table) (g.W.Write.contents c.args.output.now) c.reopen.result c.in-Reopen.is tt c.reopen.ensures.refused c.reopen.ensures.left)
 
 pub returns-in-Part-clause-done : goal.returns-in-Part-clause-done
 returns-in-Part-clause-done g c =
@@ -50,19 +55,22 @@ returns-in-Part-clause-done g c =
     let old = g.W.Write.contents c.args.output.now in
     let new = g.W.Write.contents c.part.new.output in
     on_ok_weaker c.part.result
-    (λ written. performed_as (standing_worker c.args.session.now c.args.seat.now c.args.context.now.number c.args.context.now.moment) c.args.seat.now c.args.action act None old new c.in-Part.is
-    (part_done c.args.context.now.number c.args.context.now.moment c.args.session.now.session.known c.args.seat.now act c.in-Part.kind old new refl written))
+    (λ written. silently_performed (standing_worker c.args.session.now c.args.seat.now c.args.context.now.number c.args.context.now.moment) c.args.seat.now c.args.action c.args.given.now.items old new
+    (performed_as (standing_worker c.args.session.now c.args.seat.now c.args.context.now.number c.args.context.now.moment) c.args.seat.now c.args.action act None old new c.in-Part.is
+    (part_done c.args.context.now.number c.args.context.now.moment c.args.session.now.session.known c.args.seat.now act c.in-Part.kind old new refl written)))
     c.part.ensures.ok
 
 pub returns-in-Part-clause-failed : goal.returns-in-Part-clause-failed
 returns-in-Part-clause-failed g c =
     IfErr-weaker c.part.result _ _
-    (λ error falls. failed_now (standing_worker c.args.session.now c.args.seat.now c.args.context.now.number c.args.context.now.moment) c.args.seat.now c.args.action (actions.Part c.in-Part.kind) error (g.W.Write.contents c.args.output.now) (g.W.Write.contents c.part.new.output) c.in-Part.is
-    (part_falls c.args.context.now.number c.args.context.now.moment c.args.session.now.session.known c.args.seat.now (actions.Part c.in-Part.kind) c.in-Part.kind error (g.W.Write.contents c.args.output.now) (g.W.Write.contents c.part.new.output) refl falls))
+    (λ error falls. fails_at_once (standing_worker c.args.session.now c.args.seat.now c.args.context.now.number c.args.context.now.moment) c.args.seat.now c.args.action error (g.W.Write.contents c.args.output.now) (g.W.Write.contents c.part.new.output)
+    (failed_now (standing_worker c.args.session.now c.args.seat.now c.args.context.now.number c.args.context.now.moment) c.args.seat.now c.args.action (actions.Part c.in-Part.kind) error (g.W.Write.contents c.args.output.now) (g.W.Write.contents c.part.new.output) c.in-Part.is
+    (part_falls c.args.context.now.number c.args.context.now.moment c.args.session.now.session.known c.args.seat.now (actions.Part c.in-Part.kind) c.in-Part.kind error (g.W.Write.contents c.args.output.now) (g.W.Write.contents c.part.new.output) refl falls)))
     c.part.ensures.failed
 
 pub returns-in-Close-clause-done : goal.returns-in-Close-clause-done
 returns-in-Close-clause-done g c =
     let known = g.W.Write.contents c.args.output.now in
-    performed_as (standing_worker c.args.session.now c.args.seat.now c.args.context.now.number c.args.context.now.moment) c.args.seat.now c.args.action actions.Close None known known c.in-Close.is
-    (close_done c.args.context.now.number c.args.context.now.moment c.args.session.now.session.known c.args.seat.now actions.Close known refl)
+    silently_performed (standing_worker c.args.session.now c.args.seat.now c.args.context.now.number c.args.context.now.moment) c.args.seat.now c.args.action c.args.given.now.items known known
+    (performed_as (standing_worker c.args.session.now c.args.seat.now c.args.context.now.number c.args.context.now.moment) c.args.seat.now c.args.action actions.Close None known known c.in-Close.is
+    (close_done c.args.context.now.number c.args.context.now.moment c.args.session.now.session.known c.args.seat.now actions.Close known refl))

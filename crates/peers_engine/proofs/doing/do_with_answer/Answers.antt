@@ -3,7 +3,7 @@ use Rattle.session_core.specs.declared.action.Action.TheVariants as actions
 use Rattle.peers_engine.specs.Acting.{worker}
 use Rattle.peers_engine.proofs.AnswerLaws.{ack_done, call_refused, copy_done, teach_done, teach_fails}
 use Rattle.peers_engine.proofs.OneActionLaws.{answered, fails_alone, unanswered}
-use Rattle.peers_engine.proofs.doing.do_answered.Goals as goal
+use Rattle.peers_engine.proofs.doing.do_with_answer.Goals as goal
 
 pub returns-in_err-answer-in-Ack-clause-failed : goal.returns-in_err-answer-in-Ack-clause-failed
 returns-in_err-answer-in-Ack-clause-failed g c =
