@@ -266,7 +266,7 @@ impl<R: Rows> Stock<R> {
         ensures { IfOk result (λ stock. stock ≡ record { rows = numbered_from 1 self.now.rows; next = length self.now.rows + 1 }) }
     {
         let mut stock = Stock::new(self.alloc, rows, 1);
-        // Numbers are at least 1, so these are all rows.
+        // Numbers are at least 1, so these are all the rows.
         for (key, row) in self.above(0) {
             stock.store_copy(key, row)?;
         }

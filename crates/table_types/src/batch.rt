@@ -147,7 +147,7 @@ impl Batch {
         Ok(Batch::of_fitting(alloc, updates)?)
     }
 
-    /// Makes a batch of the updates, in this order, which are known to be one for some roster, so that none is tested.
+    /// Makes a batch of the updates, in this order. They must be a batch for some roster, and aren't tested.
     pub fn of_fitting(alloc: Global, updates: Vec<Update>) -> Result<Batch, Memory>
         requires { (roster : List Definition) × IsBatchFor roster updates.items }
         ensures { IfOk result (λ batch. batch ≡ updates.items) }
