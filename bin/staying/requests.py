@@ -1,6 +1,7 @@
 """The admin port of a node that stays: its requests, their answers, and its bounds."""
 
 import contextlib
+import http.client as http_client
 import re
 import threading
 import time
@@ -67,21 +68,169 @@ def refused_tracks(trial):
     equal(node.ask('track t1 8 add gpc0 1'), 'TableFull', 'a track of a key too many')
 
 
+# Lines that can't be read.
+UNREADABLE = ('', ' ', '\r', 'track', 'tracks t1 7 add gpc0 1', 'Track t1 7 add gpc0 1', 'track t1 7 add gpc0', 'track t1 7 add gpc0 1 2',
+              'track t1 7 add gpc0 -1', 'track t1 7 add gpc0 01', 'track t1 7 add nothing 1', 'track t1 7 grow gpc0 1',
+              'track t1 7 add gpc0 18446744073709551616', 'track r 7 rate gpc0_rate 4294967296', 'track t1  7 add gpc0 1',
+              'track t1 7 add gpc0 1 ', ' track t1 7 add gpc0 1', 'track\tt1 7 add gpc0 1', 'track t1 7 add gpc0 1\r', 'track t1 x add gpc0 1',
+              'track t1 4294967296 add gpc0 1', 'track t1 07 add gpc0 1', 'get t1', 'get t1 7 8', 'get', 'stop now', 'stop\r', 'stopp', 'STOP',
+              'clear table t1', 'track st =a name \x7f', 'get st =\xe9', 'get st =\x00')
+UNREADABLE_LISTS = ('show', 'show nothing', 'show peers more', 'show rows t1', 'show table t1 data.gpc0 gt 1')
+# Good lines, which a page in a browser may have sent to the node as the body of its request.
+GOOD = 'track t1 7 add gpc0 1\nstop\n'
+
+
+def answer_to(node, *pieces):
+    """Returns all that comes for some pieces of bytes until the node closes the connection."""
+    admin = node.admin()
+    for place, piece in enumerate(pieces):
+        if place:
+            time.sleep(0.1)
+        admin.send(piece)
+    came = admin.rest()
+    admin.close()
+    return came
+
+
+def is_untouched(node, what):
+    """Checks that a node runs, and that no row is there."""
+    equal((node.child.poll(), node.ask('show rows'), node.events()), (None, [], 0), 'the status, the rows and the events after ' + what)
+
+
 @check
 def unreadable(trial):
-    """a line that can't be read is refused, and the connection goes on"""
+    """a line that can't be read is refused, and its connection closed"""
     node = alone(trial)
-    for line in ('', ' ', 'track', 'tracks t1 7 add gpc0 1', 'Track t1 7 add gpc0 1', 'track t1 7 add gpc0', 'track t1 7 add gpc0 1 2',
-                 'track t1 7 add gpc0 -1', 'track t1 7 add gpc0 01', 'track t1 7 add nothing 1', 'track t1 7 grow gpc0 1', 'track t1 7 add gpc0 18446744073709551616',
-                 'track r 7 rate gpc0_rate 4294967296', 'track t1  7 add gpc0 1', 'track t1 7 add gpc0 1 ', ' track t1 7 add gpc0 1',
-                 'track\tt1 7 add gpc0 1', 'track t1 7 add gpc0 1\r', 'track t1 x add gpc0 1', 'track t1 4294967296 add gpc0 1',
-                 'track t1 07 add gpc0 1', 'get t1', 'get t1 7 8', 'get', 'stop now', 'stopp', 'STOP', 'clear table t1',
-                 'track st =a name \x7f', 'get st =\xe9', 'get st =\x00'):
-        equal(node.ask(line), 'refused', 'the answer to %r' % line)
-    for line in ('show', 'show nothing', 'show peers more', 'show rows t1', 'show table t1 data.gpc0 gt 1'):
-        equal(node.ask(line), ['refused'], 'the answer to %r' % line)
-    equal(node.ask('show table t9'), ['NoTable'], 'the answer for no table')
-    equal(node.ask('get t1 7'), 'none', 'the answer to a request behind them')
+    for line in UNREADABLE:
+        equal(answer_to(node, line + '\n'), b'refused\n', 'the answer to %r' % line)
+    for line in UNREADABLE_LISTS:
+        equal(answer_to(node, line + '\n'), b'refused\n.\n', 'the answer to %r' % line)
+    equal(answer_to(node, 'get t1 7\nshow table t9\nget t9 7\nnonsense\n'), b'none\nNoTable\n.\nNoTable\nrefused\n', 'the answers to lines before one')
+    is_untouched(node, 'all of them')
+
+
+@check
+def behind_unreadable(trial):
+    """nothing is obeyed behind a line that can't be read, neither what came with it nor what comes later"""
+    node = alone(trial)
+    for line, answer in [(line, b'refused\n') for line in UNREADABLE] + [(line, b'refused\n.\n') for line in UNREADABLE_LISTS]:
+        equal(answer_to(node, line + '\n' + GOOD), answer, 'the answer to %r with more behind it' % line)
+    for line in ('', 'nonsense', 'track t1 7 add gpc0', 'stop\r'):
+        equal(answer_to(node, line + '\n', GOOD), b'refused\n', 'the answer to %r with more later' % line)
+        equal(answer_to(node, 'get t1 7\n', line + '\n', GOOD, GOOD), b'none\nrefused\n', 'the answers to a request, %r and more later' % line)
+    equal(answer_to(node, 'nonsense\n' + GOOD * 100_000), b'refused\n', 'the answer to a line with much behind it')
+    equal(answer_to(node, 'x' * 40_000 + '\n' + GOOD), b'refused\n', 'the answer to a line that is too long')
+    is_untouched(node, 'all of them')
+
+
+def http(line, body, *heads):
+    """Returns an HTTP request with this first line and this body."""
+    return '\r\n'.join([line, 'Host: 127.0.0.1', 'Origin: http://example.org', *heads, '', body])
+
+
+def with_body(line):
+    """Returns HTTP requests with this first line, and with good lines as their body or in its place."""
+    chunked = '%x\r\n%s\r\n0\r\n\r\n' % (len(GOOD), GOOD)
+    return (http(line, GOOD, 'Content-Type: text/plain', 'Content-Length: %d' % len(GOOD)), http(line, '\n' + GOOD, 'Content-Length: 9'),
+            http(line, chunked, 'Transfer-Encoding: chunked'), http(line, GOOD, 'Expect: 100-continue'), line + '\n' + GOOD + '\n' + GOOD,
+            line + '\r\n\r\n' + GOOD, line + '\n\n' + GOOD)
+
+
+def is_page(came, status, what, allow=None):
+    """Checks that an answer is one of HTTP that closes its connection, and returns its body."""
+    head, _, body = came.decode().partition('\r\n\r\n')
+    first, *fields = head.split('\r\n')
+    found = {name.lower(): value for name, value in (field.split(': ', 1) for field in fields)}
+    matches(r'HTTP/1\.1 %d [A-Za-z ]+' % status, first, 'the status of ' + what)
+    equal((found.get('connection'), found.get('content-length'), found.get('allow')), ('close', str(len(body)), allow), 'the head of ' + what)
+    return body
+
+
+@check
+def other_methods(trial):
+    """an HTTP request with another method than GET is answered 405, and nothing behind its first line is obeyed"""
+    node = alone(trial)
+    methods = 'POST PUT DELETE PATCH OPTIONS HEAD TRACE get Get GET! stop track show 7 \xff'.split(' ')
+    for line in ['%s / HTTP/1.1' % method for method in methods] + [
+            'OPTIONS * HTTP/1.1', 'CONNECT 127.0.0.1:9100 HTTP/1.1', 'POST http://127.0.0.1:9100/ HTTP/1.1', 'POST /metrics HTTP/1.0', 'POST / HTTP/2',
+            'POST stop HTTP/', 'PRI * HTTP/2.0', 'show table HTTP/1.1', 'stop stop HTTP/stop', 'POST / HTTP/1.1\rstop']:
+        for data in with_body(line):
+            equal(is_page(answer_to(node, data), 405, repr(data), 'GET'), '', 'the body of the answer to %r' % data)
+    for line in ('POST / HTTP/1.1', 'OPTIONS * HTTP/1.1'):
+        equal(is_page(answer_to(node, line, '\r\n', 'Host: n\r\n', '\r\n', GOOD), 405, line, 'GET'), '', 'the body of the answer to %s in pieces' % line)
+        is_page(answer_to(node, line + '\n' + GOOD * 100_000), 405, line + ' with much behind it', 'GET')
+    is_untouched(node, 'all of them')
+
+
+@check
+def gets_with_bodies(trial):
+    """nothing behind the first line of a GET is obeyed, neither in its head nor in its body"""
+    node = alone(trial)
+    for line, status in (('GET /metrics HTTP/1.1', 200), ('GET / HTTP/1.1', 404), ('GET stop HTTP/1.0', 404), ('GET http://n/metrics HTTP/1.1', 404),
+                         ('GET \xff HTTP/1.1', 404), ('GET /metrics HTTP/2.0', 505), ('GET / HTTP/1.10', 505), ('GET /metrics HTTP/1.', 505),
+                         ('GET / HTTP/', 505), ('GET /metrics HTTP/x', 505), ('GET / HTTP/1.1\rstop', 505)):
+        for data in with_body(line):
+            body = is_page(answer_to(node, data), status, repr(data))
+            equal('\ndigbaro_uptime_seconds ' in body if status == 200 else body, status == 200 or '', 'the body of the answer to %r' % data)
+    data = 'GET /metrics HTTP/1.1\r\nHost: n\r\n' + GOOD
+    is_page(answer_to(node, data, GOOD, GOOD + '\r\n' + GOOD, GOOD), 200, 'a head that comes in pieces')
+    equal(answer_to(node, data + 'X: ' + 'x' * 40_000 + '\n' + GOOD), b'refused\n', 'the answer to a line of a head that is too long')
+    is_untouched(node, 'all of them')
+
+
+@check
+def no_requests_by_http(trial):
+    """a line that is nearly that of an HTTP request is refused, and so is one that isn't the first of its connection"""
+    node = alone(trial)
+    for line in ('GET /metrics', 'GET', 'POST /', 'GET  HTTP/1.1', ' / HTTP/1.1', 'GET / ', 'GET /  HTTP/1.1', 'GET /a b HTTP/1.1', 'POST /a b HTTP/1.1',
+                 'POST / HTTP/1.1 ', ' POST / HTTP/1.1', 'POST / http/1.1', 'GET /metrics XHTTP/1.1', 'GET\t/\tHTTP/1.1', '\r\nGET /metrics HTTP/1.1'):
+        for data in with_body(line):
+            equal(answer_to(node, data), b'refused\n', 'the answer to %r' % data)
+    for line in ('GET /metrics HTTP/1.1', 'POST / HTTP/1.1', 'OPTIONS * HTTP/1.1', 'GET / HTTP/2.0'):
+        for data in with_body(line):
+            equal(answer_to(node, 'get t1 7\n' + data), b'none\nrefused\n', 'the answers to a request and %r' % data)
+    equal(answer_to(node, 'get t1 7\nshow table HTTP/1.1\nnonsense\n'), b'none\nNoTable\n.\nrefused\n', 'the answers with a table HTTP/1.1')
+    is_untouched(node, 'all of them')
+
+
+@check
+def browsers(trial):
+    """a client of HTTP gets the answer to each of its requests, and changes nothing"""
+    node = alone(trial)
+    for method, path, body, status in (('POST', '/', '\n' + GOOD, 405), ('PUT', '/metrics', GOOD, 405), ('OPTIONS', '*', None, 405), ('HEAD', '/metrics', None, 405),
+                                       ('POST', '/', (GOOD * 20_000).encode(), 405), ('POST', '/', iter([GOOD.encode()] * 1000), 405),
+                                       ('GET', '/metrics', GOOD, 200), ('GET', '/', GOOD, 404)):
+        client = http_client.HTTPConnection(node.host, node.admin_port, timeout=5)
+        with contextlib.suppress(ConnectionError):
+            client.request(method, path, body)
+        answer = client.getresponse()
+        equal(answer.status, status, 'the status of %s %s' % (method, path))
+        require(b'digbaro_uptime_seconds ' in answer.read() or status != 200, 'the metrics are there')
+        client.close()
+    is_untouched(node, 'all of them')
+
+
+@check
+def lingering(trial):
+    """a client that neither closes its connection nor stops sending after the last answer keeps nobody else out"""
+    node = alone(trial)
+    others = [node.admin() for _ in range(31)]
+    for admin in others:
+        admin.send('nonsense\n')
+        equal(admin.rest(), b'refused\n', 'the answer on each of 32 connections')
+    ended = time.monotonic() + 2
+
+    def send():
+        with contextlib.suppress(OSError):
+            while time.monotonic() < ended:
+                others[0].send(GOOD)
+                time.sleep(0.01)
+    thread = threading.Thread(target=send, daemon=True)
+    thread.start()
+    time.sleep(1.6)
+    equal([node.admin().ask('get t1 7') for _ in range(31)], ['none'] * 31, 'the answers on 31 further connections')
+    thread.join()
+    is_untouched(node, 'all of them')
 
 
 @check
@@ -212,7 +361,7 @@ def peers_in_each_state(trial):
 
 @check
 def pipelined(trial):
-    """requests may be sent without waiting, and are answered in order"""
+    """requests may be sent without waiting, and are answered in order, up to a line that can't be read"""
     node = alone(trial, tables=(T1,))
     count = 5000
     node.admins.send(''.join('track t1 %d add gpc0 1\n' % (place % 100) for place in range(count)) + 'show table\nget t1 7\nnonsense\n')

@@ -1,4 +1,5 @@
 mod Chains
+mod HttpLines
 mod LineWords
 mod NoRequests
 mod OneRequest

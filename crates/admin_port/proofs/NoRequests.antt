@@ -56,22 +56,18 @@ no_words section tables (requests.ShowTable id) (table, same, is) = absurd (cc)
 no_words section tables requests.ShowRows same = absurd (cc)
 no_words section tables requests.ShowPeers same = absurd (cc)
 no_words section tables requests.Stop same = absurd (cc)
-no_words section tables requests.Metrics (path, version, same, page, is) = absurd (cc)
-no_words section tables requests.OtherPage (path, version, same, page, is) = absurd (cc)
 
 -- a first word that is none of the kinds
 pub no_kind : (section : Option (List ℕ)) (tables : List Definition) (kind : List ℕ) (words : List (List ℕ))
     → (kind ≡ codes "track" → ⊥) → (kind ≡ codes "get" → ⊥) → (kind ≡ codes "show" → ⊥) → (kind ≡ codes "stop" → ⊥)
-    → (kind ≡ codes "GET" → ⊥) → IsNoRequest section tables (kind ∷ words)
-no_kind section tables kind words track get show stop page (requests.Track id key change) (table, word, rest, same, row, is) = track (cc)
-no_kind section tables kind words track get show stop page (requests.Get id key) (table, word, same, row) = get (cc)
-no_kind section tables kind words track get show stop page requests.ShowTables same = show (cc)
-no_kind section tables kind words track get show stop page (requests.ShowTable id) (table, same, is) = show (cc)
-no_kind section tables kind words track get show stop page requests.ShowRows same = show (cc)
-no_kind section tables kind words track get show stop page requests.ShowPeers same = show (cc)
-no_kind section tables kind words track get show stop page requests.Stop same = stop (cc)
-no_kind section tables kind words track get show stop page requests.Metrics (path, version, same, is, metrics) = page (cc)
-no_kind section tables kind words track get show stop page requests.OtherPage (path, version, same, is, metrics) = page (cc)
+    → IsNoRequest section tables (kind ∷ words)
+no_kind section tables kind words track get show stop (requests.Track id key change) (table, word, rest, same, row, is) = track (cc)
+no_kind section tables kind words track get show stop (requests.Get id key) (table, word, same, row) = get (cc)
+no_kind section tables kind words track get show stop requests.ShowTables same = show (cc)
+no_kind section tables kind words track get show stop (requests.ShowTable id) (table, same, is) = show (cc)
+no_kind section tables kind words track get show stop requests.ShowRows same = show (cc)
+no_kind section tables kind words track get show stop requests.ShowPeers same = show (cc)
+no_kind section tables kind words track get show stop requests.Stop same = stop (cc)
 
 -- ---- kinds
 
@@ -92,8 +88,6 @@ no_track section tables table word rest none (requests.ShowTable id) (named, sam
 no_track section tables table word rest none requests.ShowRows same = apart (codes "track") _ _ same refl refl
 no_track section tables table word rest none requests.ShowPeers same = apart (codes "track") _ _ same refl refl
 no_track section tables table word rest none requests.Stop same = apart (codes "track") _ _ same refl refl
-no_track section tables table word rest none requests.Metrics (path, version, same, page, is) = apart (codes "track") _ _ same refl refl
-no_track section tables table word rest none requests.OtherPage (path, version, same, page, is) = apart (codes "track") _ _ same refl refl
 
 -- `track`, with a table and a key that are none
 pub no_row_to_track : (section : Option (List ℕ)) (tables : List Definition) (table word : List ℕ) (rest : List (List ℕ))
@@ -123,8 +117,6 @@ no_get section tables table word none (requests.ShowTable id) (named, same, is) 
 no_get section tables table word none requests.ShowRows same = apart (codes "get") _ _ same refl refl
 no_get section tables table word none requests.ShowPeers same = apart (codes "get") _ _ same refl refl
 no_get section tables table word none requests.Stop same = apart (codes "get") _ _ same refl refl
-no_get section tables table word none requests.Metrics (path, version, same, page, is) = apart (codes "get") _ _ same refl refl
-no_get section tables table word none requests.OtherPage (path, version, same, page, is) = apart (codes "get") _ _ same refl refl
 
 -- `show`, with more words than two or none
 pub other_to_show : (section : Option (List ℕ)) (tables : List Definition) (words : List (List ℕ)) → (length words == 1) ≡ false → (length words == 2) ≡ false
@@ -137,8 +129,6 @@ other_to_show section tables words one two (requests.ShowTable id) (named, same,
 other_to_show section tables words one two requests.ShowRows same = let all : words ≡ codes "rows" ∷ [] = cc in never (ap (λ ws. length ws == 1) (sym all) ∙ one)
 other_to_show section tables words one two requests.ShowPeers same = let all : words ≡ codes "peers" ∷ [] = cc in never (ap (λ ws. length ws == 1) (sym all) ∙ one)
 other_to_show section tables words one two requests.Stop same = apart (codes "show") _ _ same refl refl
-other_to_show section tables words one two requests.Metrics (path, version, same, page, is) = apart (codes "show") _ _ same refl refl
-other_to_show section tables words one two requests.OtherPage (path, version, same, page, is) = apart (codes "show") _ _ same refl refl
 
 -- `show`, with a word that says nothing that is shown
 pub no_show_word : (section : Option (List ℕ)) (tables : List Definition) (word : List ℕ) → (word ≡ codes "table" → ⊥) → (word ≡ codes "rows" → ⊥) → (word ≡ codes "peers" → ⊥)
@@ -151,8 +141,6 @@ no_show_word section tables word all rows peers (requests.ShowTable id) (named, 
 no_show_word section tables word all rows peers requests.ShowRows same = rows (cc)
 no_show_word section tables word all rows peers requests.ShowPeers same = peers (cc)
 no_show_word section tables word all rows peers requests.Stop same = apart (codes "show") _ _ same refl refl
-no_show_word section tables word all rows peers requests.Metrics (path, version, same, page, is) = apart (codes "show") _ _ same refl refl
-no_show_word section tables word all rows peers requests.OtherPage (path, version, same, page, is) = apart (codes "show") _ _ same refl refl
 
 -- `show`, with two words that name no table
 pub no_show_table : (section : Option (List ℕ)) (tables : List Definition) (word table : List ℕ) → (word ≡ codes "table" → is_text table ≡ true → ⊥)
@@ -165,8 +153,6 @@ no_show_table section tables word table none (requests.ShowTable id) (named, sam
 no_show_table section tables word table none requests.ShowRows same = never (ap (λ ws. length ws == 3) same)
 no_show_table section tables word table none requests.ShowPeers same = never (ap (λ ws. length ws == 3) same)
 no_show_table section tables word table none requests.Stop same = apart (codes "show") _ _ same refl refl
-no_show_table section tables word table none requests.Metrics (path, version, same, page, is) = apart (codes "show") _ _ same refl refl
-no_show_table section tables word table none requests.OtherPage (path, version, same, page, is) = apart (codes "show") _ _ same refl refl
 
 -- `track`, with fewer than two words
 pub few_to_track : (section : Option (List ℕ)) (tables : List Definition) (words : List (List ℕ)) → length words < 2
@@ -179,8 +165,6 @@ few_to_track section tables words few (requests.ShowTable id) (named, same, is) 
 few_to_track section tables words few requests.ShowRows same = apart (codes "track") _ _ same refl refl
 few_to_track section tables words few requests.ShowPeers same = apart (codes "track") _ _ same refl refl
 few_to_track section tables words few requests.Stop same = apart (codes "track") _ _ same refl refl
-few_to_track section tables words few requests.Metrics (path, version, same, page, is) = apart (codes "track") _ _ same refl refl
-few_to_track section tables words few requests.OtherPage (path, version, same, page, is) = apart (codes "track") _ _ same refl refl
 
 -- `get`, with more words than two or fewer
 pub other_to_get : (section : Option (List ℕ)) (tables : List Definition) (words : List (List ℕ)) → (length words == 2) ≡ false
@@ -193,8 +177,6 @@ other_to_get section tables words count (requests.ShowTable id) (named, same, is
 other_to_get section tables words count requests.ShowRows same = apart (codes "get") _ _ same refl refl
 other_to_get section tables words count requests.ShowPeers same = apart (codes "get") _ _ same refl refl
 other_to_get section tables words count requests.Stop same = apart (codes "get") _ _ same refl refl
-other_to_get section tables words count requests.Metrics (path, version, same, page, is) = apart (codes "get") _ _ same refl refl
-other_to_get section tables words count requests.OtherPage (path, version, same, page, is) = apart (codes "get") _ _ same refl refl
 
 -- `stop`, with words
 pub some_to_stop : (section : Option (List ℕ)) (tables : List Definition) (words : List (List ℕ)) → (length words == 0) ≡ false
@@ -207,36 +189,6 @@ some_to_stop section tables words count (requests.ShowTable id) (named, same, is
 some_to_stop section tables words count requests.ShowRows same = apart (codes "stop") _ _ same refl refl
 some_to_stop section tables words count requests.ShowPeers same = apart (codes "stop") _ _ same refl refl
 some_to_stop section tables words count requests.Stop same = let all : words ≡ [] = cc in never (ap (λ ws. length ws == 0) (sym all) ∙ count)
-some_to_stop section tables words count requests.Metrics (path, version, same, page, is) = apart (codes "stop") _ _ same refl refl
-some_to_stop section tables words count requests.OtherPage (path, version, same, page, is) = apart (codes "stop") _ _ same refl refl
-
--- `GET`, with more words than two or fewer
-pub other_to_page : (section : Option (List ℕ)) (tables : List Definition) (words : List (List ℕ)) → (length words == 2) ≡ false
-    → IsNoRequest section tables (codes "GET" ∷ words)
-unfolding begins same_text
-other_to_page section tables words count (requests.Track id key change) (named, written, others, same, row, is) = apart (codes "GET") _ _ same refl refl
-other_to_page section tables words count (requests.Get id key) (named, written, same, row) = apart (codes "GET") _ _ same refl refl
-other_to_page section tables words count requests.ShowTables same = apart (codes "GET") _ _ same refl refl
-other_to_page section tables words count (requests.ShowTable id) (named, same, is) = apart (codes "GET") _ _ same refl refl
-other_to_page section tables words count requests.ShowRows same = apart (codes "GET") _ _ same refl refl
-other_to_page section tables words count requests.ShowPeers same = apart (codes "GET") _ _ same refl refl
-other_to_page section tables words count requests.Stop same = apart (codes "GET") _ _ same refl refl
-other_to_page section tables words count requests.Metrics (path, version, same, page, is) = let all : words ≡ path ∷ version ∷ [] = cc in never (ap (λ ws. length ws == 2) (sym all) ∙ count)
-other_to_page section tables words count requests.OtherPage (path, version, same, page, is) = let all : words ≡ path ∷ version ∷ [] = cc in never (ap (λ ws. length ws == 2) (sym all) ∙ count)
-
--- `GET`, with words that ask for no page
-pub no_page : (section : Option (List ℕ)) (tables : List Definition) (at form : List ℕ) → (IsPage at form → ⊥)
-    → IsNoRequest section tables (codes "GET" ∷ at ∷ form ∷ [])
-unfolding begins same_text
-no_page section tables at form none (requests.Track id key change) (named, written, others, same, row, is) = apart (codes "GET") _ _ same refl refl
-no_page section tables at form none (requests.Get id key) (named, written, same, row) = apart (codes "GET") _ _ same refl refl
-no_page section tables at form none requests.ShowTables same = apart (codes "GET") _ _ same refl refl
-no_page section tables at form none (requests.ShowTable id) (named, same, is) = apart (codes "GET") _ _ same refl refl
-no_page section tables at form none requests.ShowRows same = apart (codes "GET") _ _ same refl refl
-no_page section tables at form none requests.ShowPeers same = apart (codes "GET") _ _ same refl refl
-no_page section tables at form none requests.Stop same = apart (codes "GET") _ _ same refl refl
-no_page section tables at form none requests.Metrics (path, version, same, page, is) = let one : path ≡ at = cc in let two : version ≡ form = cc in none (subst (λ v. IsPage at v) two (subst (λ p. IsPage p version) one page))
-no_page section tables at form none requests.OtherPage (path, version, same, page, is) = let one : path ≡ at = cc in let two : version ≡ form = cc in none (subst (λ v. IsPage at v) two (subst (λ p. IsPage p version) one page))
 
 -- ---- rows
 
@@ -252,20 +204,3 @@ pub no_text : (section : Option (List ℕ)) (tables : List Definition) (table wo
     → IsNoRow section tables table word
 unfolding IsNoRow
 no_text section tables table word none id key ((text, is), written) = absurd (cc)
-
--- ---- pages
-
--- the version that a word writes, without a CR and with one
-pub no_version : (word : List ℕ)
-    → ((digit : ℕ) → is_digit digit ≡ true → word ≡ codes "HTTP/1." ++ digit ∷ [] → ⊥)
-    → ((digit : ℕ) → is_digit digit ≡ true → word ≡ codes "HTTP/1." ++ digit ∷ 13 ∷ [] → ⊥)
-    → IsVersion word → ⊥
-no_version word bare ended (digit, false, is, same) = bare digit is same
-no_version word bare ended (digit, true, is, same) = ended digit is same
-
--- words after `GET` of which the first is no text or the other no version
-pub no_page_text : (path version : List ℕ) → is_text path ≡ false → IsPage path version → ⊥
-no_page_text path version none page = absurd (let named : is_text path ≡ true = page.is_named in cc)
-
-pub no_page_version : (path version : List ℕ) → (IsVersion version → ⊥) → IsPage path version → ⊥
-no_page_version path version none page = none page.is_http

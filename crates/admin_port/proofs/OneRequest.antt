@@ -11,7 +11,7 @@ use Rattle.node_text.specs.Calls.{any_key_of}
 use Rattle.node_text.specs.Changes.{IsChange}
 use Rattle.node_text.specs.Names.{may_name}
 use Rattle.node_text.specs.Numbers.{number_of}
-use Rattle.admin_port.specs.Requests.{IsRequest, IsRequestLine, id_of, is_metrics, kind_of}
+use Rattle.admin_port.specs.Requests.{IsRequest, IsRequestLine, id_of, kind_of}
 use Rattle.admin_port.specs.RequestWords.{line_words}
 use Rattle.admin_port.specs.TableNames.{table_named}
 use Rattle.admin_port.specs.declared.requests.Request.{Request}
@@ -104,10 +104,6 @@ show_of section tables (word ∷ []) =
     else Some requests.ShowPeers
 show_of section tables (word ∷ table ∷ rest) = Some (requests.ShowTable (id_of (table_named section tables table)))
 
-page_of : List (List ℕ) → Option Request
-page_of [] = None
-page_of (path ∷ rest) = Some (if is_metrics path then requests.Metrics else requests.OtherPage)
-
 request_of : Option (List ℕ) → List Definition → List (List ℕ) → Option Request
 request_of section tables [] = None
 request_of section tables (kind ∷ words) =
@@ -115,11 +111,11 @@ request_of section tables (kind ∷ words) =
     else if same_text kind (codes "get") then get_of section tables words
     else if same_text kind (codes "show") then show_of section tables words
     else if same_text kind (codes "stop") then Some requests.Stop
-    else page_of words
+    else None
 
 is_request_of : (section : Option (List ℕ)) (tables : List Definition) (words : List (List ℕ)) (request : Request)
     → IsRequest section tables words request → request_of section tables words ≡ Some request
-unfolding both get_of page_of request_of same_text show_of track_of
+unfolding both get_of request_of same_text show_of track_of
 is_request_of section tables words (requests.Track id key change) (table, word, rest, same, ((text, own), written), is) =
     ap (request_of section tables) same
     ∙ ap₂ (both (requests.Track (id_of (table_named section tables table)))) written (is_change_of rest change is)
@@ -134,10 +130,6 @@ is_request_of section tables words (requests.ShowTable id) (table, same, (text, 
 is_request_of section tables words requests.ShowRows same = ap (request_of section tables) same
 is_request_of section tables words requests.ShowPeers same = ap (request_of section tables) same
 is_request_of section tables words requests.Stop same = ap (request_of section tables) same
-is_request_of section tables words requests.Metrics (path, version, same, page, metrics) =
-    ap (request_of section tables) same ∙ ap (λ own. Some (if own then requests.Metrics else requests.OtherPage)) metrics
-is_request_of section tables words requests.OtherPage (path, version, same, page, metrics) =
-    ap (request_of section tables) same ∙ ap (λ own. Some (if own then requests.Metrics else requests.OtherPage)) metrics
 
 -- a line writes one request
 pub one_request : (section : Option (List ℕ)) (tables : List Definition) (line : List ℕ) (one other : Request)

@@ -1,4 +1,5 @@
 pub mod Answers
+pub mod HttpRequests
 pub mod Metrics
 pub mod Pages
 pub mod PeerMetrics

@@ -14,3 +14,11 @@ page_answer page = page_head (length page) ++ page
 -- there is no such page
 unfoldable pub missing_page : List ℕ
 missing_page = codes "HTTP/1.1 404 Not Found\r\nContent-Length: 0\r\nConnection: close\r\n\r\n"
+
+-- the method of the request isn't GET
+unfoldable pub method_not_allowed : List ℕ
+method_not_allowed = codes "HTTP/1.1 405 Method Not Allowed\r\nAllow: GET\r\nContent-Length: 0\r\nConnection: close\r\n\r\n"
+
+-- the version of the request isn't HTTP/1.x
+unfoldable pub version_not_supported : List ℕ
+version_not_supported = codes "HTTP/1.1 505 HTTP Version Not Supported\r\nContent-Length: 0\r\nConnection: close\r\n\r\n"

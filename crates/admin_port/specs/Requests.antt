@@ -1,14 +1,12 @@
 -- What a request's line says (profile).
-use Rattle.std.specs.Prelude.{◌≡◌, ◌++◌, ℕ, Bool, true, false, List, [], ◌∷◌, Option, Some, None, codes, option_map}
+use Rattle.std.specs.Prelude.{◌≡◌, ℕ, true, List, [], ◌∷◌, Option, Some, None, codes, option_map}
 use Rattle.std.specs.List.{list_all}
 use Rattle.table_types.specs.declared.key.Key.{Key}
 use Rattle.table_types.specs.declared.key.KeyKind.{KeyKind}
 use Rattle.table_types.specs.declared.key.KeyKind.TheVariants as kinds
-use Rattle.table_types.specs.Rosters.{is_same_name}
 use Rattle.table_types.specs.Tables.{Definition}
 use Rattle.node_text.specs.Calls.{any_key_of}
 use Rattle.node_text.specs.Changes.{IsChange}
-use Rattle.node_text.specs.Numbers.{is_digit}
 use Rattle.node_text.specs.Words.{is_text}
 use Rattle.admin_port.specs.RequestWords.{is_word, line_words}
 use Rattle.admin_port.specs.TableNames.{table_named}
@@ -35,26 +33,6 @@ abbrev pub IsRow : Option (List ℕ) → List Definition → List ℕ → List �
 IsRow section tables table word id key =
     IsTable section tables table id × (any_key_of (kind_of (table_named section tables table)) word ≡ Some key)
 
--- ---- pages
-
--- a CR (13), or nothing
-abbrev pub line_end : Bool → List ℕ
-line_end true = 13 ∷ []
-line_end false = []
-
--- `HTTP/1.` and a digit; a CR may end it
-abbrev pub IsVersion : List ℕ → Type 0
-IsVersion word = (digit : ℕ) × (end : Bool) × (is_digit digit ≡ true) × (word ≡ codes "HTTP/1." ++ (digit ∷ line_end end))
-
--- a page, as the words after `GET` ask for it
-pub record IsPage (path version : List ℕ) : Type 0 where
-  pub is_named : is_text path ≡ true
-  pub is_http : IsVersion version
-
--- the path is that of the page of metrics
-abbrev pub is_metrics : List ℕ → Bool
-is_metrics path = is_same_name path (codes "/metrics")
-
 -- ---- requests
 
 -- the words of a request
@@ -70,10 +48,6 @@ IsRequest section tables words (requests.ShowTable id) =
 IsRequest section tables words requests.ShowRows = words ≡ codes "show" ∷ codes "rows" ∷ []
 IsRequest section tables words requests.ShowPeers = words ≡ codes "show" ∷ codes "peers" ∷ []
 IsRequest section tables words requests.Stop = words ≡ codes "stop" ∷ []
-IsRequest section tables words requests.Metrics =
-    (path version : List ℕ) × (words ≡ codes "GET" ∷ path ∷ version ∷ []) × IsPage path version × (is_metrics path ≡ true)
-IsRequest section tables words requests.OtherPage =
-    (path version : List ℕ) × (words ≡ codes "GET" ∷ path ∷ version ∷ []) × IsPage path version × (is_metrics path ≡ false)
 
 -- the line of a request: words with one space between them
 abbrev pub IsRequestLine : Option (List ℕ) → List Definition → List ℕ → Request → Type 0

@@ -3,6 +3,7 @@
 #![tactic(auto)]
 
 mod answers;
+mod http_requests;
 mod laws;
 mod lines;
 mod metric_families;
@@ -19,9 +20,10 @@ mod table_metrics;
 mod table_names;
 
 pub use answers::{Answer, push_answer, push_found, push_refused, push_rows, push_tracked};
+pub use http_requests::{HttpRequest, read_http_request};
 pub use laws::one_request;
 pub use metrics_pages::{FaultCount, Metrics, NodeMetrics, PassedOver, metrics_page};
-pub use pages::{push_missing_page, push_page};
+pub use pages::{push_method_not_allowed, push_missing_page, push_page, push_version_not_supported};
 pub use peer_metrics::{PeerMetrics, ResyncsEnded, SessionsEnded};
 pub use reports::{
     PeerReport, PeerRole, PeerState, PeerTableReport, SessionEnd, push_node, push_peers,

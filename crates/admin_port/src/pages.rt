@@ -1,6 +1,6 @@
 //! The pages with which the admin port answers HTTP requests.
 ghost use Rattle.std.specs.Prelude.{◌≡◌, ◌++◌, OnOk, codes};
-ghost use Rattle.admin_port.specs.Pages.{missing_page, page_answer, page_head};
+ghost use Rattle.admin_port.specs.Pages.{method_not_allowed, missing_page, page_answer, page_head, version_not_supported};
 
 use crate::lines::push_words;
 use node_text::push_word_and_number;
@@ -36,5 +36,27 @@ pub fn push_missing_page(text: &mut Vec<u8>) -> Result<(), AllocError>
     push_words(
         text,
         "HTTP/1.1 404 Not Found\r\nContent-Length: 0\r\nConnection: close\r\n\r\n",
+    )
+}
+
+/// Appends the answer to a request with another method than GET. The connection is closed behind it.
+#[tactic(auto, unfolding(crate::specs::Pages::method_not_allowed))]
+pub fn push_method_not_allowed(text: &mut Vec<u8>) -> Result<(), AllocError>
+    ensures { OnOk result (text.new.items ≡ text.old.items ++ method_not_allowed) }
+{
+    push_words(
+        text,
+        "HTTP/1.1 405 Method Not Allowed\r\nAllow: GET\r\nContent-Length: 0\r\nConnection: close\r\n\r\n",
+    )
+}
+
+/// Appends the answer to a request in another version than HTTP/1.x. The connection is closed behind it.
+#[tactic(auto, unfolding(crate::specs::Pages::version_not_supported))]
+pub fn push_version_not_supported(text: &mut Vec<u8>) -> Result<(), AllocError>
+    ensures { OnOk result (text.new.items ≡ text.old.items ++ version_not_supported) }
+{
+    push_words(
+        text,
+        "HTTP/1.1 505 HTTP Version Not Supported\r\nContent-Length: 0\r\nConnection: close\r\n\r\n",
     )
 }

@@ -1,6 +1,6 @@
 //! Requests, one on a line.
-ghost use Rattle.std.specs.Prelude.{◌≡◌, ◌∷◌, ℕ, [], Err, IfOk, IfSome, IsTrue, List, None, Option, codes, false, map};
-ghost use Rattle.admin_port.specs.Requests.{IsNoRequest, IsNoRequestLine, IsNoRow, IsPage, IsRequest, IsRequestLine, IsRow, IsTable, IsVersion, is_metrics};
+ghost use Rattle.std.specs.Prelude.{◌≡◌, ◌∷◌, ℕ, [], Err, IfOk, IfSome, List, None, Option, codes, false, map};
+ghost use Rattle.admin_port.specs.Requests.{IsNoRequest, IsNoRequestLine, IsNoRow, IsRequest, IsRequestLine, IsRow, IsTable};
 ghost use Rattle.admin_text.specs.TableSettings.{definitions};
 ghost use Rattle.node_text.specs.Words.{is_text};
 ghost use Rattle.table_types.specs.Tables.{Definition};
@@ -10,7 +10,7 @@ use crate::table_names::table_named;
 use admin_text::TableSetting;
 use node_text::{LineError, any_key_of, change_of, is_text};
 use std::alloc::Global;
-use table_types::{Change, Key, KeyKind, Name, is_same_name};
+use table_types::{Change, Key, KeyKind, Name};
 
 /// A request. A table is given by its id, and `None` stands for one that isn't there.
 #[derive(Debug, Drop)]
@@ -41,10 +41,6 @@ pub enum Request {
     ShowPeers,
     /// Ends the node.
     Stop,
-    /// Asks by HTTP for the metrics.
-    Metrics,
-    /// Asks by HTTP for a page that isn't there.
-    OtherPage,
 }
 
 /// The greatest number of bytes of a request's line, without its LF.
@@ -100,7 +96,6 @@ fn request_of_kind(
         b"get" => get_of(alloc, section, tables, words),
         b"show" => show_of(section, tables, words).ok_or(LineError::Refused),
         b"stop" => stop_of(words).ok_or(LineError::Refused),
-        b"GET" => page_of(words).ok_or(LineError::Refused),
         _ => Err(LineError::Refused),
     }
 }
@@ -186,25 +181,6 @@ fn stop_of(words: &[&[u8]]) -> Option<Request>
     }
 }
 
-/// Reads a request for a page by HTTP, from the words after `GET`.
-#[tactic(auto, using(crate::proofs::NoRequests::other_to_page, crate::proofs::NoRequests::no_page))]
-fn page_of(words: &[&[u8]]) -> Option<Request>
-    ensures read { (section : Option (List ℕ)) (tables : List Definition) → IfSome result (IsRequest section tables (codes "GET" ∷ map (λ word. word.now) words.now)) }
-    ensures refused { (section : Option (List ℕ)) (tables : List Definition) → result ≡ None → IsNoRequest section tables (codes "GET" ∷ map (λ word. word.now) words.now) }
-{
-    let [path, version] = words else {
-        return None;
-    };
-    if !is_page(path, version) {
-        return None;
-    }
-    if is_metrics(path) {
-        Some(Request::Metrics)
-    } else {
-        Some(Request::OtherPage)
-    }
-}
-
 /// Reads a request `show`, from the words after the first.
 #[tactic(auto, using(crate::proofs::NoRequests::other_to_show))]
 fn show_of(section: &Option<Name>, tables: &[TableSetting], words: &[&[u8]]) -> Option<Request>
@@ -281,34 +257,5 @@ fn row_of(
     match table_named(section, tables, table) {
         Some(table) => Ok((Some(table.id()), any_key_of(alloc, table.kind(), key)?)),
         None => Ok((None, any_key_of(alloc, KeyKind::Binary, key)?)),
-    }
-}
-
-/// Returns whether `path` is that of the page of metrics.
-fn is_metrics(path: &[u8]) -> bool
-    ensures { result ≡ is_metrics path.now }
-{
-    is_same_name(path, b"/metrics")
-}
-
-/// Returns whether the words after `GET` ask for a page by HTTP.
-#[tactic(auto, using(crate::proofs::NoRequests::no_page_text, crate::proofs::NoRequests::no_page_version))]
-fn is_page(path: &[u8], version: &[u8]) -> bool
-    ensures page { IsTrue result → IsPage path.now version.now }
-    ensures other { result ≡ false → IsPage path.now version.now → ⊥ }
-{
-    is_text(path) && is_version(version)
-}
-
-/// Returns whether `word` is `HTTP/1.` and a digit, with or without a CR at the end.
-#[tactic(auto, using(crate::proofs::NoRequests::no_version))]
-fn is_version(word: &[u8]) -> bool
-    ensures version { IsTrue result → IsVersion word.now }
-    ensures other { result ≡ false → IsVersion word.now → ⊥ }
-{
-    match word {
-        [b'H', b'T', b'T', b'P', b'/', b'1', b'.', digit] => digit.is_ascii_digit(),
-        [b'H', b'T', b'T', b'P', b'/', b'1', b'.', digit, b'\r'] => digit.is_ascii_digit(),
-        _ => false,
     }
 }

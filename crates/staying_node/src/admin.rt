@@ -19,6 +19,9 @@ const LOOK: u64 = 200;
 /// How long a write waits for the client to read, in milliseconds.
 const WRITE_TIMEOUT: u64 = 4_000;
 
+/// How long a connection waits behind its last answer for the client to close it, in milliseconds.
+const LINGER: u64 = 1_000;
+
 /// The size of one read.
 const PIECE: usize = 16_384;
 
@@ -198,7 +201,34 @@ pub(crate) fn accept_clients<R: Wait + Clock>(rt: &R, node: &Node, port: &AdminP
     }
 }
 
-/// Reads requests from a connection and writes their answers until it ends, the node stops, or a request ends it.
+/// Ends a connection behind its last answer. What the client sends further is read and discarded until the client closes the
+/// connection, but for `LINGER` at most: if bytes were left unread, the system would reset the connection, and the client might never
+/// see the answer.
+fn linger<R: Wait + Clock>(
+    rt: &R,
+    node: &Node,
+    stream: &TcpStream,
+    piece: &mut [u8],
+) -> io::Result<()> {
+    stream.shutdown(Shutdown::Write)?;
+    let begun = node.clock.milliseconds(rt);
+    for _ in rt.forever() {
+        let now = node.clock.milliseconds(rt);
+        if node.stops() || now.saturating_sub(begun) >= LINGER {
+            return Ok(());
+        }
+        let mut from = stream;
+        match from.read(piece) {
+            Ok(0) => return Ok(()),
+            Ok(_) => {}
+            Err(error) if is_pause(error.kind()) => {}
+            Err(error) => return Err(error),
+        }
+    }
+    unreachable!()
+}
+
+/// Reads requests from a connection and writes their answers until it ends, the node stops, or a line ends it.
 fn serve<R: Wait + Clock>(
     rt: &R,
     node: &Node,
@@ -219,7 +249,7 @@ fn serve<R: Wait + Clock>(
         };
         let mut to = stream;
         if !requester.answer(rt, &mut reading, &piece[..count], &mut to)? {
-            return Ok(());
+            return linger(rt, node, stream, &mut piece);
         }
     }
     unreachable!()

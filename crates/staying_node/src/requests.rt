@@ -4,10 +4,11 @@ use crate::node::Node;
 use crate::status::{PeerStatus, Totals};
 use crate::tables::{MANY, forget, lock, not_before_latest, slide};
 use admin_port::{
-    Answer, MOST_REQUEST, Metrics, NodeMetrics, PeerMetrics, PeerReport, PeerState,
+    Answer, HttpRequest, MOST_REQUEST, Metrics, NodeMetrics, PeerMetrics, PeerReport, PeerState,
     PeerTableReport, Request, TableMetrics, metrics_page, push_answer, push_found, push_live_rows,
-    push_missing_page, push_node, push_page, push_peers, push_refused, push_rows,
-    push_table_header, push_tracked, read_request,
+    push_method_not_allowed, push_missing_page, push_node, push_page, push_peers, push_refused,
+    push_rows, push_table_header, push_tracked, push_version_not_supported, read_http_request,
+    read_request,
 };
 use admin_text::TableSetting;
 use node_text::LineError;
@@ -35,8 +36,10 @@ pub(crate) struct Reading {
     answers: Vec<u8>,
     /// How many bytes of the answers are whole: all but what the request that is being answered has so far.
     whole: usize,
-    /// The page that the client requests by HTTP. The requester answers it once it has read the head of the request.
-    page: Option<Request>,
+    /// Whether the next line is the first one, which alone may be that of an HTTP request.
+    is_first: bool,
+    /// The HTTP request for a page. The requester answers it once it has read the head of the request.
+    page: Option<HttpRequest>,
 }
 
 impl Reading {
@@ -47,8 +50,18 @@ impl Reading {
             line: Vec::new(alloc),
             answers: Vec::new(alloc),
             whole: 0,
+            is_first: true,
             page: None,
         }
+    }
+
+    /// Returns the HTTP request of the line, if it is the first one.
+    fn http_request(&mut self) -> Option<HttpRequest> {
+        if !self.is_first {
+            return None;
+        }
+        self.is_first = false;
+        read_http_request(self.line.as_slice())
     }
 
     /// Writes the answers that aren't written yet. None is left after a failure either, so that no byte is written twice.
@@ -78,6 +91,19 @@ enum After {
     Closes,
     /// It is closed, and the node stops.
     Stops,
+}
+
+/// Answers an HTTP request at once, unless it is for a page, of which the head has to be read first.
+fn answer_http(reading: &mut Reading, request: HttpRequest) -> Result<After, AllocError> {
+    match request {
+        HttpRequest::Metrics | HttpRequest::OtherPage => {
+            reading.page = Some(request);
+            return Ok(After::GoesOn);
+        }
+        HttpRequest::OtherVersion => push_version_not_supported(&mut reading.answers)?,
+        HttpRequest::OtherMethod => push_method_not_allowed(&mut reading.answers)?,
+    }
+    Ok(After::Closes)
 }
 
 /// Which rows of a table are listed, and how.
@@ -197,12 +223,15 @@ impl<'a> Requester<'a> {
         if self.node.stops() {
             return Ok(After::Closes);
         }
-        if reading.page.is_some() {
-            return Ok(self.answer_head(rt, reading)?);
-        }
         if reading.line.len() > MOST_REQUEST {
             push_answer(&mut reading.answers, Answer::Refused)?;
             return Ok(After::Closes);
+        }
+        if let Some(page) = reading.page {
+            return Ok(self.answer_head(rt, reading, page)?);
+        }
+        if let Some(request) = reading.http_request() {
+            return Ok(answer_http(reading, request)?);
         }
         let configuration = &self.node.configuration;
         let read = read_request(
@@ -216,23 +245,24 @@ impl<'a> Requester<'a> {
             Err(LineError::Memory) => Err(AllocError.into()),
             Err(_) => {
                 push_refused(&mut reading.answers, reading.line.as_slice())?;
-                Ok(After::GoesOn)
+                Ok(After::Closes)
             }
         }
     }
 
-    /// Answers a request for a page once an empty line ends its head.
+    /// Answers an HTTP request for a page once an empty line ends its head.
     fn answer_head<R: Wait + Clock>(
         &mut self,
         rt: &R,
         reading: &mut Reading,
+        page: HttpRequest,
     ) -> Result<After, AllocError> {
         if !matches!(reading.line.as_slice(), [] | [b'\r']) {
             return Ok(After::GoesOn);
         }
-        if matches!(reading.page, Some(Request::Metrics)) {
-            let page = self.page(rt)?;
-            push_page(&mut reading.answers, page.as_slice())?;
+        if matches!(page, HttpRequest::Metrics) {
+            let metrics = self.page(rt)?;
+            push_page(&mut reading.answers, metrics.as_slice())?;
         } else {
             push_missing_page(&mut reading.answers)?;
         }
@@ -263,7 +293,6 @@ impl<'a> Requester<'a> {
                 push_answer(&mut reading.answers, Answer::Done)?;
                 return Ok(After::Stops);
             }
-            page @ (Request::Metrics | Request::OtherPage) => reading.page = Some(page),
         }
         Ok(After::GoesOn)
     }

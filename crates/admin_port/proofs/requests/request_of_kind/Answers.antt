@@ -2,18 +2,8 @@ use Rattle.std.proofs.Common.{rules, ◌≡◌, ◌∷◌, IfSome, codes, map, s
 use Rattle.admin_text.specs.TableSettings.{definitions}
 use Rattle.node_text.specs.declared.error.LineError.TheVariants as errors
 use Rattle.admin_port.specs.Requests.{IsRequest}
-use Rattle.admin_port.proofs.Words.{bytes_of, four_bytes, some_to_ok, three_bytes}
+use Rattle.admin_port.proofs.Words.{bytes_of, four_bytes, some_to_ok}
 use Rattle.admin_port.proofs.requests.request_of_kind.Goals as goal
-
-pub returns-in-GET-clause-read : goal.returns-in-GET-clause-read
-returns-in-GET-clause-read c =
-    let same : codes "GET" ≡ c.args.kind.now =
-    three_bytes c.args.kind.now 71 69 84 c.in-GET.len_at_least c.in-GET.len_below (search rules) (search rules) (search rules) in
-    some_to_ok (IsRequest c.args.section.now (definitions c.args.tables.now) (c.args.kind.now ∷ map bytes_of c.args.words.now))
-    c.page_of.result errors.Refused c.ok_or.result c.ok_or.ensures.value
-    (subst
-    (λ kind. IfSome c.page_of.result (IsRequest c.args.section.now (definitions c.args.tables.now) (kind ∷ map bytes_of c.args.words.now)))
-    same (c.page_of.ensures.read c.args.section.now (definitions c.args.tables.now)))
 
 pub returns-in-stop-clause-read : goal.returns-in-stop-clause-read
 returns-in-stop-clause-read c =
