@@ -1,11 +1,12 @@
 """Clients of the admin port of a node that stays (docs/FORMATS.md, section 14).
 
-  ask LINES PIECES      requests over one connection, one after another, in so many pieces; each has its answer
+  ask LINES PIECES      requests over one connection, one after another, in so many pieces; each has its answer, up to one that is refused
+                        and ends the connection; those behind it go over the next one
   long LENGTH ENDS      a request of so many bytes, and its line feed if it ends
   half BYTES            the beginning of a request, over a connection that stays
   crowd COUNT           connections at once
   deaf LINE TIMES       requests, over a connection that doesn't read and stays
-  page BYTES            a request by HTTP
+  page BYTES            an HTTP request, and what it has behind its head
   rubbish BYTES         bytes, and then the end of the input"""
 
 import re
@@ -28,8 +29,8 @@ MOST_CLIENTS, STANDING = 32, 2
 QUIET = 0.3
 WORDS = ('reply row none refused NoTable WrongKey ' + REFUSALS['track']).split()
 LINE = re.compile(rb'[ -~]*')
-GET = re.compile(rb'GET [!-~]+ HTTP/1\.[0-9]\r?')
-PAGE = re.compile(rb'HTTP/1\.[01] (200|404)[ -~]*\r\n(?:[ -~]+\r\n)*?Content-Length: ([0-9]+)\r\n(?:[ -~]+\r\n)*\r\n', re.IGNORECASE)
+VERSION = re.compile(rb'HTTP/1\.[0-9]\r?')
+PAGE = re.compile(rb'HTTP/1\.[01] (200|404|405|505)[ -~]*\r\n(?:[ -~]+\r\n)*?Content-Length: ([0-9]+)\r\n(?:[ -~]+\r\n)*\r\n', re.IGNORECASE)
 
 
 # --- Random cases
@@ -61,10 +62,13 @@ def random_lines(random, tables, keys):
 
 
 def random_page(random):
-    return random.choice((b'GET /metrics HTTP/1.1\r\nHost: n\r\n\r\n', b'GET /metrics HTTP/1.0\n\n', b'GET /%s HTTP/1.1\r\n\r\n' % MARK,
+    """Returns bytes that an HTTP client may send, with requests of the admin port behind the head, none of which may be obeyed."""
+    head = random.choice((b'GET /metrics HTTP/1.1\r\nHost: n\r\n\r\n', b'GET /metrics HTTP/1.0\n\n', b'GET /%s HTTP/1.1\r\n\r\n' % MARK,
                           b'GET /metrics HTTP/1.1\r\n' + b'X: %s\r\n' % MARK * random.choice((1, 3000)) + b'\r\n',
-                          b'GET  HTTP/1.1\r\n\r\n', b'GET /metrics HTTP/2.0\r\n\r\n', b'POST /metrics HTTP/1.1\r\n\r\n',
+                          b'GET  HTTP/1.1\r\n\r\n', b'GET /metrics HTTP/2.0\r\n\r\n', b'POST /metrics HTTP/1.1\r\n\r\n', b'OPTIONS * HTTP/1.1\n',
+                          b'%s stop HTTP/1.1\r\nHost: n\r\nTransfer-Encoding: chunked\r\n\r\n5\r\n' % MARK, b'get t1 HTTP/1.1\n', b'\r\n',
                           b'GET /metrics HTTP/1.1\r\n' + MARK * random.choice((1, 6000)), b'GET /%s HTTP/1.1\r\n\r\n' % (MARK * 4000)))
+    return head + b'stop\n' * random.choice((0, 1, 1, 20000))
 
 
 def random_act(random, tables, keys):
@@ -95,20 +99,24 @@ def make(random):
 # --- What is due
 
 def due_for(data):
-    """Returns how many lines of a request by HTTP are refused, and what becomes of the connection: it stays `open`, or it is `closed`, or
-    it is closed behind a page of status `200` or `404`."""
-    refused, status = 0, None
+    """Returns what the first bytes of a connection are answered with: `refused`, or the status of a page; None while they need no answer."""
+    status = None
     *lines, rest = data.split(b'\n')
     for line in lines:
         if len(line) > LONGEST:
-            return refused + 1, 'closed'
-        if status is None and GET.fullmatch(line):
-            status = '200' if line.split(b' ')[1] == b'/metrics' else '404'
-        elif status is None:
-            refused += 1
+            return 'refused'
+        if status is None:
+            words = line.split(b' ')
+            if len(words) != 3 or b'' in words or not words[2].startswith(b'HTTP/'):
+                return 'refused'
+            if words[0] != b'GET':
+                return '405'
+            if not VERSION.fullmatch(words[2]):
+                return '505'
+            status = '200' if words[1] == b'/metrics' else '404'
         elif line in (b'', b'\r'):
-            return refused, status
-    return (refused + 1, 'closed') if len(rest) > LONGEST else (refused, 'open')
+            return status
+    return 'refused' if len(rest) > LONGEST else None
 
 
 # --- Clients
@@ -214,11 +222,18 @@ class Client:
             time.sleep(0.02)
 
     def ask(self, lines, pieces):
-        reader = self.served(b''.join(line + b'\n' for line in lines), pieces) if lines else None
-        if reader is None:
-            return
-        for line in lines:
-            answer = reader.line()
+        while lines:
+            reader = self.served(b''.join(line + b'\n' for line in lines), pieces)
+            if reader is None:
+                return
+            lines = self.answered(reader, lines)
+            reader.close()
+
+    def answered(self, reader, lines):
+        """Reads the answers to lines up to the first that is refused, and returns the lines behind it. If one of these were obeyed all the
+        same, its answer over the next connection would show it."""
+        for place, line in enumerate(lines):
+            first = answer = reader.line()
             require(answer is not None, 'an answer', 'is missing, to:', line)
             if line.split(b' ')[0] == b'show':
                 while answer != b'.':
@@ -226,7 +241,10 @@ class Client:
                     require(answer is not None, 'an answer', 'has no end, to:', line)
             else:
                 self.judge(line, answer)
-        reader.close()
+            if first == b'refused':
+                require(reader.rest() == b'', 'an answer', 'behind one to a line that is refused:', line, reader.left)
+                return lines[place + 1:]
+        return []
 
     def judge(self, line, answer):
         """An answer of one line is one to its request."""
@@ -329,33 +347,29 @@ class Client:
                 return
 
     def page(self, data):
-        """Lines of HTTP: a complete request for a page has that page, each other line is refused, and an incomplete request waits."""
-        refused, ending = due_for(data)
-        if (refused, ending) == (0, 'open'):
+        """HTTP is answered once, as its first line says, and an incomplete head waits."""
+        due = due_for(data)
+        if due is None:
             self.incomplete(data)
             return
         reader = self.served(data)
         if reader is None:
             return
-        answers = [reader.line() for _ in range(refused)]
-        require(answers == [b'refused'] * refused, 'an answer', 'to HTTP:', data, answers)
-        if ending == 'open':
-            require(not reader.left and not reader.is_over, 'an answer', 'behind refused lines of HTTP:', data, reader.left)
+        came = reader.rest()
+        if due == 'refused':
+            require(came == b'refused\n', 'an answer', 'to HTTP:', data, came)
         else:
-            self.judge_page(data, reader.rest(), ending)
+            self.judge_page(data, came, due)
         reader.close()
 
     def judge_page(self, data, came, status):
-        """A page has its status, is as long as it says, and the one with status 200 has metrics. A refused request has none."""
-        if status == 'closed':
-            require(not came, 'an answer', 'behind a request that is too long:', came)
-            return
+        """A page has its status, is as long as it says, and the one with status 200 has metrics."""
         head = PAGE.match(came)
         require(head, 'a page', 'has no head:', data, came[:300])
         require(head[1] == status.encode(), 'a page', 'has another status than %s:' % status, data, head[0])
         length = len(came) - head.end()
         require(length == int(head[2]), 'a page', 'has another length than it says:', length, head[0])
-        require(status != '200' or b'\ndigbaro_uptime_seconds ' in came, 'a page', 'has no metrics:', came)
+        require((b'\ndigbaro_uptime_seconds ' in came) == (status == '200'), 'a page', 'has no metrics, or some that were not asked for:', came)
 
     def rubbish(self, data):
         """What no client says. What comes back is whole lines, and the connection is closed at the end of the input."""

@@ -34,7 +34,7 @@ three_words line method rest target version first none second none_too last =
     (cut_twice line method rest target version first none second none_too ∙ ap (λ words. method ∷ target ∷ words) (last_word version last))
 
 -- the line has words
-has_words : List (List ℕ) → Bool
+abbrev has_words : List (List ℕ) → Bool
 has_words [] = false
 has_words (word ∷ words) = true
 
@@ -47,9 +47,12 @@ some_words : (line : List ℕ) → has_words (line_words line) ≡ true
 some_words [] = refl
 some_words (byte ∷ rest) = more_of (byte == 32) byte (line_words rest)
 
+never : false ≡ true → ⊥
+never same = absurd (cc)
+
 -- four words and more
 four : (method target word : List ℕ) (words : List (List ℕ)) → has_words words ≡ true → http_request_of (method ∷ target ∷ word ∷ words) ≡ None
-four method target word [] some = absurd (cc)
+four method target word [] some = absurd (never some)
 four method target word (other ∷ words) some = refl
 
 -- a line with three spaces and more
