@@ -1,5 +1,5 @@
 -- Words that are no request.
-use Rattle.std.proofs.Common.{◌≡◌, ◌∙◌, ◌==◌, ◌&&◌, Bool, true, false, ℕ, List, [], ◌∷◌, ◌++◌, ◌<◌, ap, arith, length, refl, subst, sym}
+use Rattle.std.proofs.Common.{◌≡◌, ◌∙◌, ◌==◌, ◌&&◌, Bool, true, false, ℕ, List, [], ◌∷◌, ◌<◌, ap, arith, length, refl, subst, sym}
 use Rattle.std.specs.Prelude.{None, Option, codes}
 use Rattle.std.specs.List.{list_all}
 use Rattle.table_types.specs.declared.change.Change.{Change}
@@ -7,10 +7,9 @@ use Rattle.table_types.specs.declared.key.Key.{Key}
 use Rattle.table_types.specs.Tables.{Definition}
 use Rattle.node_text.specs.Calls.{any_key_of}
 use Rattle.node_text.specs.Changes.{IsChange}
-use Rattle.node_text.specs.Numbers.{is_digit}
 use Rattle.node_text.specs.Words.{is_text}
 use Rattle.admin_port.specs.RequestWords.{is_word, line_words}
-use Rattle.admin_port.specs.Requests.{IsNoRequest, IsNoRequestLine, IsNoRow, IsPage, IsRequest, IsRow, IsVersion, kind_of}
+use Rattle.admin_port.specs.Requests.{IsNoRequest, IsNoRequestLine, IsNoRow, IsRequest, IsRow, kind_of}
 use Rattle.admin_port.specs.TableNames.{table_named}
 use Rattle.admin_port.specs.declared.requests.Request.TheVariants as requests
 

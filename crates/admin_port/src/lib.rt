@@ -23,7 +23,9 @@ pub use answers::{Answer, push_answer, push_found, push_refused, push_rows, push
 pub use http_requests::{HttpRequest, read_http_request};
 pub use laws::one_request;
 pub use metrics_pages::{FaultCount, Metrics, NodeMetrics, PassedOver, metrics_page};
-pub use pages::{push_method_not_allowed, push_missing_page, push_page, push_version_not_supported};
+pub use pages::{
+    push_method_not_allowed, push_missing_page, push_page, push_version_not_supported,
+};
 pub use peer_metrics::{PeerMetrics, ResyncsEnded, SessionsEnded};
 pub use reports::{
     PeerReport, PeerRole, PeerState, PeerTableReport, SessionEnd, push_node, push_peers,
