@@ -1,4 +1,4 @@
-use Rattle.std.proofs.Common.{rules, ◌≡◌, ◌∙◌, sym}
+use Rattle.std.proofs.Common.{rules, ◌∙◌, sym}
 use Rattle.admin_port.proofs.HttpLines.{three_words}
 use Rattle.admin_port.proofs.http_requests.read_http_request.Goals as goal
 
