@@ -24,17 +24,15 @@ second-none (Some e) b h = cc
 faultless : (index : ℕ) (roster : List Definition) (u : Update) → fault_in index (table_at roster u.table) u ≡ None → IsUpdateFor roster u
 faultless index roster u h = at (table_at roster u.table) refl
   where
-    parts : (d : Definition) (b : Bool) → fits d u ≡ b → (life : Option ℕ) → u.life ≡ life → fault_in index (Some d) u ≡ None → (fits d u ≡ true) × ((life : ℕ) × (u.life ≡ Some life))
-    parts d true e (Some life) f none = (e, (life, f))
-    parts d true e None f none = let bad : Some (errors.Untimed index) ≡ None = sym (rw (e, f) refl) ∙ none in absurd (cc)
-    parts d false e life f none = let bad : Some (errors.Misfit index) ≡ None = sym (rw e refl) ∙ none in absurd (cc)
+    parts : (d : Definition) (b : Bool) → fits d u ≡ b → fault_in index (Some d) u ≡ None → fits d u ≡ true
+    parts d true e none = e
+    parts d false e none = let bad : Some (errors.Misfit index) ≡ None = sym (rw e refl) ∙ none in absurd (cc)
 
     at : (o : Option Definition) → table_at roster u.table ≡ o → IsUpdateFor roster u
     at None e = let bad : Some (errors.NoTable index) ≡ None = sym (rw e refl) ∙ h in absurd (cc)
     at (Some d) e =
         let none : fault_in index (Some d) u ≡ None = ap (λ (o : Option Definition). fault_in index o u) (sym e) ∙ h in
-        let both = parts d (fits d u) refl u.life refl none in
-        (d, e, both.0, both.1)
+        (d, e, parts d (fits d u) refl none)
 
 all_faultless : (index : ℕ) (roster : List Definition) (us : List Update) → faults_from index roster us ≡ None → AllByRecursion (IsUpdateFor roster) us
 all_faultless index roster [] h = tt
@@ -43,35 +41,35 @@ all_faultless index roster (u ∷ us) h =
 
 -- and an update for the roster has no fault
 no_fault : (index : ℕ) (roster : List Definition) (u : Update) → IsUpdateFor roster u → fault_in index (table_at roster u.table) u ≡ None
-no_fault index roster u (d, listed, fit, (life, timed)) = rw (listed, fit, timed) refl
+no_fault index roster u (d, listed, fit) = rw (listed, fit) refl
 
 no_faults : (index : ℕ) (roster : List Definition) (us : List Update) → AllByRecursion (IsUpdateFor roster) us → faults_from index roster us ≡ None
 no_faults index roster [] all = refl
 no_faults index roster (u ∷ us) all = rw (no_fault index roster u all.0) (no_faults (index + 1) roster us all.1)
 
--- at most 512 updates without a fault are a batch
-pub batch_of_parts : (roster : List Definition) (us : List Update) → length us ≤ 512 → faults_from 0 roster us ≡ None → IsBatchFor roster us
+-- at most 4,096 updates without a fault are a batch
+pub batch_of_parts : (roster : List Definition) (us : List Update) → length us ≤ 4096 → faults_from 0 roster us ≡ None → IsBatchFor roster us
 batch_of_parts roster us few none = (few, all_faultless 0 roster us none)
 
 pub batch_without_fault : (roster : List Definition) (us : List Update) → batch_fault roster us ≡ None → IsBatchFor roster us
-batch_without_fault roster us h = at (nat_lt 512 (length us)) refl
+batch_without_fault roster us h = at (nat_lt 4096 (length us)) refl
   where
-    at : (b : Bool) → nat_lt 512 (length us) ≡ b → IsBatchFor roster us
+    at : (b : Bool) → nat_lt 4096 (length us) ≡ b → IsBatchFor roster us
     at true e = let bad : Some errors.TooMany ≡ None = sym (rw e refl) ∙ h in absurd (cc)
     at false e = batch_of_parts roster us (grind (arith, nat_tests)) (sym (rw e refl) ∙ h)
 
 pub batch_has_no_fault : (roster : List Definition) (us : List Update) → IsBatchFor roster us → batch_fault roster us ≡ None
 batch_has_no_fault roster us (few, all) =
-    let small : nat_lt 512 (length us) ≡ false = grind (arith, nat_tests) in
+    let small : nat_lt 4096 (length us) ≡ false = grind (arith, nat_tests) in
     rw small (no_faults 0 roster us all)
 
 -- an update for a single table is one for every roster that has the table at its id
 update_of_one : (d : Definition) (roster : List Definition) (u : Update) → table_at roster d.id ≡ Some d → IsUpdateFor (d ∷ []) u → IsUpdateFor roster u
-update_of_one d roster u listed (e, found, fit, timed) = elim (cases_eq d.id u.table) [
+update_of_one d roster u listed (e, found, fit) = elim (cases_eq d.id u.table) [
   | inl same ↦
       let is : Some d ≡ Some e = sym (rw (eq-eqb d.id u.table same) refl) ∙ found in
       let there : table_at roster u.table ≡ Some e = ap (table_at roster) (sym same) ∙ listed ∙ is in
-      (e, there, fit, timed)
+      (e, there, fit)
   | inr other ↦ let bad : ◌≡◌ {A = Option Definition} None (Some e) = sym (rw (ne_eqb d.id u.table other) refl) ∙ found in absurd cc
 ]
 
@@ -82,8 +80,8 @@ updates_of_one d roster (u ∷ us) listed all = (update_of_one d roster u listed
 pub batch_of_one : (d : Definition) (roster : List Definition) (us : List Update) → table_at roster d.id ≡ Some d → IsBatchFor (d ∷ []) us → IsBatchFor roster us
 batch_of_one d roster us listed (few, all) = (few, updates_of_one d roster us listed all)
 
--- at most 512 updates are a batch for a roster if and only if they have no fault
-pub is_for : (roster : List Definition) (us : List Update) (r : Bool) → length us ≤ 512 → r ≡ is_none (faults_from 0 roster us) → (r ≡ true → IsBatchFor roster us) × (IsBatchFor roster us → r ≡ true)
+-- at most 4,096 updates are a batch for a roster if and only if they have no fault
+pub is_for : (roster : List Definition) (us : List Update) (r : Bool) → length us ≤ 4096 → r ≡ is_none (faults_from 0 roster us) → (r ≡ true → IsBatchFor roster us) × (IsBatchFor roster us → r ≡ true)
 is_for roster us r few is = (
   (λ yes. batch_of_parts roster us few (absent (faults_from 0 roster us) (sym is ∙ yes))),
   (λ batch. is ∙ ap is_none (no_faults 0 roster us batch.1)),

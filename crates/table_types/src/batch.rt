@@ -18,11 +18,11 @@ use std::sync::Arc;
 use thiserror::Error;
 
 /// Why a batch was refused. `TooMany` comes first. Otherwise the error names the least index with a fault, counted from
-/// 0, and the first of `NoTable`, `Misfit` and `Untimed` that applies there.
+/// 0, and the first of `NoTable` and `Misfit` that applies there.
 #[derive(Clone, Copy, Debug, PartialEq, Eq, Error)]
 pub enum BatchError {
-    /// There are more than 512 updates.
-    #[error("a batch has at most 512 updates")]
+    /// There are more than 4,096 updates.
+    #[error("a batch has at most 4096 updates")]
     TooMany,
     /// The roster has no table with the id of the update at this index.
     #[error("update {0} is of a table that the roster lacks")]
@@ -30,9 +30,6 @@ pub enum BatchError {
     /// The key, values, name or life of the update at this index doesn't fit its table.
     #[error("update {0} doesn't fit its table")]
     Misfit(usize),
-    /// The update at this index has no life.
-    #[error("update {0} has no life")]
-    Untimed(usize),
     /// Memory ran out.
     #[error("memory")]
     Memory,
@@ -46,7 +43,7 @@ impl From<Memory> for BatchError {
     }
 }
 
-/// At most 512 updates that fit the tables of the roster for which the batch was made. Copies of a batch share its
+/// At most 4,096 updates that fit the tables of the roster for which the batch was made. Copies of a batch share its
 /// updates.
 #[derive(Debug, Drop)]
 pub struct Batch {
@@ -62,7 +59,7 @@ impl Model for Batch {
 
     ghost view = { λ a. arc_value a.updates };
 
-    ghost invariant = { λ a. length (arc_value a.updates) ≤ 512 };
+    ghost invariant = { λ a. length (arc_value a.updates) ≤ 4096 };
 }
 
 fn fault_in(table: Option<&TableDef>, index: usize, update: &Update) -> Option<BatchError>
@@ -71,7 +68,6 @@ fn fault_in(table: Option<&TableDef>, index: usize, update: &Update) -> Option<B
     match table {
         None => Some(BatchError::NoTable(index)),
         Some(table) if !table.fits(update) => Some(BatchError::Misfit(index)),
-        Some(_) if update.life.is_none() => Some(BatchError::Untimed(index)),
         Some(_) => None,
     }
 }
@@ -109,7 +105,7 @@ fn fault_of_table(table: &TableDef, updates: &[Update]) -> Option<BatchError>
 
 impl Batch {
     /// The most updates that a batch can have.
-    pub const MOST: usize = 512;
+    pub const MOST: usize = 4096;
 
     /// Makes a batch of the updates, in this order, for `roster`. Refuses updates that don't fit the roster, as
     /// `BatchError` says.
@@ -175,7 +171,7 @@ impl Batch {
     /// Returns the updates in order.
     pub fn updates(&self) -> &[Update]
         ensures updates { result.now ≡ self.now }
-        ensures most { length self.now ≤ 512 }
+        ensures most { length self.now ≤ 4096 }
     {
         self.updates.as_slice()
     }

@@ -21,6 +21,7 @@ mod slot_ids;
 mod table_def;
 mod tracked;
 mod update;
+mod version;
 
 pub use batch::{Batch, BatchError};
 pub use change::Change;
@@ -39,3 +40,4 @@ pub use short_list::ShortList;
 pub use slot_ids::{SLOT_COUNT, is_slot};
 pub use table_def::{DefError, TableDef};
 pub use update::{Update, Value, are_same_updates, are_same_values};
+pub use version::Version;

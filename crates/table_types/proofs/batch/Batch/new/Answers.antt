@@ -8,7 +8,7 @@ pub of_fitting-requires : goal.of_fitting-requires
 of_fitting-requires c =
     let us : List Update = c.args.updates.items in
     let roster = c.args.roster.now in
-    let few : length us ≤ 512 = search rules in
+    let few : length us ≤ 4096 = search rules in
     let none : faults_from 0 roster us ≡ None = ap (λ (l : List Update). faults_from 0 roster l) (sym c.as_slice.ensures.value) ∙ sym c.fault_of.ensures ∙ c.in_default.is in
     (roster, batch_of_parts roster us few none)
 
@@ -16,6 +16,6 @@ pub returns-clause-made : goal.returns-clause-made
 returns-clause-made c =
     let us : List Update = c.args.updates.items in
     let roster = c.args.roster.now in
-    let few : length us ≤ 512 = search rules in
+    let few : length us ≤ 4096 = search rules in
     let none : faults_from 0 roster us ≡ None = ap (λ (l : List Update). faults_from 0 roster l) (sym c.as_slice.ensures.value) ∙ sym c.fault_of.ensures ∙ c.in_default.is in
     (c.in_ok-of_fitting.ensures, batch_of_parts roster us few none)

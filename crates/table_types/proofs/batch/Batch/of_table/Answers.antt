@@ -9,7 +9,7 @@ pub of_fitting-requires : goal.of_fitting-requires
 of_fitting-requires c =
     let us : List Update = c.args.updates.items in
     let roster : List Definition = c.args.table.now ∷ [] in
-    let few : length us ≤ 512 = search rules in
+    let few : length us ≤ 4096 = search rules in
     let none : faults_from 0 roster us ≡ None = ap (λ (l : List Update). faults_from 0 roster l) (sym c.as_slice.ensures.value) ∙ sym c.fault_of_table.ensures ∙ c.in_default.is in
     (roster, batch_of_parts roster us few none)
 
@@ -17,6 +17,6 @@ pub returns-clause-made : goal.returns-clause-made
 returns-clause-made c =
     let us : List Update = c.args.updates.items in
     let roster : List Definition = c.args.table.now ∷ [] in
-    let few : length us ≤ 512 = search rules in
+    let few : length us ≤ 4096 = search rules in
     let none : faults_from 0 roster us ≡ None = ap (λ (l : List Update). faults_from 0 roster l) (sym c.as_slice.ensures.value) ∙ sym c.fault_of_table.ensures ∙ c.in_default.is in
     (c.in_ok-of_fitting.ensures, batch_of_parts roster us few none)
