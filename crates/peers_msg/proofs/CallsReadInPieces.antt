@@ -30,7 +30,7 @@ feeds d mid e piece (Ok done) others ms (is_open, is) reads =
     fed received unread =
         subst (λ (bytes : List ℕ). AreReadInPieces d.received [] (bytes ∷ others) ms e.received e.unread) unread
         (subst (λ (h : Received). AreReadInPieces h [] (mid.unread ∷ others) ms e.received e.unread) received reads)
-feeds d mid e piece (Err faults.Memory) others ms (is_open, is) reads = reads_as d mid e others ms (ap (λ (x : Decoding). x.received) is) (ap (λ (x : Decoding). x.unread) is) reads
+feeds d mid e piece (Err faults.Memory) others ms (is_open, some, is) reads = reads_as d mid e others ms (ap (λ (x : Decoding). x.received) is) (ap (λ (x : Decoding). x.unread) is) reads
 feeds d mid e piece (Err faults.Closed) others ms (is_shut, is) reads = reads_as d mid e others ms (ap (λ (x : Decoding). x.received) is) (ap (λ (x : Decoding). x.unread) is) reads
 feeds d mid e piece (Err (faults.Breach breach)) others ms none reads = absurd none
 

@@ -19,10 +19,11 @@ pub record Decoding : Type 0 where
 abbrev pub begun : Received → Decoding
 begun received = record { received = received; unread = []; closed = false }
 
--- The result of feeding bytes. After a breach nothing is fed.
+-- The result of feeding bytes. After a breach nothing is fed. Only bytes need memory, and if it runs out, nothing
+-- changes.
 abbrev pub DecoderFeeds : Decoding → List ℕ → Result (Unit {0}) Fault → Decoding → Type 0
 DecoderFeeds d piece (Ok _) e = (d.closed ≡ false) × (e ≡ record { received = d.received; unread = d.unread ++ piece; closed = false })
-DecoderFeeds d piece (Err faults.Memory) e = (d.closed ≡ false) × (e ≡ d)
+DecoderFeeds d piece (Err faults.Memory) e = (d.closed ≡ false) × (piece ≢ []) × (e ≡ d)
 DecoderFeeds d piece (Err faults.Closed) e = (d.closed ≡ true) × (e ≡ d)
 DecoderFeeds d piece (Err (faults.Breach breach)) e = ⊥
 

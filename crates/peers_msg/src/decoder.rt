@@ -95,7 +95,8 @@ impl Decoder {
         self.unread.len()
     }
 
-    /// Appends the next piece of the stream. Returns `Closed` after a breach. Changes nothing if memory runs out.
+    /// Appends the next piece of the stream. Returns `Closed` after a breach. An empty piece needs no memory; after
+    /// `Memory` nothing has changed.
     pub fn feed(&mut self, piece: &[u8]) -> Result<(), Fault>
         ensures { DecoderFeeds self.old piece.now result self.new }
     {

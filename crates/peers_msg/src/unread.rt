@@ -1,6 +1,6 @@
 //! The bytes of a stream that were fed but not read.
 
-ghost use Rattle.std.specs.Prelude.{◌≡◌, ◌≤◌, ◌++◌, [], IfOk, IfSome, OnOk, OnErr, true, length, drop, option_map};
+ghost use Rattle.std.specs.Prelude.{◌≡◌, ◌≢◌, ◌≤◌, ◌++◌, [], IfOk, IfSome, OnOk, OnErr, true, length, drop, option_map};
 ghost use Rattle.peers_msg.specs.Borrowed.{Reads};
 ghost use Rattle.peers_msg.specs.BorrowedMessages.{owned_message};
 ghost use Rattle.peers_msg.specs.Decoding.{IsFrontOf};
@@ -74,11 +74,15 @@ impl Unread {
         self.bytes.as_slice()
     }
 
-    /// Appends the next piece of the stream. Changes nothing if memory runs out.
+    /// Appends the next piece of the stream. An empty piece needs no memory. Changes nothing if memory runs out.
     pub fn append(&mut self, piece: &[u8]) -> Result<(), Memory>
         ensures appended { OnOk result (self.new ≡ self.old ++ piece.now) }
         ensures stays { OnErr result (self.new ≡ self.old) }
+        ensures memory { OnErr result (piece.now ≢ []) }
     {
+        if piece.is_empty() {
+            return Ok(());
+        }
         match self.bytes.extend_from_slice(piece) {
             Ok(()) => Ok(()),
             Err(_) => Err(Memory),
