@@ -22,10 +22,10 @@ kept_over_few (l ∷ ls) place = by (l.kept && is_inside place l) (kept_over_few
     by false few = omega arith
 
 -- if the counts at all places are less than the number of slots, so is each count
-pub room_kept : (slots : ℕ) (counts : List ℕ) (ls : List Link) → 1 ≤ slots → length counts ≡ 512 → AreWithin 512 ls → ((place : ℕ) → slice_index counts place ≡ kept_over ls place) → EachIndex counts (λ index. slice_index counts index < slots) → (place : ℕ) → kept_over ls place ≤ slots - 1
-room_kept slots counts ls some long within counted below place = elim (cases_lt place 512) [
+pub room_kept : (slots : ℕ) (counts : List ℕ) (ls : List Link) → 1 ≤ slots → length counts ≡ 4096 → AreWithin 4096 ls → ((place : ℕ) → slice_index counts place ≡ kept_over ls place) → EachIndex counts (λ index. slice_index counts index < slots) → (place : ℕ) → kept_over ls place ≤ slots - 1
+room_kept slots counts ls some long within counted below place = elim (cases_lt place 4096) [
   | inl before ↦ omega (arith, below place (omega arith), counted place)
-  | inr beyond ↦ omega (arith, over_none 512 place ls within beyond)
+  | inr beyond ↦ omega (arith, over_none 4096 place ls within beyond)
 ]
 
 -- and conversely

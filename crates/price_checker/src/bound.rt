@@ -30,12 +30,12 @@ fn saved_above(link: &RequestLink, prices: &[u64]) -> u64
     saving.saturating_sub(sum_of(&prices[link.from..link.to - 1]))
 }
 
-/// Returns the most that the links can save with `slots` slots, 1 to 128, as `prices` prove: at most 512 prices, each
+/// Returns the most that the links can save with `slots` slots, 1 to 128, as `prices` prove: at most 4,096 prices, each
 /// at most 2^32.
 pub fn bound(slots: usize, links: &[RequestLink], prices: &[u64]) -> u64
     requires slots { (1 ≤ slots) × (slots ≤ slot_count) }
-    requires prices { (length prices.now ≤ 512) × AllByRecursion (λ price. price ≤ 2 ^ 32) prices.now }
-    requires links { (length links.now ≤ 512) × AreWithin (length prices.now) links.now }
+    requires prices { (length prices.now ≤ 4096) × AllByRecursion (λ price. price ≤ 2 ^ 32) prices.now }
+    requires links { (length links.now ≤ 4096) × AreWithin (length prices.now) links.now }
     ensures { result ≡ bound slots links.now prices.now }
 {
     let mut above = 0;
@@ -45,9 +45,9 @@ pub fn bound(slots: usize, links: &[RequestLink], prices: &[u64]) -> u64
     (slots as u64 - 1) * sum_of(prices) + above
 }
 
-/// Returns what the kept links save. There are at most 512 links.
+/// Returns what the kept links save. There are at most 4,096 links.
 pub fn kept_savings(links: &[RequestLink]) -> u64
-    requires { length links.now ≤ 512 }
+    requires { length links.now ≤ 4096 }
     ensures { result ≡ kept_savings links.now }
 {
     let mut saved = 0;

@@ -28,7 +28,7 @@ impl Model for RequestLink {
     ghost inverse = { λ l. record { from = l.from; to = l.to; saving = l.saving; kept = l.kept } };
 }
 
-/// The links of at most 512 requests, in order. They are stored inline, without allocation.
+/// The links of at most 4,096 requests, in order. They are stored inline, without allocation.
 #[derive(Debug, Drop)]
 pub struct Links {
     links: [RequestLink; MOST_REQUESTS],
@@ -43,7 +43,7 @@ impl Model for Links {
 
     ghost view = { λ a. take a.count a.links };
 
-    ghost invariant = { λ a. (length a.links ≡ 512) × (a.count ≤ 512) };
+    ghost invariant = { λ a. (length a.links ≡ 4096) × (a.count ≤ 4096) };
 }
 
 impl Links {
@@ -63,9 +63,9 @@ impl Links {
         }
     }
 
-    /// Appends a link. There must be fewer than 512.
+    /// Appends a link. There must be fewer than 4,096.
     pub fn push(&mut self, link: RequestLink)
-        requires { length self.old < 512 }
+        requires { length self.old < 4096 }
         ensures { self.new ≡ self.old ++ link ∷ [] }
     {
         self.links[self.count] = link;
@@ -75,7 +75,7 @@ impl Links {
     /// Returns the links, in order.
     pub fn as_slice(&self) -> &[RequestLink]
         ensures links { result.now ≡ self.now }
-        ensures most { length self.now ≤ 512 }
+        ensures most { length self.now ≤ 4096 }
     {
         &self.links[..self.count]
     }

@@ -27,11 +27,11 @@ pub fn are_prices(prices: &[u64]) -> bool
 /// has a link, no place is inside more kept links than there are slots less one, and the kept links together save the
 /// most that links can save at these prices. Then no other choice of requests to read saves more. Doesn't allocate.
 ///
-/// There are 1 to 128 slots, at most as many held names, and at most 512 requests.
+/// There are 1 to 128 slots, at most as many held names, and at most 4,096 requests.
 pub fn check_plan(slots: usize, held: &[Name], requests: &[Request], plan: &Plan) -> bool
     requires slots { (1 ≤ slots) × (slots ≤ slot_count) }
     requires held { length held.now ≤ slots }
-    requires requests { length requests.now ≤ 512 }
+    requires requests { length requests.now ≤ 4096 }
     ensures { IsTrue result ↔ Accepts slots held.now requests.now plan.now }
 {
     let (keep, prices) = (plan.keep(), plan.prices());

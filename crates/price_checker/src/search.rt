@@ -47,7 +47,7 @@ fn is_linked(from: Option<usize>, kept: bool) -> bool
 /// Returns the links of `requests` if the names in `held` are held at the start, each with the mark of its request, and
 /// whether each kept request has a link.
 pub fn find_links(held: Held<'_>, requests: &[Request], keep: &[bool]) -> (Links, bool)
-    requires most { length requests.now ≤ 512 }
+    requires most { length requests.now ≤ 4096 }
     requires marks { length keep.now ≡ length requests.now }
     ensures links { result.0 ≡ links (names_held held.entry) requests.now keep.now }
     ensures linked { IsTrue result.1 ↔ AreLinked (at_start (names_held held.entry)) requests.now keep.now }

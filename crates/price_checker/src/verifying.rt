@@ -31,7 +31,7 @@ use table_types::{Batch, Memory, SLOT_COUNT, Update};
 
 /// Returns how many bytes reads can save at most in 128 slots, as `prices` prove.
 fn bound_shown(slots: &Slots, requests: &[Request], prices: &[u64]) -> u64
-    requires requests { length requests.now ≤ 512 }
+    requires requests { length requests.now ≤ 4096 }
     requires prices { (length prices.now ≡ length requests.now) × AllByRecursion (λ price. price ≤ 2 ^ 32) prices.now }
     ensures { result ≡ bound slot_count (all_links (names_in slots.now) requests.now) prices.now }
 {
@@ -56,7 +56,7 @@ fn named_count(updates: &[Update]) -> usize
 /// Returns what prices, one for each request, prove of a lesson of `size` bytes, for a batch with this costing from a
 /// state with these slots.
 fn shown_by_bound(slots: &Slots, costing: &Costing, size: usize, prices: &[u64]) -> Verdict
-    requires few { length costing.now.requests.items ≤ 512 }
+    requires few { length costing.now.requests.items ≤ 4096 }
     requires prices { (length prices.now ≡ length costing.now.requests.items) × AllByRecursion (λ price. price ≤ 2 ^ 32) prices.now }
     ensures { (k : KnownState) (us : List Update) → k.state.slots ≡ slots.now → costing.now.requests.items ≡ requests k us →
         costing.now.full ≡ full k.roster k.state us → Show k us prices.now size result }

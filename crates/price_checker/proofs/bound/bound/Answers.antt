@@ -12,11 +12,11 @@ sum_of-requires c = omega (arith, prices_sum c.args.prices.now c.requires.prices
 pub overflow_mul-result : goal.overflow_mul-result
 overflow_mul-result c =
     let fewer : c.args.slots - 1 ≤ 127 = omega arith in
-    let sum : c.sum_of.result ≤ 2 ^ 41 = omega (arith, prices_sum c.args.prices.now c.requires.prices.1) in
+    let sum : c.sum_of.result ≤ 2 ^ 44 = omega (arith, prices_sum c.args.prices.now c.requires.prices.1) in
     omega (arith, mul-le-mul fewer sum)
 
 pub overflow_add-result : goal.overflow_add-result
 overflow_add-result c =
     let fewer : c.args.slots - 1 ≤ 127 = omega arith in
-    let sum : c.sum_of.result ≤ 2 ^ 41 = omega (arith, prices_sum c.args.prices.now c.requires.prices.1) in
+    let sum : c.sum_of.result ≤ 2 ^ 44 = omega (arith, prices_sum c.args.prices.now c.requires.prices.1) in
     omega (arith, mul-le-mul fewer sum)

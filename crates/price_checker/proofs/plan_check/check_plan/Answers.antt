@@ -6,7 +6,7 @@ use Rattle.price_checker.proofs.plan_check.check_plan.Goals as goal
 
 pub have_room-requires-clause-within : goal.have_room-requires-clause-within
 have_room-requires-clause-within c =
-    found_within 512 c.args.held.now c.args.requests.now c.keep-keep.result.now c.as_slice-links.result.now c.requires.requests (c.as_slice-links.ensures.links ∙ c.find_links-found.ensures.links)
+    found_within 4096 c.args.held.now c.args.requests.now c.keep-keep.result.now c.as_slice-links.result.now c.requires.requests (c.as_slice-links.ensures.links ∙ c.find_links-found.ensures.links)
 
 pub bound-requires-clause-links : goal.bound-requires-clause-links
 bound-requires-clause-links c =

@@ -6,7 +6,7 @@ use Rattle.price_checker.proofs.room.kept_over.Goals as goal
 pub loop-link-init : goal.loop-link-init
 loop-link-init c = record {
   long = refl;
-  counted = λ place. ap (λ n. n + kept_over c.args.links.now place) (zero_at 512 place) ∙ zero-add (kept_over c.args.links.now place);
+  counted = λ place. ap (λ n. n + kept_over c.args.links.now place) (zero_at 4096 place) ∙ zero-add (kept_over c.args.links.now place);
 }
 
 pub add_inside-requires-clause-small : goal.add_inside-requires-clause-small

@@ -8,13 +8,13 @@ use Rattle.price_checker.proofs.verifying.bound_shown.Goals as goal
 pub bound-requires-clause-links : goal.bound-requires-clause-links
 bound-requires-clause-links c =
     let rs = c.args.requests.now in
-    let found : c.as_slice.result.now ≡ links (names_in c.args.slots.now) rs (take (length rs) (replicate 512 true)) = c.as_slice.ensures.links ∙ c.find_links-links.ensures.links in
-    (search rules, found_within (length c.args.prices.now) (names_in c.args.slots.now) rs (take (length rs) (replicate 512 true)) c.as_slice.result.now (omega arith) found)
+    let found : c.as_slice.result.now ≡ links (names_in c.args.slots.now) rs (take (length rs) (replicate 4096 true)) = c.as_slice.ensures.links ∙ c.find_links-links.ensures.links in
+    (search rules, found_within (length c.args.prices.now) (names_in c.args.slots.now) rs (take (length rs) (replicate 4096 true)) c.as_slice.result.now (omega arith) found)
 
 pub returns : goal.returns
 returns c =
     let rs = c.args.requests.now in
     let held = names_in c.args.slots.now in
-    let found : c.as_slice.result.now ≡ links held rs (take (length rs) (replicate 512 true)) = c.as_slice.ensures.links ∙ c.find_links-links.ensures.links in
-    let all : c.as_slice.result.now ≡ all_links held rs = found ∙ ap (links held rs) (all_marks rs 512 c.requires.requests) in
+    let found : c.as_slice.result.now ≡ links held rs (take (length rs) (replicate 4096 true)) = c.as_slice.ensures.links ∙ c.find_links-links.ensures.links in
+    let all : c.as_slice.result.now ≡ all_links held rs = found ∙ ap (links held rs) (all_marks rs 4096 c.requires.requests) in
     c.bound.ensures ∙ ap (λ (ls : List Link). bound 128 ls c.args.prices.now) all
