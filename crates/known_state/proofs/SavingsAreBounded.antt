@@ -5,7 +5,7 @@ use Rattle.std.proofs.lemmas.Bool.Decides.{nat_tests}
 use Rattle.std.proofs.lemmas.Nat.{mul-le}
 use Rattle.std.proofs.Math.Nat.{mul-add, mul_comm}
 use Rattle.known_state.specs.Requests.{Asked, read_savings}
-use Rattle.known_state.specs.Plans.{total, sum_of, Asking, at_start, after_request, Link, link_of, links_from, links, all_links, AreLinked, is_inside, kept_over, price_inside, kept_savings, bound}
+use Rattle.known_state.specs.Plans.{total, sum_of, Asking, at_start, after_request, Link, link_of, links_from, links, all_links, AreLinked, is_inside, kept_over, price_inside, kept_savings, bound, Plan, Accepts}
 
 -- ---- sums over lists
 
@@ -178,6 +178,11 @@ tight slots held rs keep prices as_many are well =
   where
     turned : (i : ℕ) → i + 1 ≡ 1 + i
     turned i = omega arith
+
+-- each of two accepted plans saves the bound of its own prices, and the other saves no more than that
+pub accepted_same : (slots : ℕ) (held : List (List ℕ)) (rs : List Asked) (one other : Plan) → Accepts slots held rs one → Accepts slots held rs other → kept_savings (links held rs one.keep) ≡ kept_savings (links held rs other.keep)
+accepted_same slots held rs one other first second =
+    omega (arith, first.tight, second.tight, savings_bounded slots held rs one.keep other.prices first.keep first.room, savings_bounded slots held rs other.keep one.prices second.keep second.room)
 
 -- ---- reads save what kept links save
 

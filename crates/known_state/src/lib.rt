@@ -26,9 +26,10 @@ pub use laws::{
     what_is_built, what_is_known_is_enough,
 };
 pub use plan_laws::{
-    accepted_is_shortest, carried_is_of_the_roster, fitting_prices_are_tight, links_go_forward,
-    names_to_keep, no_list_is_shorter, one_more_request, over_the_next_place, prices_add_up,
-    reads_need_slots, reads_save_by_links, savings_are_bounded, slots_stay, tight_is_shortest,
+    accepted_is_shortest, accepted_plans_save_the_same, carried_is_of_the_roster,
+    fitting_prices_are_tight, links_go_forward, names_to_keep, no_list_is_shorter,
+    one_more_request, over_the_next_place, prices_add_up, reads_need_slots, reads_save_by_links,
+    savings_are_bounded, slots_stay, tight_is_shortest,
 };
 pub use plans::Plan;
 pub use request::Request;

@@ -84,6 +84,13 @@ pub fn savings_are_bounded()
         kept_savings (links held rs keep) ≤ bound slots (all_links held rs) prices }
 {}
 
+/// Any two accepted plans for the same requests save equally much, whichever requests they keep.
+pub fn accepted_plans_save_the_same()
+    ensures { (slots : ℕ) (held : List (List ℕ)) (rs : List Asked) (one other : Plan) →
+        Accepts slots held rs one → Accepts slots held rs other →
+        kept_savings (links held rs one.keep) ≡ kept_savings (links held rs other.keep) }
+{}
+
 /// Prices prove that kept links save the bound if they fit: each place with a price is inside as many kept links as
 /// there are slots less one, a kept link saves no less than the prices inside it, and any other link no more.
 pub fn fitting_prices_are_tight()
