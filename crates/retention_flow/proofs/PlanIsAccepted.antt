@@ -13,7 +13,7 @@ abbrev plan_with : List Bool → List ℕ → Plan
 plan_with keep prices = record { keep = keep; prices = prices }
 
 pub taken_is_accepted : (slots : ℕ) (held : List (List ℕ)) (rs : List Asked) (hs room : List ℕ) (arcs : List RequestArc) (plan : Plan) (keep : List Bool) (prices : List ℕ) → plan ≡ record { keep = keep; prices = prices } → keep ≡ marks arcs → prices ≡ prices_of hs
-    → IsCalm hs room arcs → ((node : ℕ) → node < length hs → slice_index hs node ≤ 2 ^ 24) → IsRoom (slots - 1) room arcs → AreArcs (at_start held) rs arcs → Accepts slots held rs plan
+    → IsCalm hs room arcs → ((node : ℕ) → node < length hs → slice_index hs node ≤ 2 ^ 27) → IsRoom (slots - 1) room arcs → AreArcs (at_start held) rs arcs → Accepts slots held rs plan
 taken_is_accepted slots held rs hs room arcs plan keep prices is keep_is prices_is calm small spent are =
     subst (Accepts slots held rs) (sym (is ∙ ap (λ (k : List Bool). plan_with k prices) keep_is ∙ ap (λ (p : List ℕ). plan_with (marks arcs) p) prices_is))
     (calm_is_accepted slots held rs hs room arcs are calm (spent_by_arcs (slots - 1) held rs room arcs are (arcs-length (at_start held) rs arcs are) spent)

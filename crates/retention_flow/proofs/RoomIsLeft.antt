@@ -29,7 +29,7 @@ few_from node (arc ∷ arcs) place = by (arc.kept && eqb arc.from place) (few_fr
     by true few = omega arith
     by false few = omega arith
 
-pub counts-few : (arcs : List RequestArc) (over : List ℕ) → length arcs ≤ 512 → ((place : ℕ) → slice_index over place ≡ kept_over (links_of 0 arcs) (place + 1)) → (place : ℕ) → slice_index over place ≤ 512
+pub counts-few : (arcs : List RequestArc) (over : List ℕ) → length arcs ≤ 4096 → ((place : ℕ) → slice_index over place ≡ kept_over (links_of 0 arcs) (place + 1)) → (place : ℕ) → slice_index over place ≤ 4096
 counts-few arcs over most counted place = omega (arith, counted place, few_over 0 arcs (place + 1))
 
 -- ---- arcs that begin at nodes
@@ -38,7 +38,7 @@ counts-few arcs over most counted place = omega (arith, counted place, few_over 
 abbrev pub AreCounted : List RequestArc → ℕ → List ℕ → Type 0
 AreCounted arcs node begun = (place : ℕ) → slice_index begun place + kept_from (links_of node (drop node arcs)) place ≡ kept_from (links_of 0 arcs) place
 
-pub counted-few : (arcs : List RequestArc) (node : ℕ) (begun : List ℕ) → length arcs ≤ 512 → AreCounted arcs node begun → (place : ℕ) → slice_index begun place ≤ 512
+pub counted-few : (arcs : List RequestArc) (node : ℕ) (begun : List ℕ) → length arcs ≤ 4096 → AreCounted arcs node begun → (place : ℕ) → slice_index begun place ≤ 4096
 counted-few arcs node begun most counted place = omega (arith, counted place, few_from 0 arcs place)
 
 -- the element at an index within a list, whatever follows the list

@@ -91,17 +91,17 @@ fewer_unreached (Some other ∷ steps) (suc node) step below fresh = fewer_unrea
 
 -- ---- heights
 
--- no height is above 2^24
-pub heights_small : (hs room : List ℕ) (arcs : List RequestArc) (slots : ℕ) → length arcs ≤ 512 → 0 < slots → slice_index hs 0 ≡ 0 → IsCalm hs room arcs → IsRoom slots room arcs → GoBack arcs → SaveLittle arcs → (node : ℕ) → node < length hs → slice_index hs node ≤ 2 ^ 24
+-- no height is above 2^27
+pub heights_small : (hs room : List ℕ) (arcs : List RequestArc) (slots : ℕ) → length arcs ≤ 4096 → 0 < slots → slice_index hs 0 ≡ 0 → IsCalm hs room arcs → IsRoom slots room arcs → GoBack arcs → SaveLittle arcs → (node : ℕ) → node < length hs → slice_index hs node ≤ 2 ^ 27
 heights_small hs room arcs slots most some first calm spent back little node below =
     omega (arith, height_bounded hs room arcs slots node some first calm spent back little (omega (arith, calm.count)))
 
 -- nor is an arc's slack more than that plus what the arc saves
-pub slack_small : (hs room : List ℕ) (arcs : List RequestArc) (steps : List (Option Step)) (leaving : Leaving) → length hs ≡ length arcs + 1 → SaveLittle arcs → ((node : ℕ) → node < length hs → slice_index hs node ≤ 2 ^ 24)
-    → is_reached steps (length arcs) ≡ true → Leaves hs room arcs steps leaving → leaving.slack ≤ 2 ^ 25
+pub slack_small : (hs room : List ℕ) (arcs : List RequestArc) (steps : List (Option Step)) (leaving : Leaving) → length hs ≡ length arcs + 1 → SaveLittle arcs → ((node : ℕ) → node < length hs → slice_index hs node ≤ 2 ^ 27)
+    → is_reached steps (length arcs) ≡ true → Leaves hs room arcs steps leaving → leaving.slack ≤ 2 ^ 28
 slack_small hs room arcs steps leaving long little small last (most, residual, fresh, before) = by leaving.arc residual
   where
-    by : (residual : ResidualArc) → IsResidual hs room arcs residual leaving.node leaving.slack → leaving.slack ≤ 2 ^ 25
+    by : (residual : ResidualArc) → IsResidual hs room arcs residual leaving.node leaving.slack → leaving.slack ≤ 2 ^ 28
     by residuals.Start end = let bad : true ≡ false = sym last ∙ ap (is_reached steps) (sym end) ∙ fresh in absurd (cc)
     by residuals.Right (some, below, tight) = omega (arith, small leaving.node (omega arith))
     by residuals.Left (below, some, tight) = omega (arith, small leaving.node (omega arith))

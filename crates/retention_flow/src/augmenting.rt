@@ -16,8 +16,8 @@ fn augment_step(
     node: usize,
 ) -> usize
     requires count { length room.old ≡ length arcs.old }
-    requires small { length arcs.old ≤ 512 }
-    requires most { (place : ℕ) → place < length room.old → slice_index room.old place ≤ 512 }
+    requires small { length arcs.old ≤ 4096 }
+    requires most { (place : ℕ) → place < length room.old → slice_index room.old place ≤ 4096 }
     requires residual { (heights : List ℕ) × IsResidual heights room.old arcs.old residual node 0 }
     ensures room { room.new ≡ augmented_room residual node room.old }
     ensures arcs { arcs.new ≡ augmented_arcs residual node arcs.old }
@@ -47,11 +47,11 @@ fn augment_step(
 /// Augments along the path by which the first node is reached from the last, arc by arc. Afterwards each place has one
 /// slot fewer, free or used, and the heights are still calm.
 pub fn augment(room: &mut [usize], arcs: &mut [RequestArc], steps: &[Option<Step>])
-    requires small { length arcs.old ≤ 512 }
+    requires small { length arcs.old ≤ 4096 }
     requires back { GoBack arcs.old }
     requires little { SaveLittle arcs.old }
     requires reached { is_reached steps.now 0 ≡ true }
-    requires search { (heights : List ℕ) × (count : ℕ) × (slots : ℕ) × (slots ≤ 512)
+    requires search { (heights : List ℕ) × (count : ℕ) × (slots : ℕ) × (slots ≤ 4096)
         × IsCalm heights room.old arcs.old × IsSearch heights room.old arcs.old steps.now count × IsRoom slots room.old arcs.old }
     ensures turned { (heights : List ℕ) → (count slots : ℕ) → IsCalm heights room.old arcs.old → IsSearch heights room.old arcs.old steps.now count → IsRoom slots room.old arcs.old →
         IsCalm heights room.new arcs.new × IsRoom (slots - 1) room.new arcs.new }

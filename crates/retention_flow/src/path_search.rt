@@ -34,7 +34,7 @@ fn go_on(
     steps: &mut [Option<Step>],
     order: &mut Vec<usize>,
 ) -> Result<(), Memory>
-    requires most { length arcs.now ≤ 512 }
+    requires most { length arcs.now ≤ 4096 }
     requires back { GoBack arcs.now }
     requires little { SaveLittle arcs.now }
     requires calm { IsCalm heights.old room.now arcs.now }
@@ -64,7 +64,7 @@ fn reach_first(
     steps: &mut [Option<Step>],
     order: &mut Vec<usize>,
 ) -> Result<(), Memory>
-    requires most { length arcs.now ≤ 512 }
+    requires most { length arcs.now ≤ 4096 }
     requires back { GoBack arcs.now }
     requires little { SaveLittle arcs.now }
     requires calm { IsCalm heights.old room.now arcs.now }
@@ -92,7 +92,7 @@ pub fn search(
     arcs: &[RequestArc],
     later: &[usize],
 ) -> Result<Vec<Option<Step>>, Memory>
-    requires most { length arcs.now ≤ 512 }
+    requires most { length arcs.now ≤ 4096 }
     requires back { GoBack arcs.now }
     requires little { SaveLittle arcs.now }
     requires calm { IsCalm heights.old room.now arcs.now }
@@ -101,7 +101,7 @@ pub fn search(
     requires later { (length later.now ≡ length arcs.now) × ((node : ℕ) → node < length arcs.now → slice_index later.now node < length arcs.now) }
     ensures calm { IfOk result (λ steps. IsCalm heights.new room.now arcs.now) }
     ensures first { IfOk result (λ steps. slice_index heights.new 0 ≡ 0) }
-    ensures small { IfOk result (λ steps. (node : ℕ) → node < length heights.new → slice_index heights.new node ≤ 2 ^ 24) }
+    ensures small { IfOk result (λ steps. (node : ℕ) → node < length heights.new → slice_index heights.new node ≤ 2 ^ 27) }
     ensures reached { IfOk result (λ steps. is_reached steps.items 0 ≡ true) }
     ensures steps { IfOk result (λ steps. (count : ℕ) × IsSearch heights.new room.now arcs.now steps.items count) }
 {

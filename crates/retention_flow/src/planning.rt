@@ -68,14 +68,14 @@ fn take_away(
     room: &mut [usize],
     arcs: &mut [RequestArc],
 ) -> Result<(), Memory>
-    requires most { length arcs.old ≤ 512 }
+    requires most { length arcs.old ≤ 4096 }
     requires back { GoBack arcs.old }
     requires little { SaveLittle arcs.old }
     requires calm { IsCalm heights.old room.old arcs.old }
     requires zero { (node : ℕ) → slice_index heights.old node ≡ 0 }
-    requires room { (slots : ℕ) × (count ≤ slots) × (slots ≤ 512) × IsRoom slots room.old arcs.old }
+    requires room { (slots : ℕ) × (count ≤ slots) × (slots ≤ 4096) × IsRoom slots room.old arcs.old }
     ensures calm { IfOk result (λ done. IsCalm heights.new room.new arcs.new) }
-    ensures small { IfOk result (λ done. (node : ℕ) → node < length heights.new → slice_index heights.new node ≤ 2 ^ 24) }
+    ensures small { IfOk result (λ done. (node : ℕ) → node < length heights.new → slice_index heights.new node ≤ 2 ^ 27) }
     ensures room { IfOk result (λ done. (slots : ℕ) → IsRoom slots room.old arcs.old → IsRoom (slots - count) room.new arcs.new) }
     ensures arcs { IfOk result (λ done. (held : List (List ℕ)) → (rs : List Asked) → AreArcs (at_start held) rs arcs.old → AreArcs (at_start held) rs arcs.new) }
 {
@@ -95,12 +95,12 @@ fn best_plan(
     room: &mut [usize],
     arcs: &mut [RequestArc],
 ) -> Result<Plan, Memory>
-    requires most { length arcs.old ≤ 512 }
+    requires most { length arcs.old ≤ 4096 }
     requires back { GoBack arcs.old }
     requires little { SaveLittle arcs.old }
     requires calm { IsCalm heights.old room.old arcs.old }
     requires zero { (node : ℕ) → slice_index heights.old node ≡ 0 }
-    requires room { (slots : ℕ) × (count ≤ slots) × (slots ≤ 512) × IsRoom slots room.old arcs.old }
+    requires room { (slots : ℕ) × (count ≤ slots) × (slots ≤ 4096) × IsRoom slots room.old arcs.old }
     ensures { IfOk result (λ plan. (slots : ℕ) → (held : List (List ℕ)) → (rs : List Asked) →
         IsRoom (slots - 1 + count) room.old arcs.old → AreArcs (at_start held) rs arcs.old → Accepts slots held rs plan) }
 {
@@ -111,7 +111,7 @@ fn best_plan(
 /// Returns an accepted plan for `requests`, with `slots` slots, if the names in `held` are held at the start: no other
 /// choice of requests to read saves more bytes (profile).
 ///
-/// There are 1 to 128 slots, at most as many held names, and at most 512 requests.
+/// There are 1 to 128 slots, at most as many held names, and at most 4,096 requests.
 pub fn plan(
     alloc: Global,
     slots: usize,
@@ -120,7 +120,7 @@ pub fn plan(
 ) -> Result<Plan, PlanError>
     requires slots { (1 ≤ slots) × (slots ≤ slot_count) }
     requires held { length held.now ≤ slots }
-    requires requests { length requests.now ≤ 512 }
+    requires requests { length requests.now ≤ 4096 }
     ensures accepted { IfOk result (λ plan. Accepts slots held.now requests.now plan) }
 {
     let mut arcs = find_arcs(alloc, held, requests)?;

@@ -11,7 +11,7 @@ use table_types::Memory;
 
 /// Returns how many kept arcs begin at each node, from the first node on.
 fn kept_from(alloc: Global, arcs: &[RequestArc]) -> Result<Vec<usize>, Memory>
-    requires most { length arcs.now ≤ 512 }
+    requires most { length arcs.now ≤ 4096 }
     requires back { GoBack arcs.now }
     ensures { IfOk result (λ begun. (length begun.items ≡ length arcs.now) × ((node : ℕ) → slice_index begun.items node ≡ kept_from (links_of 0 arcs.now) node)) }
 {
@@ -27,7 +27,7 @@ fn kept_from(alloc: Global, arcs: &[RequestArc]) -> Result<Vec<usize>, Memory>
 /// Adds up along the places: turns how many kept arcs begin at each node into how many pass the place after it. The arc
 /// of the request at a place doesn't pass that place.
 fn add_up(arcs: &[RequestArc], counts: &mut [usize])
-    requires most { length arcs.now ≤ 512 }
+    requires most { length arcs.now ≤ 4096 }
     requires back { GoBack arcs.now }
     requires long { length counts.old ≡ length arcs.now }
     requires begun { (node : ℕ) → slice_index counts.old node ≡ kept_from (links_of 0 arcs.now) node }
@@ -46,7 +46,7 @@ fn add_up(arcs: &[RequestArc], counts: &mut [usize])
 
 /// Returns how many kept arcs pass each place, from place 1 on.
 fn kept_over(alloc: Global, arcs: &[RequestArc]) -> Result<Vec<usize>, Memory>
-    requires most { length arcs.now ≤ 512 }
+    requires most { length arcs.now ≤ 4096 }
     requires back { GoBack arcs.now }
     ensures { IfOk result (λ over. (length over.items ≡ length arcs.now) × ((place : ℕ) → slice_index over.items place ≡ kept_over (links_of 0 arcs.now) (place + 1))) }
 {
@@ -57,8 +57,8 @@ fn kept_over(alloc: Global, arcs: &[RequestArc]) -> Result<Vec<usize>, Memory>
 
 /// Returns the greatest of `counts` and `least`.
 fn greatest(least: usize, counts: &[usize]) -> usize
-    requires { (least ≤ 512) × ((index : ℕ) → slice_index counts.now index ≤ 512) }
-    ensures range { (least ≤ result) × (result ≤ 512) }
+    requires { (least ≤ 4096) × ((index : ℕ) → slice_index counts.now index ≤ 4096) }
+    ensures range { (least ≤ result) × (result ≤ 4096) }
     ensures most { (index : ℕ) → index < length counts.now → slice_index counts.now index ≤ result }
 {
     let mut most = least;
@@ -87,9 +87,9 @@ pub fn find_room(
     arcs: &[RequestArc],
 ) -> Result<(Vec<usize>, usize), Memory>
     requires slots { (1 ≤ slots) × (slots ≤ slot_count) }
-    requires most { length arcs.now ≤ 512 }
+    requires most { length arcs.now ≤ 4096 }
     requires back { GoBack arcs.now }
-    ensures { IfOk result (λ found. IsRoom found.1 found.0.items arcs.now × (slots - 1 ≤ found.1) × (found.1 ≤ 512)) }
+    ensures { IfOk result (λ found. IsRoom found.1 found.0.items arcs.now × (slots - 1 ≤ found.1) × (found.1 ≤ 4096)) }
 {
     let mut room = kept_over(alloc, arcs)?;
     let most = greatest(slots - 1, &room);

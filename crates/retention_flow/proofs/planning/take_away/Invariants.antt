@@ -8,7 +8,7 @@ abbrev pub invariant-loop : goal.invariant-loop
 invariant-loop l = record {
   calm : IsCalm l.heights l.room l.arcs;
   first : slice_index l.heights 0 ≡ 0;
-  small : (node : ℕ) → node < length l.heights → slice_index l.heights node ≤ 2 ^ 24;
+  small : (node : ℕ) → node < length l.heights → slice_index l.heights node ≤ 2 ^ 27;
   back : GoBack l.arcs;
   little : SaveLittle l.arcs;
   later : (length l.later.items ≡ length l.arcs) × ((node : ℕ) → node < length l.arcs → slice_index l.later.items node < length l.arcs);

@@ -4,4 +4,4 @@ use Rattle.retention_flow.proofs.room.find_room.Goals as goal
 
 pub greatest-most-requires : goal.greatest-most-requires
 greatest-most-requires c =
-    (omega arith, subst (λ (l : List ℕ). (place : ℕ) → slice_index l place ≤ 512) (sym c.deref.ensures.value) (counts-few c.args.arcs.now c.in_ok-room.room.items c.requires.most c.in_ok-room.ensures.1))
+    (omega arith, subst (λ (l : List ℕ). (place : ℕ) → slice_index l place ≤ 4096) (sym c.deref.ensures.value) (counts-few c.args.arcs.now c.in_ok-room.room.items c.requires.most c.in_ok-room.ensures.1))
