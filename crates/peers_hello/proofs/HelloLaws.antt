@@ -1,5 +1,5 @@
 -- A hello written for a peer is accepted.
-use Rattle.std.proofs.Common.{◌≡◌, ◌∙◌, ◌+◌, ◌-◌, ◌^◌, ◌<◌, ◌≤◌, ◌++◌, ◌&&◌, true, not, ℕ, List, [], ◌∷◌, ap, append_assoc, arith, length, refl, sym}
+use Rattle.std.proofs.Common.{◌≡◌, ◌∙◌, ◌+◌, ◌-◌, ◌^◌, ◌<◌, ◌≤◌, ◌++◌, ◌&&◌, true, not, ℕ, Some, List, [], ◌∷◌, ap, append_assoc, arith, drop, length, refl, sym}
 use Rattle.std.specs.Prelude.{◌==◌, nat_le, codes}
 use Rattle.std.specs.Fmt.{decimal}
 use Rattle.std.specs.List.{list_all}
@@ -9,10 +9,12 @@ use Rattle.std.proofs.lemmas.List.{length-append}
 use Rattle.std.proofs.lemmas.List.Folds.{list_all-append}
 use Rattle.std.proofs.lemmas.Str.Parse.{IsDigitsTest, numerals_by_value}
 use Rattle.table_types.specs.Names.{is_name}
+use Rattle.table_types.specs.declared.version.Version.{Version}
+use Rattle.table_types.specs.declared.version.Version.TheVariants as versions
 use Rattle.peers_hello.specs.declared.hello.Hello.{Hello}
 use Rattle.peers_hello.specs.declared.hello.Answer.TheVariants as answers
 use Rattle.peers_hello.specs.Lines.{is_same}
-use Rattle.peers_hello.specs.Hellos.{IsReadAsWritten, answer_of, answer_of_lines, hello_text, is_among, is_introduction, is_number, is_one_word}
+use Rattle.peers_hello.specs.Hellos.{IsReadAsWritten, answer_of, answer_of_lines, hello_text, is_among, is_greeting, is_introduction, is_number, is_one_word, version_of, version_text}
 use Rattle.peers_hello.proofs.LineLaws.{IsLine, Lacks, line_ended, past_stop, stands, until_stop}
 
 same_as_itself : (xs : List ℕ) → is_same xs xs ≡ true
@@ -67,6 +69,27 @@ numbered n small =
     let are = digits n small in
     grind (arith, nat_tests)
 
+-- ---- the first line
+
+abbrev first : Version → List ℕ
+first version = codes "HAProxyS " ++ version_text version
+
+first_begins : (version : Version) (xs rest : List ℕ) → (codes "HAProxyS " ++ (version_text version ++ xs)) ++ rest ≡ first version ++ (xs ++ rest)
+first_begins versions.V20 xs rest = refl
+first_begins versions.V21 xs rest = refl
+
+first_line : (version : Version) → IsLine (first version)
+first_line versions.V20 = record { lf = refl; cr = refl; short = omega arith }
+first_line versions.V21 = record { lf = refl; cr = refl; short = omega arith }
+
+first_greets : (version : Version) → is_greeting (first version) ≡ true
+first_greets versions.V20 = refl
+first_greets versions.V21 = refl
+
+first_tells : (version : Version) → version_of (drop 9 (first version)) ≡ Some version
+first_tells versions.V20 = refl
+first_tells versions.V21 = refl
+
 -- ---- three lines
 
 three_lines : (own_name : List ℕ) (peers : List (List ℕ)) (a b c rest : List ℕ) → IsLine a → IsLine b → IsLine c
@@ -98,10 +121,11 @@ joined a b c rest =
       append_assoc b (32 ∷ c) (10 ∷ rest),
     ) refl
 
-as_lines : (h : Hello) (rest : List ℕ) → hello_text h ++ rest ≡ codes "HAProxyS 2.1" ++ 10 ∷ (h.remote ++ 10 ∷ (third h ++ 10 ∷ rest))
+as_lines : (h : Hello) (rest : List ℕ) → hello_text h ++ rest ≡ first h.version ++ 10 ∷ (h.remote ++ 10 ∷ (third h ++ 10 ∷ rest))
 as_lines h rest =
     let end = h.local ++ 32 ∷ (decimal h.pid ++ 32 ∷ (decimal h.relative ++ 10 ∷ [])) in
-    ap (λ more. codes "HAProxyS 2.1\n" ++ more)
+    first_begins h.version (10 ∷ (h.remote ++ 10 ∷ end)) rest
+    ∙ ap (λ more. first h.version ++ 10 ∷ more)
     (append_assoc h.remote (10 ∷ end) rest ∙ ap (λ more. h.remote ++ 10 ∷ more) (joined h.local (decimal h.pid) (decimal h.relative) rest))
 
 named_line : (name : List ℕ) → is_name name ≡ true → is_one_word name ≡ true → IsLine name
@@ -150,10 +174,12 @@ introduces h pid relative named word =
 
 accepted : (h : Hello) (peers : List (List ℕ)) (used : ℕ) → h.pid < 2 ^ 32 → h.relative < 2 ^ 32 → is_name h.local ≡ true → is_one_word h.local ≡ true
     → is_among h.local peers ≡ true
-    → answer_of_lines h.remote peers (codes "HAProxyS 2.1") h.remote (third h) used ≡ answers.Accepted h.local used
+    → answer_of_lines h.remote peers (first h.version) h.remote (third h) used ≡ answers.Accepted h.local h.version used
 accepted h peers used pid relative named word among =
     rw (
+      first_greets h.version,
       introduces h pid relative named word,
+      first_tells h.version,
       same_as_itself h.remote,
       until_stop 32 h.local (decimal h.pid ++ 32 ∷ decimal h.relative) (word_lacks_space h.local word),
       among,
@@ -162,11 +188,10 @@ accepted h peers used pid relative named word among =
 pub read_as_written : IsReadAsWritten
 read_as_written h peers rest remote_named local_named pid relative remote_word local_word among =
     let lines = as_lines h rest in
-    let first : IsLine (codes "HAProxyS 2.1") = record { lf = refl; cr = refl; short = omega arith } in
     let long = length-append (hello_text h) rest in
     let used : length (hello_text h ++ rest) - length rest ≡ length (hello_text h) = omega (arith, long) in
     ap (answer_of h.remote peers) lines
-    ∙ three_lines h.remote peers (codes "HAProxyS 2.1") h.remote (third h) rest first (named_line h.remote remote_named remote_word) (third_line h pid relative local_named local_word)
+    ∙ three_lines h.remote peers (first h.version) h.remote (third h) rest (first_line h.version) (named_line h.remote remote_named remote_word) (third_line h pid relative local_named local_word)
     ∙ accepted h peers _ pid relative local_named local_word among
-    ∙ ap (λ all. answers.Accepted h.local (length all - length rest)) (sym lines)
-    ∙ ap (answers.Accepted h.local) used
+    ∙ ap (λ all. answers.Accepted h.local h.version (length all - length rest)) (sym lines)
+    ∙ ap (answers.Accepted h.local h.version) used

@@ -1,16 +1,17 @@
 -- A hello or a status, with more bytes after it.
-use Rattle.std.proofs.Common.{◌≡◌, ℕ, zero, suc, ◌+◌, ◌-◌, ◌≤◌, ◌<◌, Bool, true, false, ◌==◌, cond, List, [], ◌∷◌, ◌++◌, Option, Some, None, refl, sym, ap, ◌∙◌, subst, arith, drop, length}
+use Rattle.std.proofs.Common.{◌≡◌, ℕ, zero, suc, ◌+◌, ◌-◌, ◌≤◌, ◌<◌, Bool, true, false, ◌==◌, cond, List, [], ◌∷◌, ◌++◌, Option, Some, None, Result, Ok, Err, refl, sym, ap, ◌∙◌, subst, arith, drop, length}
 use Rattle.std.specs.Prelude.{nat_lt}
 use Rattle.std.proofs.lemmas.Bool.{false≢true, le-ltb, lt-ltb}
 use Rattle.std.proofs.lemmas.Bool.Decides.{nat_tests}
 use Rattle.std.proofs.lemmas.List.{drop-append-le, length-append}
+use Rattle.table_types.specs.declared.version.Version.{Version}
 use Rattle.peers_hello.specs.declared.hello.Answer.{Answer}
 use Rattle.peers_hello.specs.declared.hello.Answer.TheVariants as answers
 use Rattle.peers_hello.specs.declared.lines.NoLine.{NoLine}
 use Rattle.peers_hello.specs.declared.lines.NoLine.TheVariants as lacks
 use Rattle.peers_hello.specs.declared.status.Status.{Status}
 use Rattle.peers_hello.specs.declared.status.Status.TheVariants as statuses
-use Rattle.peers_hello.specs.Hellos.{answer_of, answer_of_lines, answered, decided, fault_of, is_among, local_of, refusal_of}
+use Rattle.peers_hello.specs.Hellos.{answer_of, answer_of_lines, answered, decided, is_among, judged, local_of}
 use Rattle.peers_hello.specs.Lines.{after_lines, line, no_line, no_lines, past, reason_before, until, without_cr}
 use Rattle.peers_hello.specs.Meetings.{Opens, Stays, by_answer, by_status, opens_if}
 use Rattle.peers_hello.specs.Statuses.{code_of, status_at, status_of, status_of_code}
@@ -218,9 +219,10 @@ after_less (suc n) bytes =
     let rest = after_less n (past 10 bytes) in
     omega (arith, one, rest)
 
-stays_decided : (code : Option ℕ) (name : List ℕ) (used : ℕ) (bytes more : List ℕ) → used ≤ length bytes → Stays (by_answer (decided code name used) bytes) more (by_answer (decided code name used) (bytes ++ more))
-stays_decided (Some code) name used bytes more within = refl
-stays_decided None name used bytes more within = ap Opens (drop-append-le used bytes more within)
+stays_decided : (judgement : Result Version ℕ) (is_peer : Bool) (name : List ℕ) (used : ℕ) (bytes more : List ℕ) → used ≤ length bytes → Stays (by_answer (decided judgement is_peer name used) bytes) more (by_answer (decided judgement is_peer name used) (bytes ++ more))
+stays_decided (Err code) is_peer name used bytes more within = refl
+stays_decided (Ok version) false name used bytes more within = refl
+stays_decided (Ok version) true name used bytes more within = ap Opens (drop-append-le used bytes more within)
 
 stays_answer : (own : List ℕ) (peers : List (List ℕ)) (a b : Answer) (bytes more : List ℕ) → Stays (by_answer a bytes) more (by_answer b (bytes ++ more)) → answer_of own peers bytes ≡ a → answer_of own peers (bytes ++ more) ≡ b
     → Stays (by_answer (answer_of own peers bytes) bytes) more (by_answer (answer_of own peers (bytes ++ more)) (bytes ++ more))
@@ -251,7 +253,7 @@ answer_stays_by own peers None bytes more is =
     ∙ ap (answer_of_lines own peers (line bytes) (line (past 10 bytes)) (line (past 10 (past 10 bytes)))) same_used in
     let here : answer_of own peers bytes ≡ to_lines own peers bytes = ap (λ (l : Option NoLine). answered l (to_lines own peers bytes) (length bytes)) is in
     let there : answer_of own peers (bytes ++ more) ≡ to_lines own peers bytes = ap (λ (l : Option NoLine). answered l (to_lines own peers (bytes ++ more)) (length (bytes ++ more))) (lines_none 3 bytes more is).0 ∙ same in
-    let decides = stays_decided (refusal_of (fault_of own (line bytes) (line (past 10 bytes)) (line (past 10 (past 10 bytes)))) (is_among (local_of (line (past 10 (past 10 bytes)))) peers)) (local_of (line (past 10 (past 10 bytes)))) used bytes more (omega arith) in
+    let decides = stays_decided (judged own (line bytes) (line (past 10 bytes)) (line (past 10 (past 10 bytes)))) (is_among (local_of (line (past 10 (past 10 bytes)))) peers) (local_of (line (past 10 (past 10 bytes)))) used bytes more (omega arith) in
     stays_answer own peers (to_lines own peers bytes) (to_lines own peers bytes) bytes more decides here there
 answer_stays_by own peers (Some lacks.TooLong) bytes more is =
     let here : answer_of own peers bytes ≡ answers.Refused 501 (length bytes) = ap (λ (l : Option NoLine). answered l (to_lines own peers bytes) (length bytes)) is in

@@ -22,7 +22,7 @@ by_status (statuses.Other used) bytes = Refuses
 
 abbrev pub by_answer : Answer → List ℕ → Meeting
 by_answer answers.More bytes = Waits
-by_answer (answers.Accepted name used) bytes = Opens (drop used bytes)
+by_answer (answers.Accepted name version used) bytes = Opens (drop used bytes)
 by_answer (answers.Refused code used) bytes = Refuses
 
 -- with more bytes after it, `m` is decided so

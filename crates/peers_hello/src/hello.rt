@@ -2,11 +2,11 @@
 
 ghost use Rattle.std.specs.Prelude.{◌≡◌, ◌≤◌, ◌-◌, true, false, None, Some, IfOk, IfErr, IfSome, OnOk, OnErr, ◌++◌, IsNone, length, drop};
 ghost use Rattle.peers_hello.specs.Lines.{line, past, after_lines, no_lines};
-ghost use Rattle.peers_hello.specs.Hellos.{hello_text, introduction_text, answer_of, IsAccepted, local_of, is_greeting, is_number, is_introduction, fault_of, is_among};
+ghost use Rattle.peers_hello.specs.Hellos.{hello_text, introduction_text, version_text, version_of, answer_of, IsAccepted, local_of, is_greeting, is_number, is_introduction, judged, is_among};
 
 use crate::lines::{NoLine, cut, is_same, split};
 use std::alloc::{AllocError, Global};
-use table_types::{Memory, Name, is_name};
+use table_types::{Memory, Name, Version, is_name};
 
 const PROTOCOL_ERROR: u16 = 501;
 
@@ -19,7 +19,7 @@ const UNKNOWN_PEER: u16 = 504;
 /// The hello with which a peer opens a session. It names the remote peer and the peer that sends it.
 ///
 /// ```text
-/// HAProxyS 2.1 LF
+/// HAProxyS SP VERSION LF
 /// REMOTE LF
 /// LOCAL SP PID SP RELATIVE LF
 /// ```
@@ -33,13 +33,16 @@ pub struct Hello {
     pub pid: u32,
     /// The number of that process among the sender's processes.
     pub relative: u32,
+    /// The version that the sender speaks, `2.0` or `2.1` in the first line.
+    pub version: Version,
 }
 
 /// The answer to a hello.
 #[derive(Debug, Drop, PartialEq, Eq)]
 pub enum Answer {
-    /// The hello is accepted: the name of the peer that sent it, and the hello's length in bytes.
-    Accepted(Name, usize),
+    /// The hello is accepted: the name of the peer that sent it, the version that it speaks, and the hello's length in
+    /// bytes.
+    Accepted(Name, Version, usize),
     /// The hello is refused: the status code to send, 501 to 504, and the number of bytes it answers.
     Refused(u16, usize),
     /// The hello isn't complete yet.
@@ -67,11 +70,12 @@ impl Hello {
             Err(NoLine::TooLong) => return Ok(Answer::Refused(PROTOCOL_ERROR, bytes.len())),
             Err(NoLine::More) => return Ok(Answer::More),
         };
-        if let Some(code) = fault_of(&lines, own) {
-            return Ok(Answer::Refused(code, lines.used));
-        }
+        let version = match judge(&lines, own) {
+            Ok(version) => version,
+            Err(code) => return Ok(Answer::Refused(code, lines.used)),
+        };
         match peer_called(peers, local_of(lines.third)) {
-            Some(peer) => Ok(Answer::Accepted(peer.copy(alloc)?, lines.used)),
+            Some(peer) => Ok(Answer::Accepted(peer.copy(alloc)?, version, lines.used)),
             None => Ok(Answer::Refused(UNKNOWN_PEER, lines.used)),
         }
     }
@@ -80,7 +84,9 @@ impl Hello {
 fn push_hello(alloc: Global, text: &mut Vec<u8>, hello: &Hello) -> Result<(), AllocError>
     ensures { OnOk result (text.new.items ≡ text.old.items ++ hello_text hello.now) }
 {
-    text.extend_from_slice(b"HAProxyS 2.1\n")?;
+    text.extend_from_slice(b"HAProxyS ")?;
+    text.extend_from_slice(text_of(hello.version))?;
+    text.push(b'\n')?;
     text.extend_from_slice(hello.remote.as_slice())?;
     text.push(b'\n')?;
     push_introduction(alloc, text, hello)
@@ -123,18 +129,42 @@ fn lines_of(bytes: &[u8]) -> Result<Lines<'_>, NoLine>
     })
 }
 
-/// Returns the status code of the first thing that is wrong with the lines, whichever peers are known.
-fn fault_of(lines: &Lines<'_>, own: &Name) -> Option<u16>
-    ensures { result ≡ fault_of own.now lines.now.first.now lines.now.second.now lines.now.third.now }
+/// Returns the version of the lines, or the status code of the first thing that is wrong with them, whichever peers are
+/// known.
+fn judge(lines: &Lines<'_>, own: &Name) -> Result<Version, u16>
+    ensures { result ≡ judged own.now lines.now.first.now lines.now.second.now lines.now.third.now }
 {
     if !is_greeting(lines.first) || !is_introduction(lines.third) {
-        return Some(PROTOCOL_ERROR);
+        return Err(PROTOCOL_ERROR);
     }
-    if !is_same(&lines.first[9..], b"2.1".as_slice()) {
-        return Some(BAD_VERSION);
-    }
+    let Some(version) = version_of(&lines.first[9..]) else {
+        return Err(BAD_VERSION);
+    };
     if !is_same(lines.second, own.as_slice()) {
-        return Some(OTHER_NAME);
+        return Err(OTHER_NAME);
+    }
+    Ok(version)
+}
+
+/// Returns a version's text in a first line.
+fn text_of(version: Version) -> &'static [u8]
+    ensures { result.now ≡ version_text version }
+{
+    match version {
+        Version::V20 => b"2.0",
+        Version::V21 => b"2.1",
+    }
+}
+
+/// Returns the version whose text is `text`, letter for letter.
+fn version_of(text: &[u8]) -> Option<Version>
+    ensures { result ≡ version_of text.now }
+{
+    if is_same(text, text_of(Version::V20)) {
+        return Some(Version::V20);
+    }
+    if is_same(text, text_of(Version::V21)) {
+        return Some(Version::V21);
     }
     None
 }
