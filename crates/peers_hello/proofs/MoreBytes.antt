@@ -234,8 +234,9 @@ stays_answer own peers a b bytes more stays is is' =
 abbrev to_lines : List ℕ → List (List ℕ) → List ℕ → Answer
 to_lines own peers bytes = answer_of_lines own peers (line bytes) (line (after_lines 1 bytes)) (line (after_lines 2 bytes)) (length bytes - length (after_lines 3 bytes))
 
-answer_stays_by : (own : List ℕ) (peers : List (List ℕ)) (lack : Option NoLine) (bytes more : List ℕ) → no_lines 3 bytes ≡ lack → Stays (by_answer (answer_of own peers bytes) bytes) more (by_answer (answer_of own peers (bytes ++ more)) (bytes ++ more))
-answer_stays_by own peers None bytes more is =
+-- once three lines stand, more bytes leave the answer to them as it is
+answer_none : (own : List ℕ) (peers : List (List ℕ)) (bytes more : List ℕ) → no_lines 3 bytes ≡ None → (answer_of own peers bytes ≡ to_lines own peers bytes) × (answer_of own peers (bytes ++ more) ≡ to_lines own peers bytes)
+answer_none own peers bytes more is =
     let first = reasons_none (no_line bytes) (no_lines 2 (past 10 bytes)) is in
     let second = reasons_none (no_line (past 10 bytes)) (no_lines 1 (past 10 (past 10 bytes))) first.1 in
     let third = reasons_none (no_line (past 10 (past 10 bytes))) None second.1 in
@@ -252,9 +253,14 @@ answer_stays_by own peers None bytes more is =
     ∙ ap (λ (l : List ℕ). answer_of_lines own peers (line bytes) (line (past 10 bytes)) l (length (bytes ++ more) - length (after_lines 3 (bytes ++ more)))) (ap line after_two ∙ same_line (past 10 (past 10 bytes)) more third.0)
     ∙ ap (answer_of_lines own peers (line bytes) (line (past 10 bytes)) (line (past 10 (past 10 bytes)))) same_used in
     let here : answer_of own peers bytes ≡ to_lines own peers bytes = ap (λ (l : Option NoLine). answered l (to_lines own peers bytes) (length bytes)) is in
-    let there : answer_of own peers (bytes ++ more) ≡ to_lines own peers bytes = ap (λ (l : Option NoLine). answered l (to_lines own peers (bytes ++ more)) (length (bytes ++ more))) (lines_none 3 bytes more is).0 ∙ same in
+    let there : answer_of own peers (bytes ++ more) ≡ to_lines own peers bytes = ap (λ (l : Option NoLine). answered l (to_lines own peers (bytes ++ more)) (length (bytes ++ more))) (lines_none 3 bytes more is).0 ∙ same in (here, there)
+
+answer_stays_by : (own : List ℕ) (peers : List (List ℕ)) (lack : Option NoLine) (bytes more : List ℕ) → no_lines 3 bytes ≡ lack → Stays (by_answer (answer_of own peers bytes) bytes) more (by_answer (answer_of own peers (bytes ++ more)) (bytes ++ more))
+answer_stays_by own peers None bytes more is =
+    let same = answer_none own peers bytes more is in
+    let used : ℕ = length bytes - length (after_lines 3 bytes) in
     let decides = stays_decided (judged own (line bytes) (line (past 10 bytes)) (line (past 10 (past 10 bytes)))) (is_among (local_of (line (past 10 (past 10 bytes)))) peers) (local_of (line (past 10 (past 10 bytes)))) used bytes more (omega arith) in
-    stays_answer own peers (to_lines own peers bytes) (to_lines own peers bytes) bytes more decides here there
+    stays_answer own peers (to_lines own peers bytes) (to_lines own peers bytes) bytes more decides same.0 same.1
 answer_stays_by own peers (Some lacks.TooLong) bytes more is =
     let here : answer_of own peers bytes ≡ answers.Refused 501 (length bytes) = ap (λ (l : Option NoLine). answered l (to_lines own peers bytes) (length bytes)) is in
     let there : answer_of own peers (bytes ++ more) ≡ answers.Refused 501 (length (bytes ++ more)) = ap (λ (l : Option NoLine). answered l (to_lines own peers (bytes ++ more)) (length (bytes ++ more))) (lines_long 3 bytes more is) in
@@ -268,3 +274,25 @@ status_stays bytes more = status_stays_by (no_line bytes) bytes more refl
 
 pub answer_stays : (own : List ℕ) (peers : List (List ℕ)) (bytes more : List ℕ) → Stays (by_answer (answer_of own peers bytes) bytes) more (by_answer (answer_of own peers (bytes ++ more)) (bytes ++ more))
 answer_stays own peers bytes more = answer_stays_by own peers (no_lines 3 bytes) bytes more refl
+
+-- ---- an accepted hello
+
+accepted_stays_by : (own : List ℕ) (peers : List (List ℕ)) (lack : Option NoLine) (bytes more name : List ℕ) (version : Version) (used : ℕ) → no_lines 3 bytes ≡ lack → answer_of own peers bytes ≡ answers.Accepted name version used → answer_of own peers (bytes ++ more) ≡ answers.Accepted name version used
+accepted_stays_by own peers None bytes more name version used is accepted =
+    let same = answer_none own peers bytes more is in
+    same.1 ∙ sym same.0 ∙ accepted
+accepted_stays_by own peers (Some lacks.TooLong) bytes more name version used is accepted =
+    let here : answer_of own peers bytes ≡ answers.Refused 501 (length bytes) = ap (λ (l : Option NoLine). answered l (to_lines own peers bytes) (length bytes)) is in
+    absurd (never_both (length bytes) name version used (sym here ∙ accepted))
+  where
+    never_both : (all : ℕ) (name : List ℕ) (version : Version) (used : ℕ) → answers.Refused 501 all ≡ answers.Accepted name version used → ⊥
+    never_both all name version used same = cc
+accepted_stays_by own peers (Some lacks.More) bytes more name version used is accepted =
+    let here : answer_of own peers bytes ≡ answers.More = ap (λ (l : Option NoLine). answered l (to_lines own peers bytes) (length bytes)) is in
+    absurd (never_both name version used (sym here ∙ accepted))
+  where
+    never_both : (name : List ℕ) (version : Version) (used : ℕ) → answers.More ≡ answers.Accepted name version used → ⊥
+    never_both name version used same = cc
+
+pub accepted_stays : (own : List ℕ) (peers : List (List ℕ)) (bytes more name : List ℕ) (version : Version) (used : ℕ) → answer_of own peers bytes ≡ answers.Accepted name version used → answer_of own peers (bytes ++ more) ≡ answers.Accepted name version used
+accepted_stays own peers bytes more name version used accepted = accepted_stays_by own peers (no_lines 3 bytes) bytes more name version used refl accepted

@@ -1,5 +1,7 @@
 //! Laws of the definitions.
-ghost use Rattle.std.specs.Prelude.{ℕ, List, ◌++◌};
+ghost use Rattle.std.specs.Prelude.{ℕ, List, ◌++◌, ◌≡◌};
+ghost use Rattle.table_types.specs.declared.version.Version.{Version};
+ghost use Rattle.peers_hello.specs.declared.hello.Answer.TheVariants as answers;
 ghost use Rattle.peers_hello.specs.Hellos.{IsReadAsWritten, answer_of};
 ghost use Rattle.peers_hello.specs.Meetings.{Stays, by_answer, by_status};
 ghost use Rattle.peers_hello.specs.Statuses.{status_of};
@@ -16,4 +18,6 @@ pub fn what_follows_decides_nothing()
     ensures status { (bytes more : List ℕ) → Stays (by_status (status_of bytes) bytes) more (by_status (status_of (bytes ++ more)) (bytes ++ more)) }
     ensures hello { (own : List ℕ) (peers : List (List ℕ)) (bytes more : List ℕ) →
         Stays (by_answer (answer_of own peers bytes) bytes) more (by_answer (answer_of own peers (bytes ++ more)) (bytes ++ more)) }
+    ensures accepted { (own : List ℕ) (peers : List (List ℕ)) (bytes more name : List ℕ) (version : Version) (used : ℕ) →
+        answer_of own peers bytes ≡ answers.Accepted name version used → answer_of own peers (bytes ++ more) ≡ answers.Accepted name version used }
 {}
