@@ -156,7 +156,7 @@ WritesOne roster k s u =
     × Agrees (knowledge_after k u) e
 
 writes_one : (roster : List Definition) (k : Knowledge) (s : State) (u : Update) → roster_fault roster ≡ None → AllByRecursion (λ d. is_definition d ≡ true) roster → AreOwn roster s.received.tables → Agrees k s → IsUpdateFor roster u → u.number < 2 ^ 32 → WritesOne roster k s u
-writes_one roster k s u sound formed own agrees (d, listed, fit, life) small =
+writes_one roster k s u sound formed own agrees (d, listed, fit) small =
     let id : d.id ≡ u.table = table_at-id roster u.table d listed in
     let by_id : table_at roster d.id ≡ Some d = listed_by_id roster u.table d listed in
     let is : is_definition d ≡ true = table_at-passes (λ (x : Definition). is_definition x ≡ true) roster u.table d formed listed in

@@ -43,7 +43,7 @@ fn mark_at(marks: &[bool], index: usize) -> bool
 /// index moves to the next request.
 fn retain_or_free(retained: &mut Retained, index: &mut usize, slot: Option<u8>, next: &[bool])
     requires slot { IfSome slot (λ id. is_slot id ≡ true) }
-    requires index { index.old < 512 }
+    requires index { index.old < 4096 }
     ensures retained { retained.new ≡ retained_after retained.old slot (slice_index_or next.now index.old false) }
     ensures index { index.new ≡ index_after index.old slot }
 {

@@ -43,9 +43,9 @@ pub fn joined(alloc: Global, mut pieces: Pieces) -> Result<Lesson, Memory>
 
 /// Returns the lesson that teaches the batch to a learner in the known state. It goes through the batch in order. If an
 /// update's table isn't selected, a message that selects it comes first: its definition if it isn't defined yet, and a
-/// switch otherwise. An update has its life, and its number unless that is one more than its table's last, modulo 2^32.
-/// Its name is read if the plan of the batch's requests keeps its request; otherwise it is written to the lowest slot
-/// whose present name no later update reads there.
+/// switch otherwise. An update is sent with its life if it has one, and with its number unless that is one more than its
+/// table's last, modulo 2^32. Its name is read if the plan of the batch's requests keeps its request; otherwise it is
+/// written to the lowest slot whose present name no later update reads there.
 ///
 /// The batch was made for the roster of the known state. No legal stream that carries the same updates in the same
 /// order has fewer bytes, and the lesson's prices, which are the plan's, prove it to any checker.
