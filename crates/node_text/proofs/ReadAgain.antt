@@ -1,6 +1,6 @@
 -- What is printed is read as what it was.
-use Rattle.std.proofs.Common.{◌≡◌, ◌∙◌, ◌+◌, ◌-◌, ◌*◌, ◌/◌, ◌%◌, ◌^◌, ◌<◌, ◌≤◌, inl, inr, true, ℕ, List, [], ◌∷◌, ap, arith, flat_map, get_or, refl, rules}
-use Rattle.std.specs.Prelude.{Some, option_map}
+use Rattle.std.proofs.Common.{◌≡◌, ◌∙◌, ◌+◌, ◌-◌, ◌*◌, ◌/◌, ◌%◌, ◌^◌, ◌<◌, ◌≤◌, inl, inr, true, false, ℕ, List, [], ◌∷◌, ap, arith, flat_map, get_or, refl, rules}
+use Rattle.std.specs.Prelude.{IfSome, None, Option, Some, option_map}
 use Rattle.std.specs.Fmt.{decimal}
 use Rattle.std.specs.List.{list_all}
 use Rattle.std.proofs.lemmas.Bool.{cases_lt, le-leb}
@@ -14,7 +14,9 @@ use Rattle.table_types.specs.declared.key.KeyKind.TheVariants as kinds
 use Rattle.table_types.specs.Keys.{key_fits}
 use Rattle.node_text.specs.Bytes.{byte_before, bytes_of, digit_for, digit_of, digits_of}
 use Rattle.node_text.specs.Keys.{AreBytes, IsWritable, key_of, key_text}
-use Rattle.node_text.specs.Numbers.{digits_from, is_digit, is_without_needless_zero, number_of}
+use Rattle.node_text.specs.Names.{is_dash}
+use Rattle.node_text.specs.Numbers.{digits_from, is_digit, is_without_needless_zero, number_of, number_or_dash}
+use Rattle.node_text.specs.Updates.{life_of}
 
 -- ---- bytes in hexadecimal
 
@@ -51,6 +53,19 @@ pub numbers_again : (n most : ℕ) → n ≤ most → n < 2 ^ 64 → number_of (
 numbers_again n most within small =
     let value : digits_from 0 (decimal n) ≡ n = digits_value-decimal own n small in
     rw (needs_no_zero n small, digits_decimal own n small, value, le-leb n most within) refl
+
+-- ---- lives
+
+not_dash : (word : List ℕ) (most n : ℕ) → number_of word most ≡ Some n → is_dash word ≡ false
+not_dash [] most n is = refl
+not_dash (b ∷ []) most n is = grind (arith, nat_tests)
+not_dash (b ∷ c ∷ word) most n is = refl
+
+pub lives_again : (life : Option ℕ) → IfSome life (λ milliseconds. milliseconds < 2 ^ 32) → life_of (number_or_dash life) ≡ Some life
+lives_again None below = refl
+lives_again (Some n) below =
+    let read = numbers_again n (2 ^ 32 - 1) (omega (arith, below)) (omega (arith, below)) in
+    rw (not_dash (decimal n) (2 ^ 32 - 1) n read) (ap (option_map Some) read)
 
 -- ---- keys
 

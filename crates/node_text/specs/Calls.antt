@@ -20,8 +20,8 @@ any_key_of kind word = or_key (key_of kind word) (or_key (key_of kinds.String wo
 
 -- ---- calls
 
--- a copy has a limit of 1 to 512, and the place of an event is below 2^63
+-- a copy has a limit of 1 to 4,096, and the place of an event is below 2^63
 abbrev pub IsCall : Call → Type 0
-IsCall (calls.Copy session kind limit now) = (1 ≤ limit) × (limit ≤ 512)
+IsCall (calls.Copy session kind limit now) = (1 ≤ limit) × (limit ≤ 4096)
 IsCall (calls.Event place) = place < 2 ^ 63
 IsCall call = Unit {0}

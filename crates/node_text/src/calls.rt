@@ -44,7 +44,7 @@ pub enum Call {
         session: u32,
         /// Which rows the batch is to have.
         kind: CopyKind,
-        /// The greatest number of rows: 1 to 512.
+        /// The greatest number of rows: 1 to 4,096.
         limit: usize,
         /// When they are copied.
         moment: Moment,

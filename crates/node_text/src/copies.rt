@@ -6,10 +6,10 @@ ghost use Rattle.node_text.specs.Copies.{copy_kind_name, copy_text};
 use crate::calls::Call;
 use crate::numbers::{moment, number_from_one, number32, push_spaced, push_word_and_number};
 use std::alloc::AllocError;
-use table_types::CopyKind;
+use table_types::{Batch, CopyKind};
 
 /// The greatest number of rows that a call copies.
-const MOST_COPIED: u32 = 512;
+const MOST_COPIED: u32 = Batch::MOST as u32;
 
 /// Reads a call `copy SESSION KIND LIMIT MOMENT`, where KIND is `push`, `resync` or `standing`, from the words after the first.
 pub(crate) fn copy_of(words: &[&[u8]]) -> Option<Call>

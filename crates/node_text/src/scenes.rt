@@ -19,7 +19,7 @@ pub struct Scene {
     pub last: Vec<(u64, u32)>,
     /// The names in dictionary slots at the start.
     pub slots: Slots,
-    /// The updates in the order of their lines: at most 512, each of which fits its table.
+    /// The updates in the order of their lines: at most 4,096, each of which fits its table.
     pub updates: Vec<Update>,
     /// The learner's moment.
     pub moment: Option<Moment>,

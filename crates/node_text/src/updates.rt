@@ -1,7 +1,7 @@
 //! Updates.
-ghost use Rattle.std.specs.Prelude.{◌≡◌, ◌++◌, true, IfOk, IsSome, OnOk, option_map};
+ghost use Rattle.std.specs.Prelude.{◌≡◌, ◌++◌, true, IfOk, OnOk, Some};
 ghost use Rattle.table_types.specs.Updates.{fits};
-ghost use Rattle.node_text.specs.Updates.{update_line, update_text};
+ghost use Rattle.node_text.specs.Updates.{life_of, update_line, update_text};
 
 use crate::error::LineError;
 use crate::keys::{key_of, push_key};
@@ -12,7 +12,7 @@ use std::alloc::{AllocError, Global};
 use table_types::{Key, TableDef, Update};
 
 /// Reads the update of a line `update ID NUMBER LIFE KEY VALUES.. NAME`, from the words after the table's id. It fits the
-/// table, and has a life.
+/// table.
 ///
 /// The last word is the server's name, or `-` for none, if the table stores a name; else it is a value.
 pub(crate) fn update_of(
@@ -20,7 +20,7 @@ pub(crate) fn update_of(
     table: &TableDef,
     words: &[&[u8]],
 ) -> Result<Update, LineError>
-    ensures { IfOk result (λ update. (update.table ≡ table.now.id) × (fits table.now update ≡ true) × IsSome update.life) }
+    ensures { IfOk result (λ update. (update.table ≡ table.now.id) × (fits table.now update ≡ true)) }
 {
     let [number, life, key, rest @ ..] = words else {
         return Err(LineError::Refused);
@@ -44,7 +44,8 @@ pub(crate) fn update_with(
     key: Key,
     rest: &[&[u8]],
 ) -> Result<Update, LineError>
-    ensures { IfOk result (λ update. (update.table ≡ table.now.id) × (update.key ≡ key) × IsSome update.life) }
+    ensures update { IfOk result (λ update. (update.table ≡ table.now.id) × (update.key ≡ key)) }
+    ensures life { IfOk result (λ update. life_of life.now ≡ Some update.life) }
 {
     let (types, values, name) = if table.stores_name() {
         let (_, types) = table.types().split_last().ok_or(LineError::Refused)?;
@@ -56,11 +57,21 @@ pub(crate) fn update_with(
     Ok(Update {
         table: table.id(),
         number: number32(number).ok_or(LineError::Refused)?,
-        life: Some(number32(life).ok_or(LineError::Refused)?),
+        life: life_of(life).ok_or(LineError::Refused)?,
         key,
         values: values_of(alloc, types, values)?,
         name,
     })
+}
+
+/// Reads a life in milliseconds, or `-` for none.
+fn life_of(word: &[u8]) -> Option<Option<u32>>
+    ensures { result ≡ life_of word.now }
+{
+    match word {
+        [b'-'] => Some(None),
+        _ => Some(Some(number32(word)?)),
+    }
 }
 
 /// Appends the line of an update: `update`, the table's id, and the update, as a scene has it.
