@@ -28,7 +28,7 @@ use Rattle.session_core.specs.Phases as phases
 use Rattle.session_core.specs.Actions.{sends_control, status_text}
 use Rattle.session_core.specs.Courses.{Course, course_fed, table_to_ask}
 use Rattle.session_core.specs.Runs.{BringsBytes, HoldsBytes, IsBegun, Runs}
-use Rattle.session_core.specs.Sessions.{SessionState, Accepts, Connects, FinishesResync, Goes, GoesHello, GoesIn, GoesNew, GoesOpen, Greets, HasNothing, IsWelcomed, ReceivesBytes, Settles, StartsPendingResync, Turns}
+use Rattle.session_core.specs.Sessions.{SessionState, Accepts, Connects, FinishesResync, Goes, GoesHello, GoesIn, GoesNew, GoesOpen, Greets, HasNothing, IsWelcomed, ReceivesBytes, Settles, StartsPendingResync, Turns, only_v21}
 use Rattle.session_core.proofs.IntakeGoesOn.{append_good}
 use Rattle.session_core.proofs.ReceivingGoesOn.{received_good}
 
@@ -74,13 +74,13 @@ held_connects (statuses.Other used) s e bytes c acts good unread (is, ends) = he
 
 held_accepts : (answer : Answer) (s e : SessionState) (greeter : Greeter) (bytes : List ℕ) (c : Course) (acts : List Action) → IsBytes bytes → IsBytes c.intake.unread → Accepts answer s greeter bytes c acts e → HoldsBytes e.phase
 held_accepts answers.More s e greeter bytes c acts good unread (is, ends) = held e _ ends (good, unread)
-held_accepts (answers.Accepted name used) s e greeter bytes c acts good unread goes =
+held_accepts (answers.Accepted name version used) s e greeter bytes c acts good unread goes =
     held_received s e (course_fed c (drop used bytes)) (actions.Send (status_text 200) ∷ []) acts (fed_good c used bytes unread good) goes
 held_accepts (answers.Refused code used) s e greeter bytes c acts good unread (is, ends) = held e _ ends tt
 
 held_greets : (greeter : Greeter) (s e : SessionState) (bytes : List ℕ) (c : Course) (acts : List Action) → IsBytes bytes → IsBytes c.intake.unread → Greets s greeter bytes c acts e → HoldsBytes e.phase
 held_greets greeters.Connects s e bytes c acts good unread goes = held_connects (status_of bytes) s e bytes c acts good unread goes
-held_greets (greeters.Accepts own peers) s e bytes c acts good unread goes = held_accepts (answer_of own peers bytes) s e (greeters.Accepts own peers) bytes c acts good unread goes
+held_greets (greeters.Accepts own peers) s e bytes c acts good unread goes = held_accepts (only_v21 (answer_of own peers bytes)) s e (greeters.Accepts own peers) bytes c acts good unread goes
 
 held_hello : (s e : SessionState) (greeter : Greeter) (bytes : List ℕ) (c : Course) (event : Event) (acts : List Action) → IsBytes bytes × IsBytes c.intake.unread → BringsBytes event → GoesHello s greeter bytes c event acts e → HoldsBytes e.phase
 held_hello s e greeter bytes c (events.Bytes piece) acts holds brings goes = held_greets greeter s e (bytes ++ piece) c acts (append_good bytes piece holds.0 brings) holds.1 goes

@@ -26,7 +26,7 @@ use Rattle.session_core.specs.Phases as phases
 use Rattle.session_core.specs.declared.share.Share.{Share}
 use Rattle.session_core.specs.Actions.{confirms, reopens, sends_control, status_text}
 use Rattle.session_core.specs.Courses.{Course, course_fed, table_to_ask, finished}
-use Rattle.session_core.specs.Sessions.{SessionState, GoesIn, GoesNew, GoesHello, GoesOpen, Concludes, ReceivesBytes, IsWelcomed, Connects, Accepts, Greets, Turns, HasNothing, FinishesResync, StartsPendingResync, Settles}
+use Rattle.session_core.specs.Sessions.{SessionState, GoesIn, GoesNew, GoesHello, GoesOpen, Concludes, ReceivesBytes, IsWelcomed, Connects, Accepts, Greets, Turns, HasNothing, FinishesResync, StartsPendingResync, Settles, only_v21}
 use Rattle.session_core.specs.Runs.{Runs, IsBegun, was_confirmed}
 use Rattle.session_core.proofs.EndLemmas.{no_control}
 
@@ -84,12 +84,12 @@ turned_away code = rw (no_control (decimal code) controls.ResyncConfirmed) refl
 
 said_accepts : (answer : Answer) (s : SessionState) (greeter : Greeter) (bytes : List ℕ) (c : Course) (acts : List Action) (e : SessionState) → Accepts answer s greeter bytes c acts e → IsSaid s acts e
 said_accepts answers.More s greeter bytes c acts e (is, ends) = unsaid s e _ acts [] is refl ends refl
-said_accepts (answers.Accepted name used) s greeter bytes c acts e goes = said_receives s (course_fed c (drop used bytes)) (actions.Send (status_text 200) ∷ []) acts e goes
+said_accepts (answers.Accepted name version used) s greeter bytes c acts e goes = said_receives s (course_fed c (drop used bytes)) (actions.Send (status_text 200) ∷ []) acts e goes
 said_accepts (answers.Refused code used) s greeter bytes c acts e (is, ends) = unsaid s e _ acts (actions.Send (status_text code) ∷ (actions.Close ∷ [])) is (turned_away code) ends refl
 
 said_greets : (s : SessionState) (greeter : Greeter) (bytes : List ℕ) (c : Course) (acts : List Action) (e : SessionState) → Greets s greeter bytes c acts e → IsSaid s acts e
 said_greets s greeters.Connects bytes c acts e goes = said_connects (status_of bytes) s bytes c acts e goes
-said_greets s (greeters.Accepts own peers) bytes c acts e goes = said_accepts (answer_of own peers bytes) s (greeters.Accepts own peers) bytes c acts e goes
+said_greets s (greeters.Accepts own peers) bytes c acts e goes = said_accepts (only_v21 (answer_of own peers bytes)) s (greeters.Accepts own peers) bytes c acts e goes
 
 said_hello : (s : SessionState) (greeter : Greeter) (bytes : List ℕ) (c : Course) (event : Event) (acts : List Action) (e : SessionState) → GoesHello s greeter bytes c event acts e → IsSaid s acts e
 said_hello s greeter bytes c (events.Bytes piece) acts e goes = said_greets s greeter (bytes ++ piece) c acts e goes

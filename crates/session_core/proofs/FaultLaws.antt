@@ -24,7 +24,7 @@ use Rattle.session_core.specs.Phases.{Phase}
 use Rattle.session_core.specs.Phases as phases
 use Rattle.session_core.specs.Actions.{sends_control, status_text}
 use Rattle.session_core.specs.Courses.{Course, course_fed, table_to_ask}
-use Rattle.session_core.specs.Sessions.{SessionState, GoesIn, GoesNew, GoesHello, GoesOpen, Concludes, ReceivesBytes, IsWelcomed, Connects, Accepts, Greets, Turns, HasNothing, FinishesResync, StartsPendingResync, Settles}
+use Rattle.session_core.specs.Sessions.{SessionState, GoesIn, GoesNew, GoesHello, GoesOpen, Concludes, ReceivesBytes, IsWelcomed, Connects, Accepts, Greets, Turns, HasNothing, FinishesResync, StartsPendingResync, Settles, only_v21}
 use Rattle.session_core.specs.Runs.{Runs, IsBegun}
 
 -- the session is over or has no fault
@@ -68,12 +68,12 @@ unfaulted_connects (statuses.Other used) s bytes c acts e (is, ends) none = keep
 
 unfaulted_accepts : (answer : Answer) (s : SessionState) (greeter : Greeter) (bytes : List ℕ) (c : Course) (acts : List Action) (e : SessionState) → Accepts answer s greeter bytes c acts e → s.fault ≡ None → IsFaultless e
 unfaulted_accepts answers.More s greeter bytes c acts e (is, ends) none = keeps s e _ ends refl none
-unfaulted_accepts (answers.Accepted name used) s greeter bytes c acts e goes none = unfaulted_receives s (course_fed c (drop used bytes)) (actions.Send (status_text 200) ∷ []) acts e goes none
+unfaulted_accepts (answers.Accepted name version used) s greeter bytes c acts e goes none = unfaulted_receives s (course_fed c (drop used bytes)) (actions.Send (status_text 200) ∷ []) acts e goes none
 unfaulted_accepts (answers.Refused code used) s greeter bytes c acts e (is, ends) none = keeps s e _ ends refl none
 
 unfaulted_greets : (s : SessionState) (greeter : Greeter) (bytes : List ℕ) (c : Course) (acts : List Action) (e : SessionState) → Greets s greeter bytes c acts e → s.fault ≡ None → IsFaultless e
 unfaulted_greets s greeters.Connects bytes c acts e goes none = unfaulted_connects (status_of bytes) s bytes c acts e goes none
-unfaulted_greets s (greeters.Accepts own peers) bytes c acts e goes none = unfaulted_accepts (answer_of own peers bytes) s (greeters.Accepts own peers) bytes c acts e goes none
+unfaulted_greets s (greeters.Accepts own peers) bytes c acts e goes none = unfaulted_accepts (only_v21 (answer_of own peers bytes)) s (greeters.Accepts own peers) bytes c acts e goes none
 
 unfaulted_hello : (s : SessionState) (greeter : Greeter) (bytes : List ℕ) (c : Course) (event : Event) (acts : List Action) (e : SessionState) → GoesHello s greeter bytes c event acts e → s.fault ≡ None → IsFaultless e
 unfaulted_hello s greeter bytes c (events.Bytes piece) acts e goes none = unfaulted_greets s greeter (bytes ++ piece) c acts e goes none

@@ -27,7 +27,7 @@ use Rattle.session_core.specs.Phases as phases
 use Rattle.session_core.specs.Actions.{confirms, sends_control, status_text}
 use Rattle.learner.specs.Intake.{fed}
 use Rattle.session_core.specs.Courses.{Course, course_fed}
-use Rattle.session_core.specs.Sessions.{Accepts, Connects, GoesIn, Greets, IsWelcomed, ReceivesBytes, SessionState, ended, in_phase}
+use Rattle.session_core.specs.Sessions.{Accepts, Connects, GoesIn, Greets, IsWelcomed, ReceivesBytes, SessionState, ended, in_phase, only_v21}
 use Rattle.session_core.specs.Runs.{HoldsBytes, IsBegun, Runs}
 use Rattle.session_core.specs.Standing.{is_open}
 use Rattle.session_core.specs.Cutting.{IsFedOut}
@@ -68,12 +68,12 @@ status_confirms code acts = rw (no_control (decimal code) controls.ResyncConfirm
 
 accepts_meets : (answer : Answer) (s : SessionState) (greeter : Greeter) (bytes : List ℕ) (c : Course) (acts : List Action) (e : SessionState) → Accepts answer s greeter bytes c acts e → Met (by_answer answer bytes) s greeter bytes c acts e
 accepts_meets answers.More s greeter bytes c acts e goes = goes
-accepts_meets (answers.Accepted name used) s greeter bytes c acts e receives = (actions.Send (status_text 200) ∷ [], (plain_status 200 [], refl, refl), receives)
+accepts_meets (answers.Accepted name version used) s greeter bytes c acts e receives = (actions.Send (status_text 200) ∷ [], (plain_status 200 [], refl, refl), receives)
 accepts_meets (answers.Refused code used) s greeter bytes c acts e (is, ends) = (ap plain is ∙ plain_status code (actions.Close ∷ []), ap confirms is ∙ status_confirms code (actions.Close ∷ []), ends)
 
 greets_meets : (greeter : Greeter) (s : SessionState) (bytes : List ℕ) (c : Course) (acts : List Action) (e : SessionState) → Greets s greeter bytes c acts e → Met (meeting greeter bytes) s greeter bytes c acts e
 greets_meets greeters.Connects s bytes c acts e goes = connects_meets (status_of bytes) s bytes c acts e goes
-greets_meets (greeters.Accepts own peers) s bytes c acts e goes = accepts_meets (answer_of own peers bytes) s (greeters.Accepts own peers) bytes c acts e goes
+greets_meets (greeters.Accepts own peers) s bytes c acts e goes = accepts_meets (only_v21 (answer_of own peers bytes)) s (greeters.Accepts own peers) bytes c acts e goes
 
 -- ---- the bytes after them
 
@@ -91,12 +91,12 @@ status_good (statuses.Other used) bytes rest good is = cc
 
 answer_good : (answer : Answer) (bytes rest : List ℕ) → IsBytes bytes → by_answer answer bytes ≡ Opens rest → IsBytes rest
 answer_good answers.More bytes rest good is = cc
-answer_good (answers.Accepted name used) bytes rest good is = subst IsBytes (opened_rest (drop used bytes) rest is) (IsBytes-drop used bytes good)
+answer_good (answers.Accepted name version used) bytes rest good is = subst IsBytes (opened_rest (drop used bytes) rest is) (IsBytes-drop used bytes good)
 answer_good (answers.Refused code used) bytes rest good is = cc
 
 meeting_good : (greeter : Greeter) (bytes rest : List ℕ) → IsBytes bytes → meeting greeter bytes ≡ Opens rest → IsBytes rest
 meeting_good greeters.Connects bytes rest good is = status_good (status_of bytes) bytes rest good is
-meeting_good (greeters.Accepts own peers) bytes rest good is = answer_good (answer_of own peers bytes) bytes rest good is
+meeting_good (greeters.Accepts own peers) bytes rest good is = answer_good (only_v21 (answer_of own peers bytes)) bytes rest good is
 
 -- ---- events one after another
 

@@ -38,7 +38,7 @@ use Rattle.session_core.specs.Shares.{any_out, all_quiet, is_out, out_set, quiet
 use Rattle.session_core.specs.Actions.{sends_control, sends_acks, status_text, reopens}
 use Rattle.session_core.specs.Acks.{ack_of}
 use Rattle.session_core.specs.Courses.{Course, course_fed, teaching_anew, requested, acknowledged, ack_received, said, message_received, AreReceived, ReceivesAll, acks_given, table_to_ask}
-use Rattle.session_core.specs.Sessions.{SessionState, going, Concludes, ReceivesBytes, IsWelcomed, Connects, Accepts, Greets, GoesIn, GoesNew, GoesHello, GoesOpen, Turns, HasNothing, FinishesResync, StartsPendingResync, Settles}
+use Rattle.session_core.specs.Sessions.{SessionState, going, Concludes, ReceivesBytes, IsWelcomed, Connects, Accepts, Greets, GoesIn, GoesNew, GoesHello, GoesOpen, Turns, HasNothing, FinishesResync, StartsPendingResync, Settles, only_v21}
 use Rattle.session_core.specs.Paces.{inferred, is_ahead}
 use Rattle.session_core.specs.Standing.{StandingState, is_reopen, changed, teaches, shared, put_off, finished_if, finishing, begun_resync, Does, task_at, TakesTurn, Writes, answer_of_refusal, Stands, without_tables, leaving, heartbeats, TicksIn, caught_up_in}
 use Rattle.session_core.specs.StandingRuns.{Happening, At, Tick, CatchUp, Happens, Lasts, acts_of, leaves, was_left}
@@ -240,12 +240,12 @@ past_connects t (statuses.Other used) s bytes c given e none (is, ends) = ap (co
 
 past_accepts : (t : ℕ) (answer : Answer) (s : SessionState) (greeter : Greeter) (bytes : List ℕ) (c : Course) (given : List Action) (e : SessionState) → lists t c.shares ≡ false → Accepts answer s greeter bytes c given e → concerns t given ≡ false
 past_accepts t answers.More s greeter bytes c given e none (is, ends) = ap (concerns t) is
-past_accepts t (answers.Accepted name used) s greeter bytes c given e none goes = past_receives t s (course_fed c (drop used bytes)) (actions.Send (status_text 200) ∷ []) given e none refl goes
+past_accepts t (answers.Accepted name version used) s greeter bytes c given e none goes = past_receives t s (course_fed c (drop used bytes)) (actions.Send (status_text 200) ∷ []) given e none refl goes
 past_accepts t (answers.Refused code used) s greeter bytes c given e none (is, ends) = ap (concerns t) is
 
 past_greets : (t : ℕ) (s : SessionState) (greeter : Greeter) (bytes : List ℕ) (c : Course) (given : List Action) (e : SessionState) → lists t c.shares ≡ false → Greets s greeter bytes c given e → concerns t given ≡ false
 past_greets t s greeters.Connects bytes c given e none goes = past_connects t (status_of bytes) s bytes c given e none goes
-past_greets t s (greeters.Accepts own peers) bytes c given e none goes = past_accepts t (answer_of own peers bytes) s (greeters.Accepts own peers) bytes c given e none goes
+past_greets t s (greeters.Accepts own peers) bytes c given e none goes = past_accepts t (only_v21 (answer_of own peers bytes)) s (greeters.Accepts own peers) bytes c given e none goes
 
 past_bytes : (t : ℕ) (phase : Phase) (s : SessionState) (bytes : List ℕ) (given : List Action) (e : SessionState) → lists t (shared phase) ≡ false → GoesIn phase s (events.Bytes bytes) given e → concerns t given ≡ false
 past_bytes t (phases.New hello c) s bytes given e none goes = absurd goes

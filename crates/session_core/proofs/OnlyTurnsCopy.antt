@@ -26,7 +26,7 @@ use Rattle.session_core.specs.Phases as phases
 use Rattle.session_core.specs.Shares.{is_out}
 use Rattle.session_core.specs.Actions.{sends_control, status_text}
 use Rattle.session_core.specs.Courses.{Course, course_fed, acknowledged, ack_received, ReceivesAll, acks_given}
-use Rattle.session_core.specs.Sessions.{SessionState, Concludes, ReceivesBytes, IsWelcomed, Connects, Accepts, Greets, GoesIn, GoesNew, GoesHello, GoesOpen, HasNothing, FinishesResync, StartsPendingResync, Settles}
+use Rattle.session_core.specs.Sessions.{SessionState, Concludes, ReceivesBytes, IsWelcomed, Connects, Accepts, Greets, GoesIn, GoesNew, GoesHello, GoesOpen, HasNothing, FinishesResync, StartsPendingResync, Settles, only_v21}
 use Rattle.session_core.specs.Runs.{is_copy_of, copies}
 use Rattle.session_core.specs.Paces.{inferred, is_ahead}
 use Rattle.session_core.specs.Standing.{StandingState, is_reopen, Writes, answer_of_refusal, Stands}
@@ -58,12 +58,12 @@ copied_connects t (statuses.Other used) s bytes c given e (is, ends) = ap (copie
 
 copied_accepts : (t : ℕ) (answer : Answer) (s : SessionState) (greeter : Greeter) (bytes : List ℕ) (c : Course) (given : List Action) (e : SessionState) → Accepts answer s greeter bytes c given e → copies t given ≡ false
 copied_accepts t answers.More s greeter bytes c given e (is, ends) = ap (copies t) is
-copied_accepts t (answers.Accepted name used) s greeter bytes c given e goes = copied_receives t s (course_fed c (drop used bytes)) (actions.Send (status_text 200) ∷ []) given e (plain_status t 200) goes
+copied_accepts t (answers.Accepted name version used) s greeter bytes c given e goes = copied_receives t s (course_fed c (drop used bytes)) (actions.Send (status_text 200) ∷ []) given e (plain_status t 200) goes
 copied_accepts t (answers.Refused code used) s greeter bytes c given e (is, ends) = ap (copies t) is
 
 copied_greets : (t : ℕ) (s : SessionState) (greeter : Greeter) (bytes : List ℕ) (c : Course) (given : List Action) (e : SessionState) → Greets s greeter bytes c given e → copies t given ≡ false
 copied_greets t s greeters.Connects bytes c given e goes = copied_connects t (status_of bytes) s bytes c given e goes
-copied_greets t s (greeters.Accepts own peers) bytes c given e goes = copied_accepts t (answer_of own peers bytes) s (greeters.Accepts own peers) bytes c given e goes
+copied_greets t s (greeters.Accepts own peers) bytes c given e goes = copied_accepts t (only_v21 (answer_of own peers bytes)) s (greeters.Accepts own peers) bytes c given e goes
 
 copied_bytes : (t : ℕ) (phase : Phase) (s : SessionState) (bytes : List ℕ) (given : List Action) (e : SessionState) → GoesIn phase s (events.Bytes bytes) given e → copies t given ≡ false
 copied_bytes t (phases.New hello c) s bytes given e goes = absurd goes

@@ -31,7 +31,7 @@ use Rattle.session_core.specs.declared.share.Share.{Share}
 use Rattle.session_core.specs.Shares.{any_out, all_quiet, quiet_set}
 use Rattle.session_core.specs.Actions.{sends_control, status_text}
 use Rattle.session_core.specs.Courses.{Course, course_fed, ReceivesAll, acks_given, table_to_ask}
-use Rattle.session_core.specs.Sessions.{SessionState, Goes, GoesIn, GoesNew, GoesHello, GoesOpen, Concludes, ReceivesBytes, IsWelcomed, Connects, Accepts, Greets, Turns, HasNothing, FinishesResync, StartsPendingResync, Settles}
+use Rattle.session_core.specs.Sessions.{SessionState, Goes, GoesIn, GoesNew, GoesHello, GoesOpen, Concludes, ReceivesBytes, IsWelcomed, Connects, Accepts, Greets, Turns, HasNothing, FinishesResync, StartsPendingResync, Settles, only_v21}
 use Rattle.session_core.specs.Runs.{Runs, IsBegun, ends_resync, HasNothingLeft, HasNothingOut}
 use Rattle.session_core.proofs.ShareLemmas.{shares_in, ids_of, shares_begin, none_out, each_quiet}
 use Rattle.session_core.proofs.EndLemmas.{is_plain, plain_append, plain_all, plain_acks, plain_status, plain_reopens}
@@ -98,13 +98,13 @@ no_end_connects (statuses.Other used) s bytes c acts e (is, then) ends = no_end 
 
 no_end_accepts : {X : Type 0} (answer : Answer) (s : SessionState) (greeter : Greeter) (bytes : List ℕ) (c : Course) (acts : List Action) (e : SessionState) → Accepts answer s greeter bytes c acts e → ends_resync acts ≡ true → X
 no_end_accepts answers.More s greeter bytes c acts e (is, then) ends = no_end acts [] is refl ends
-no_end_accepts (answers.Accepted name used) s greeter bytes c acts e goes ends = no_end_receives s (course_fed c (drop used bytes)) (actions.Send (status_text 200) ∷ []) acts e (plain_status 0 200) goes ends
+no_end_accepts (answers.Accepted name version used) s greeter bytes c acts e goes ends = no_end_receives s (course_fed c (drop used bytes)) (actions.Send (status_text 200) ∷ []) acts e (plain_status 0 200) goes ends
 no_end_accepts (answers.Refused code used) s greeter bytes c acts e (is, then) ends =
     no_end acts ((actions.Send (status_text code) ∷ []) ++ (actions.Close ∷ [])) is (plain_append 0 (actions.Send (status_text code) ∷ []) (actions.Close ∷ []) (plain_status 0 code) (refl, refl)).0 ends
 
 no_end_greets : {X : Type 0} (s : SessionState) (greeter : Greeter) (bytes : List ℕ) (c : Course) (acts : List Action) (e : SessionState) → Greets s greeter bytes c acts e → ends_resync acts ≡ true → X
 no_end_greets s greeters.Connects bytes c acts e goes ends = no_end_connects (status_of bytes) s bytes c acts e goes ends
-no_end_greets s (greeters.Accepts own peers) bytes c acts e goes ends = no_end_accepts (answer_of own peers bytes) s (greeters.Accepts own peers) bytes c acts e goes ends
+no_end_greets s (greeters.Accepts own peers) bytes c acts e goes ends = no_end_accepts (only_v21 (answer_of own peers bytes)) s (greeters.Accepts own peers) bytes c acts e goes ends
 
 no_end_hello : {X : Type 0} (s : SessionState) (greeter : Greeter) (bytes : List ℕ) (c : Course) (event : Event) (acts : List Action) (e : SessionState) → GoesHello s greeter bytes c event acts e → ends_resync acts ≡ true → X
 no_end_hello s greeter bytes c (events.Bytes piece) acts e goes ends = no_end_greets s greeter (bytes ++ piece) c acts e goes ends

@@ -30,7 +30,7 @@ use Rattle.session_core.specs.Actions.{reopens, sends_control, status_text}
 use Rattle.session_core.specs.Courses.{Course, Answered, course_fed, finished, is_due, is_same_due, kind_of, none_due, table_to_ask, teaching_anew}
 use Rattle.session_core.specs.Shares.{out_set}
 use Rattle.session_core.specs.Runs.{BringsBytes, HoldsBytes, IsBegun, Runs}
-use Rattle.session_core.specs.Sessions.{SessionState, Accepts, Connects, FinishesResync, Goes, GoesHello, GoesIn, GoesNew, GoesOpen, Greets, HasNothing, IsWelcomed, Settles, StartsPendingResync, Turns, ended, going, in_phase, is_asked, is_asked_hello, is_asked_new, is_asked_open}
+use Rattle.session_core.specs.Sessions.{SessionState, Accepts, Connects, FinishesResync, Goes, GoesHello, GoesIn, GoesNew, GoesOpen, Greets, HasNothing, IsWelcomed, Settles, StartsPendingResync, Turns, ended, going, in_phase, is_asked, is_asked_hello, is_asked_new, is_asked_open, only_v21}
 use Rattle.session_core.proofs.IntakeGoesOn.{append_good}
 use Rattle.session_core.proofs.ReceivingGoesOn.{received_some}
 use Rattle.session_core.proofs.BytesStay.{fed_good, run_holds}
@@ -63,12 +63,12 @@ some_connect (statuses.Other used) s bytes c good unread = (actions.Close ∷ []
 
 some_accept : (answer : Answer) (s : SessionState) (greeter : Greeter) (bytes : List ℕ) (c : Course) → IsBytes bytes → IsBytes c.intake.unread → (acts : List Action) × (e : SessionState) × Accepts answer s greeter bytes c acts e
 some_accept answers.More s greeter bytes c good unread = ([], in_phase s (phases.Hello greeter bytes c), (refl, refl))
-some_accept (answers.Accepted name used) s greeter bytes c good unread = received_some s (course_fed c (drop used bytes)) (actions.Send (status_text 200) ∷ []) (fed_good c used bytes unread good)
+some_accept (answers.Accepted name version used) s greeter bytes c good unread = received_some s (course_fed c (drop used bytes)) (actions.Send (status_text 200) ∷ []) (fed_good c used bytes unread good)
 some_accept (answers.Refused code used) s greeter bytes c good unread = (actions.Send (status_text code) ∷ (actions.Close ∷ []), ended s, (refl, refl))
 
 some_greeting : (greeter : Greeter) (s : SessionState) (bytes : List ℕ) (c : Course) → IsBytes bytes → IsBytes c.intake.unread → (acts : List Action) × (e : SessionState) × Greets s greeter bytes c acts e
 some_greeting greeters.Connects s bytes c good unread = some_connect (status_of bytes) s bytes c good unread
-some_greeting (greeters.Accepts own peers) s bytes c good unread = some_accept (answer_of own peers bytes) s (greeters.Accepts own peers) bytes c good unread
+some_greeting (greeters.Accepts own peers) s bytes c good unread = some_accept (only_v21 (answer_of own peers bytes)) s (greeters.Accepts own peers) bytes c good unread
 
 some_hello : (s : SessionState) (greeter : Greeter) (bytes : List ℕ) (c : Course) (event : Event) → IsBytes bytes × IsBytes c.intake.unread → BringsBytes event → is_asked_hello event ≡ true
     → (acts : List Action) × (e : SessionState) × GoesHello s greeter bytes c event acts e

@@ -35,7 +35,7 @@ use Rattle.session_core.specs.Phases as phases
 use Rattle.session_core.specs.Shares.{any_out, all_quiet, is_out, quiet_set, unquieted}
 use Rattle.session_core.specs.Actions.{sends_control, status_text, reopens}
 use Rattle.session_core.specs.Courses.{Course, course_fed, teaching_anew, acknowledged, ack_received, ReceivesAll, acks_sent, acks_given, table_to_ask, none_due}
-use Rattle.session_core.specs.Sessions.{SessionState, is_asked, Concludes, ReceivesBytes, IsWelcomed, Connects, Accepts, Greets, GoesIn, GoesNew, GoesHello, GoesOpen, Turns, HasNothing, FinishesResync, StartsPendingResync, Settles}
+use Rattle.session_core.specs.Sessions.{SessionState, is_asked, Concludes, ReceivesBytes, IsWelcomed, Connects, Accepts, Greets, GoesIn, GoesNew, GoesHello, GoesOpen, Turns, HasNothing, FinishesResync, StartsPendingResync, Settles, only_v21}
 use Rattle.session_core.specs.Runs.{is_end, ends_resync, is_copy_of, copies, is_reopen_of, reopened, IsLeft, HasNothingLeft, HasNothingOut, IsBegun}
 use Rattle.session_core.specs.Paces.{inferred, is_ahead}
 use Rattle.session_core.specs.Standing.{StandingState, without_reopens, changed, teaches, shared, put_off, finished_if, finishing, begun_resync, Does, task_at, TakesTurn, Writes, answer_of_refusal, Stands, without_tables, leaving, heartbeats, TicksIn, Ticks, caught_up_in}
@@ -141,13 +141,13 @@ attended_connects ids steps (statuses.Other used) s bytes c event given acts e f
 
 attended_accepts : (ids : List ℕ) (steps : List (Event × List Action)) (answer : Answer) (s : SessionState) (greeter : Greeter) (bytes : List ℕ) (c : Course) (event : Event) (given acts : List Action) (e : SessionState) → IsFresh ids c → acts ≡ without_reopens given → Accepts answer s greeter bytes c given e → IsAttended ids steps c.teaching c.shares event given acts e
 attended_accepts ids steps answers.More s greeter bytes c event given acts e fresh is (all, ends) = (rest_at ids (with_step steps event acts) c.teaching c.shares e _ ends (fresh_off ids c fresh), ap ends_resync all)
-attended_accepts ids steps (answers.Accepted name used) s greeter bytes c event given acts e fresh is goes = attended ids steps s (course_fed c (drop used bytes)) event (actions.Send (status_text 200) ∷ []) given acts e (fresh_calm ids steps c fresh) (λ id. plain_status id 200) is goes
+attended_accepts ids steps (answers.Accepted name version used) s greeter bytes c event given acts e fresh is goes = attended ids steps s (course_fed c (drop used bytes)) event (actions.Send (status_text 200) ∷ []) given acts e (fresh_calm ids steps c fresh) (λ id. plain_status id 200) is goes
 attended_accepts ids steps (answers.Refused code used) s greeter bytes c event given acts e fresh is (all, ends) =
     (rest_at ids (with_step steps event acts) c.teaching c.shares e _ ends tt, ap ends_resync all ∙ (plain_append 0 (actions.Send (status_text code) ∷ []) (actions.Close ∷ []) (plain_status 0 code) (refl, refl)).0)
 
 attended_greets : (ids : List ℕ) (steps : List (Event × List Action)) (s : SessionState) (greeter : Greeter) (bytes : List ℕ) (c : Course) (event : Event) (given acts : List Action) (e : SessionState) → IsFresh ids c → acts ≡ without_reopens given → Greets s greeter bytes c given e → IsAttended ids steps c.teaching c.shares event given acts e
 attended_greets ids steps s greeters.Connects bytes c event given acts e fresh is goes = attended_connects ids steps (status_of bytes) s bytes c event given acts e fresh is goes
-attended_greets ids steps s (greeters.Accepts own peers) bytes c event given acts e fresh is goes = attended_accepts ids steps (answer_of own peers bytes) s (greeters.Accepts own peers) bytes c event given acts e fresh is goes
+attended_greets ids steps s (greeters.Accepts own peers) bytes c event given acts e fresh is goes = attended_accepts ids steps (only_v21 (answer_of own peers bytes)) s (greeters.Accepts own peers) bytes c event given acts e fresh is goes
 
 pub attended_in : (ids : List ℕ) (steps : List (Event × List Action)) (phase : Phase) (s : SessionState) (bytes : List ℕ) (given acts : List Action) (e : SessionState) → IsKeptIn ids steps phase → acts ≡ without_reopens given → GoesIn phase s (events.Bytes bytes) given e → IsAttended ids steps (teaches phase) (shared phase) (events.Bytes bytes) given acts e
 attended_in ids steps (phases.New hello c) s bytes given acts e kept is goes = absurd goes

@@ -37,7 +37,7 @@ use Rattle.session_core.specs.Shares.{any_out, all_quiet, is_out, out_set, quiet
 use Rattle.peers_hello.specs.Lines.{is_same}
 use Rattle.session_core.specs.Actions.{control_text, sends_control, status_text, reopens}
 use Rattle.session_core.specs.Courses.{Course, course_fed, teaching_anew, requested, acknowledged, ack_received, said, message_received, AreReceived, ReceivesAll, table_to_ask, finished}
-use Rattle.session_core.specs.Sessions.{SessionState, going, Concludes, ReceivesBytes, IsWelcomed, Connects, Accepts, Greets, GoesIn, GoesNew, GoesHello, GoesOpen, Turns, HasNothing, FinishesResync, StartsPendingResync, Settles}
+use Rattle.session_core.specs.Sessions.{SessionState, going, Concludes, ReceivesBytes, IsWelcomed, Connects, Accepts, Greets, GoesIn, GoesNew, GoesHello, GoesOpen, Turns, HasNothing, FinishesResync, StartsPendingResync, Settles, only_v21}
 use Rattle.session_core.specs.Runs.{is_end, ends_resync, IsBegun}
 use Rattle.session_core.specs.Paces.{Pace, inferred, is_ahead}
 use Rattle.session_core.specs.Standing.{StandingState, without_reopens, changed, teaches, shared, put_off, finished_if, finishing, begun_resync, Does, task_at, TakesTurn, Writes, answer_of_refusal, Stands, without_tables, leaving, any_left, heartbeats, TicksIn, caught_up_in, caught_up}
@@ -124,12 +124,12 @@ up_connects b (statuses.Other used) s bytes c acts e up (is, ends) = up_at b e _
 
 up_accepts : (b : Bool) (answer : Answer) (s : SessionState) (greeter : Greeter) (bytes : List ℕ) (c : Course) (acts : List Action) (e : SessionState) → c.up_to_date ≡ b → Accepts answer s greeter bytes c acts e → IsUp b e.phase
 up_accepts b answers.More s greeter bytes c acts e up (is, ends) = up_at b e _ ends up
-up_accepts b (answers.Accepted name used) s greeter bytes c acts e up goes = up_bytes b s (course_fed c (drop used bytes)) (actions.Send (status_text 200) ∷ []) acts e up goes
+up_accepts b (answers.Accepted name version used) s greeter bytes c acts e up goes = up_bytes b s (course_fed c (drop used bytes)) (actions.Send (status_text 200) ∷ []) acts e up goes
 up_accepts b (answers.Refused code used) s greeter bytes c acts e up (is, ends) = up_at b e _ ends tt
 
 up_greets : (b : Bool) (s : SessionState) (greeter : Greeter) (bytes : List ℕ) (c : Course) (acts : List Action) (e : SessionState) → c.up_to_date ≡ b → Greets s greeter bytes c acts e → IsUp b e.phase
 up_greets b s greeters.Connects bytes c acts e up goes = up_connects b (status_of bytes) s bytes c acts e up goes
-up_greets b s (greeters.Accepts own peers) bytes c acts e up goes = up_accepts b (answer_of own peers bytes) s (greeters.Accepts own peers) bytes c acts e up goes
+up_greets b s (greeters.Accepts own peers) bytes c acts e up goes = up_accepts b (only_v21 (answer_of own peers bytes)) s (greeters.Accepts own peers) bytes c acts e up goes
 
 up_hello : (b : Bool) (s : SessionState) (greeter : Greeter) (bytes : List ℕ) (c : Course) (event : Event) (acts : List Action) (e : SessionState) → c.up_to_date ≡ b → GoesHello s greeter bytes c event acts e → IsUp b e.phase
 up_hello b s greeter bytes c (events.Bytes piece) acts e up goes = up_greets b s greeter (bytes ++ piece) c acts e up goes

@@ -29,7 +29,7 @@ use Rattle.session_core.specs.declared.phase.Greeter.TheVariants as greeters
 use Rattle.session_core.specs.Phases.{Phase}
 use Rattle.session_core.specs.Phases as phases
 use Rattle.session_core.specs.Courses.{Course, AreReceived, Answered, Receives, ReceivesAll, IsHalted, acks_sent, course_fed, message_received, is_failure, table_to_ask}
-use Rattle.session_core.specs.Sessions.{SessionState, Accepts, Concludes, Connects, FinishesResync, Goes, GoesHello, GoesIn, GoesNew, GoesOpen, Greets, HasNothing, IsCopied, IsWelcomed, ReceivesBytes, Settles, StartsPendingResync, Turns, confirmed_by, ended, going}
+use Rattle.session_core.specs.Sessions.{SessionState, Accepts, Concludes, Connects, FinishesResync, Goes, GoesHello, GoesIn, GoesNew, GoesOpen, Greets, HasNothing, IsCopied, IsWelcomed, ReceivesBytes, Settles, StartsPendingResync, Turns, confirmed_by, ended, going, only_v21}
 
 -- two results that equal the same result are equal
 both : {given acts others : List Action} → {then e end : SessionState} → (acts ≡ given) × (e ≡ then) → (others ≡ given) × (end ≡ then) → (acts ≡ others) × (e ≡ end)
@@ -184,12 +184,12 @@ connects_once (statuses.Other used) s e end bytes c acts others p q = both p q
 
 accepts_once : (answer : Answer) (s e end : SessionState) (greeter : Greeter) (bytes : List ℕ) (c : Course) (acts others : List Action) → Accepts answer s greeter bytes c acts e → Accepts answer s greeter bytes c others end → (acts ≡ others) × (e ≡ end)
 accepts_once answers.More s e end greeter bytes c acts others p q = both p q
-accepts_once (answers.Accepted name used) s e end greeter bytes c acts others p q = bytes_once s e end (course_fed c (drop used bytes)) (actions.Send (status_text 200) ∷ []) acts others p q
+accepts_once (answers.Accepted name version used) s e end greeter bytes c acts others p q = bytes_once s e end (course_fed c (drop used bytes)) (actions.Send (status_text 200) ∷ []) acts others p q
 accepts_once (answers.Refused code used) s e end greeter bytes c acts others p q = both p q
 
 greets_once : (greeter : Greeter) (s e end : SessionState) (bytes : List ℕ) (c : Course) (acts others : List Action) → Greets s greeter bytes c acts e → Greets s greeter bytes c others end → (acts ≡ others) × (e ≡ end)
 greets_once greeters.Connects s e end bytes c acts others p q = connects_once (status_of bytes) s e end bytes c acts others p q
-greets_once (greeters.Accepts own peers) s e end bytes c acts others p q = accepts_once (answer_of own peers bytes) s e end _ bytes c acts others p q
+greets_once (greeters.Accepts own peers) s e end bytes c acts others p q = accepts_once (only_v21 (answer_of own peers bytes)) s e end _ bytes c acts others p q
 
 hello_once : (s e end : SessionState) (greeter : Greeter) (bytes : List ℕ) (c : Course) (event : Event) (acts others : List Action) → GoesHello s greeter bytes c event acts e → GoesHello s greeter bytes c event others end → (acts ≡ others) × (e ≡ end)
 hello_once s e end greeter bytes c (events.Bytes piece) acts others p q = greets_once greeter s e end (bytes ++ piece) c acts others p q

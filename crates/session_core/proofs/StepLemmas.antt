@@ -32,7 +32,7 @@ use Rattle.session_core.specs.Shares.{out_set, quiet_set, next_table}
 use Rattle.session_core.specs.Actions.{sends_control, sends_acks, status_text}
 use Rattle.peers_msg.specs.declared.control.Control.TheVariants as controls
 use Rattle.session_core.specs.Courses.{Course, course_fed, ReceivesAll, acks_given, acks_sent, table_to_ask, kind_of, teaching_anew}
-use Rattle.session_core.specs.Sessions.{SessionState, Concludes, ReceivesBytes, IsWelcomed, Connects, Accepts, Greets, GoesNew, GoesHello, GoesOpen, GoesIn, Turns, IsCopied, HasNothing, FinishesResync, StartsPendingResync, Settles}
+use Rattle.session_core.specs.Sessions.{SessionState, Concludes, ReceivesBytes, IsWelcomed, Connects, Accepts, Greets, GoesNew, GoesHello, GoesOpen, GoesIn, Turns, IsCopied, HasNothing, FinishesResync, StartsPendingResync, Settles, only_v21}
 use Rattle.session_core.specs.Runs.{copies, reopened, IsLeft, HasNothingLeft}
 use Rattle.session_core.proofs.ShareLemmas.{shares_in, set_at, never, out_set_in, quiet_set_in, IsFree, next_free, no_clash}
 use Rattle.session_core.proofs.EndLemmas.{is_plain, plain_append, plain_all, plain_acks, plain_status}
@@ -104,12 +104,12 @@ connects_kept ids steps (statuses.Other used) s bytes c acts e event fresh (is, 
 
 accepts_kept : (ids : List ℕ) (steps : List (Event × List Action)) (answer : Answer) (s : SessionState) (greeter : Greeter) (bytes : List ℕ) (c : Course) (acts : List Action) (e : SessionState) (event : Event) → IsFresh ids c → Accepts answer s greeter bytes c acts e → IsKeptIn ids (with_step steps event acts) e.phase
 accepts_kept ids steps answers.More s greeter bytes c acts e event fresh (is, ends) = stands ids _ e (phases.Hello greeter bytes c) (ap (λ (x : SessionState). x.phase) ends) fresh
-accepts_kept ids steps (answers.Accepted name used) s greeter bytes c acts e event fresh goes = receives_kept ids steps s (course_fed c (drop used bytes)) (actions.Send (status_text 200) ∷ []) acts e event (fresh_calm ids steps c fresh) (λ id. (plain_status id 200, refl)) goes
+accepts_kept ids steps (answers.Accepted name version used) s greeter bytes c acts e event fresh goes = receives_kept ids steps s (course_fed c (drop used bytes)) (actions.Send (status_text 200) ∷ []) acts e event (fresh_calm ids steps c fresh) (λ id. (plain_status id 200, refl)) goes
 accepts_kept ids steps (answers.Refused code used) s greeter bytes c acts e event fresh (is, ends) = stands ids (with_step steps event acts) e phases.Ended (ap (λ (x : SessionState). x.phase) ends) tt
 
 greets_kept : (ids : List ℕ) (steps : List (Event × List Action)) (s : SessionState) (greeter : Greeter) (bytes : List ℕ) (c : Course) (acts : List Action) (e : SessionState) (event : Event) → IsFresh ids c → Greets s greeter bytes c acts e → IsKeptIn ids (with_step steps event acts) e.phase
 greets_kept ids steps s greeters.Connects bytes c acts e event fresh goes = connects_kept ids steps (status_of bytes) s bytes c acts e event fresh goes
-greets_kept ids steps s (greeters.Accepts own peers) bytes c acts e event fresh goes = accepts_kept ids steps (answer_of own peers bytes) s (greeters.Accepts own peers) bytes c acts e event fresh goes
+greets_kept ids steps s (greeters.Accepts own peers) bytes c acts e event fresh goes = accepts_kept ids steps (only_v21 (answer_of own peers bytes)) s (greeters.Accepts own peers) bytes c acts e event fresh goes
 
 hello_kept : (ids : List ℕ) (steps : List (Event × List Action)) (s : SessionState) (greeter : Greeter) (bytes : List ℕ) (c : Course) (event : Event) (acts : List Action) (e : SessionState) → IsFresh ids c → GoesHello s greeter bytes c event acts e → IsKeptIn ids (with_step steps event acts) e.phase
 hello_kept ids steps s greeter bytes c (events.Bytes piece) acts e fresh goes = greets_kept ids steps s greeter (bytes ++ piece) c acts e (events.Bytes piece) fresh goes

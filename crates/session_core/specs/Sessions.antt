@@ -11,6 +11,7 @@ use Rattle.peers_msg.specs.declared.control.Control.TheVariants as controls
 use Rattle.peers_msg.specs.declared.control.ErrorKind.{ErrorKind}
 use Rattle.peers_msg.specs.declared.control.ErrorKind.TheVariants as kinds
 use Rattle.peers_hello.specs.declared.hello.Hello.{Hello}
+use Rattle.table_types.specs.declared.version.Version.TheVariants as versions
 use Rattle.peers_hello.specs.declared.hello.Answer.{Answer}
 use Rattle.peers_hello.specs.declared.hello.Answer.TheVariants as answers
 use Rattle.peers_hello.specs.declared.status.Status.{Status}
@@ -153,16 +154,21 @@ Connects statuses.More s bytes c acts e = Stays s (phases.Hello greeters.Connect
 Connects (statuses.Code code used) s bytes c acts e = IsWelcomed (code == 200) s c (drop used bytes) acts e
 Connects (statuses.Other used) s bytes c acts e = Closes s acts e
 
+-- Sessions of version 2.0 aren't taken yet: the answer to a hello of that version is 502, as it is for an unknown version.
+abbrev pub only_v21 : Answer → Answer
+only_v21 (answers.Accepted name versions.V20 used) = answers.Refused 502 used
+only_v21 answer = answer
+
 -- the session answers an accepted hello with status 200, and the bytes after it are messages; any other with its code
 abbrev pub Accepts : Answer → SessionState → Greeter → List ℕ → Course → List Action → SessionState → Type 0
 Accepts answers.More s greeter bytes c acts e = Stays s (phases.Hello greeter bytes c) acts e
-Accepts (answers.Accepted name used) s greeter bytes c acts e = ReceivesBytes s (course_fed c (drop used bytes)) (actions.Send (status_text 200) ∷ []) acts e
+Accepts (answers.Accepted name version used) s greeter bytes c acts e = ReceivesBytes s (course_fed c (drop used bytes)) (actions.Send (status_text 200) ∷ []) acts e
 Accepts (answers.Refused code used) s greeter bytes c acts e = (acts ≡ actions.Send (status_text code) ∷ (actions.Close ∷ [])) × (e ≡ ended s)
 
 -- by this node's side of the handshake, and the bytes so far
 abbrev pub Greets : SessionState → Greeter → List ℕ → Course → List Action → SessionState → Type 0
 Greets s greeters.Connects bytes c acts e = Connects (status_of bytes) s bytes c acts e
-Greets s (greeters.Accepts own peers) bytes c acts e = Accepts (answer_of own peers bytes) s (greeters.Accepts own peers) bytes c acts e
+Greets s (greeters.Accepts own peers) bytes c acts e = Accepts (only_v21 (answer_of own peers bytes)) s (greeters.Accepts own peers) bytes c acts e
 
 -- what follows in a session whose bytes so far amount to this
 abbrev pub Follows : Handshake → SessionState → Greeter → List ℕ → Course → List Action → SessionState → Type 0

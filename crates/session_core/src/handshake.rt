@@ -9,7 +9,7 @@ ghost use Rattle.session_core.specs.declared.action.Action.TheVariants as action
 ghost use Rattle.session_core.specs.declared.phase.Greeter.TheVariants as greeters;
 ghost use Rattle.session_core.specs.Actions.{status_text, sends_control};
 ghost use Rattle.session_core.specs.Courses.{Course};
-ghost use Rattle.session_core.specs.Sessions.{SessionState, Connects, Accepts, Greets, Follows};
+ghost use Rattle.session_core.specs.Sessions.{SessionState, Connects, Accepts, Greets, Follows, only_v21};
 
 use crate::action::{Action, only, push};
 use crate::phase::Greeter;
@@ -18,7 +18,9 @@ use itoa::Buffer;
 use peers_hello::{Answer, Hello, Status, read_status};
 use peers_msg::Control;
 use std::alloc::Global;
-use table_types::{Items, Memory, Name};
+use table_types::{Items, Memory, Name, Version};
+
+const BAD_VERSION: u16 = 502;
 
 /// What the received bytes of a hello or a status amount to.
 #[derive(Drop)]
@@ -89,6 +91,17 @@ fn receive_status(alloc: Global, bytes: &[u8]) -> Result<Handshake, Memory>
     }
 }
 
+/// Returns the answer to a hello of a peer that speaks version 2.1 alone, as a session does: one of version 2.0 is refused,
+/// as one of an unknown version.
+pub fn only_v21(answer: Answer) -> Answer
+    ensures { result ≡ only_v21 answer }
+{
+    match answer {
+        Answer::Accepted(_, Version::V20, used) => Answer::Refused(BAD_VERSION, used),
+        answer => answer,
+    }
+}
+
 /// Reads the received bytes of the remote peer's hello, which must name this node, `own`, and one of `peers`.
 fn receive_hello(
     alloc: Global,
@@ -96,11 +109,11 @@ fn receive_hello(
     peers: &[Name],
     bytes: &[u8],
 ) -> Result<Handshake, Memory>
-    ensures { IfOk result (λ handshake. (s : SessionState) (c : Course) (acts : List Action) (e : SessionState) → Follows handshake s (greeters.Accepts own.now peers.now) bytes.now c acts e → Accepts (answer_of own.now peers.now bytes.now) s (greeters.Accepts own.now peers.now) bytes.now c acts e) }
+    ensures { IfOk result (λ handshake. (s : SessionState) (c : Course) (acts : List Action) (e : SessionState) → Follows handshake s (greeters.Accepts own.now peers.now) bytes.now c acts e → Accepts (only_v21 (answer_of own.now peers.now bytes.now)) s (greeters.Accepts own.now peers.now) bytes.now c acts e) }
 {
-    match Hello::read(alloc, bytes, own, peers)? {
+    match only_v21(Hello::read(alloc, bytes, own, peers)?) {
         Answer::More => Ok(Handshake::Incomplete),
-        Answer::Accepted(_, used) => {
+        Answer::Accepted(_, _, used) => {
             let answer = only(alloc, Action::Send(status_text(alloc, 200)?))?;
             Ok(Handshake::Accepted { used, answer })
         }
