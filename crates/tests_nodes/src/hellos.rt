@@ -1,6 +1,7 @@
 //! Hellos and statuses, at the peer `b`, which knows the peer `a`: the bytes that each takes, which no far side sees.
 
 use peers_hello::Status;
+use table_types::Version;
 use tests_play_nodes::hellos::{Answered, first_misread, first_other_status};
 
 /// Lines without an end, of the most bytes that a line has, and of one more.
@@ -8,15 +9,23 @@ const LONGEST: &[u8] = &[b'x'; 512];
 
 const TOO_LONG: &[u8] = &[b'x'; 513];
 
-static HELLOS: [(&[u8], Answered); 21] = [
-    (b"HAProxyS 2.0\nc\na 1 1\n", Answered::Refused(502, 21)),
+static HELLOS: [(&[u8], Answered); 28] = [
+    (b"HAProxyS 2.2\nc\na 1 1\n", Answered::Refused(502, 21)),
+    (b"HAProxyS 2.0\nc\na 1 1\n", Answered::Refused(503, 21)),
     (b"HAProxyS 2.1\nc\na 1 1\n", Answered::Refused(503, 21)),
     (b"HAProxyS 2.1\nb\nz 1 1\n", Answered::Refused(504, 21)),
     (b"HAProxyX 2.1\nb\na 1 1\n", Answered::Refused(501, 21)),
-    (b"HAProxyS 2.1\nb\na 1 1\n", Answered::Accepted(21)),
+    (b"HAProxyS 2.1\nb\na 1 1\n", Answered::Accepted(Version::V21, 21)),
+    (b"HAProxyS 2.0\nb\na 1 1\n", Answered::Accepted(Version::V20, 21)),
     // Messages follow, and a CR ends each line.
-    (b"HAProxyS 2.1\nb\na 1 1\n\x00\x00", Answered::Accepted(21)),
-    (b"HAProxyS 2.1\r\nb\r\na 1 1\r\n", Answered::Accepted(24)),
+    (b"HAProxyS 2.1\nb\na 1 1\n\x00\x00", Answered::Accepted(Version::V21, 21)),
+    (b"HAProxyS 2.1\r\nb\r\na 1 1\r\n", Answered::Accepted(Version::V21, 24)),
+    // Versions that are not known, letter for letter.
+    (b"HAProxyS 2.00\nb\na 1 1\n", Answered::Refused(502, 22)),
+    (b"HAProxyS 2.01\nb\na 1 1\n", Answered::Refused(502, 22)),
+    (b"HAProxyS 02.0\nb\na 1 1\n", Answered::Refused(502, 22)),
+    (b"HAProxyS 2.0 \nb\na 1 1\n", Answered::Refused(502, 22)),
+    (b"HAProxyS \nb\na 1 1\n", Answered::Refused(502, 18)),
     // Hellos that are not whole, some with a wrong line.
     (b"", Answered::More),
     (b"HAProxyX 2.0\n", Answered::More),

@@ -2,11 +2,12 @@
 
 use peers_hello::{Answer, Hello, Status, read_status};
 use std::alloc::Global;
+use table_types::Version;
 use tests_play_data::parts::named;
 
-/// The answer expected to a hello, with the number of its bytes. The peer accepted is `a`.
+/// The answer expected to a hello, with the number of its bytes. The peer accepted is `a`, with a version.
 pub enum Answered {
-    Accepted(usize),
+    Accepted(Version, usize),
     Refused(u16, usize),
     More,
 }
@@ -20,8 +21,8 @@ fn answer(alloc: Global, bytes: &[u8]) -> Option<Answer> {
 
 fn is_answered(alloc: Global, bytes: &[u8], answered: &Answered) -> bool {
     match (answer(alloc, bytes), answered) {
-        (Some(Answer::Accepted(name, used)), Answered::Accepted(length)) => {
-            name.as_slice() == b"a".as_slice() && used == *length
+        (Some(Answer::Accepted(name, version, used)), Answered::Accepted(expected, length)) => {
+            name.as_slice() == b"a".as_slice() && version == *expected && used == *length
         }
         (Some(Answer::Refused(code, used)), Answered::Refused(expected, length)) => {
             code == *expected && used == *length

@@ -3,7 +3,7 @@
 use peers_hello::Hello;
 use session_core::Session;
 use std::alloc::Global;
-use table_types::{Name, Roster};
+use table_types::{Name, Roster, Version};
 use tests_play_data::parts::{TableParts, definition, named};
 
 /// Makes the roster of these tables.
@@ -23,6 +23,7 @@ fn hello(alloc: Global) -> Option<Hello> {
         local,
         pid: 1,
         relative: 1,
+        version: Version::V21,
     })
 }
 
