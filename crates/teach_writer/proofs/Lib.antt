@@ -9,3 +9,4 @@ pub mod LessonsAppend
 pub mod NextPieces
 pub mod PlannedNames
 pub mod MessageEnds
+pub mod OneLesson

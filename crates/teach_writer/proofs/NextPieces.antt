@@ -13,6 +13,7 @@ use Rattle.peers_msg.specs.Spelling.{spelled}
 use Rattle.known_state.specs.State.{State, Step, resolved_number, reads_empty}
 use Rattle.known_state.specs.LastNumbers.{last_of, set_last}
 use Rattle.known_state.specs.Known.{AreOwn, KnownState}
+use Rattle.known_state.specs.Plans.{Plan}
 use Rattle.known_state.specs.Cost.{is_selected, number_sent}
 use Rattle.known_state.proofs.ReceivedIsOwn.{table_at-id}
 use Rattle.known_state.proofs.FitsOrIsRefused.{selected-id}
@@ -127,12 +128,13 @@ none_sendable roster s (u ∷ us) are = absurd are
 -- ---- what is left of a lesson
 
 -- after its first message, the others are left, and the lesson is the same
-pub next_left : (k after : KnownState) (us rest : List Update) (ns others : List PlannedName) (ended : Bool) (prices : List ℕ) (m : Message) (piece : List ℕ) → piece ≡ spelled m → after.roster ≡ k.roster → IsFirst k.roster k.state us ns m after.state rest others
-    → IsNext (left_of k us ns ended prices) (Some piece) (left_of after rest others ended prices)
-next_left k after us rest ns others ended prices m piece is same (messages_are, state_is, are) = (
+pub next_left : (k after : KnownState) (us rest : List Update) (ns others : List PlannedName) (ended : Bool) (plan : Plan) (m : Message) (piece : List ℕ) → piece ≡ spelled m → after.roster ≡ k.roster → IsFirst k.roster k.state us ns m after.state rest others
+    → IsNext (left_of k us ns ended plan) (Some piece) (left_of after rest others ended plan)
+next_left k after us rest ns others ended plan m piece is same (messages_are, state_is, are) = (
   m,
   is,
   messages_are ∙ ap (λ (roster : List Definition). m ∷ messages_left roster after.state rest others) (sym same),
+  refl,
   refl,
   refl,
   ap (λ (roster : List Definition). record { roster = roster; state = state_left roster after.state rest others }) same ∙ ap (λ (s : State). record { roster = k.roster; state = s }) state_is,

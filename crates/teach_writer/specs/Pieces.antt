@@ -13,15 +13,17 @@ use Rattle.peers_msg.specs.Spelling.{spelled, stream_of}
 use Rattle.known_state.specs.State.{State, last_numbers_after, reads_empty, slots_after}
 use Rattle.known_state.specs.LastNumbers.{set_last}
 use Rattle.known_state.specs.Known.{KnownState}
+use Rattle.known_state.specs.Plans.{Plan}
 use Rattle.teach_writer.specs.Sending.{selection, update_sent}
 use Rattle.teach_writer.specs.declared.planned_name.PlannedName.{PlannedName}
 use Rattle.teach_writer.specs.declared.planned_name.PlannedName.TheVariants as planned
 
 -- What is left of a lesson: the messages that are still to be written; whether the caller was told that none is left;
--- and, of the whole lesson, its prices and what the learner knows after it.
+-- and, of the whole lesson, the marks and the prices of its plan, and what the learner knows after it.
 pub record Left : Type 0 where
   pub messages : List Message
   pub ended : Bool
+  pub keep : List Bool
   pub prices : List ℕ
   pub known : KnownState
 
@@ -29,21 +31,31 @@ pub record Left : Type 0 where
 abbrev pub bytes_left : Left → List ℕ
 bytes_left left = stream_of left.messages
 
+-- the plan of the whole lesson
+abbrev pub plan_left : Left → Plan
+plan_left left = record { keep = left.keep; prices = left.prices }
+
 -- where messages end, if they follow `start` bytes
 abbrev pub ends_from : ℕ → List Message → List ℕ
 ends_from start [] = []
 ends_from start (m ∷ ms) = (start + length (spelled m)) ∷ ends_from (start + length (spelled m)) ms
 
 -- The next piece is the bytes of the first message that is left, and the other messages are left after it. If none is left,
--- there is no piece, and the caller is told so. Neither changes the lesson's prices or what the learner knows after it.
+-- there is no piece, and the caller is told so. Neither changes the lesson's plan or what the learner knows after it.
 abbrev pub IsNext : Left → Option (List ℕ) → Left → Type 0
 IsNext old (Some piece) new =
     (m : Message) × (piece ≡ spelled m)
     × (old.messages ≡ m ∷ new.messages)
     × (new.ended ≡ old.ended)
+    × (new.keep ≡ old.keep)
     × (new.prices ≡ old.prices)
     × (new.known ≡ old.known)
-IsNext old None new = (old.messages ≡ []) × (new ≡ record { messages = []; ended = true; prices = old.prices; known = old.known })
+IsNext old None new = (old.messages ≡ []) × (new ≡ record { messages = []; ended = true; keep = old.keep; prices = old.prices; known = old.known })
+
+-- the pieces that are given one after another until none is left, and what is left then
+abbrev pub ArePieces : Left → List (List ℕ) → Left → Type 0
+ArePieces old [] new = IsNext old None new
+ArePieces old (piece ∷ pieces) new = (mid : Left) × IsNext old (Some piece) mid × ArePieces mid pieces new
 
 -- ---- the messages that send updates whose names are planned
 
@@ -108,12 +120,13 @@ AreSendable roster s [] (n ∷ ns) = ⊥
 AreSendable roster s (u ∷ us) [] = ⊥
 AreSendable roster s (u ∷ us) (n ∷ ns) = IsSendable roster s u n × AreSendable roster (state_after roster s u n) us ns
 
--- what is left of a lesson that sends updates with planned names from a known state
-abbrev pub left_of : KnownState → List Update → List PlannedName → Bool → List ℕ → Left
-left_of k us names ended prices = record {
+-- what is left of a lesson by this plan that sends updates with planned names from a known state
+abbrev pub left_of : KnownState → List Update → List PlannedName → Bool → Plan → Left
+left_of k us names ended plan = record {
   messages = messages_left k.roster k.state us names;
   ended = ended;
-  prices = prices;
+  keep = plan.keep;
+  prices = plan.prices;
   known = record { roster = k.roster; state = state_left k.roster k.state us names };
 }
 

@@ -34,8 +34,10 @@ pub struct Lesson {
     pub bytes: Items<u8>,
     /// Where its messages end: for each of them, how many bytes there are up to its end.
     pub ends: Items<usize>,
+    /// For each update of the batch that has a name, whether the lesson reads it from a slot.
+    pub keep: Items<bool>,
     /// One price for each update of the batch that has a name. The prices prove that no legal stream that carries the
-    /// batch is shorter.
+    /// batch is shorter. With `keep` they are the plan that the lesson follows.
     pub prices: Items<u64>,
     /// What the learner knows after it.
     pub known: Known,

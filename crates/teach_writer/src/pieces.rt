@@ -6,13 +6,12 @@ ghost use Rattle.peers_msg.specs.declared.message.Message.{Message};
 ghost use Rattle.peers_msg.specs.Spelling.{spelled, stream_of};
 ghost use Rattle.known_state.specs.Cost.{full, knowledge_of};
 ghost use Rattle.known_state.specs.Lessons.{IsLessonFor};
-ghost use Rattle.known_state.specs.Plans.{Plan};
 ghost use Rattle.known_state.specs.Requests.{requests_of};
 ghost use Rattle.known_state.specs.Shortest.{Shortest};
 ghost use Rattle.price_checker.specs.Verdicts.{Says, bound_shown};
 ghost use Rattle.price_checker.specs.declared.verdict.Verdict.TheVariants as verdicts;
-ghost use Rattle.teach_writer.specs.Pieces.{IsNext, bytes_left};
-ghost use Rattle.teach_writer.specs.Planning.{IsPlanFor};
+ghost use Rattle.teach_writer.specs.Pieces.{IsNext, bytes_left, plan_left};
+ghost use Rattle.teach_writer.specs.Planning.{IsLessonBy, IsPlanFor};
 ghost use Rattle.teach_writer.specs.Sending.{GoesThrough};
 
 use crate::held_names::names_to_plan;
@@ -27,7 +26,7 @@ use std::marker::Model;
 use table_types::{Batch, Memory, SLOT_COUNT};
 
 /// What is left of a lesson. It is written message by message, so the whole of its bytes never needs memory at once. Holds
-/// the batch, which it shares, what the learner knows so far, the prices, and two bytes for each update.
+/// the batch, which it shares, what the learner knows so far, the plan, and two bytes for each update.
 #[derive(Debug, Drop)]
 pub struct Pieces {
     alloc: Global,
@@ -42,7 +41,8 @@ pub struct Pieces {
     index: usize,
     /// Whether `next` returned `None`, or `append_next` false.
     ended: bool,
-    prices: Vec<u64>,
+    /// The plan that the whole lesson follows.
+    plan: Plan,
 }
 
 impl Model for Pieces {
@@ -51,16 +51,15 @@ impl Model for Pieces {
 
     ghost Value = { Left };
 
-    ghost view = { λ p. left_of p.known (drop p.index p.batch) (drop p.index p.names.items) p.ended p.prices.items };
+    ghost view = { λ p. left_of p.known (drop p.index p.batch) (drop p.index p.names.items) p.ended p.plan };
 
     ghost invariant = { λ p. AreSendable p.known.roster p.known.state (drop p.index p.batch) (drop p.index p.names.items)
         × (p.ended ≡ true → drop p.index p.batch ≡ [])
         × (p.selected ≡ selected_id p.known.state.received) };
 }
 
-/// Returns the pieces of the lesson according to a plan of the batch's requests, with the plan's prices. Whatever the
-/// plan, it is a lesson. If the plan is accepted, with 128 slots, then a request that it keeps is read, and any other name
-/// is written.
+/// Returns the pieces of the lesson according to a plan of the batch's requests. Whatever the plan, it is a lesson. If
+/// the plan is accepted, with 128 slots, then a request that it keeps is read, and any other name is written.
 fn pieces_by(
     alloc: Global,
     known: &Known,
@@ -74,11 +73,10 @@ fn pieces_by(
     ensures taught { IfOk result (λ pieces. IsLessonFor known.now batch.now (bytes_left pieces) pieces.known) }
     ensures order { IfOk result (λ pieces. IsPlanFor known.now batch.now plan →
         GoesThrough known.now batch.now plan.keep (bytes_left pieces) pieces.known.state) }
-    ensures prices { IfOk result (λ pieces. pieces.prices ≡ plan.prices) }
+    ensures plan { IfOk result (λ pieces. plan_left pieces ≡ plan) }
     ensures begun { IfOk result (λ pieces. pieces.ended ≡ false) }
 {
-    let (keep, prices) = plan.into_parts();
-    let names = plan_names(alloc, known, batch, requests, keep.as_slice())?;
+    let names = plan_names(alloc, known, batch, requests, plan.keep())?;
     Ok(Pieces {
         alloc,
         known: known.copy(alloc)?,
@@ -87,20 +85,32 @@ fn pieces_by(
         names,
         index: 0,
         ended: false,
-        prices,
+        plan,
     })
+}
+
+/// Returns the lesson's plan and what the learner knows after the lesson, if `next` has returned `None` or `append_next`
+/// false, and the pieces as they are otherwise.
+pub fn ended(pieces: Pieces) -> Result<(Plan, Known), Pieces>
+    ensures ended { IfOk result (λ end. (pieces.ended ≡ true) × (pieces.messages ≡ []) × (end.0 ≡ plan_left pieces) × (end.1 ≡ pieces.known)) }
+    ensures early { IfErr result (λ left. (pieces.ended ≡ false) × (left ≡ pieces)) }
+{
+    if !pieces.ended {
+        return Err(pieces);
+    }
+    Ok((pieces.plan, pieces.known))
 }
 
 impl Pieces {
     /// Plans the lesson that teaches the batch to a learner in the known state, and returns it as pieces, one for each
-    /// message. Joined they are the bytes that `teach` returns; the prices and the known state after it are those of `end`.
+    /// message. Joined they are the bytes of the one lesson by their plan, so those that `teach` returns by the same plan;
+    /// the prices and the known state after it are those of `end`.
     ///
     /// The batch was made for the roster of the known state.
     pub fn new(alloc: Global, known: &Known, batch: &Batch) -> Result<Pieces, TeachError>
         requires batch { IsBatchFor known.now.roster batch.now }
         ensures taught { IfOk result (λ pieces. IsLessonFor known.now batch.now (bytes_left pieces) pieces.known) }
-        ensures order { IfOk result (λ pieces. (plan : Plan) × IsPlanFor known.now batch.now plan × (pieces.prices ≡ plan.prices)
-            × GoesThrough known.now batch.now plan.keep (bytes_left pieces) pieces.known.state) }
+        ensures order { IfOk result (λ pieces. IsLessonBy (plan_left pieces) known.now batch.now (bytes_left pieces) pieces.known.state) }
         ensures shortest { IfOk result (λ pieces. (ms : List Message) × (bytes_left pieces ≡ stream_of ms) × Shortest known.now batch.now ms) }
         ensures tight { IfOk result (λ pieces. length (bytes_left pieces) + bound_shown known.now batch.now pieces.prices
             ≡ full known.now.roster known.now.state batch.now) }
@@ -113,6 +123,13 @@ impl Pieces {
         let plan = plan(alloc, SLOT_COUNT, held.as_slice(), requests.as_slice())?;
         let pieces = pieces_by(alloc, known, batch, requests.as_slice(), plan)?;
         Ok(pieces)
+    }
+
+    /// Returns for each update of the batch that has a name, in order, whether the lesson reads it from a slot.
+    pub fn keep(&self) -> &[bool]
+        ensures { result.now ≡ self.now.keep }
+    {
+        self.plan.keep()
     }
 
     /// Appends the bytes of the next message to `bytes`, and returns whether one was left. After `Memory` the same message is
@@ -159,9 +176,8 @@ impl Pieces {
         ensures ended { IfOk result (λ end. (self.ended ≡ true) × (self.messages ≡ []) × (end.0.items ≡ self.prices) × (end.1 ≡ self.known)) }
         ensures early { IfErr result (λ pieces. (self.ended ≡ false) × (pieces ≡ self)) }
     {
-        if !self.ended {
-            return Err(self);
-        }
-        Ok((self.prices, self.known))
+        let (plan, known) = ended(self)?;
+        let (_keep, prices) = plan.into_parts();
+        Ok((prices, known))
     }
 }

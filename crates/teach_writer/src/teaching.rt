@@ -6,23 +6,22 @@ ghost use Rattle.peers_msg.specs.declared.message.Message.{Message};
 ghost use Rattle.peers_msg.specs.Spelling.{stream_of};
 ghost use Rattle.known_state.specs.Cost.{full};
 ghost use Rattle.known_state.specs.Lessons.{IsLessonFor};
-ghost use Rattle.known_state.specs.Plans.{Plan};
 ghost use Rattle.known_state.specs.Shortest.{Shortest};
 ghost use Rattle.price_checker.specs.Verdicts.{Says, bound_shown};
 ghost use Rattle.price_checker.specs.declared.verdict.Verdict.TheVariants as verdicts;
-ghost use Rattle.teach_writer.specs.Pieces.{bytes_left, ends_from};
-ghost use Rattle.teach_writer.specs.Planning.{IsPlanFor};
-ghost use Rattle.teach_writer.specs.Sending.{GoesThrough};
+ghost use Rattle.teach_writer.specs.Lessons.{plan_of};
+ghost use Rattle.teach_writer.specs.Pieces.{bytes_left, ends_from, plan_left};
+ghost use Rattle.teach_writer.specs.Planning.{IsLessonBy};
 
 use crate::lesson::{Lesson, TeachError};
-use crate::pieces::Pieces;
+use crate::pieces::{Pieces, ended};
 use known_state::Known;
 use std::alloc::Global;
 use table_types::{Batch, Items, Memory};
 
 /// Returns what is left of a lesson as a whole.
 pub fn joined(alloc: Global, mut pieces: Pieces) -> Result<Lesson, Memory>
-    ensures parts { IfOk result (λ lesson. (lesson.bytes ≡ bytes_left pieces) × (lesson.prices ≡ pieces.prices) × (lesson.known ≡ pieces.known)) }
+    ensures parts { IfOk result (λ lesson. (lesson.bytes ≡ bytes_left pieces) × (plan_of lesson ≡ plan_left pieces) × (lesson.known ≡ pieces.known)) }
     ensures ends { IfOk result (λ lesson. (ms : List Message) → bytes_left pieces ≡ stream_of ms → lesson.ends ≡ ends_from 0 ms) }
 {
     let mut bytes = Vec::new(alloc);
@@ -30,15 +29,17 @@ pub fn joined(alloc: Global, mut pieces: Pieces) -> Result<Lesson, Memory>
     while pieces.append_next(&mut bytes)? {
         ends.push(bytes.len())?;
     }
-    match pieces.end() {
-        Ok((prices, known)) => Ok(Lesson {
-            bytes: Items::new(bytes),
-            ends: Items::new(ends),
-            prices: Items::new(prices),
-            known,
-        }),
-        Err(_) => unreachable!(),
-    }
+    let Ok((plan, known)) = ended(pieces) else {
+        unreachable!();
+    };
+    let (keep, prices) = plan.into_parts();
+    Ok(Lesson {
+        bytes: Items::new(bytes),
+        ends: Items::new(ends),
+        keep: Items::new(keep),
+        prices: Items::new(prices),
+        known,
+    })
 }
 
 /// Returns the lesson that teaches the batch to a learner in the known state. It goes through the batch in order. If an
@@ -48,13 +49,13 @@ pub fn joined(alloc: Global, mut pieces: Pieces) -> Result<Lesson, Memory>
 /// written to the lowest slot whose present name no later update reads there.
 ///
 /// The batch was made for the roster of the known state. No legal stream that carries the same updates in the same
-/// order has fewer bytes, and the lesson's prices, which are the plan's, prove it to any checker.
+/// order has fewer bytes, and the lesson's prices, which are the plan's, prove it to any checker. By its plan this is
+/// the only lesson, so its bytes are those of all pieces by that plan.
 pub fn teach(alloc: Global, known: &Known, batch: &Batch) -> Result<Lesson, TeachError>
     requires batch { IsBatchFor known.now.roster batch.now }
     ensures taught { IfOk result (λ lesson. IsLessonFor known.now batch.now lesson.bytes lesson.known) }
     ensures ends { IfOk result (λ lesson. (ms : List Message) → lesson.bytes ≡ stream_of ms → lesson.ends ≡ ends_from 0 ms) }
-    ensures order { IfOk result (λ lesson. (plan : Plan) × IsPlanFor known.now batch.now plan × (lesson.prices ≡ plan.prices)
-        × GoesThrough known.now batch.now plan.keep lesson.bytes lesson.known.state) }
+    ensures order { IfOk result (λ lesson. IsLessonBy (plan_of lesson) known.now batch.now lesson.bytes lesson.known.state) }
     ensures shortest { IfOk result (λ lesson. (ms : List Message) × (lesson.bytes ≡ stream_of ms) × Shortest known.now batch.now ms) }
     ensures tight { IfOk result (λ lesson. length lesson.bytes + bound_shown known.now batch.now lesson.prices
         ≡ full known.now.roster known.now.state batch.now) }

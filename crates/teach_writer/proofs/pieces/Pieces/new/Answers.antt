@@ -4,13 +4,14 @@ use Rattle.peers_msg.specs.declared.message.Message.{Message}
 use Rattle.peers_msg.specs.Spelling.{stream_of}
 use Rattle.known_state.specs.Cost.{full, knowledge_of}
 use Rattle.known_state.specs.Known.{AreOwn}
+use Rattle.known_state.specs.Plans.{Plan}
 use Rattle.known_state.specs.Requests.{Asked, requests_of}
 use Rattle.known_state.specs.Shortest.{Shortest}
 use Rattle.known_state.proofs.CostsAddUp.{few-asked}
 use Rattle.price_checker.specs.Verdicts.{Says, bound_shown}
 use Rattle.price_checker.specs.declared.verdict.Verdict.TheVariants as verdicts
-use Rattle.teach_writer.specs.Pieces.{bytes_left}
-use Rattle.teach_writer.specs.Planning.{IsPlanFor}
+use Rattle.teach_writer.specs.Pieces.{bytes_left, plan_left}
+use Rattle.teach_writer.specs.Planning.{IsLessonBy, IsPlanFor}
 use Rattle.teach_writer.specs.Sending.{GoesThrough}
 use Rattle.teach_writer.proofs.SentUpdatesCost.{planned_shortest}
 use Rattle.teach_writer.proofs.pieces.Pieces.new.Goals as goal
@@ -34,6 +35,17 @@ planned c accepted order =
     let many : length k.state.slots ≡ 128 = search rules in
     let all = planned_shortest k us c.in_ok-plan.plan order.0 c.in_ok-pieces.pieces.known.state sound own many c.requires.batch accepted order.1 in
     (order.0, order.2, all.1, all.2, all.3)
+
+pub returns-clause-order : goal.returns-clause-order
+returns-clause-order c =
+    let k = c.args.known.now in
+    let us = c.args.batch.now in
+    let plan = c.in_ok-plan.plan in
+    let pieces = c.in_ok-pieces.pieces in
+    let same : plan_left pieces ≡ plan = c.in_ok-pieces.ensures.plan in
+    let accepted : IsPlanFor k us plan = search rules in
+    let order : GoesThrough k us plan.keep (bytes_left pieces) pieces.known.state = search rules in
+    subst (λ (p : Plan). IsLessonBy p k us (bytes_left pieces) pieces.known.state) (sym same) (accepted, order)
 
 pub returns-clause-shortest : goal.returns-clause-shortest
 returns-clause-shortest c = let p = planned c (search rules) (search rules) in (p.0, p.1, p.3)
