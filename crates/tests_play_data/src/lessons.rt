@@ -79,6 +79,7 @@ pub fn is_taught_again(alloc: Global, taught: &Taught) -> Option<bool> {
 /// before, and `end` hands the pieces back.
 fn joined(alloc: Global, pieces: Pieces, sizes: &[usize]) -> Option<Lesson> {
     let mut pieces = pieces;
+    let keep = Vec::from_slice(alloc, pieces.keep()).ok()?;
     let mut bytes = Vec::new(alloc);
     let mut ends = Vec::new(alloc);
     for size in sizes {
@@ -99,18 +100,24 @@ fn joined(alloc: Global, pieces: Pieces, sizes: &[usize]) -> Option<Lesson> {
     Some(Lesson {
         bytes: Items::new(bytes),
         ends: Items::new(ends),
+        keep: Items::new(keep),
         prices: Items::new(prices),
         known,
     })
 }
 
-/// Returns whether the lesson is right, comes in pieces of these sizes, and knows that its messages end where they do.
+/// Returns whether the lesson is right, comes in pieces of these sizes and by the plan that it names, and knows that its
+/// messages end where they do.
 pub fn comes_in_pieces(alloc: Global, taught: &Taught, sizes: &[usize]) -> Option<bool> {
     let known = known(alloc, &taught.from)?;
     let batch = Batch::new(alloc, known.roster(), updates(alloc, taught.updates)?).ok()?;
     let pieces = joined(alloc, Pieces::new(alloc, &known, &batch).ok()?, sizes)?;
     let lesson = teach(alloc, &known, &batch).ok()?;
-    Some(is_right(&pieces, taught) && lesson.ends.as_slice() == pieces.ends.as_slice())
+    Some(
+        is_right(&pieces, taught)
+            && lesson.keep.as_slice() == pieces.keep.as_slice()
+            && lesson.ends.as_slice() == pieces.ends.as_slice(),
+    )
 }
 
 /// A known state, updates, and the size of the message of each with its name read, and with it written.
