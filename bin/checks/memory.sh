@@ -284,7 +284,7 @@ refused_calls() {
     meets tests_data plans_again '' plan
     meets tests_data teaches_again '' teach
     meets tests_data closes_a_learner '' feed
-    meets tests_data answers_without_memory --all 'row and check_plan all the same'
+    meets tests_data answers_without_memory --all 'row, feed and check_plan all the same'
 }
 
 refused_growth() {

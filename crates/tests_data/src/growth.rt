@@ -22,6 +22,6 @@ fn closes_a_learner(rt: HostRuntime) {
 #[test]
 fn answers_without_memory(rt: HostRuntime) {
     assert!(rt;
-        outcome_without_memory(rt.alloc()).is_right(&rt, "row and check_plan all the same")
+        outcome_without_memory(rt.alloc()).is_right(&rt, "row, feed and check_plan all the same")
     );
 }

@@ -10,10 +10,23 @@ const UNDER_9: &[u8] = &[
     0x0A, 0x82, 0x0D, 9, 2, 0x73, 0x74, 6, 0x21, 0xF0, 0xF1, 0xFE, 0, 0xF0, 0xC4, 0x0D,
 ];
 
-static STREAMS: [Stream; 5] = [
+static STREAMS: [Stream; 6] = [
     Stream {
         table: T1,
         parts: &[(TWO_UPDATES, Ok(2))],
+        rows: &[(7, 1), (8, 2)],
+        waiting: 0,
+        ack: Some((1, 2)),
+        known: (Some(1), Some(2)),
+    },
+    // Without lives the rows end after the table's expire.
+    Stream {
+        table: T1,
+        parts: &[
+            (T1_DEFINED, Ok(0)),
+            (&[0x0A, 0x80, 9, 0, 0, 0, 1, 0, 0, 0, 7, 5], Ok(1)),
+            (&[0x0A, 0x81, 6, 0, 0, 0, 8, 0xF0, 0], Ok(1)),
+        ],
         rows: &[(7, 1), (8, 2)],
         waiting: 0,
         ack: Some((1, 2)),

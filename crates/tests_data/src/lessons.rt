@@ -2,14 +2,16 @@
 
 use crate::bytes::TWO_UPDATES;
 use table_types::{DataType, KeyKind, Value};
+use tests_play_data::cyclic_names::names_taught;
 use tests_play_data::lessons::{
-    Costly, Taught, comes_in_pieces, first_failing, is_taught_again, names_cost,
+    Costly, Taught, comes_in_pieces, first_failing, is_taught_again, is_taught_from_copies,
+    names_cost,
 };
 use tests_play_data::parts::{KeyParts, KnownParts, ST, T1, TableParts, UpdateParts};
 
 const LIFE: Option<u32> = Some(30_000);
 
-static TAUGHT: [Taught; 5] = [
+static TAUGHT: [Taught; 6] = [
     Taught {
         from: KnownParts {
             table: T1,
@@ -132,11 +134,51 @@ static TAUGHT: [Taught; 5] = [
         last: 6,
         held: &[1, 2],
     },
+    // Updates without a life.
+    Taught {
+        from: KnownParts {
+            table: T1,
+            selected: None,
+            defined: &[],
+            last: &[],
+            held: &[],
+        },
+        updates: &[
+            UpdateParts {
+                table: 1,
+                number: 1,
+                life: None,
+                key: KeyParts::Int(7),
+                values: &[Value::Count(5)],
+                name: b"",
+            },
+            UpdateParts {
+                table: 1,
+                number: 2,
+                life: None,
+                key: KeyParts::Int(8),
+                values: &[Value::Count(240)],
+                name: b"",
+            },
+        ],
+        bytes: &[
+            0x0A, 0x82, 0x0A, 1, 2, 0x74, 0x31, 2, 4, 4, 0xF0, 0xC4, 0x0D, 0x0A, 0x80, 9, 0, 0, 0,
+            1, 0, 0, 0, 7, 5, 0x0A, 0x81, 6, 0, 0, 0, 8, 0xF0, 0,
+        ],
+        prices: &[],
+        last: 2,
+        held: &[],
+    },
 ];
 
 #[test]
 fn lessons(rt: HostRuntime) {
     assert_eq!(rt; first_failing(rt.alloc(), &TAUGHT), None);
+}
+
+#[test]
+fn a_lesson_is_taught_from_copies(rt: HostRuntime) {
+    assert!(rt; is_taught_from_copies(rt.alloc(), &TAUGHT[1]) == Some(true));
 }
 
 /// May be run with any allocation failing: the teacher refuses, and teaches when it is asked again.
@@ -162,6 +204,12 @@ fn a_lesson_comes_in_three_pieces(rt: HostRuntime) {
 #[test]
 fn an_empty_lesson_comes_in_none(rt: HostRuntime) {
     assert_eq!(rt; comes_in_pieces(rt.alloc(), &TAUGHT[0], &[]), Some(true));
+}
+
+/// The lesson of 129 names in turn, twice, writes 130 names, one of them a second time.
+#[test]
+fn names_are_written_and_read(rt: HostRuntime) {
+    assert!(rt; names_taught(rt.alloc()) == Some((3_508, 130, 128)));
 }
 
 /// Updates of `lt`, which is like `st` with keys of up to 255 bytes, and of which nothing is known.

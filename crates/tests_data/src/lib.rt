@@ -15,6 +15,8 @@ mod growth;
 #[cfg(test)]
 mod intakes;
 #[cfg(test)]
+mod integers;
+#[cfg(test)]
 mod known_states;
 #[cfg(test)]
 mod learners;

@@ -5,9 +5,10 @@ ghost use Rattle.std.specs.Prelude.{IfSome};
 
 use crate::parts::{ST, alone, definition, named, text_key};
 use known_state::Known;
-use peers_msg::{Message, NameField, UpdateMsg, encode};
+use peers_msg::{Decoder, Message, NameField, UpdateMsg, encode};
 use std::alloc::Global;
 use table_types::{Batch, Items, Key, Name, ShortList, Update};
+use teach_writer::teach;
 
 /// How many names there are, and how many updates.
 const NAMES: u32 = 129;
@@ -100,4 +101,32 @@ pub(crate) fn lesson(alloc: Global) -> Option<Vec<u8>> {
         append(alloc, &mut stream, &Message::Update(message(alloc, place)?))?;
     }
     Some(stream)
+}
+
+/// Returns how many names the messages write, and how many they read.
+fn names_in(alloc: Global, stream: &[u8]) -> Option<(u32, u32)> {
+    let mut decoder = Decoder::new(alloc);
+    decoder.feed(stream).ok()?;
+    let (mut written, mut read) = (0u32, 0u32);
+    for _ in 0..=UPDATES {
+        match decoder.next().ok()? {
+            Some(Message::Update(update)) => match update.name() {
+                NameField::Written(_, _) => written = written.saturating_add(1),
+                NameField::Held(_) => read = read.saturating_add(1),
+                _ => {}
+            },
+            Some(_) => {}
+            None => return None,
+        }
+    }
+    Some((written, read))
+}
+
+/// Returns how many bytes the lesson of the updates has, how many names it writes, and how many it reads.
+pub fn names_taught(alloc: Global) -> Option<(usize, u32, u32)> {
+    let known = known(alloc)?;
+    let batch = batch(alloc, &known)?;
+    let lesson = teach(alloc, &known, &batch).ok()?;
+    let (written, read) = names_in(alloc, lesson.bytes.as_slice())?;
+    Some((lesson.bytes.len(), written, read))
 }

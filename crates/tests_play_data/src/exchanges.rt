@@ -10,6 +10,7 @@ ghost use Rattle.learner.specs.declared.fault.Fault.TheVariants as faults;
 ghost use Rattle.learner.specs.Rows.{put_all};
 ghost use Rattle.learner.specs.Learning.{HasLearned, IsReadyIn};
 
+use crate::known_states::are_same;
 use crate::learners::has_rows;
 use crate::parts::{TableParts, UpdateParts, alone, are_held, updates};
 use known_state::Known;
@@ -86,8 +87,8 @@ pub struct Exchange {
     pub held: &'static [u8],
 }
 
-/// Teaches one batch more, and returns what is known of the learner afterwards; `None` if memory runs out or the lesson has
-/// other bytes.
+/// Teaches one batch more, and returns what is known of the learner afterwards; `None` if memory runs out, the lesson has
+/// other bytes, or it came with another known state.
 fn teach_next(
     alloc: Global,
     learner: &mut Learner,
@@ -102,7 +103,10 @@ fn teach_next(
     let updates = updates(alloc, taught.0)?;
     let batch = Batch::new(alloc, known.roster(), updates).ok()?;
     match teach_and_learn(alloc, learner, known, &batch, lengths, now) {
-        Ok((lesson, after)) if lesson.bytes.as_slice() == taught.1 => Some(after),
+        Ok((lesson, after))
+            if lesson.bytes.as_slice() == taught.1 && are_same(&lesson.known, &after) => {
+            Some(after)
+        }
         _ => None,
     }
 }
@@ -142,11 +146,17 @@ fn leaves(alloc: Global, exchange: &Exchange, lengths: &[usize]) -> Option<bool>
     Some(stands_at(&known, exchange) && has_rows(&learner, exchange.table.id, exchange.rows)?)
 }
 
-/// Returns the index of the first way to cut the lessons that leaves something else.
-pub fn first_failing(alloc: Global, exchange: &Exchange, cuts: &[&[usize]]) -> Option<usize> {
-    for (place, lengths) in cuts.iter().enumerate() {
-        if leaves(alloc, exchange, *lengths) != Some(true) {
-            return Some(place);
+/// Returns the index of the first exchange that leaves something else, and that of the way to cut its lessons.
+pub fn first_failing(
+    alloc: Global,
+    exchanges: &[Exchange],
+    cuts: &[&[usize]],
+) -> Option<(usize, usize)> {
+    for (place, exchange) in exchanges.iter().enumerate() {
+        for (cut, lengths) in cuts.iter().enumerate() {
+            if leaves(alloc, exchange, *lengths) != Some(true) {
+                return Some((place, cut));
+            }
         }
     }
     None

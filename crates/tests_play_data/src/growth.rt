@@ -10,6 +10,7 @@ use crate::parts::{ST, alone, text_key};
 use crate::plans::{Case, Requested, asked, count_of, is_accepted, planned};
 use known_state::{Known, Plan};
 use learner::{Fault, Learner};
+use peers_msg::Decoder;
 use retention_flow::PlanError;
 use std::alloc::Global;
 use table_types::{Batch, Key, Moment};
@@ -122,11 +123,14 @@ pub fn outcome(alloc: Global, call: Call) -> Outcome {
     }
 }
 
-/// What calls that don't allocate need: a learner with both rows, the key of the first, and two requests for a name with a plan.
+/// What calls that don't allocate need: a learner with both rows, the key of the first, a new decoder and one of which a message
+/// waits, and two requests for a name with a plan.
 #[derive(Drop)]
 struct Ready {
     learner: Learner,
     key: Key,
+    new: Decoder,
+    begun: Decoder,
     requested: Requested,
     plan: Plan,
 }
@@ -148,26 +152,32 @@ fn fed(alloc: Global) -> Option<Learner> {
 
 fn make_ready(alloc: Global) -> Option<Ready> {
     let (learner, key) = fed(alloc).zip(text_key(alloc, b"a"))?;
+    let (new, mut begun) = (Decoder::new(alloc), Decoder::new(alloc));
+    begun.feed(ONE_NAME_TWICE).ok()?;
     let requested = asked(alloc, &TWICE)?;
     let plan = planned(alloc, TWICE.slots, &requested).ok()?;
     Some(Ready {
         learner,
         key,
+        new,
+        begun,
         requested,
         plan,
     })
 }
 
-/// Returns whether `Learner::row` and `check_plan` return what they should.
-fn answers(ready: &Ready) -> bool {
+/// Returns whether `Learner::row`, `Decoder::feed` of nothing and `check_plan` return what they should.
+fn answers(ready: &mut Ready) -> bool {
     ready.learner.row(3, &ready.key).is_some()
+        && ready.new.feed(&[]) == Ok(())
+        && ready.begun.feed(&[]) == Ok(())
         && is_accepted(TWICE.slots, &ready.requested, &ready.plan) == Some(true)
 }
 
 fn needs_none(alloc: Global) -> Option<Outcome> {
-    let ready = make_ready(alloc)?;
+    let mut ready = make_ready(alloc)?;
     let is_out = is_out(alloc);
-    let right = answers(&ready);
+    let right = answers(&mut ready);
     Some(if is_out {
         Outcome::refused(right)
     } else {

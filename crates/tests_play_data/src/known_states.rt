@@ -5,7 +5,7 @@ use dict_slots::Slots;
 use known_state::{Known, KnownError, StepError};
 use peers_msg::{Message, NameField, UpdateMsg};
 use std::alloc::Global;
-use table_types::{Key, ShortList, Value};
+use table_types::{Key, ShortList, TableDef, Value};
 
 /// A selected table, the tables defined, the last numbers, and what a state of `t1` with them is refused for, if it is.
 pub type Parts = (
@@ -102,6 +102,46 @@ fn are_steps(alloc: Global, known: &mut Known, id: u64, steps: &[Step]) -> Optio
 
 fn goes_through(alloc: Global, state: &KnownParts, steps: &[Step]) -> Option<bool> {
     are_steps(alloc, &mut known(alloc, state)?, state.table.id, steps)
+}
+
+fn is_same_table(one: &TableDef, other: &TableDef) -> bool {
+    (one.id(), one.kind(), one.key_length(), one.expire())
+        == (other.id(), other.kind(), other.key_length(), other.expire())
+        && one.name() == other.name()
+        && one.types() == other.types()
+}
+
+/// Returns whether both states have the same definition and the same last number of a table, or neither has.
+fn stand_alike_at(one: &Known, other: &Known, id: u64) -> bool {
+    let is_defined_alike = match (one.received().table(id), other.received().table(id)) {
+        (Some(table), Some(defined)) => is_same_table(table, defined),
+        (None, None) => true,
+        _ => false,
+    };
+    is_defined_alike && one.last_numbers().last(id) == other.last_numbers().last(id)
+}
+
+/// Returns whether the slots of both hold the same names.
+fn hold_alike(one: &Slots, other: &Slots) -> bool {
+    for id in 1..=Slots::COUNT {
+        if one.name(id) != other.name(id) {
+            return false;
+        }
+    }
+    true
+}
+
+/// Returns whether two states of one roster are the same: the tables defined, the table selected, the last numbers, and the names
+/// in slots.
+pub fn are_same(one: &Known, other: &Known) -> bool {
+    for table in one.roster().tables() {
+        if !stand_alike_at(one, other, table.id()) {
+            return false;
+        }
+    }
+    one.received().count() == other.received().count()
+        && one.received().selected() == other.received().selected()
+        && hold_alike(one.slots(), other.slots())
 }
 
 /// Returns the index of the first story of which a step fails.

@@ -61,6 +61,15 @@ pub fn first_failing(alloc: Global, all: &[Taught]) -> Option<usize> {
     None
 }
 
+/// Returns whether the lesson is right if copies of the known state and of the batch are taught.
+pub fn is_taught_from_copies(alloc: Global, taught: &Taught) -> Option<bool> {
+    let known = known(alloc, &taught.from)?;
+    let batch = Batch::new(alloc, known.roster(), updates(alloc, taught.updates)?).ok()?;
+    let (known, batch) = (known.copy(alloc).ok()?, batch.copy().ok()?);
+    let lesson = teach(alloc, &known, &batch).ok()?;
+    Some(is_right(&lesson, taught))
+}
+
 /// Returns whether the lesson is right, taught a second time if memory ran out for it; `None` if memory ran out before.
 pub fn is_taught_again(alloc: Global, taught: &Taught) -> Option<bool> {
     let known = known(alloc, &taught.from)?;

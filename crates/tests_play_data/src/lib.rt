@@ -5,12 +5,13 @@
 
 pub mod batches;
 pub mod changes;
-mod cyclic_names;
+pub mod cyclic_names;
 pub mod decoders;
 pub mod definitions;
 pub mod exchanges;
 pub mod growth;
 pub mod intakes;
+pub mod integers;
 pub mod known_states;
 pub mod learners;
 pub mod lessons;

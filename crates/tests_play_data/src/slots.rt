@@ -1,6 +1,6 @@
 //! The slots of the dictionary of server names.
 
-use crate::parts::{is_called, named, slots};
+use crate::parts::{are_held, is_called, named, slots};
 use dict_slots::Slots;
 use std::alloc::Global;
 
@@ -12,4 +12,10 @@ fn hands_out(alloc: Global, slots: &mut Slots) -> Option<bool> {
 /// Returns whether a write of `s2` to slot 128, which holds `s1`, returns `s1`, and leaves `s2` there.
 pub fn returns_the_old_name(alloc: Global) -> Option<bool> {
     hands_out(alloc, &mut slots(alloc, &[128])?)
+}
+
+/// Returns whether a copy of slots of which the first holds `s1` has that name there and no other.
+pub fn is_copied(alloc: Global) -> Option<bool> {
+    let copy = slots(alloc, &[1])?.copy(alloc).ok()?;
+    Some(are_held(&copy, &[1]))
 }
