@@ -1,9 +1,9 @@
 -- The arcs of requests begin at or before them, and have small savings.
-use Rattle.std.proofs.Common.{◌≡◌, ℕ, zero, suc, ◌+◌, ◌<◌, ◌≤◌, List, [], ◌∷◌, ◌++◌, length, drop, Option, Some, None, refl, arith}
+use Rattle.std.proofs.Common.{◌≡◌, ℕ, zero, suc, ◌+◌, ◌<◌, ◌≤◌, true, false, List, [], ◌∷◌, ◌++◌, length, drop, Option, Some, None, refl, arith}
 use Rattle.known_state.specs.Requests.{Asked}
 use Rattle.known_state.specs.Plans.{Asking, at_start, after_request}
 use Rattle.retention_flow.specs.declared.arcs.RequestArc.{RequestArc}
-use Rattle.retention_flow.specs.Network.{arc_of, arcs_from, arc_at, GoBack, SaveLittle}
+use Rattle.retention_flow.specs.Network.{arc_of, arcs_from, arc_at, GoBack, SaveLittle, SaveIfKept}
 use Rattle.retention_flow.proofs.CalmHeights.{AreSoFar, start_so_far, more_so_far}
 
 back_from : (asking : Asking) (rs : List Asked) (node : ℕ) → AreSoFar asking → node < length (arcs_from asking rs) → (arc_at (arcs_from asking rs) node).from ≤ asking.place + node
@@ -21,6 +21,16 @@ start_back held rs = λ node below. omega (arith, back_from (at_start held) rs n
 pub arcs_from-length : (asking : Asking) (rs : List Asked) → length (arcs_from asking rs) ≡ length rs
 arcs_from-length asking [] = refl
 arcs_from-length asking (r ∷ rs) = omega (arith, arcs_from-length (after_request asking r) rs)
+
+-- an arc without a link saves nothing
+pub unkept_none : (asking : Asking) (rs : List Asked) → SaveIfKept (arcs_from asking rs)
+unkept_none asking [] node below none = absurd (omega arith)
+unkept_none asking (r ∷ rs) zero below none = first (asking.last r.name) none
+  where
+    first : (last : Option ℕ) → (arc_of last asking.place r).kept ≡ false → (arc_of last asking.place r).saving ≡ 0
+    first None none = refl
+    first (Some from) none = absurd (cc)
+unkept_none asking (r ∷ rs) (suc node) below none = unkept_none (after_request asking r) rs node (omega arith) none
 
 -- one more arc with a small saving
 pub little_more : (arcs : List RequestArc) (arc : RequestArc) → arc.saving ≤ 32768 → SaveLittle arcs → SaveLittle (arcs ++ arc ∷ [])

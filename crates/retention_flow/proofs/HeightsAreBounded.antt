@@ -6,7 +6,7 @@ use Rattle.std.proofs.lemmas.Bool.{cases_lt}
 use Rattle.std.proofs.lemmas.Bool.Decides.{nat_tests}
 use Rattle.known_state.specs.Plans.{is_inside, kept_over}
 use Rattle.retention_flow.specs.declared.arcs.RequestArc.{RequestArc}
-use Rattle.retention_flow.specs.Network.{IsCalmRise, IsCalmArc, IsCalm, prices_of, link_at, links_of, arc_at, GoBack, IsRoom, SaveLittle}
+use Rattle.retention_flow.specs.Network.{IsCalmRise, IsCalmArc, IsCalm, prices_of, link_at, links_of, arc_at, GoBack, IsRoom, AreLow, SaveLittle}
 use Rattle.retention_flow.proofs.RaisedIsCalm.{calm_at}
 
 -- an arc kept over a place
@@ -37,7 +37,7 @@ rises_to hs room arcs low (suc more) calm below =
     let same : low + more + 1 ≡ low + suc more = omega arith in
     subst (λ (n : ℕ). slice_index hs low ≤ slice_index hs n) same (omega (arith, rises_to hs room arcs low more calm (omega arith), calm.rises (low + more) (omega arith)))
 
-rises_between : (hs room : List ℕ) (arcs : List RequestArc) (low high : ℕ) → IsCalm hs room arcs → low ≤ high → high ≤ length arcs → slice_index hs low ≤ slice_index hs high
+pub rises_between : (hs room : List ℕ) (arcs : List RequestArc) (low high : ℕ) → IsCalm hs room arcs → low ≤ high → high ≤ length arcs → slice_index hs low ≤ slice_index hs high
 rises_between hs room arcs low high calm up below =
     let same : low + (high - low) ≡ high = omega arith in
     subst (λ (n : ℕ). slice_index hs low ≤ slice_index hs n) same (rises_to hs room arcs low (high - low) calm (omega arith))
@@ -72,6 +72,15 @@ height_bounded hs room arcs slots (suc node) some first calm spent back little b
     let next : node + 1 ≡ suc node = omega arith in
     let up : slice_index hs (suc node) ≤ slice_index hs node + 32768 = subst (λ (n : ℕ). slice_index hs n ≤ slice_index hs node + 32768) next (one_rise hs room arcs slots node some calm spent back little (omega arith)) in
     omega (arith, up, height_bounded hs room arcs slots node some first calm spent back little (omega arith))
+
+-- where slots are used or free at each place, heights that are 0 at the first node are low
+pub low_from_first : (slots : ℕ) (room : List ℕ) (arcs : List RequestArc) (height : ℕ) → height ≡ 0 → length arcs ≤ 4096 → 0 < slots → IsRoom slots room arcs → GoBack arcs → SaveLittle arcs → AreLow room arcs 0 height
+low_from_first slots room arcs height zero_is most some spent back little =
+    λ hs calm first node below. omega (arith, first, height_bounded hs room arcs slots node some (omega (arith, first)) calm spent back little (omega (arith, calm.count)))
+
+-- no height is above that of the last node
+pub low_from_last : (room : List ℕ) (arcs : List RequestArc) (last height : ℕ) → last ≡ length arcs → height ≤ 2 ^ 27 → AreLow room arcs last height
+low_from_last room arcs last height is few = λ hs calm at node below. omega (arith, at, rises_between hs room arcs node last calm (omega (arith, calm.count)) (omega arith))
 
 -- and so is its price
 pub prices_bounded : (hs : List ℕ) → ((i : ℕ) → i < length hs → slice_index hs i ≤ 2 ^ 32) → AllByRecursion (λ price. price ≤ 2 ^ 32) (prices_of hs)

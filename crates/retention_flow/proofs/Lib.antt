@@ -17,3 +17,4 @@ pub mod ArcsGoBack
 pub mod PathIsTurned
 pub mod KeptAndPriced
 pub mod PlanIsAccepted
+pub mod SlotsAreAdded

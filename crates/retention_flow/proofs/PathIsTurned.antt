@@ -1,5 +1,5 @@
--- Augmenting along a whole path, from the first node to the last.
-use Rattle.std.proofs.Common.{◌≡◌, ℕ, ◌-◌, ◌<◌, ◌≤◌, Bool, true, false, inl, inr, List, length, Option, Some, None, refl, sym, ap, ◌∙◌, subst, arith}
+-- Augmenting along a whole path, from the target of a search back to its source.
+use Rattle.std.proofs.Common.{◌≡◌, ℕ, ◌+◌, ◌-◌, ◌<◌, ◌≤◌, Bool, true, false, inl, inr, List, length, Option, Some, None, refl, sym, ap, ◌∙◌, subst, arith}
 use Rattle.std.specs.Prelude.{slice_set}
 use Rattle.std.proofs.lemmas.Bool.{cases_eq}
 use Rattle.known_state.specs.Requests.{Asked}
@@ -8,16 +8,16 @@ use Rattle.retention_flow.specs.declared.arcs.RequestArc.{RequestArc}
 use Rattle.retention_flow.specs.declared.steps.Step.{Step}
 use Rattle.retention_flow.specs.declared.steps.ResidualArc.{ResidualArc}
 use Rattle.retention_flow.specs.declared.steps.ResidualArc.TheVariants as residuals
-use Rattle.retention_flow.specs.Network.{AreArcs, GoBack, SaveLittle, IsCalm, IsRoom, arc_at, arc_kept, is_reached, step_at, IsResidual, tail_of, IsReachedFrom, IsSearch, augmented_room, augmented_arcs}
+use Rattle.retention_flow.specs.Network.{AreArcs, GoBack, SaveLittle, IsCalm, IsRoom, IsRoomFrom, arc_at, arc_kept, is_reached, step_at, IsResidual, tail_of, IsReachedFrom, IsSearch, augmented_room, augmented_arcs}
 use Rattle.retention_flow.proofs.ResidualsStayOpen.{some_step, some_same}
 use Rattle.retention_flow.proofs.TurnedArcs.{arc_other, arc_set, from_set, arcs_set}
 use Rattle.retention_flow.proofs.TurnedResiduals.{augmented_room-length, augmented_arcs-length, turned_is_calm}
 use Rattle.retention_flow.proofs.ResidualsAreTurned.{residual_stays}
-use Rattle.retention_flow.proofs.TurnedIsSpent.{side_yes, side_no, AreWalked, turned_is_walked}
+use Rattle.retention_flow.proofs.TurnedIsSpent.{side_yes, side_no, turned_is_walked}
 
 -- ---- one arc is augmented
 
-saving_set : (arcs : List RequestArc) (i j : ℕ) (kept : Bool) → i < length arcs → (arc_at (slice_set arcs i (arc_kept kept (arc_at arcs i))) j).saving ≡ (arc_at arcs j).saving
+pub saving_set : (arcs : List RequestArc) (i j : ℕ) (kept : Bool) → i < length arcs → (arc_at (slice_set arcs i (arc_kept kept (arc_at arcs i))) j).saving ≡ (arc_at arcs j).saving
 saving_set arcs i j kept below = elim (cases_eq j i) [
   | inl same ↦ ap (λ (n : ℕ). (arc_at (slice_set arcs i (arc_kept kept (arc_at arcs i))) n).saving) same ∙ ap (λ (a : RequestArc). a.saving) (arc_set arcs i (arc_kept kept (arc_at arcs i)) below) ∙ ap (λ (n : ℕ). (arc_at arcs n).saving) (sym same)
   | inr differs ↦ ap (λ (a : RequestArc). a.saving) (arc_other arcs i j (arc_kept kept (arc_at arcs i)) differs)
@@ -44,9 +44,9 @@ before_turned hs room arcs turned residuals.Left node other open_arc = refl
 before_turned hs room arcs turned (residuals.Back later) node other open_arc = refl
 before_turned hs room arcs turned residuals.On node other open_arc = from_turned hs room arcs turned node other open_arc
 
-reached_turned : (hs room : List ℕ) (arcs : List RequestArc) (steps : List (Option Step)) (turned : ResidualArc) (node other : ℕ) (step : Step) → IsResidual hs room arcs turned node 0 → IsReachedFrom arcs steps other step → IsReachedFrom (augmented_arcs turned node arcs) steps other step
-reached_turned hs room arcs steps turned node other step open_arc (inl start) = inl start
-reached_turned hs room arcs steps turned node other step open_arc (inr (before, at, earlier)) = inr (before, ap (step_at steps) (before_turned hs room arcs turned step.arc node other open_arc) ∙ at, earlier)
+reached_turned : (hs room : List ℕ) (arcs : List RequestArc) (steps : List (Option Step)) (turned : ResidualArc) (source node other : ℕ) (step : Step) → IsResidual hs room arcs turned node 0 → IsReachedFrom arcs steps source other step → IsReachedFrom (augmented_arcs turned node arcs) steps source other step
+reached_turned hs room arcs steps turned source node other step open_arc (inl start) = inl start
+reached_turned hs room arcs steps turned source node other step open_arc (inr (before, at, earlier)) = inr (before, ap (step_at steps) (before_turned hs room arcs turned step.arc node other open_arc) ∙ at, earlier)
 
 arcs_turned : (held : List (List ℕ)) (rs : List Asked) (hs room : List ℕ) (arcs : List RequestArc) (residual : ResidualArc) (node : ℕ) → IsResidual hs room arcs residual node 0 → (tail_of arcs residual node ≡ node → ⊥) → AreArcs (at_start held) rs arcs → AreArcs (at_start held) rs (augmented_arcs residual node arcs)
 arcs_turned held rs hs room arcs residuals.Start node residual differs are = are
@@ -65,36 +65,36 @@ rank_of (Some step) = step.rank
 abbrev pub rank_at : List (Option Step) → ℕ → ℕ
 rank_at steps node = rank_of (step_at steps node)
 
--- The path has been walked from the first node to this one: heights are calm for what was augmented, and the arcs by
+-- The path has been walked from the target to this node: heights are calm for what was augmented, and the arcs by
 -- which nodes were reached no later than this one can still be augmented.
-pub record IsWalk (hs : List ℕ) (slots : ℕ) (room : List ℕ) (arcs : List RequestArc) (steps : List (Option Step)) (node : ℕ) : Type 0 where
+pub record IsWalk (hs : List ℕ) (slots : ℕ) (room : List ℕ) (arcs : List RequestArc) (steps : List (Option Step)) (source node : ℕ) : Type 0 where
   pub calm : IsCalm hs room arcs
-  pub walked : AreWalked slots room arcs node
+  pub walked : IsRoomFrom node slots room arcs
   pub long : length room ≡ length arcs
   pub back : GoBack arcs
   pub little : SaveLittle arcs
   pub here : (step : Step) × (step_at steps node ≡ Some step)
   pub within : (other : ℕ) (step : Step) → step_at steps other ≡ Some step → other ≤ length arcs
-  pub from : (other : ℕ) (step : Step) → step_at steps other ≡ Some step → IsReachedFrom arcs steps other step
+  pub from : (other : ℕ) (step : Step) → step_at steps other ≡ Some step → IsReachedFrom arcs steps source other step
   pub tight : (other : ℕ) (step : Step) → step_at steps other ≡ Some step → step.rank ≤ rank_at steps node → IsResidual hs room arcs step.arc other 0
 
-pub first_walk : (hs room : List ℕ) (arcs : List RequestArc) (steps : List (Option Step)) (count slots : ℕ) → GoBack arcs → SaveLittle arcs → is_reached steps 0 ≡ true → IsCalm hs room arcs → IsSearch hs room arcs steps count → IsRoom slots room arcs
-    → IsWalk hs slots room arcs steps 0
-first_walk hs room arcs steps count slots back little reached calm found spent = record {
+pub first_walk : (hs room : List ℕ) (arcs : List RequestArc) (steps : List (Option Step)) (count slots source target : ℕ) → length room ≡ length arcs → GoBack arcs → SaveLittle arcs → is_reached steps target ≡ true → IsCalm hs room arcs → IsSearch hs room arcs steps source count → IsRoomFrom target slots room arcs
+    → IsWalk hs slots room arcs steps source target
+first_walk hs room arcs steps count slots source target long back little reached calm found walked = record {
   calm = calm;
-  walked = λ place below. omega (arith, spent.spent place below, side_no place 0 (omega arith));
-  long = spent.count;
+  walked = walked;
+  long = long;
   back = back;
   little = little;
-  here = some_step (step_at steps 0) reached;
+  here = some_step (step_at steps target) reached;
   within = λ other step at. (found.tight other step at).0;
   from = found.from;
   tight = λ other step at low. (found.tight other step at).2;
 }
 
 -- the arc by which the node was reached can be augmented
-pub residual_here : (hs room : List ℕ) (arcs : List RequestArc) (steps : List (Option Step)) (slots node : ℕ) (step : Step) → IsWalk hs slots room arcs steps node → step_at steps node ≡ Some step → IsResidual hs room arcs step.arc node 0
-residual_here hs room arcs steps slots node step walk is =
+pub residual_here : (hs room : List ℕ) (arcs : List RequestArc) (steps : List (Option Step)) (slots source node : ℕ) (step : Step) → IsWalk hs slots room arcs steps source node → step_at steps node ≡ Some step → IsResidual hs room arcs step.arc node 0
+residual_here hs room arcs steps slots source node step walk is =
     let rank : rank_at steps node ≡ step.rank = ap rank_of is in
     walk.tight node step is (omega (arith, rank))
 
@@ -102,19 +102,17 @@ abbrev pub IsBefore : List RequestArc → List (Option Step) → ℕ → Step �
 IsBefore arcs steps node step before = (step_at steps (tail_of arcs step.arc node) ≡ Some before) × (before.rank < step.rank)
 
 -- the node was reached from another
-before_here : (hs room : List ℕ) (arcs : List RequestArc) (steps : List (Option Step)) (slots node : ℕ) (step : Step) → IsWalk hs slots room arcs steps node → step_at steps node ≡ Some step → node < length arcs
+before_here : (hs room : List ℕ) (arcs : List RequestArc) (steps : List (Option Step)) (slots source node : ℕ) (step : Step) → IsWalk hs slots room arcs steps source node → step_at steps node ≡ Some step → (node ≡ source → ⊥)
     → (before : Step) × IsBefore arcs steps node step before
-before_here hs room arcs steps slots node step walk is below = elim (walk.from node step is) [
-  | inl start ↦
-      let last : node ≡ length arcs = subst (λ (w : ResidualArc). IsResidual hs room arcs w node 0) start (residual_here hs room arcs steps slots node step walk is) in
-      absurd (omega (arith, last))
+before_here hs room arcs steps slots source node step walk is more = elim (walk.from node step is) [
+  | inl (start, same) ↦ absurd (more same)
   | inr (before, at, earlier) ↦ (before, (at, earlier))
 ]
 
-pub rank_falls : (hs room : List ℕ) (arcs : List RequestArc) (steps : List (Option Step)) (slots node next : ℕ) (step : Step) → IsWalk hs slots room arcs steps node → step_at steps node ≡ Some step → node < length arcs → next ≡ tail_of arcs step.arc node
+pub rank_falls : (hs room : List ℕ) (arcs : List RequestArc) (steps : List (Option Step)) (slots source node next : ℕ) (step : Step) → IsWalk hs slots room arcs steps source node → step_at steps node ≡ Some step → (node ≡ source → ⊥) → next ≡ tail_of arcs step.arc node
     → rank_at steps next < rank_at steps node
-rank_falls hs room arcs steps slots node next step walk is below next_is =
-    let before = before_here hs room arcs steps slots node step walk is below in
+rank_falls hs room arcs steps slots source node next step walk is more next_is =
+    let before = before_here hs room arcs steps slots source node step walk is more in
     let rank : rank_at steps node ≡ step.rank = ap rank_of is in
     let lower : rank_at steps next ≡ before.0.rank = ap (rank_at steps) next_is ∙ ap rank_of before.1.0 in
     omega (arith, rank, lower, before.1.1)
@@ -125,10 +123,10 @@ step_differs steps one other first second at there less same =
     let rank : first.rank ≡ second.rank = ap (λ (s : Step). s.rank) step_is in
     absurd (omega (arith, rank))
 
-turned_walk : (hs room : List ℕ) (arcs : List RequestArc) (steps : List (Option Step)) (slots node : ℕ) (step before : Step) → IsWalk hs slots room arcs steps node → step_at steps node ≡ Some step → IsBefore arcs steps node step before
-    → IsWalk hs slots (augmented_room step.arc node room) (augmented_arcs step.arc node arcs) steps (tail_of arcs step.arc node)
-turned_walk hs room arcs steps slots node step before walk is (at, earlier) =
-    let residual = residual_here hs room arcs steps slots node step walk is in
+turned_walk : (hs room : List ℕ) (arcs : List RequestArc) (steps : List (Option Step)) (slots source node : ℕ) (step before : Step) → IsWalk hs slots room arcs steps source node → step_at steps node ≡ Some step → IsBefore arcs steps node step before
+    → IsWalk hs slots (augmented_room step.arc node room) (augmented_arcs step.arc node arcs) steps source (tail_of arcs step.arc node)
+turned_walk hs room arcs steps slots source node step before walk is (at, earlier) =
+    let residual = residual_here hs room arcs steps slots source node step walk is in
     let long : length (augmented_arcs step.arc node arcs) ≡ length arcs = augmented_arcs-length step.arc node arcs in
     let rank : rank_at steps node ≡ step.rank = ap rank_of is in
     let lower : rank_at steps (tail_of arcs step.arc node) ≡ before.rank = ap rank_of at in
@@ -140,34 +138,43 @@ turned_walk hs room arcs steps slots node step before walk is (at, earlier) =
       little = λ i within. omega (arith, saving_turned hs room arcs step.arc node i residual, walk.little i (omega (arith, long)));
       here = (before, at);
       within = λ other there is_there. omega (arith, walk.within other there is_there, long);
-      from = λ other there is_there. reached_turned hs room arcs steps step.arc node other there residual (walk.from other there is_there);
+      from = λ other there is_there. reached_turned hs room arcs steps step.arc source node other there residual (walk.from other there is_there);
       tight = λ other there is_there low.
           residual_stays hs room arcs step.arc there.arc node other walk.long (step_differs steps other node there step is_there is (omega (arith, lower))) residual (walk.tight other there is_there (omega (arith, rank, lower)));
     }
 
-pub next_walk : (hs room : List ℕ) (arcs : List RequestArc) (steps : List (Option Step)) (slots node : ℕ) (step : Step) (room_next : List ℕ) (arcs_next : List RequestArc) (next : ℕ) → step_at steps node ≡ Some step → node < length arcs
+pub next_walk : (hs room : List ℕ) (arcs : List RequestArc) (steps : List (Option Step)) (slots source node : ℕ) (step : Step) (room_next : List ℕ) (arcs_next : List RequestArc) (next : ℕ) → step_at steps node ≡ Some step → (node ≡ source → ⊥)
     → room_next ≡ augmented_room step.arc node room → arcs_next ≡ augmented_arcs step.arc node arcs → next ≡ tail_of arcs step.arc node
-    → IsWalk hs slots room arcs steps node → IsWalk hs slots room_next arcs_next steps next
-next_walk hs room arcs steps slots node step room_next arcs_next next is below room_is arcs_is next_is walk =
-    let before = before_here hs room arcs steps slots node step walk is below in
-    subst (λ (n : ℕ). IsWalk hs slots room_next arcs_next steps n) (sym next_is)
-    (subst (λ (l : List RequestArc). IsWalk hs slots room_next l steps (tail_of arcs step.arc node)) (sym arcs_is)
-    (subst (λ (l : List ℕ). IsWalk hs slots l (augmented_arcs step.arc node arcs) steps (tail_of arcs step.arc node)) (sym room_is)
-    (turned_walk hs room arcs steps slots node step before.0 walk is before.1)))
+    → IsWalk hs slots room arcs steps source node → IsWalk hs slots room_next arcs_next steps source next
+next_walk hs room arcs steps slots source node step room_next arcs_next next is more room_is arcs_is next_is walk =
+    let before = before_here hs room arcs steps slots source node step walk is more in
+    subst (λ (n : ℕ). IsWalk hs slots room_next arcs_next steps source n) (sym next_is)
+    (subst (λ (l : List RequestArc). IsWalk hs slots room_next l steps source (tail_of arcs step.arc node)) (sym arcs_is)
+    (subst (λ (l : List ℕ). IsWalk hs slots l (augmented_arcs step.arc node arcs) steps source (tail_of arcs step.arc node)) (sym room_is)
+    (turned_walk hs room arcs steps slots source node step before.0 walk is before.1)))
 
-pub next_arcs : (held : List (List ℕ)) (rs : List Asked) (hs room : List ℕ) (arcs : List RequestArc) (steps : List (Option Step)) (slots node : ℕ) (step : Step) (arcs_next : List RequestArc) → step_at steps node ≡ Some step → node < length arcs
-    → arcs_next ≡ augmented_arcs step.arc node arcs → IsWalk hs slots room arcs steps node → AreArcs (at_start held) rs arcs → AreArcs (at_start held) rs arcs_next
-next_arcs held rs hs room arcs steps slots node step arcs_next is below arcs_is walk are =
-    let before = before_here hs room arcs steps slots node step walk is below in
+pub next_arcs : (held : List (List ℕ)) (rs : List Asked) (hs room : List ℕ) (arcs : List RequestArc) (steps : List (Option Step)) (slots source node : ℕ) (step : Step) (arcs_next : List RequestArc) → step_at steps node ≡ Some step → (node ≡ source → ⊥)
+    → arcs_next ≡ augmented_arcs step.arc node arcs → IsWalk hs slots room arcs steps source node → AreArcs (at_start held) rs arcs → AreArcs (at_start held) rs arcs_next
+next_arcs held rs hs room arcs steps slots source node step arcs_next is more arcs_is walk are =
+    let before = before_here hs room arcs steps slots source node step walk is more in
     subst (AreArcs (at_start held) rs) (sym arcs_is)
-    (arcs_turned held rs hs room arcs step.arc node (residual_here hs room arcs steps slots node step walk is) (step_differs steps (tail_of arcs step.arc node) node before.0 step before.1.0 is before.1.1) are)
+    (arcs_turned held rs hs room arcs step.arc node (residual_here hs room arcs steps slots source node step walk is) (step_differs steps (tail_of arcs step.arc node) node before.0 step before.1.0 is before.1.1) are)
 
--- at the last node, one slot less is free or used at each place
-pub last_walk : (hs room : List ℕ) (arcs : List RequestArc) (steps : List (Option Step)) (slots node : ℕ) → length arcs ≤ node → IsWalk hs slots room arcs steps node → IsCalm hs room arcs × IsRoom (slots - 1) room arcs
-last_walk hs room arcs steps slots node beyond walk = (
-  walk.calm,
-  record {
-    count = walk.long;
-    spent = λ place below. omega (arith, walk.walked place below, side_yes place node (omega arith));
-  },
-)
+-- at the source, the whole path is augmented
+pub walked_all : (hs room : List ℕ) (arcs : List RequestArc) (steps : List (Option Step)) (slots source node : ℕ) → node ≡ source → IsWalk hs slots room arcs steps source node → IsCalm hs room arcs × IsRoomFrom source slots room arcs
+walked_all hs room arcs steps slots source node same walk = (walk.calm, subst (λ (n : ℕ). IsRoomFrom n slots room arcs) same walk.walked)
+
+-- ---- room at the ends of a path
+
+-- at the last node, one slot fewer is free or used at each place than at the first
+pub room_from_first : (slots : ℕ) (room : List ℕ) (arcs : List RequestArc) → IsRoom slots room arcs → IsRoomFrom 0 slots room arcs
+room_from_first slots room arcs spent = λ place below. omega (arith, spent.spent place below, side_no place 0 (omega arith))
+
+pub room_from_last : (slots target : ℕ) (room : List ℕ) (arcs : List RequestArc) → length arcs ≤ target → IsRoom slots room arcs → IsRoomFrom target (slots + 1) room arcs
+room_from_last slots target room arcs last spent = λ place below. omega (arith, spent.spent place below, side_yes place target (omega arith))
+
+pub room_at_first : (slots : ℕ) (room : List ℕ) (arcs : List RequestArc) → length room ≡ length arcs → IsRoomFrom 0 slots room arcs → IsRoom slots room arcs
+room_at_first slots room arcs long walked = record { count = long; spent = λ place below. omega (arith, walked place below, side_no place 0 (omega arith)) }
+
+pub room_at_last : (slots source : ℕ) (room : List ℕ) (arcs : List RequestArc) → length room ≡ length arcs → length arcs ≤ source → IsRoomFrom source slots room arcs → IsRoom (slots - 1) room arcs
+room_at_last slots source room arcs long last walked = record { count = long; spent = λ place below. omega (arith, walked place below, side_yes place source (omega arith)) }

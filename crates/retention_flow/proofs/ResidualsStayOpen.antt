@@ -32,9 +32,9 @@ pub reached_some : (steps : List (Option Step)) (node : ℕ) (step : Step) → s
 reached_some steps node step is = ap is_some is
 
 -- a reached node stays reached over the same arc, if all reached nodes rise
-step_raised : (hs new room : List ℕ) (arcs : List RequestArc) (steps : List (Option Step)) (count by node : ℕ) (step : Step) → GoBack arcs → length hs ≡ length arcs + 1 → IsRaised hs new (is_reached steps) by
-    → IsSearch hs room arcs steps count → step_at steps node ≡ Some step → IsResidual new room arcs step.arc node 0
-step_raised hs new room arcs steps count by node step back long raised found is = by_from (found.from node step is)
+step_raised : (hs new room : List ℕ) (arcs : List RequestArc) (steps : List (Option Step)) (source count by node : ℕ) (step : Step) → GoBack arcs → length hs ≡ length arcs + 1 → IsRaised hs new (is_reached steps) by
+    → IsSearch hs room arcs steps source count → step_at steps node ≡ Some step → IsResidual new room arcs step.arc node 0
+step_raised hs new room arcs steps source count by node step back long raised found is = by_from (found.from node step is)
   where
     here : cond (is_reached steps node) by 0 ≡ by
     here = ap (λ (b : Bool). cond b by 0) (reached_some steps node step is)
@@ -42,8 +42,8 @@ step_raised hs new room arcs steps count by node step back long raised found is 
     residual : IsResidual hs room arcs step.arc node 0
     residual = (found.tight node step is).2
 
-    by_from : IsReachedFrom arcs steps node step → IsResidual new room arcs step.arc node 0
-    by_from (inl start) = subst (λ (w : ResidualArc). IsResidual new room arcs w node 0) (sym start) (subst (λ (w : ResidualArc). IsResidual hs room arcs w node 0) start residual)
+    by_from : IsReachedFrom arcs steps source node step → IsResidual new room arcs step.arc node 0
+    by_from (inl (start, at_source)) = subst (λ (w : ResidualArc). IsResidual new room arcs w node 0) (sym start) (subst (λ (w : ResidualArc). IsResidual hs room arcs w node 0) start residual)
     by_from (inr (before, at, earlier)) =
         residual_raised hs new room arcs step.arc node 0 (is_reached steps) by 0 back long raised residual (reached_some steps (tail_of arcs step.arc node) before at) (omega (arith, here)) (found.tight node step is).0
 
@@ -66,13 +66,13 @@ pub some_same : (one other : Step) → ◌≡◌ {A = Option Step} (Some one) (S
 some_same one other same = ap (λ (o : Option Step). elim o [ None ↦ one | Some s ↦ s ]) same
 
 -- one more node is reached, after the heights rose by the slack of its arc
-pub one_more : (hs new room : List ℕ) (arcs : List RequestArc) (steps : List (Option Step)) (count : ℕ) (leaving : Leaving) → GoBack arcs → length hs ≡ length arcs + 1 → IsRaised hs new (is_reached steps) leaving.slack
-    → IsSearch hs room arcs steps count → Leaves hs room arcs steps leaving → IsSearch new room arcs (slice_set steps leaving.node (Some (record { rank = count; arc = leaving.arc }))) (count + 1)
-one_more hs new room arcs steps count leaving back long raised found (most, residual, fresh, before) = record {
+pub one_more : (hs new room : List ℕ) (arcs : List RequestArc) (steps : List (Option Step)) (source count : ℕ) (leaving : Leaving) → GoBack arcs → length hs ≡ length arcs + 1 → IsRaised hs new (is_reached steps) leaving.slack
+    → IsSearch hs room arcs steps source count → Leaves hs room arcs steps leaving → IsSearch new room arcs (slice_set steps leaving.node (Some (record { rank = count; arc = leaving.arc }))) source (count + 1)
+one_more hs new room arcs steps source count leaving back long raised found (most, residual, fresh, before) = record {
   long = length_set steps leaving.node (Some made) ∙ found.long;
-  last = elim (cases_eq (length arcs) leaving.node) [
-    | inl same ↦ reached_some next (length arcs) made (ap (step_at next) same ∙ here)
-    | inr differs ↦ ap is_some (other (length arcs) differs) ∙ found.last
+  start = elim (cases_eq source leaving.node) [
+    | inl same ↦ reached_some next source made (ap (step_at next) same ∙ here)
+    | inr differs ↦ ap is_some (other source differs) ∙ found.start
   ];
   tight = λ node step is. elim (cases_eq node leaving.node) [
     | inl same ↦
@@ -82,15 +82,15 @@ one_more hs new room arcs steps count leaving back long raised found (most, resi
     | inr differs ↦
         let was = sym (other node differs) ∙ is in
         let old = found.tight node step was in
-        (old.0, omega (arith, old.1), step_raised hs new room arcs steps count leaving.slack node step back long raised found was)
+        (old.0, omega (arith, old.1), step_raised hs new room arcs steps source count leaving.slack node step back long raised found was)
   ];
   from = λ node step is. elim (cases_eq node leaving.node) [
     | inl same ↦
         let step_is : step ≡ made = some_same step made (sym is ∙ ap (step_at next) same ∙ here) in
         let start : ℕ = tail_of arcs leaving.arc leaving.node in
         let first = some_step (step_at steps start) before in
-        subst (λ (n : ℕ). IsReachedFrom arcs next n step) (sym same)
-        (subst (λ (s : Step). IsReachedFrom arcs next leaving.node s) (sym step_is) (inr (first.0, kept start first.0 first.1, (found.tight start first.0 first.1).1)))
+        subst (λ (n : ℕ). IsReachedFrom arcs next source n step) (sym same)
+        (subst (λ (s : Step). IsReachedFrom arcs next source leaving.node s) (sym step_is) (inr (first.0, kept start first.0 first.1, (found.tight start first.0 first.1).1)))
     | inr differs ↦
         let was = sym (other node differs) ∙ is in
         elim (found.from node step was) [

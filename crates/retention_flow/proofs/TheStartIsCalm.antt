@@ -5,7 +5,7 @@ use Rattle.known_state.specs.Requests.{Asked}
 use Rattle.known_state.specs.Plans.{Asking, at_start, after_request}
 use Rattle.retention_flow.specs.Network.{arc_of, arcs_from, IsArc, AreArcs, IsCalmArc, AreCalmArcs, IsCalm}
 
-zero_at : (n i : ℕ) → ◌≡◌ {A = ℕ} (slice_index (replicate n 0) i) 0
+pub zero_at : (n i : ℕ) → ◌≡◌ {A = ℕ} (slice_index (replicate n 0) i) 0
 zero_at zero i = refl
 zero_at (suc n) zero = refl
 zero_at (suc n) (suc i) = zero_at n i

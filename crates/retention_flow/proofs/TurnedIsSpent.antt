@@ -8,7 +8,7 @@ use Rattle.known_state.specs.Plans.{is_inside, kept_over}
 use Rattle.retention_flow.specs.declared.arcs.RequestArc.{RequestArc}
 use Rattle.retention_flow.specs.declared.steps.ResidualArc.{ResidualArc}
 use Rattle.retention_flow.specs.declared.steps.ResidualArc.TheVariants as residuals
-use Rattle.retention_flow.specs.Network.{GoBack, link_at, links_of, arc_at, arc_kept, IsResidual, tail_of, augmented_room, augmented_arcs}
+use Rattle.retention_flow.specs.Network.{GoBack, link_at, links_of, arc_at, arc_kept, IsRoomFrom, IsResidual, tail_of, augmented_room, augmented_arcs}
 use Rattle.retention_flow.proofs.TurnedArcs.{over_set}
 use Rattle.retention_flow.proofs.TurnedResiduals.{set-length}
 
@@ -44,10 +44,6 @@ sides from to place up = elim (cases_lt place from) [
   ]
 ]
 
--- on the path from the first node to the last, one slot less is free or kept at each place walked
-abbrev pub AreWalked : ℕ → List ℕ → List RequestArc → ℕ → Type 0
-AreWalked slots room arcs node = (place : ℕ) → place < length arcs → slice_index room place + kept_over (links_of 0 arcs) (place + 1) + side place node ≡ slots
-
 -- a kept arc counts over exactly the places that it passes
 over_kept : (kept inside : Bool) → kept ≡ true → ◌≡◌ {A = ℕ} (cond (kept && inside) 1 0) (cond inside 1 0)
 over_kept kept inside is = ap (λ (b : Bool). cond (b && inside) 1 0) is
@@ -61,8 +57,8 @@ set_here l i j n below same = ap (λ (k : ℕ). slice_index (slice_set l i n) k)
 set_other : (l : List ℕ) (i j n : ℕ) → i < length l → (j ≡ i → ⊥) → slice_index (slice_set l i n) j ≡ slice_index l j
 set_other l i j n below differs = get_or-set_other l i j n 0 differs
 
-pub turned_is_walked : (hs room : List ℕ) (arcs : List RequestArc) (residual : ResidualArc) (node slots : ℕ) → length room ≡ length arcs → GoBack arcs → IsResidual hs room arcs residual node 0 → AreWalked slots room arcs node
-    → AreWalked slots (augmented_room residual node room) (augmented_arcs residual node arcs) (tail_of arcs residual node)
+pub turned_is_walked : (hs room : List ℕ) (arcs : List RequestArc) (residual : ResidualArc) (node slots : ℕ) → length room ≡ length arcs → GoBack arcs → IsResidual hs room arcs residual node 0 → IsRoomFrom node slots room arcs
+    → IsRoomFrom (tail_of arcs residual node) slots (augmented_room residual node room) (augmented_arcs residual node arcs)
 turned_is_walked hs room arcs residuals.Start node slots long back residual walked = walked
 turned_is_walked hs room arcs residuals.Right node slots long back (some, most, tight) walked = λ place below.
     elim (cases_lt place (node - 1)) [

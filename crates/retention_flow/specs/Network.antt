@@ -1,6 +1,6 @@
 -- The requests and their links as a network. Its nodes are between the places of the requests: node 0 is before place
 -- 1, and each other node is between the place of its number and the next.
-use Rattle.std.specs.Prelude.{◌≡◌, ◌≤◌, ◌<◌, ℕ, suc, ◌+◌, ◌-◌, Bool, true, false, List, [], ◌∷◌, length, map, slice_index, slice_index_or, slice_set, is_some, Option, Some, None, if◌then◌else◌, IfSome, ◌⊎◌}
+use Rattle.std.specs.Prelude.{◌≡◌, ◌≤◌, ◌<◌, ℕ, suc, ◌+◌, ◌-◌, ◌^◌, nat_lt, Bool, true, false, List, [], ◌∷◌, length, map, slice_index, slice_index_or, slice_set, is_some, Option, Some, None, if◌then◌else◌, IfSome, ◌⊎◌}
 use Rattle.std.specs.List.{AllByRecursion}
 use Rattle.known_state.specs.Requests.{Asked}
 use Rattle.known_state.specs.Plans.{Asking, after_request, Plan, Link, links, kept_over}
@@ -98,7 +98,15 @@ pub record IsRoom (slots : ℕ) (room : List ℕ) (arcs : List RequestArc) : Typ
   pub count : length room ≡ length arcs
   pub spent : (node : ℕ) → node < length arcs → slice_index room node + kept_over (links_of 0 arcs) (node + 1) ≡ slots
 
+-- the same, but one slot fewer at each place before a node
+abbrev pub IsRoomFrom : ℕ → ℕ → List ℕ → List RequestArc → Type 0
+IsRoomFrom from slots room arcs = (node : ℕ) → node < length arcs → slice_index room node + kept_over (links_of 0 arcs) (node + 1) + (if nat_lt node from then 1 else 0) ≡ slots
+
 -- ---- a search
+
+-- heights that are calm, and this high at the target, are nowhere above 2^27
+abbrev pub AreLow : List ℕ → List RequestArc → ℕ → ℕ → Type 0
+AreLow room arcs target height = (heights : List ℕ) → IsCalm heights room arcs → slice_index heights target ≡ height → (node : ℕ) → node < length heights → slice_index heights node ≤ 2 ^ 27
 
 -- the node is reached
 abbrev pub is_reached : List (Option Step) → ℕ → Bool
@@ -126,10 +134,19 @@ pub record IsSlack (heights room : List ℕ) (arcs : List RequestArc) (reached :
 abbrev pub SaveLittle : List RequestArc → Type 0
 SaveLittle arcs = (node : ℕ) → node < length arcs → (arc_at arcs node).saving ≤ 32768
 
+-- an arc that isn't kept saves nothing
+abbrev pub SaveIfKept : List RequestArc → Type 0
+SaveIfKept arcs = (node : ℕ) → node < length arcs → (arc_at arcs node).kept ≡ false → (arc_at arcs node).saving ≡ 0
+
+-- the arc is a loop if it is kept, and isn't one, or saves nothing, if it isn't kept
+abbrev pub IsKeptLoop : ℕ → RequestArc → Type 0
+IsKeptLoop node arc = (arc.kept ≡ true → arc.from ≡ node) × (arc.kept ≡ false → arc.from ≡ node → arc.saving ≡ 0)
+
 -- The arc by which a node is reached is residual, with this reduced cost: from the node before it; from the node after
--- it, if a slot is free between them; back over an arc that is kept; or on over one that isn't.
+-- it, if a slot is free between them; back over an arc that is kept; or on over one that isn't. No arc leads to the
+-- source of a search.
 abbrev pub IsResidual : List ℕ → List ℕ → List RequestArc → ResidualArc → ℕ → ℕ → Type 0
-IsResidual heights room arcs residuals.Start node slack = node ≡ length arcs
+IsResidual heights room arcs residuals.Start node slack = Unit {0}
 IsResidual heights room arcs residuals.Right node slack = (1 ≤ node) × (node ≤ length arcs) × (slice_index heights (node - 1) + slack ≡ slice_index heights node)
 IsResidual heights room arcs residuals.Left node slack = (node < length arcs) × (0 < slice_index room node) × (slice_index heights (node + 1) + slack ≡ slice_index heights node)
 IsResidual heights room arcs (residuals.Back later) node slack =
@@ -158,17 +175,16 @@ IsNoMore by least = IfSome least (λ leaving. by ≤ leaving.slack)
 abbrev pub step_at : List (Option Step) → ℕ → Option Step
 step_at steps node = slice_index_or steps node None
 
--- a node is the last, or was reached from one that was reached earlier
-abbrev pub IsReachedFrom : List RequestArc → List (Option Step) → ℕ → Step → Type 0
-IsReachedFrom arcs steps node step = (step.arc ≡ residuals.Start) ⊎ ((before : Step) × (step_at steps (tail_of arcs step.arc node) ≡ Some before) × (before.rank < step.rank))
+-- a node is the source, or was reached from one that was reached earlier
+abbrev pub IsReachedFrom : List RequestArc → List (Option Step) → ℕ → ℕ → Step → Type 0
+IsReachedFrom arcs steps source node step = ((step.arc ≡ residuals.Start) × (node ≡ source)) ⊎ ((before : Step) × (step_at steps (tail_of arcs step.arc node) ≡ Some before) × (before.rank < step.rank))
 
--- the last node is reached, and each other reached node over a residual arc of slack 0, from one that was reached
--- earlier
-pub record IsSearch (heights room : List ℕ) (arcs : List RequestArc) (steps : List (Option Step)) (count : ℕ) : Type 0 where
+-- the source is reached, and each other reached node over a residual arc of slack 0, from one that was reached earlier
+pub record IsSearch (heights room : List ℕ) (arcs : List RequestArc) (steps : List (Option Step)) (source count : ℕ) : Type 0 where
   pub long : length steps ≡ length arcs + 1
-  pub last : is_reached steps (length arcs) ≡ true
+  pub start : is_reached steps source ≡ true
   pub tight : (node : ℕ) (step : Step) → step_at steps node ≡ Some step → (node ≤ length arcs) × (step.rank < count) × IsResidual heights room arcs step.arc node 0
-  pub from : (node : ℕ) (step : Step) → step_at steps node ≡ Some step → IsReachedFrom arcs steps node step
+  pub from : (node : ℕ) (step : Step) → step_at steps node ≡ Some step → IsReachedFrom arcs steps source node step
 
 -- how many nodes aren't reached
 abbrev pub unreached : List (Option Step) → ℕ
@@ -177,8 +193,8 @@ unreached (None ∷ steps) = suc (unreached steps)
 unreached (Some step ∷ steps) = unreached steps
 
 -- so far, the nodes of this list are reached, one after another
-pub record IsSpread (heights room : List ℕ) (arcs : List RequestArc) (steps : List (Option Step)) (order : List ℕ) : Type 0 where
-  pub found : IsSearch heights room arcs steps (length order)
+pub record IsSpread (heights room : List ℕ) (arcs : List RequestArc) (steps : List (Option Step)) (source : ℕ) (order : List ℕ) : Type 0 where
+  pub found : IsSearch heights room arcs steps source (length order)
   pub nodes : AllByRecursion (λ node. node ≤ length arcs) order
   pub many : length order + unreached steps ≤ length arcs + 1
 

@@ -3,10 +3,10 @@
 ghost use Rattle.std.specs.Prelude.{◌≡◌, ℕ, ◌+◌, ◌-◌, ◌^◌, ◌≤◌, ◌<◌, List, true, length, slice_index};
 ghost use Rattle.known_state.specs.Requests.{Asked};
 ghost use Rattle.known_state.specs.Plans.{at_start};
-ghost use Rattle.retention_flow.specs.Network.{is_reached, AreArcs, GoBack, SaveLittle, IsCalm, IsRoom, IsSearch, IsResidual, tail_of, augmented_room, augmented_arcs};
+ghost use Rattle.retention_flow.specs.Network.{is_reached, AreArcs, GoBack, SaveLittle, IsCalm, IsRoomFrom, IsSearch, IsResidual, tail_of, augmented_room, augmented_arcs};
 
 use crate::arcs::RequestArc;
-use crate::steps::{ResidualArc, Step};
+use crate::steps::{Ends, ResidualArc, Step};
 
 /// Augments along the residual arc by which a node is reached, and returns the node from which it leads.
 fn augment_step(
@@ -44,23 +44,25 @@ fn augment_step(
     }
 }
 
-/// Augments along the path by which the first node is reached from the last, arc by arc. Afterwards each place has one
-/// slot fewer, free or used, and the heights are still calm.
-pub fn augment(room: &mut [usize], arcs: &mut [RequestArc], steps: &[Option<Step>])
+/// Augments along the path by which the target is reached from the source, arc by arc. The heights are still calm
+/// afterwards. Each place between the two ends has one slot fewer, free or used, if the path goes back to an earlier
+/// node, and one slot more if it goes to a later one.
+pub fn augment(ends: Ends, room: &mut [usize], arcs: &mut [RequestArc], steps: &[Option<Step>])
     requires small { length arcs.old ≤ 4096 }
+    requires count { length room.old ≡ length arcs.old }
     requires back { GoBack arcs.old }
     requires little { SaveLittle arcs.old }
-    requires reached { is_reached steps.now 0 ≡ true }
+    requires reached { is_reached steps.now ends.target ≡ true }
     requires search { (heights : List ℕ) × (count : ℕ) × (slots : ℕ) × (slots ≤ 4096)
-        × IsCalm heights room.old arcs.old × IsSearch heights room.old arcs.old steps.now count × IsRoom slots room.old arcs.old }
-    ensures turned { (heights : List ℕ) → (count slots : ℕ) → IsCalm heights room.old arcs.old → IsSearch heights room.old arcs.old steps.now count → IsRoom slots room.old arcs.old →
-        IsCalm heights room.new arcs.new × IsRoom (slots - 1) room.new arcs.new }
+        × IsCalm heights room.old arcs.old × IsSearch heights room.old arcs.old steps.now ends.source count × IsRoomFrom ends.target slots room.old arcs.old }
+    ensures turned { (heights : List ℕ) → (count slots : ℕ) → IsCalm heights room.old arcs.old → IsSearch heights room.old arcs.old steps.now ends.source count → IsRoomFrom ends.target slots room.old arcs.old →
+        IsCalm heights room.new arcs.new × IsRoomFrom ends.source slots room.new arcs.new }
     ensures arcs { (held : List (List ℕ)) → (rs : List Asked) → AreArcs (at_start held) rs arcs.old → AreArcs (at_start held) rs arcs.new }
     ensures back { GoBack arcs.new }
     ensures little { SaveLittle arcs.new }
 {
-    let mut node = 0;
-    while node < arcs.len() {
+    let mut node = ends.target;
+    while node != ends.source {
         let step = steps[node].unwrap();
         node = augment_step(room, arcs, step.arc, node);
     }

@@ -7,16 +7,19 @@
 //! arc is its reduced cost. Heights are calm if no residual arc has a negative slack.
 #![tactic(auto)]
 
+mod adding;
 mod arcs;
 mod augmenting;
 mod laws;
 mod leaving;
 mod path_search;
 mod planning;
+mod plans;
 mod raising;
 mod room;
 mod spreading;
 mod steps;
+mod taking;
 
 pub use laws::{calm_heights_are_accepted, the_start_is_calm};
-pub use planning::{PlanError, plan};
+pub use planning::{PlanError, plan, plan_by_cycles};

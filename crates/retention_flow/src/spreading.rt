@@ -6,7 +6,7 @@ ghost use Rattle.retention_flow.specs.Network.{arc_at, GoBack, SaveLittle, IsCal
 
 use crate::arcs::RequestArc;
 use crate::leaving::{over_arc, over_place};
-use crate::steps::{Leaving, Step};
+use crate::steps::{Ends, Leaving, Step};
 use std::alloc::Global;
 use table_types::Memory;
 
@@ -52,8 +52,8 @@ fn reach_freely(
 ) -> Result<(), Memory>
     requires { IfSome leaving (λ arc. arc.node < length steps.old) }
     ensures grows { IfOk result (λ done. length order.old.items ≤ length order.new.items) }
-    ensures spread { IfOk result (λ done. (heights room : List ℕ) → (arcs : List RequestArc) → GoBack arcs → length heights ≡ length arcs + 1 →
-        IfSome leaving (Leaves heights room arcs steps.old) → IsSpread heights room arcs steps.old order.old.items → IsSpread heights room arcs steps.new order.new.items) }
+    ensures spread { IfOk result (λ done. (heights room : List ℕ) → (arcs : List RequestArc) → (source : ℕ) → GoBack arcs → length heights ≡ length arcs + 1 →
+        IfSome leaving (Leaves heights room arcs steps.old) → IsSpread heights room arcs steps.old source order.old.items → IsSpread heights room arcs steps.new source order.new.items) }
 {
     let Some(leaving) = leaving else {
         return Ok(());
@@ -78,9 +78,9 @@ fn reach_over_place(
     requires back { GoBack arcs.now }
     requires room { length room.now ≡ length arcs.now }
     requires node { node < length arcs.now }
-    requires spread { IsSpread heights.now room.now arcs.now steps.old order.old.items }
+    requires long { length steps.old ≡ length arcs.now + 1 }
     ensures grows { IfOk result (λ done. length order.old.items ≤ length order.new.items) }
-    ensures spread { IfOk result (λ done. IsSpread heights.now room.now arcs.now steps.new order.new.items) }
+    ensures spread { IfOk result (λ done. (source : ℕ) → IsSpread heights.now room.now arcs.now steps.old source order.old.items → IsSpread heights.now room.now arcs.now steps.new source order.new.items) }
 {
     let leaving = over_place(heights, room, steps, node);
     reach_freely(leaving, steps, order)?;
@@ -100,9 +100,9 @@ fn reach_before(
     requires back { GoBack arcs.now }
     requires room { length room.now ≡ length arcs.now }
     requires node { node ≤ length arcs.now }
-    requires spread { IsSpread heights.now room.now arcs.now steps.old order.old.items }
+    requires long { length steps.old ≡ length arcs.now + 1 }
     ensures grows { IfOk result (λ done. length order.old.items ≤ length order.new.items) }
-    ensures spread { IfOk result (λ done. IsSpread heights.now room.now arcs.now steps.new order.new.items) }
+    ensures spread { IfOk result (λ done. (source : ℕ) → IsSpread heights.now room.now arcs.now steps.old source order.old.items → IsSpread heights.now room.now arcs.now steps.new source order.new.items) }
 {
     if node == 0 {
         return Ok(());
@@ -126,10 +126,38 @@ fn reach_over_arc(
     requires long { (length heights.now ≡ length arcs.now + 1) × (length steps.old ≡ length arcs.now + 1) }
     requires calm { IsCalmArc heights.now node (arc_at arcs.now node) }
     ensures grows { IfOk result (λ done. length order.old.items ≤ length order.new.items) }
-    ensures spread { IfOk result (λ done. (room : List ℕ) → IsSpread heights.now room arcs.now steps.old order.old.items → IsSpread heights.now room arcs.now steps.new order.new.items) }
+    ensures spread { IfOk result (λ done. (room : List ℕ) → (source : ℕ) → IsSpread heights.now room arcs.now steps.old source order.old.items → IsSpread heights.now room arcs.now steps.new source order.new.items) }
 {
     let leaving = over_arc(heights, arcs, steps, node);
     reach_freely(leaving, steps, order)?;
+    Ok(())
+}
+
+/// Reaches nodes over all arcs that begin at `node`, if that is the first node and the slack is 0. There one arc begins
+/// for each name held at the start, at any other node at most one.
+fn reach_from_first(
+    heights: &[u64],
+    arcs: &[RequestArc],
+    node: usize,
+    steps: &mut [Option<Step>],
+    order: &mut Vec<usize>,
+) -> Result<(), Memory>
+    requires back { GoBack arcs.now }
+    requires little { SaveLittle arcs.now }
+    requires small { (node : ℕ) → node < length heights.now → slice_index heights.now node ≤ 2 ^ 32 }
+    requires long { (length heights.now ≡ length arcs.now + 1) × (length steps.old ≡ length arcs.now + 1) }
+    requires calm { (node : ℕ) → node < length arcs.now → IsCalmArc heights.now node (arc_at arcs.now node) }
+    ensures grows { IfOk result (λ done. length order.old.items ≤ length order.new.items) }
+    ensures spread { IfOk result (λ done. (room : List ℕ) → (source : ℕ) → IsSpread heights.now room arcs.now steps.old source order.old.items → IsSpread heights.now room arcs.now steps.new source order.new.items) }
+{
+    if node > 0 {
+        return Ok(());
+    }
+    for (index, arc) in arcs.iter().enumerate() {
+        if arc.from == 0 {
+            reach_over_arc(heights, arcs, index, steps, order)?;
+        }
+    }
     Ok(())
 }
 
@@ -150,11 +178,12 @@ fn spread_from(
     requires small { (node : ℕ) → node < length heights.now → slice_index heights.now node ≤ 2 ^ 32 }
     requires later { (length later.now ≡ length arcs.now) × ((node : ℕ) → node < length arcs.now → slice_index later.now node < length arcs.now) }
     requires node { node ≤ length arcs.now }
-    requires spread { IsSpread heights.now room.now arcs.now steps.old order.old.items }
+    requires long { length steps.old ≡ length arcs.now + 1 }
     ensures grows { IfOk result (λ done. length order.old.items ≤ length order.new.items) }
-    ensures spread { IfOk result (λ done. IsSpread heights.now room.now arcs.now steps.new order.new.items) }
+    ensures spread { IfOk result (λ done. (source : ℕ) → IsSpread heights.now room.now arcs.now steps.old source order.old.items → IsSpread heights.now room.now arcs.now steps.new source order.new.items) }
 {
     reach_before(heights, room, arcs, node, steps, order)?;
+    reach_from_first(heights, arcs, node, steps, order)?;
     if node == arcs.len() {
         return Ok(());
     }
@@ -164,8 +193,9 @@ fn spread_from(
     Ok(())
 }
 
-/// Reaches nodes over arcs of slack 0 until the first node is reached or no such arc is left.
+/// Reaches nodes over arcs of slack 0 until the target is reached or no such arc is left.
 pub fn spread(
+    ends: Ends,
     heights: &[u64],
     room: &[usize],
     arcs: &[RequestArc],
@@ -179,13 +209,14 @@ pub fn spread(
     requires room { length room.now ≡ length arcs.now }
     requires small { (node : ℕ) → node < length heights.now → slice_index heights.now node ≤ 2 ^ 32 }
     requires later { (length later.now ≡ length arcs.now) × ((node : ℕ) → node < length arcs.now → slice_index later.now node < length arcs.now) }
-    requires spread { IsSpread heights.now room.now arcs.now steps.old order.old.items }
+    requires target { ends.target ≤ length arcs.now }
+    requires spread { IsSpread heights.now room.now arcs.now steps.old ends.source order.old.items }
     ensures grows { IfOk result (λ done. length order.old.items ≤ length order.new.items) }
-    ensures spread { IfOk result (λ done. IsSpread heights.now room.now arcs.now steps.new order.new.items) }
+    ensures spread { IfOk result (λ done. IsSpread heights.now room.now arcs.now steps.new ends.source order.new.items) }
 {
     let mut index = 0;
     while index < order.len() {
-        if steps[0].is_some() {
+        if steps[ends.target].is_some() {
             return Ok(());
         }
         let node = order[index];

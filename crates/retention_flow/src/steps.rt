@@ -3,7 +3,7 @@
 /// The residual arc by which a node is reached.
 #[derive(Clone, Copy, Debug)]
 pub enum ResidualArc {
-    /// None: it is the last node, at which a search begins.
+    /// None: it is the source, at which a search begins.
     Start,
     /// From the node before it: frees a slot at the place between them.
     Right,
@@ -13,6 +13,15 @@ pub enum ResidualArc {
     Back(usize),
     /// From an earlier node, over the arc of the request after this node, which is then kept.
     On,
+}
+
+/// Where a search begins, and where it ends.
+#[derive(Clone, Copy, Debug)]
+pub struct Ends {
+    /// The node from which the others are reached.
+    pub source: usize,
+    /// The node to which a path is searched for.
+    pub target: usize,
 }
 
 /// How a search reached a node.

@@ -1,30 +1,29 @@
-use Rattle.std.proofs.Common.{◌≡◌, ℕ, ◌+◌, ◌-◌, List, length, replicate, sym, ap, ◌∙◌, arith, rules}
-use Rattle.known_state.specs.Plans.{at_start}
-use Rattle.retention_flow.specs.declared.arcs.RequestArc.{RequestArc}
+use Rattle.std.proofs.Common.{◌≡◌, ℕ, sym, ◌∙◌}
 use Rattle.retention_flow.specs.Network.{IsRoom}
-use Rattle.retention_flow.proofs.ArcsGoBack.{arcs_from-length}
-use Rattle.retention_flow.proofs.PlanIsAccepted.{start_here, room_here}
+use Rattle.retention_flow.proofs.PlanIsAccepted.{found_are, found_calm, found_few, found_save, room_here}
 use Rattle.retention_flow.proofs.planning.plan.Goals as goal
 
 pub find_room-requires-clause-most : goal.find_room-requires-clause-most
-find_room-requires-clause-most c =
-    omega (arith, ap (λ (l : List RequestArc). length l) (c.deref.ensures.value ∙ c.in_ok-arcs.ensures.arcs), arcs_from-length (at_start c.args.held.now) c.args.requests.now, c.requires.requests)
+find_room-requires-clause-most c = found_few c.args.held.now c.args.requests.now c.deref.result.now (c.deref.ensures.value ∙ c.in_ok-arcs.ensures.arcs) c.requires.requests
 
-pub best_plan-requires-clause-most : goal.best_plan-requires-clause-most
-best_plan-requires-clause-most c =
-    omega (arith, ap (λ (l : List RequestArc). length l) (c.deref_mut-3.ensures.value ∙ c.in_ok-arcs.ensures.arcs), arcs_from-length (at_start c.args.held.now) c.args.requests.now, c.requires.requests)
+pub plan_by_taking-requires-clause-most : goal.plan_by_taking-requires-clause-most
+plan_by_taking-requires-clause-most c = found_few c.args.held.now c.args.requests.now c.deref_mut-then-taken-slots.result.now (c.deref_mut-then-taken-slots.ensures.value ∙ c.in_ok-arcs.ensures.arcs) c.requires.requests
 
-pub best_plan-requires-clause-calm : goal.best_plan-requires-clause-calm
-best_plan-requires-clause-calm c =
-    let zeros : c.in_ok-heights.heights.items ≡ replicate (length c.args.requests.now + 1) 0 = search rules in
-    (start_here c.args.held.now c.args.requests.now c.deref_mut.result.now c.deref_mut-2.result.now c.deref_mut-3.result.now (c.deref_mut.ensures.value ∙ zeros) (c.deref_mut-3.ensures.value ∙ c.in_ok-arcs.ensures.arcs)).1
+pub plan_by_taking-requires-clause-calm : goal.plan_by_taking-requires-clause-calm
+plan_by_taking-requires-clause-calm c = found_calm c.args.held.now c.args.requests.now c.deref_mut.result.now c.deref_mut-then-taken-slots.result.now (c.deref_mut-then-taken-slots.ensures.value ∙ c.in_ok-arcs.ensures.arcs)
+
+pub plan_by_taking-requires-clause-room : goal.plan_by_taking-requires-clause-room
+plan_by_taking-requires-clause-room c =
+    room_here c.in_ok-room.taken c.deref_mut.result.now c.in_ok-room.room.items c.deref_mut-then-taken-slots.result.now c.deref.result.now c.deref_mut.ensures.value (c.deref_mut-then-taken-slots.ensures.value ∙ sym c.deref.ensures.value) c.in_ok-room.ensures.0
+
+pub returns-then-taken-slots : goal.returns-then-taken-slots
+returns-then-taken-slots c = record { accepted = c.in_ok-plan_by_taking.ensures c.args.held.now c.args.requests.now (found_are c.args.held.now c.args.requests.now c.deref_mut-then-taken-slots.result.now (c.deref_mut-then-taken-slots.ensures.value ∙ c.in_ok-arcs.ensures.arcs)) }
+
+pub plan_by_adding-requires-clause-most : goal.plan_by_adding-requires-clause-most
+plan_by_adding-requires-clause-most c = found_few c.args.held.now c.args.requests.now c.deref_mut-2.result.now (c.deref_mut-2.ensures.value ∙ c.in_ok-arcs.ensures.arcs) c.requires.requests
+
+pub plan_by_adding-requires-clause-saves : goal.plan_by_adding-requires-clause-saves
+plan_by_adding-requires-clause-saves c = found_save c.args.held.now c.args.requests.now c.deref_mut-2.result.now (c.deref_mut-2.ensures.value ∙ c.in_ok-arcs.ensures.arcs)
 
 pub returns : goal.returns
-returns c =
-    let zeros : c.in_ok-heights.heights.items ≡ replicate (length c.args.requests.now + 1) 0 = search rules in
-    let start = start_here c.args.held.now c.args.requests.now c.deref_mut.result.now c.deref_mut-2.result.now c.deref_mut-3.result.now (c.deref_mut.ensures.value ∙ zeros) (c.deref_mut-3.ensures.value ∙ c.in_ok-arcs.ensures.arcs) in
-    let taken = c.in_ok-room.taken in
-    let slots : ℕ = c.args.slots - 1 + (taken + 1 - c.args.slots) in
-    let most : slots ≡ taken = omega (arith, c.requires.slots, c.in_ok-room.ensures.1) in
-    let spent : IsRoom slots c.deref_mut-2.result.now c.deref_mut-3.result.now = room_here slots taken c.deref_mut-2.result.now c.in_ok-room.room.items c.deref_mut-3.result.now c.deref.result.now most c.deref_mut-2.ensures.value (c.deref_mut-3.ensures.value ∙ sym c.deref.ensures.value) c.in_ok-room.ensures.0 in
-    record { accepted = c.in_ok-best_plan.ensures c.args.slots c.args.held.now c.args.requests.now spent start.0 }
+returns c = record { accepted = c.in_ok-plan_by_adding.ensures c.args.held.now c.args.requests.now (found_are c.args.held.now c.args.requests.now c.deref_mut-2.result.now (c.deref_mut-2.ensures.value ∙ c.in_ok-arcs.ensures.arcs)) }

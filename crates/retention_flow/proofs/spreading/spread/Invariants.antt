@@ -6,7 +6,7 @@ abbrev pub invariant-loop-index : goal.invariant-loop-index
 invariant-loop-index l = record {
   index : l.index ≤ length l.order.items;
   grows : length l.fn.order.items ≤ length l.order.items;
-  spread : IsSpread l.heights l.room l.arcs l.steps l.order.items;
+  spread : IsSpread l.heights l.room l.arcs l.steps l.ends.source l.order.items;
 }
 
 abbrev pub decreases-loop-index : goal.decreases-loop-index

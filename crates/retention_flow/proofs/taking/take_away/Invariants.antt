@@ -2,7 +2,7 @@ use Rattle.std.proofs.Common.{◌≡◌, ℕ, ◌-◌, ◌^◌, ◌<◌, ◌≤�
 use Rattle.known_state.specs.Requests.{Asked}
 use Rattle.known_state.specs.Plans.{at_start}
 use Rattle.retention_flow.specs.Network.{AreArcs, GoBack, SaveLittle, IsCalm, IsRoom}
-use Rattle.retention_flow.proofs.planning.take_away.Given as goal
+use Rattle.retention_flow.proofs.taking.take_away.Given as goal
 
 abbrev pub invariant-loop : goal.invariant-loop
 invariant-loop l = record {
@@ -11,6 +11,7 @@ invariant-loop l = record {
   small : (node : ℕ) → node < length l.heights → slice_index l.heights node ≤ 2 ^ 27;
   back : GoBack l.arcs;
   little : SaveLittle l.arcs;
+  many : length l.arcs ≡ length l.fn.arcs;
   later : (length l.later.items ≡ length l.arcs) × ((node : ℕ) → node < length l.arcs → slice_index l.later.items node < length l.arcs);
   room : (slots : ℕ) → IsRoom slots l.fn.room l.fn.arcs → IsRoom (slots - l.counter) l.room l.arcs;
   arcs : (held : List (List ℕ)) (rs : List Asked) → AreArcs (at_start held) rs l.fn.arcs → AreArcs (at_start held) rs l.arcs;

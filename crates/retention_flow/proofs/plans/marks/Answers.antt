@@ -1,7 +1,7 @@
 use Rattle.std.proofs.Common.{Bool, ◌+◌, ◌∷◌, [], ◌++◌, List, drop, sym, ap, ◌∙◌, append_assoc, append-nil}
 use Rattle.retention_flow.specs.Network.{arc_at, marks}
 use Rattle.retention_flow.proofs.KeptAndPriced.{marks_more, marks_end}
-use Rattle.retention_flow.proofs.planning.marks.Goals as goal
+use Rattle.retention_flow.proofs.plans.marks.Goals as goal
 
 pub loop-arc-init : goal.loop-arc-init
 loop-arc-init c = ap (λ (l : List Bool). l ++ marks c.args.arcs.now) c.new-keep.ensures.items

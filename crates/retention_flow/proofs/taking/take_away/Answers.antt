@@ -1,7 +1,9 @@
-use Rattle.std.proofs.Common.{◌≡◌, ℕ, ◌+◌, ◌-◌, ◌<◌, List, length, slice_index, Option, sym, subst, arith}
+use Rattle.std.proofs.Common.{◌≡◌, ℕ, ◌+◌, ◌-◌, ◌<◌, List, length, slice_index, Option, refl, sym, ◌∙◌, subst, arith}
 use Rattle.retention_flow.specs.declared.steps.Step.{Step}
 use Rattle.retention_flow.specs.Network.{IsRoom, IsSearch}
-use Rattle.retention_flow.proofs.planning.take_away.Goals as goal
+use Rattle.retention_flow.proofs.HeightsAreBounded.{low_from_first}
+use Rattle.retention_flow.proofs.PathIsTurned.{room_from_first, room_at_last}
+use Rattle.retention_flow.proofs.taking.take_away.Goals as goal
 
 pub loop-init : goal.loop-init
 loop-init c = record {
@@ -10,6 +12,7 @@ loop-init c = record {
   small = λ node below. omega (arith, c.requires.zero node);
   back = c.requires.back;
   little = c.requires.little;
+  many = refl;
   later = (c.in_ok-later.ensures.long, c.in_ok-later.ensures.within);
   room = λ slots spent. let same : slots ≡ slots - 0 = omega arith in subst (λ (n : ℕ). IsRoom n c.args.room.now c.args.arcs.now) same spent;
   arcs = λ held rs are. are;
@@ -24,13 +27,10 @@ search-requires-clause-little c = c.loop.invariant.little
 pub search-requires-clause-calm : goal.search-requires-clause-calm
 search-requires-clause-calm c = c.loop.invariant.calm
 
-pub search-requires-clause-first : goal.search-requires-clause-first
-search-requires-clause-first c = c.loop.invariant.first
-
-pub search-requires-clause-room : goal.search-requires-clause-room
-search-requires-clause-room c =
+pub search-requires-clause-low : goal.search-requires-clause-low
+search-requires-clause-low c =
     let r = c.requires.room in
-    (r.0 - c.loop.counter, omega (arith, r.1, c.loop-test.true), c.loop.invariant.room r.0 r.3)
+    low_from_first (r.0 - c.loop.counter) c.loop.room c.loop.arcs (slice_index c.loop.heights 0) c.loop.invariant.first (omega (arith, c.requires.most, c.loop.invariant.many)) (omega (arith, r.1, c.loop-test.true)) (c.loop.invariant.room r.0 r.3) c.loop.invariant.back c.loop.invariant.little
 
 pub search-requires-clause-later : goal.search-requires-clause-later
 search-requires-clause-later c =
@@ -52,8 +52,8 @@ augment-requires-clause-search c =
       r.0 - c.loop.counter,
       omega (arith, r.2),
       c.in_ok-steps.ensures.calm,
-      subst (λ (l : List (Option Step)). IsSearch c.search.new.heights c.loop.room c.loop.arcs l found.0) (sym c.deref.ensures.value) found.1,
-      c.loop.invariant.room r.0 r.3,
+      subst (λ (l : List (Option Step)). IsSearch c.search.new.heights c.loop.room c.loop.arcs l (length c.args.arcs.now) found.0) (sym c.deref.ensures.value) found.1,
+      room_from_first (r.0 - c.loop.counter) c.loop.room c.loop.arcs (c.loop.invariant.room r.0 r.3),
     )
 
 pub loop-preserved : goal.loop-preserved
@@ -62,19 +62,24 @@ loop-preserved c =
     let hs = c.search.new.heights in
     let calm = c.in_ok-steps.ensures.calm in
     let count = c.in_ok-steps.ensures.steps.0 in
-    let found = subst (λ (l : List (Option Step)). IsSearch hs c.loop.room c.loop.arcs l count) (sym c.deref.ensures.value) c.in_ok-steps.ensures.steps.1 in
-    let turned = c.augment.ensures.turned hs count (r.0 - c.loop.counter) calm found (c.loop.invariant.room r.0 r.3) in
-    let many : length c.augment.new.arcs ≡ length c.loop.arcs = omega (arith, calm.count, turned.0.count) in
+    let last = length c.args.arcs.now in
+    let found = subst (λ (l : List (Option Step)). IsSearch hs c.loop.room c.loop.arcs l last count) (sym c.deref.ensures.value) c.in_ok-steps.ensures.steps.1 in
+    let turned = c.augment.ensures.turned hs count in
+    let one = turned (r.0 - c.loop.counter) calm found (room_from_first (r.0 - c.loop.counter) c.loop.room c.loop.arcs (c.loop.invariant.room r.0 r.3)) in
+    let many : length c.augment.new.arcs ≡ length c.loop.arcs = omega (arith, calm.count, one.0.count) in
     record {
-      calm = turned.0;
+      calm = one.0;
       later = (omega (arith, c.loop.invariant.later.0), λ node below. omega (arith, c.loop.invariant.later.1 node (omega arith)));
-      first = c.in_ok-steps.ensures.first;
-      small = c.in_ok-steps.ensures.small;
+      first = c.in_ok-steps.ensures.target ∙ c.loop.invariant.first;
+      small = low_from_first (r.0 - c.loop.counter) c.loop.room c.loop.arcs (slice_index c.loop.heights 0) c.loop.invariant.first (omega (arith, c.requires.most, c.loop.invariant.many)) (omega (arith, r.1, c.loop-test.true)) (c.loop.invariant.room r.0 r.3) c.loop.invariant.back c.loop.invariant.little
+          hs calm c.in_ok-steps.ensures.target;
       back = c.augment.ensures.back;
       little = c.augment.ensures.little;
+      many = omega (arith, many, c.loop.invariant.many);
       room = λ slots spent.
           let same : slots - c.loop.counter - 1 ≡ slots - (c.loop.counter + 1) = omega arith in
-          subst (λ (n : ℕ). IsRoom n c.augment.new.room c.augment.new.arcs) same (c.augment.ensures.turned hs count (slots - c.loop.counter) calm found (c.loop.invariant.room slots spent)).1;
+          let walked = turned (slots - c.loop.counter) calm found (room_from_first (slots - c.loop.counter) c.loop.room c.loop.arcs (c.loop.invariant.room slots spent)) in
+          subst (λ (n : ℕ). IsRoom n c.augment.new.room c.augment.new.arcs) same (room_at_last (slots - c.loop.counter) last c.augment.new.room c.augment.new.arcs (omega arith) (omega arith) walked.1);
       arcs = λ held rs are. c.augment.ensures.arcs held rs (c.loop.invariant.arcs held rs are);
     }
 

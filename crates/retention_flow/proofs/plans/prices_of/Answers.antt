@@ -1,7 +1,7 @@
 use Rattle.std.proofs.Common.{ℕ, ◌+◌, ◌-◌, ◌∷◌, [], ◌++◌, List, drop, slice_index, sym, ap, ◌∙◌, append_assoc, append-nil}
 use Rattle.retention_flow.specs.Network.{prices_of}
 use Rattle.retention_flow.proofs.KeptAndPriced.{prices_more, prices_end}
-use Rattle.retention_flow.proofs.planning.prices_of.Goals as goal
+use Rattle.retention_flow.proofs.plans.prices_of.Goals as goal
 
 pub loop-node-init : goal.loop-node-init
 loop-node-init c = ap (λ (l : List ℕ). l ++ prices_of c.args.heights.now) c.new-prices.ensures.items

@@ -1,0 +1,87 @@
+use Rattle.std.proofs.Common.{◌≡◌, ℕ, ◌+◌, ◌<◌, List, length, slice_index, Option, refl, sym, ◌∙◌, subst, arith}
+use Rattle.retention_flow.specs.declared.steps.Step.{Step}
+use Rattle.retention_flow.specs.Network.{IsSearch}
+use Rattle.retention_flow.proofs.HeightsAreBounded.{low_from_last}
+use Rattle.retention_flow.proofs.PathIsTurned.{room_from_last, room_at_first}
+use Rattle.retention_flow.proofs.SlotsAreAdded.{flat_room}
+use Rattle.retention_flow.proofs.adding.add_slots.Goals as goal
+
+pub loop-init : goal.loop-init
+loop-init c = record {
+  calm = c.requires.calm;
+  low = c.requires.low;
+  back = c.requires.back;
+  little = c.requires.little;
+  many = refl;
+  later = (c.in_ok-later.ensures.long, c.in_ok-later.ensures.within);
+  room = c.requires.room;
+  arcs = λ held rs are. are;
+}
+
+pub search-requires-clause-back : goal.search-requires-clause-back
+search-requires-clause-back c = c.loop.invariant.back
+
+pub search-requires-clause-little : goal.search-requires-clause-little
+search-requires-clause-little c = c.loop.invariant.little
+
+pub search-requires-clause-calm : goal.search-requires-clause-calm
+search-requires-clause-calm c = c.loop.invariant.calm
+
+pub search-requires-clause-low : goal.search-requires-clause-low
+search-requires-clause-low c =
+    low_from_last c.loop.room c.loop.arcs (length c.args.arcs.now) (slice_index c.loop.heights (length c.args.arcs.now)) (sym c.loop.invariant.many) c.loop.invariant.low
+
+pub search-requires-clause-later : goal.search-requires-clause-later
+search-requires-clause-later c =
+    let many = length c.loop.arcs in
+    subst (λ (l : List ℕ). (length l ≡ many) × ((node : ℕ) → node < many → slice_index l node < many)) (sym c.as_slice.ensures.value) c.loop.invariant.later
+
+pub augment-requires-clause-back : goal.augment-requires-clause-back
+augment-requires-clause-back c = c.loop.invariant.back
+
+pub augment-requires-clause-little : goal.augment-requires-clause-little
+augment-requires-clause-little c = c.loop.invariant.little
+
+pub augment-requires-clause-search : goal.augment-requires-clause-search
+augment-requires-clause-search c =
+    let found = c.in_ok-steps.ensures.steps in (
+      c.search.new.heights,
+      found.0,
+      c.loop.counter + 1,
+      omega (arith, c.requires.count, c.loop-test.true),
+      c.in_ok-steps.ensures.calm,
+      subst (λ (l : List (Option Step)). IsSearch c.search.new.heights c.loop.room c.loop.arcs l 0 found.0) (sym c.deref.ensures.value) found.1,
+      room_from_last c.loop.counter (length c.args.arcs.now) c.loop.room c.loop.arcs (omega (arith, c.loop.invariant.many)) c.loop.invariant.room,
+    )
+
+pub loop-preserved : goal.loop-preserved
+loop-preserved c =
+    let hs = c.search.new.heights in
+    let calm = c.in_ok-steps.ensures.calm in
+    let count = c.in_ok-steps.ensures.steps.0 in
+    let last = length c.args.arcs.now in
+    let found = subst (λ (l : List (Option Step)). IsSearch hs c.loop.room c.loop.arcs l 0 count) (sym c.deref.ensures.value) c.in_ok-steps.ensures.steps.1 in
+    let turned = c.augment.ensures.turned hs count (c.loop.counter + 1) calm found (room_from_last c.loop.counter last c.loop.room c.loop.arcs (omega (arith, c.loop.invariant.many)) c.loop.invariant.room) in
+    let many : length c.augment.new.arcs ≡ length c.loop.arcs = omega (arith, calm.count, turned.0.count) in
+    record {
+      calm = turned.0;
+      low = omega (arith, c.in_ok-steps.ensures.target, c.loop.invariant.low);
+      back = c.augment.ensures.back;
+      little = c.augment.ensures.little;
+      many = omega (arith, many, c.loop.invariant.many);
+      later = (omega (arith, c.loop.invariant.later.0), λ node below. omega (arith, c.loop.invariant.later.1 node (omega arith)));
+      room = room_at_first (c.loop.counter + 1) c.augment.new.room c.augment.new.arcs (omega arith) turned.1;
+      arcs = λ held rs are. c.augment.ensures.arcs held rs (c.loop.invariant.arcs held rs are);
+    }
+
+pub returns-then-heights-ends-clause-calm : goal.returns-then-heights-ends-clause-calm
+returns-then-heights-ends-clause-calm c =
+    flat_room c.loop.heights c.loop.room c.loop.arcs c.loop.counter c.args.count (length c.args.arcs.now) c.loop.invariant.calm c.loop.invariant.room (omega (arith, c.loop-test.true)) (sym c.loop.invariant.many) c.if-heights-ends.true
+
+pub returns-then-heights-ends-clause-small : goal.returns-then-heights-ends-clause-small
+returns-then-heights-ends-clause-small c =
+    low_from_last c.loop.room c.loop.arcs (length c.args.arcs.now) (slice_index c.loop.heights (length c.args.arcs.now)) (sym c.loop.invariant.many) c.loop.invariant.low c.loop.heights c.loop.invariant.calm refl
+
+pub returns-clause-small : goal.returns-clause-small
+returns-clause-small c =
+    low_from_last c.loop.room c.loop.arcs (length c.args.arcs.now) (slice_index c.loop.heights (length c.args.arcs.now)) (sym c.loop.invariant.many) c.loop.invariant.low c.loop.heights c.loop.invariant.calm refl
