@@ -35,14 +35,14 @@ use Rattle.interleave_core.proofs.OnItsWay.{IsBytes-append}
 
 -- ---- the bytes of a number
 
-bytes_cons : (x : ℕ) (xs : List ℕ) → x < 256 → IsBytes xs → IsBytes (x ∷ xs)
+pub bytes_cons : (x : ℕ) (xs : List ℕ) → x < 256 → IsBytes xs → IsBytes (x ∷ xs)
 bytes_cons x xs small all zero = small
 bytes_cons x xs small all (suc i) = all i
 
 pub no_bytes : IsBytes []
 no_bytes i = omega arith
 
-word_bytes : (n : ℕ) → IsBytes (word n)
+pub word_bytes : (n : ℕ) → IsBytes (word n)
 word_bytes n zero = omega arith
 word_bytes n (suc zero) = omega arith
 word_bytes n (suc (suc zero)) = omega arith

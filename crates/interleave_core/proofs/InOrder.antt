@@ -1,5 +1,5 @@
 -- A world in order stays so.
-use Rattle.std.proofs.Common.{◌≡◌, ◌∙◌, ◌≤◌, ◌++◌, ℕ, List, None, ap, arith, drop, length, map, replicate, subst, sym}
+use Rattle.std.proofs.Common.{◌≡◌, ◌∙◌, ◌≤◌, ◌++◌, ◌∷◌, [], ℕ, List, None, ap, arith, drop, length, map, replicate, subst, sym}
 use Rattle.std.specs.List.{AllByRecursion}
 use Rattle.std.proofs.lemmas.List.{drop_all}
 use Rattle.table_types.specs.Rosters.{roster_fault}
@@ -9,13 +9,15 @@ use Rattle.interleave_core.specs.declared.step.Step.{Step}
 use Rattle.interleave_core.specs.Core.{IsCore}
 use Rattle.interleave_core.specs.Moves.{Moves, RunsTo}
 use Rattle.interleave_core.specs.Opened.{CanBegin, IsInOrder}
+use Rattle.interleave_core.specs.Since.{HasNewConnection, RowsAreCopiedSince}
 use Rattle.interleave_core.specs.SoundWorlds.{IsSoundWorld, IsTimelyStep}
 use Rattle.interleave_core.specs.Worlds.{ConnectionState, WorldState, new_connection, new_world, roster_of, with_sessions}
 use Rattle.interleave_core.proofs.Beginning.{new_is_open}
+use Rattle.interleave_core.proofs.CopiedSince.{rows_since}
 use Rattle.interleave_core.proofs.OpenWorlds.{a_step_keeps_open}
 use Rattle.interleave_core.proofs.Running.{LeadsOn, led}
 use Rattle.interleave_core.proofs.WorldNew.{new_world_sound}
-use Rattle.interleave_core.proofs.WorldSteps.{between_sound, step_sound}
+use Rattle.interleave_core.proofs.WorldSteps.{between_sound, run_sound, step_sound}
 use Rattle.interleave_core.proofs.WorldTold.{core_of}
 
 -- after a step
@@ -33,6 +35,29 @@ core_between start now steps i past sound timely leads first rest is =
     let runs : RunsTo start (first ++ rest) now = subst (λ (l : List Step). RunsTo start l now) is (led start now steps i past leads) in
     let (mid, before, after, stays) = between_sound start now first rest (all_front IsTimelyStep first rest (subst (AllByRecursion IsTimelyStep) is all)) sound runs in
     (mid, before, after, core_of mid stays)
+
+-- whatever world the first steps of a run lead to keeps what is promised
+pub core_each : (start : WorldState) (steps : List Step) (i : ℕ) → length steps ≤ i → IsSoundWorld start
+    → (AllByRecursion IsTimelyStep (drop i steps) → AllByRecursion IsTimelyStep steps)
+    → (first rest : List Step) (mid : WorldState) → steps ≡ first ++ rest → RunsTo start first mid → IsCore mid
+core_each start steps i past sound timely first rest mid is runs =
+    let all : AllByRecursion IsTimelyStep steps = timely (subst (AllByRecursion IsTimelyStep) (sym (drop_all i steps past)) tt) in
+    core_of mid (run_sound start mid first (all_front IsTimelyStep first rest (subst (AllByRecursion IsTimelyStep) is all)) sound runs)
+
+-- and what a learner has there was copied since its connection was new
+pub copied_since : (start : WorldState) (steps : List Step) (i : ℕ) → length steps ≤ i → IsSoundWorld start
+    → (AllByRecursion IsTimelyStep (drop i steps) → AllByRecursion IsTimelyStep steps)
+    → (first more rest : List Step) (begun mid : WorldState) (session : ℕ) → steps ≡ first ++ (more ++ rest) → RunsTo start first begun → HasNewConnection session begun → RunsTo begun more mid
+    → RowsAreCopiedSince begun session mid
+copied_since start steps i past sound timely first more rest begun mid session is runs new then =
+    let all : AllByRecursion IsTimelyStep steps = timely (subst (AllByRecursion IsTimelyStep) (sym (drop_all i steps past)) tt) in
+    let split : AllByRecursion IsTimelyStep (first ++ (more ++ rest)) = subst (AllByRecursion IsTimelyStep) is all in
+    rows_since begun mid session more (all_front IsTimelyStep more rest (all_back IsTimelyStep first (more ++ rest) split))
+    (run_sound start begun first (all_front IsTimelyStep first (more ++ rest) split) sound runs) new then
+  where
+    all_back : (P : Step → Type 0) (xs ys : List Step) → AllByRecursion P (xs ++ ys) → AllByRecursion P ys
+    all_back P [] ys holds = holds
+    all_back P (x ∷ xs) ys (one, others) = all_back P xs ys others
 
 -- ---- the beginning
 

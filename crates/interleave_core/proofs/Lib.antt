@@ -24,11 +24,14 @@ pub mod StateFollows
 pub mod AcksOnTheirWay
 pub mod AcksOwed
 pub mod RowsLeft
+pub mod LessonBytes
 pub mod SessionSteps
+pub mod ReopenedLater
 pub mod SoundConnections
 pub mod WorldPlaces
 pub mod WorldSteps
 pub mod WorldTold
+pub mod CopiedSince
 pub mod WorldTracks
 pub mod StepsOnTrack
 pub mod WorldNew

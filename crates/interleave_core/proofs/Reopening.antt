@@ -58,7 +58,7 @@ room_after c s h some =
 
 -- ---- sessions
 
-abbrev others : ℕ → List (ℕ × Progress) → List (ℕ × Progress)
+abbrev pub others : ℕ → List (ℕ × Progress) → List (ℕ × Progress)
 others n es = filter (λ entry. not (entry.0 == n)) es
 
 others_within : (n : ℕ) (es : List (ℕ × Progress)) → length (others n es) ≤ length es

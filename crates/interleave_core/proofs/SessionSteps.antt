@@ -1,6 +1,7 @@
 -- The calls of a session, as steps of a world.
 use Rattle.std.proofs.Common.{◌≡◌, ◌≢◌, ◌≤◌, ℕ, false, List, [], ◌∷◌, ◌++◌, Option, Some, None, is_none, option_and_then, Result, Ok, Err, refl, sym, ap, ◌∙◌, arith}
 use Rattle.std.proofs.lemmas.Bool.{cond-true, eqb-false}
+use Rattle.std.specs.List.{AllByRecursion}
 use Rattle.peers_msg.specs.Integers.{IsBytes}
 use Rattle.table_types.specs.declared.copies.CopyKind.{CopyKind}
 use Rattle.table_types.specs.declared.copies.CopyKind.TheVariants as kinds
@@ -20,10 +21,12 @@ use Rattle.table_cell.specs.declared.events.Reply.{Reply}
 use Rattle.table_cell.specs.Histories.{Acknowledges, CellState, Closes, Copies, Learns, Opens, is_history_full, room_of}
 use Rattle.table_cell.specs.Machine.{TableState, ack_refusal, close_refusal, open_refusal}
 use Rattle.interleave_core.specs.declared.step.Step.TheVariants as steps
+use Rattle.interleave_core.specs.Bytes.{IsNamedInBytes, IsOfBytes}
 use Rattle.interleave_core.specs.Moves.{AtTable, Calls, LearnsFor, Moves, TeachesOldest, acked, closed, opened, with_batch}
 use Rattle.interleave_core.specs.Worlds.{ConnectionState, WorldState, cell_at, connection_at, with_cell, with_connection, with_session, without_session}
 use Rattle.interleave_core.proofs.Acknowledged.{made, takes_it}
 use Rattle.interleave_core.proofs.Copying.{made_within}
+use Rattle.interleave_core.proofs.LessonBytes.{lesson_is}
 
 pub learned_for : (session now : ℕ) (u : Update) (o : Option ConnectionState) (w e : WorldState) → (o ≡ None → ⊥)
     → AtTable (Calls (λ c r x. Learns c session u now r x) unlearned.Memory) u.table w e → LearnsFor session u now o w e
@@ -45,10 +48,11 @@ copied_as w c e s session table limit now kind answer at connected other least m
     rw (made_within kind limit other least most, at, connected) (answer, e, some, call, refl)
 
 pub taught_as : (w : WorldState) (s : ConnectionState) (session : ℕ) (batch : List Update) (rest : List (List Update)) (bytes : List ℕ) (after : KnownState)
-    → connection_at session w.connections ≡ Some s → s.copied ≡ batch ∷ rest → IsBytes bytes → IsShortestLesson s.known batch bytes after
+    → connection_at session w.connections ≡ Some s → s.copied ≡ batch ∷ rest → AllByRecursion IsNamedInBytes s.known.roster → AllByRecursion IsOfBytes batch → IsShortestLesson s.known batch bytes after
     → Moves w (steps.Teach session)
     (record w { connections = with_connection session (record s { known = after; copied = rest; taught = s.taught ++ batch; to_learner = s.to_learner ++ bytes }) w.connections })
-taught_as w s session batch rest bytes after connected oldest given lesson =
+taught_as w s session batch rest bytes after connected oldest named of_bytes lesson =
+    let given : IsBytes bytes = lesson_is s.known after batch bytes named of_bytes lesson in
     let changed : ConnectionState = record s { known = after; copied = rest; taught = s.taught ++ batch; to_learner = s.to_learner ++ bytes } in
     let taught : TeachesOldest s.copied s changed = rw oldest (bytes, after, given, lesson, refl) in (
       with_connection session changed w.connections,
@@ -64,14 +68,14 @@ acknowledged_as c e session number settled call =
     taken ∙ ap (λ (x : CellState). Some x) (sym (made session number c _ e settled call taken))
 
 -- a session that is closed, and one that is opened
-closed_as : (c e : CellState) (session : ℕ) → Closes c session (Ok tt) e → closed session c ≡ Some e
+pub closed_as : (c e : CellState) (session : ℕ) → Closes c session (Ok tt) e → closed session c ≡ Some e
 closed_as c e session (free, ((granted, reply, state), is)) =
     cond-true (is_none (close_refusal (is_history_full c) c.state session)) (Some (without_session session c)) None
     (rw free (ap (λ (o : Option CloseError). is_none o) granted))
     ∙ ap (λ (x : CellState). Some x)
     (sym (is ∙ ap (λ (s : TableState). record c { history = c.history ++ (events.Close session, replies.Close) ∷ []; state = s }) state))
 
-opened_as : (c e : CellState) (session : ℕ) → Opens c session (Ok tt) e → opened session c ≡ Some e
+pub opened_as : (c e : CellState) (session : ℕ) → Opens c session (Ok tt) e → opened session c ≡ Some e
 opened_as c e session (free, ((granted, reply, state), is)) =
     cond-true (is_none (open_refusal (is_history_full c) c.state session)) (Some (with_session session c)) None
     (rw free (ap (λ (o : Option OpenError). is_none o) granted))

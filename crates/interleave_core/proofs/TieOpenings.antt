@@ -26,7 +26,7 @@ use Rattle.interleave_core.proofs.TieSteps.{HasTie}
 -- ---- each table, closed and opened
 
 -- the table is what another is after the session was closed and opened
-abbrev IsReopenedFrom : ℕ → CellState → CellState → Type 0
+abbrev pub IsReopenedFrom : ℕ → CellState → CellState → Type 0
 IsReopenedFrom n c e = (mid : CellState) × Made c (events.Close n) replies.Close mid × Made mid (events.Open n) replies.Open e
 
 pub same_cells : (a b : List CellState) → ◌≡◌ {A = Option (List CellState)} (Some a) (Some b) → a ≡ b

@@ -42,7 +42,7 @@ same_table c e event reply (step, is) = same_definition c.state e.state event re
 pub same_id : (c e : CellState) (event : CellEvent) (reply : CellReply) → Made c event reply e → e.state.definition.id ≡ c.state.definition.id
 same_id c e event reply (step, is) = ap (λ d. d.id) (same_definition c.state e.state event reply step)
 
-made_history : (c e : CellState) (event : CellEvent) (reply : CellReply) → Made c event reply e → e.history ≡ c.history ++ (event, reply) ∷ []
+pub made_history : (c e : CellState) (event : CellEvent) (reply : CellReply) → Made c event reply e → e.history ≡ c.history ++ (event, reply) ∷ []
 made_history c e event reply (step, is) = ap (λ (x : CellState). x.history) is
 
 handed_made : (n : ℕ) (c e : CellState) (event : CellEvent) (reply : CellReply) → Made c event reply e → handed_since n e.history ≡ handed_after n (handed_since n c.history) (event, reply)
@@ -50,7 +50,7 @@ handed_made n c e event reply made = ap (handed_since n) (made_history c e event
 
 -- ---- what was copied
 
-copied_still : (n : ℕ) (u : Update) (hs more : List (CellEvent × CellReply)) → WasCopied n hs u → WasCopied n (hs ++ more) u
+pub copied_still : (n : ℕ) (u : Update) (hs more : List (CellEvent × CellReply)) → WasCopied n hs u → WasCopied n (hs ++ more) u
 copied_still n u [] more at = absurd at
 copied_still n u (h ∷ hs) more (inl here) = inl here
 copied_still n u (h ∷ hs) more (inr later) = inr (copied_still n u hs more later)
@@ -59,7 +59,7 @@ copied_last : (n : ℕ) (u : Update) (hs : List (CellEvent × CellReply)) (h : C
 copied_last n u [] h at = inl at
 copied_last n u (x ∷ xs) h at = inr (copied_last n u xs h at)
 
-all_so : (P Q : Update → Type 0) → ((u : Update) → P u → Q u) → (us : List Update) → AllByRecursion P us → AllByRecursion Q us
+pub all_so : (P Q : Update → Type 0) → ((u : Update) → P u → Q u) → (us : List Update) → AllByRecursion P us → AllByRecursion Q us
 all_so P Q so [] all = tt
 all_so P Q so (u ∷ us) (first, rest) = (so u first, all_so P Q so us rest)
 
@@ -67,7 +67,7 @@ each_among : (P : Update → Type 0) (us : List Update) → ((u : Update) → Is
 each_among P [] so = tt
 each_among P (u ∷ us) so = (so u (inl refl), each_among P us (λ v at. so v (inr at)))
 
-all_append : (P : Update → Type 0) (us vs : List Update) → AllByRecursion P us → AllByRecursion P vs → AllByRecursion P (us ++ vs)
+pub all_append : (P : Update → Type 0) (us vs : List Update) → AllByRecursion P us → AllByRecursion P vs → AllByRecursion P (us ++ vs)
 all_append P [] vs front back = back
 all_append P (u ∷ us) vs (first, rest) back = (first, all_append P us vs rest back)
 
@@ -77,11 +77,15 @@ all_still n c e event reply us made all =
     subst (λ (hs : List (CellEvent × CellReply)). AllByRecursion (WasCopied n hs) us) (sym (made_history c e event reply made))
     (all_so (WasCopied n c.history) (WasCopied n (c.history ++ (event, reply) ∷ [])) (λ u at. copied_still n u c.history ((event, reply) ∷ []) at) us all)
 
+-- and what the last event copied
+pub copied_at_end : (n limit now : ℕ) (kind : CopyKind) (hs : List (CellEvent × CellReply)) (us : List Update) → AllByRecursion (WasCopied n (hs ++ (events.Copy n kind limit now, replies.Copy us) ∷ [])) us
+copied_at_end n limit now kind hs us =
+    each_among (WasCopied n (hs ++ (events.Copy n kind limit now, replies.Copy us) ∷ [])) us (λ u at.
+    copied_last n u hs (events.Copy n kind limit now, replies.Copy us) (subst (λ (o : Option (List Update)). IsAmong u (updates_in o)) (sym (cond-true (nat_eq n n) (Some us) None (eq-eqb n n refl))) at))
+
 all_copied : (n limit now : ℕ) (kind : CopyKind) (c e : CellState) (us : List Update) → Made c (events.Copy n kind limit now) (replies.Copy us) e → AllByRecursion (WasCopied n e.history) us
 all_copied n limit now kind c e us made =
-    subst (λ (hs : List (CellEvent × CellReply)). AllByRecursion (WasCopied n hs) us) (sym (made_history c e (events.Copy n kind limit now) (replies.Copy us) made))
-    (each_among (WasCopied n (c.history ++ (events.Copy n kind limit now, replies.Copy us) ∷ [])) us (λ u at.
-    copied_last n u c.history (events.Copy n kind limit now, replies.Copy us) (subst (λ (o : Option (List Update)). IsAmong u (updates_in o)) (sym (cond-true (nat_eq n n) (Some us) None (eq-eqb n n refl))) at)))
+    subst (λ (hs : List (CellEvent × CellReply)). AllByRecursion (WasCopied n hs) us) (sym (made_history c e (events.Copy n kind limit now) (replies.Copy us) made)) (copied_at_end n limit now kind c.history us)
 
 -- ---- an event that isn't about the session
 

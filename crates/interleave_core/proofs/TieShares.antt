@@ -32,7 +32,7 @@ none_of_others t table (u ∷ us) other (this, rest) =
 joined_end : (batches : List (List Update)) (us : List Update) → joined (batches ++ us ∷ []) ≡ joined batches ++ us
 joined_end batches us = flat_map-append (λ (b : List Update). b) batches (us ∷ []) ∙ ap (λ (l : List Update). joined batches ++ l) (append-nil us)
 
-waits : (t : ℕ) (xs : List Update) (batches : List (List Update)) (us : List Update)
+pub waits : (t : ℕ) (xs : List Update) (batches : List (List Update)) (us : List Update)
     → of_table t (xs ++ joined (batches ++ us ∷ [])) ≡ of_table t (xs ++ joined batches) ++ of_table t us
 waits t xs batches us =
     ap (λ (l : List Update). of_table t (xs ++ l)) (joined_end batches us)

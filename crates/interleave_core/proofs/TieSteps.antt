@@ -41,7 +41,7 @@ other_event n before table s acks cells c e event reply other at made ties = rec
 -- ---- a copy
 
 -- what is copied is of the table
-copied_here : (n limit now table : ℕ) (kind : CopyKind) (us : List Update) (c e : CellState) → c.state.definition.id ≡ table → Made c (events.Copy n kind limit now) (replies.Copy us) e
+pub copied_here : (n limit now table : ℕ) (kind : CopyKind) (us : List Update) (c e : CellState) → c.state.definition.id ≡ table → Made c (events.Copy n kind limit now) (replies.Copy us) e
     → AllByRecursion (λ (u : Update). u.table ≡ table) us
 copied_here n limit now table kind us c e id made =
     subst (AllByRecursion (λ (u : Update). u.table ≡ table)) (sym (same_batch us (unacked c.state n kind now limit) made.0.1)) (first limit _)

@@ -17,6 +17,7 @@ use Rattle.table_cell.proofs.HandingSteps.{closed_keeps, made_keeps}
 use Rattle.table_cell.proofs.RefusalLaws.{open_granted}
 use Rattle.table_cell.proofs.RunLaws.{made_sound}
 use Rattle.interleave_core.specs.Opened.{CanBegin, CanOpen}
+use Rattle.interleave_core.specs.Since.{HasNewConnection}
 use Rattle.interleave_core.specs.SoundWorlds.{IsSoundWorld}
 use Rattle.interleave_core.specs.Ties.{AreSoundTables, IsJustOpened}
 use Rattle.interleave_core.specs.Worlds.{ConnectionState, cell_at, connection_at, new_connection, new_world, roster_of, with_session, with_sessions}
@@ -119,6 +120,10 @@ connection_again count zero new s found = absurd (none_there s found)
 connection_again count (suc i) new s found = let (same, below) = got_again count i new s found in (same, omega arith, omega arith)
 
 -- ---- the world
+
+pub connection_new : (cells : List CellState) (count session : ℕ) (s : ConnectionState) → connection_at session (new_world cells count).connections ≡ Some s → HasNewConnection session (new_world cells count)
+connection_new cells count session s found =
+    found ∙ ap (λ (x : ConnectionState). Some x) ((connection_again count session (new_connection (roster_of cells)) s found).0 ∙ ap new_connection (sym (same_roster count cells)))
 
 pub new_world_sound : (cells : List CellState) (count : ℕ) → count ≤ 16 → roster_fault (roster_of cells) ≡ None → AllByRecursion IsSoundCell cells → AllByRecursion (CanBegin count) cells → IsSoundWorld (new_world cells count)
 new_world_sound cells count few fault sound begin =

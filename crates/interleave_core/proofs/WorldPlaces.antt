@@ -30,6 +30,16 @@ connection_after (suc b) (suc a) new x cs found = elim (found_set cs b a new x f
   | inr (differs, old) ↦ inr ((λ same. let bad : suc a ≡ suc b = same in differs (omega arith)), old)
 ]
 
+got_set : (cs : List ConnectionState) (b : ℕ) (new s : ConnectionState) → slice_get cs b ≡ Some s → slice_get (set cs b new) b ≡ Some new
+got_set [] b new s found = absurd (none_there s found)
+got_set (c ∷ cs) zero new s found = refl
+got_set (c ∷ cs) (suc b) new s found = got_set cs b new s found
+
+-- the one that changed is found
+pub connection_set : (n : ℕ) (new s : ConnectionState) (cs : List ConnectionState) → connection_at n cs ≡ Some s → connection_at n (with_connection n new cs) ≡ Some new
+connection_set zero new s cs found = absurd (none_there s found)
+connection_set (suc b) new s cs found = got_set cs b new s found
+
 same_set : (cs : List ConnectionState) (b : ℕ) (s : ConnectionState) → slice_get cs b ≡ Some s → set cs b s ≡ cs
 same_set [] b s found = refl
 same_set (c ∷ cs) zero s found = ap (λ (x : ConnectionState). x ∷ cs) (sym (same_one c s found))

@@ -93,7 +93,7 @@ unchanged w e sound is = subst IsSoundWorld (sym is) sound
 -- ---- events of tables alone
 
 -- the table is as it was, or had an event that is about no session
-abbrev Happens : CellState → CellState → Type 0
+abbrev pub Happens : CellState → CellState → Type 0
 Happens c e =
     (e ≡ c) ⊎ ((event : CellEvent) × (reply : CellReply) × IsTimely event × ((n : ℕ) → is_about n event ≡ false) × (is_history_full c ≡ false) × Made c event reply e)
 
@@ -112,7 +112,7 @@ at_table call t w e sound happens (after, inside, is) = subst IsSoundWorld (sym 
     by (Some c) at (changed, called, same) =
         subst (λ (l : List CellState). IsSoundWorld (record w { cells = l })) (sym same) (table_event w t c changed sound at (happens c changed called))
 
-tracked : (key : Key) (change : Change) (now : ℕ) (c e : CellState) (answer : Result Reply TrackError) → now < 2 ^ 63 → Tracks c 0 key change now answer e → Happens c e
+pub tracked : (key : Key) (change : Change) (now : ℕ) (c e : CellState) (answer : Result Reply TrackError) → now < 2 ^ 63 → Tracks c 0 key change now answer e → Happens c e
 tracked key change now c e (Ok r) timely (room, made) = inr (events.Track 0 key change now, replies.Track r, timely, (λ n. refl), room, made)
 tracked key change now c e (Err untracked.TableFull) timely (refused, same) = inl same
 tracked key change now c e (Err untracked.WrongKey) timely (refused, same) = inl same
@@ -122,7 +122,7 @@ tracked key change now c e (Err untracked.HistoryFull) timely (refused, same) = 
 tracked key change now c e (Err untracked.MomentBack) timely (refused, same) = inl same
 tracked key change now c e (Err untracked.Memory) timely (refused, same) = inl same
 
-learned : (session now : ℕ) (u : Update) (c e : CellState) (answer : Result Reply LearnError) → now < 2 ^ 63 → Learns c session u now answer e → Happens c e
+pub learned : (session now : ℕ) (u : Update) (c e : CellState) (answer : Result Reply LearnError) → now < 2 ^ 63 → Learns c session u now answer e → Happens c e
 learned session now u c e (Ok r) timely (room, made) = inr (events.Learn session u now, replies.Learn r, timely, (λ n. refl), room, made)
 learned session now u c e (Err unlearned.NoSession) timely (refused, same) = inl same
 learned session now u c e (Err unlearned.Misfit) timely (refused, same) = inl same
@@ -132,7 +132,7 @@ learned session now u c e (Err unlearned.Spent) timely (refused, same) = inl sam
 learned session now u c e (Err unlearned.TableFull) timely (refused, same) = inl same
 learned session now u c e (Err unlearned.Memory) timely (refused, same) = inl same
 
-purged : (now : ℕ) (c e : CellState) (answer : Result ℕ PurgeError) → now < 2 ^ 63 → Purges c now answer e → Happens c e
+pub purged : (now : ℕ) (c e : CellState) (answer : Result ℕ PurgeError) → now < 2 ^ 63 → Purges c now answer e → Happens c e
 purged now c e (Ok count) timely (room, made) = inr (events.Purge now, replies.Purge count, timely, (λ n. refl), room, made)
 purged now c e (Err unpurged.MomentBack) timely (refused, same) = inl same
 purged now c e (Err unpurged.HistoryFull) timely (refused, same) = inl same
@@ -140,7 +140,7 @@ purged now c e (Err unpurged.Memory) timely (refused, same) = inl same
 
 -- ---- copies
 
-refused_copy : (session kind_limit now : ℕ) (kind : CopyKind) (c e : CellState) (error : CopyError) → Copies c session kind kind_limit now (Err error) e → e ≡ c
+pub refused_copy : (session kind_limit now : ℕ) (kind : CopyKind) (c e : CellState) (error : CopyError) → Copies c session kind kind_limit now (Err error) e → e ≡ c
 refused_copy session limit now kind c e uncopied.BatchOut (refused, same) = same
 refused_copy session limit now kind c e uncopied.Nothing (refused, same) = same
 refused_copy session limit now kind c e uncopied.NoSession (refused, same) = same

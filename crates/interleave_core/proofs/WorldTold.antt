@@ -31,7 +31,9 @@ use Rattle.interleave_core.proofs.TiePairs.{acked_made, same_table}
 use Rattle.peers_msg.specs.Decoding.{AreRead}
 use Rattle.peers_msg.specs.Received.{Received, nothing_received}
 use Rattle.peers_msg.specs.declared.message.Message.{Message}
+use Rattle.table_cell.specs.declared.events.CellEvent.{CellEvent}
 use Rattle.table_cell.specs.declared.events.CellEvent.TheVariants as events
+use Rattle.table_cell.specs.declared.events.CellReply.{CellReply}
 use Rattle.table_cell.specs.declared.events.CellReply.TheVariants as replies
 use Rattle.interleave_core.specs.Core.{AreRefusedIfFull, IsCore, IsOfCopied, StandsAtLearner}
 use Rattle.interleave_core.specs.Sound.{IsSoundConnection, IsAckFor}
@@ -225,10 +227,11 @@ own_others t key (u ∷ us) (first, rest) = elim (cases_Bool (nat_eq u.table t))
     unlike own (inl apart) = absurd (apart own)
     unlike own (inr apart) = apart
 
--- each row at the learner is of the last update of its key that was put, and that update was copied
-pub rows_copied : (w : WorldState) (session t : ℕ) (s : ConnectionState) (c : CellState) (key : Key) (row : StoredRow) → IsSoundWorld w → connection_at session w.connections ≡ Some s → cell_at t w.cells ≡ Some c
-    → row_at key (rows_at (roster_of w.cells) t s.learner.rows) ≡ Some row → IsOfCopied session c (of_table t s.applied) key row
-rows_copied w session t s c key row sound found at there =
+-- each row at the learner is of the last update of its key that was put, which was copied if all that was taught was
+pub rows_of_taught : (w : WorldState) (session t : ℕ) (s : ConnectionState) (c : CellState) (hs : List (CellEvent × CellReply)) (key : Key) (row : StoredRow) → IsSoundWorld w → connection_at session w.connections ≡ Some s
+    → cell_at t w.cells ≡ Some c → row_at key (rows_at (roster_of w.cells) t s.learner.rows) ≡ Some row → AllByRecursion (WasCopied session hs) (of_table t s.taught)
+    → IsOfCopied session hs c.state.definition.expire (of_table t s.applied) key row
+rows_of_taught w session t s c hs key row sound found at there all_copied =
     let (before, acks, connection, ties) = sound.sessions session s found in
     let id = found_id t c w.cells at in
     let d = c.state.definition in
@@ -242,10 +245,16 @@ rows_copied w session t s c key row sound found at there =
     let taught : of_table t s.taught ≡ of_table t front ++ u ∷ (of_table t behind ++ of_table t to_come) =
     ap (of_table t) connection.track.way.3 ∙ of_append t s.applied to_come
     ∙ ap (λ (l : List Update). l ++ of_table t to_come) put ∙ append_assoc (of_table t front) (u ∷ of_table t behind) (of_table t to_come) in
-    let copied : WasCopied session c.history u =
-    of_each (WasCopied session c.history) (of_table t front) (of_table t behind ++ of_table t to_come) u
-    (subst (AllByRecursion (WasCopied session c.history)) taught (taught_copied session before t s acks w.cells c at ties)) in
+    let copied : WasCopied session hs u =
+    of_each (WasCopied session hs) (of_table t front) (of_table t behind ++ of_table t to_come) u (subst (AllByRecursion (WasCopied session hs)) taught all_copied) in
     (of_table t front, u, of_table t behind, now, put, same, own_others t key behind (subst (λ (k : ℕ). AreOfOthers k key behind) id others), copied, below, is)
+
+-- some copy had it
+pub rows_copied : (w : WorldState) (session t : ℕ) (s : ConnectionState) (c : CellState) (key : Key) (row : StoredRow) → IsSoundWorld w → connection_at session w.connections ≡ Some s → cell_at t w.cells ≡ Some c
+    → row_at key (rows_at (roster_of w.cells) t s.learner.rows) ≡ Some row → IsOfCopied session c.history c.state.definition.expire (of_table t s.applied) key row
+rows_copied w session t s c key row sound found at there =
+    let (before, acks, connection, ties) = sound.sessions session s found in
+    rows_of_taught w session t s c c.history key row sound found at there (taught_copied session before t s acks w.cells c at ties)
 
 -- ---- what is acknowledged
 

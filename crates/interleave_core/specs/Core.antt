@@ -16,6 +16,8 @@ use Rattle.learner.specs.Learning.{Learning, LearnerFeeds}
 use Rattle.learner.specs.Rows.{put_all, row_at, rows_at}
 use Rattle.table_cell.specs.declared.errors.AckError.TheVariants as unacknowledged
 use Rattle.table_cell.specs.declared.errors.CopyError.TheVariants as uncopied
+use Rattle.table_cell.specs.declared.events.CellEvent.{CellEvent}
+use Rattle.table_cell.specs.declared.events.CellReply.{CellReply}
 use Rattle.table_cell.specs.declared.progress.Progress.{Progress}
 use Rattle.table_cell.specs.Machine.{ack_refusal, copy_refusal, live_row, progress_of}
 use Rattle.table_cell.specs.Handing.{IsReached, numbers, resyncs_since}
@@ -28,13 +30,13 @@ use Rattle.interleave_core.specs.Worlds.{ConnectionState, WorldState, cell_at, c
 abbrev pub StandsAtLearner : List Definition → ℕ → ConnectionState → Key × StoredRow → Type 0
 StandsAtLearner roster table s e = (row : StoredRow) × (row_at e.0 (rows_at roster table s.learner.rows) ≡ Some row) × (row.number ≡ e.1.number)
 
--- the row is what the last of these updates of that key taught at some moment below 2^63, and a copy for the session had that
--- update
-abbrev pub IsOfCopied : ℕ → CellState → List Update → Key → StoredRow → Type 0
-IsOfCopied session c us key row =
+-- in a table with this expire, the row is what the last of these updates of that key taught at some moment below 2^63, and a copy
+-- for the session, one of these events, had that update
+abbrev pub IsOfCopied : ℕ → List (CellEvent × CellReply) → ℕ → List Update → Key → StoredRow → Type 0
+IsOfCopied session history expire us key row =
     (before : List Update) × (u : Update) × (after : List Update) × (now : ℕ)
     × (us ≡ before ++ u ∷ after) × (u.key ≡ key) × AllByRecursion (λ later. later.key ≢ key) after
-    × WasCopied session c.history u × (now < 2 ^ 63) × (row ≡ row_of now c.state.definition.expire u)
+    × WasCopied session history u × (now < 2 ^ 63) × (row ≡ row_of now expire u)
 
 -- made one after another, each of these acknowledgements is of a table, which refuses it only if its history is full
 abbrev pub AreRefusedIfFull : ℕ → List (ℕ × ℕ) → List CellState → Type 0
@@ -68,7 +70,7 @@ pub record IsCoreOf (w : WorldState) (session : ℕ) (s : ConnectionState) : Typ
   pub granted : (count : ℕ) (ms : List Message) (received : Received) (left : List ℕ) → AreRead nothing_received (s.unread ++ take count s.to_teacher) ms received left →
       AreRefusedIfFull session (filter_map (ack_in (roster_of w.cells)) ms) w.cells
   pub rows : (table : ℕ) (c : CellState) (key : Key) (row : StoredRow) → cell_at table w.cells ≡ Some c →
-      row_at key (rows_at (roster_of w.cells) table s.learner.rows) ≡ Some row → IsOfCopied session c (of_table table s.applied) key row
+      row_at key (rows_at (roster_of w.cells) table s.learner.rows) ≡ Some row → IsOfCopied session c.history c.state.definition.expire (of_table table s.applied) key row
   pub stand : (table now : ℕ) (c : CellState) → cell_at table w.cells ≡ Some c → c.state.latest ≤ now →
       (p : Progress) × (progress_of session c.state ≡ Some p)
       × AllByRecursion (λ e. IsReached (resyncs_since session c.history) p.acknowledged now e → StandsAtLearner (roster_of w.cells) table s e) c.state.rows

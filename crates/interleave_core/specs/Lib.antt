@@ -8,3 +8,6 @@ pub mod Sound
 pub mod Ties
 pub mod SoundWorlds
 pub mod Core
+pub mod Since
+pub mod Reopened
+pub mod Bytes

@@ -3,6 +3,7 @@
 #![tactic(auto)]
 
 mod acks;
+mod byte_laws;
 mod cells;
 mod connection;
 mod connection_laws;
@@ -10,6 +11,7 @@ mod laws;
 mod new_world_laws;
 mod parts;
 mod session_laws;
+mod since_laws;
 mod step;
 mod tie_laws;
 mod track_laws;
@@ -17,13 +19,15 @@ mod way;
 mod world;
 mod world_laws;
 
+pub use byte_laws::{a_batch_is_of_bytes, a_lesson_is_bytes, a_roster_is_named_in_bytes};
 pub use connection_laws::{
     a_connection_stays_sound, acknowledgements_are_read, due_tables_are_owed,
     rows_are_of_the_last_updates, the_learner_ends_as_known,
 };
 pub use laws::{a_connection_stays_on_track, sessions_stay_open};
 pub use new_world_laws::a_new_world_is_sound;
-pub use session_laws::what_a_session_does_are_steps;
+pub use session_laws::{a_session_may_be_opened_later, what_a_session_does_are_steps};
+pub use since_laws::what_is_put_was_copied_since;
 pub use step::Step;
 pub use tie_laws::{
     a_new_session_is_tied, a_session_stays_tied, a_session_stays_tied_to_a_table,

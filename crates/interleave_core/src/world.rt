@@ -1,6 +1,6 @@
 //! The world, and its runs.
 
-ghost use Rattle.std.specs.Prelude.{◌≡◌, ◌≤◌, ◌++◌, IfOk, List, None, option_map};
+ghost use Rattle.std.specs.Prelude.{◌≡◌, ◌≤◌, ◌++◌, ℕ, IfOk, List, None, option_map};
 ghost use Rattle.std.specs.List.{AllByRecursion};
 ghost use Rattle.table_types.specs.Rosters.{roster_fault};
 ghost use Rattle.interleave_core.specs.declared.step.Step.{Step};
@@ -8,6 +8,7 @@ ghost use Rattle.interleave_core.specs.Core.{IsCore};
 ghost use Rattle.interleave_core.specs.Moves.{RunsTo};
 ghost use Rattle.interleave_core.specs.Opened.{CanBegin};
 ghost use Rattle.interleave_core.specs.Parts.{connection_of};
+ghost use Rattle.interleave_core.specs.Since.{HasNewConnection, RowsAreCopiedSince};
 ghost use Rattle.interleave_core.specs.Worlds.{WorldState, cell_at, connection_at, new_world, pipe_of, roster_of};
 
 use crate::cells::{are_sound, index_of, open_in_each, roster_of};
@@ -136,6 +137,9 @@ pub fn run(world: World, steps: &[Step]) -> Result<World, Memory>
     ensures core { IfOk result IsCore }
     ensures between { (first rest : List Step) → steps.now ≡ first ++ rest →
         IfOk result (λ after. (mid : WorldState) × RunsTo world first mid × RunsTo mid rest after × IsCore mid) }
+    ensures each { (first rest : List Step) (mid : WorldState) → steps.now ≡ first ++ rest → RunsTo world first mid → IfOk result (λ _. IsCore mid) }
+    ensures since { (first more rest : List Step) (begun mid : WorldState) (session : ℕ) → steps.now ≡ first ++ (more ++ rest) → RunsTo world first begun →
+        HasNewConnection session begun → RunsTo begun more mid → IfOk result (λ _. RowsAreCopiedSince begun session mid) }
 {
     let World { mut parts } = world;
     for step in steps {

@@ -2,7 +2,7 @@ use Rattle.std.proofs.Common.{subst}
 use Rattle.interleave_core.specs.Moves.{RunsTo}
 use Rattle.interleave_core.specs.Parts.{world_of}
 use Rattle.interleave_core.specs.SoundWorlds.{IsSoundWorld, IsTimelyStep}
-use Rattle.interleave_core.proofs.InOrder.{core_between, in_order_next}
+use Rattle.interleave_core.proofs.InOrder.{copied_since, core_between, core_each, in_order_next}
 use Rattle.interleave_core.proofs.Running.{all_further, leads_further}
 use Rattle.interleave_core.proofs.WorldTold.{core_of}
 use Rattle.interleave_core.proofs.world.run.Goals as goal
@@ -28,3 +28,11 @@ pub returns-clause-between : goal.returns-clause-between
 returns-clause-between c =
     core_between c.args.world (world_of c.loop-step.parts) c.args.steps.now c.loop-step.step-index c.loop-step-test.false
     (subst IsSoundWorld c.world.view_is c.world.invariant.sound) c.loop-step.invariant.timely c.loop-step.invariant.leads
+
+pub returns-clause-each : goal.returns-clause-each
+returns-clause-each c =
+    core_each c.args.world c.args.steps.now c.loop-step.step-index c.loop-step-test.false (subst IsSoundWorld c.world.view_is c.world.invariant.sound) c.loop-step.invariant.timely
+
+pub returns-clause-since : goal.returns-clause-since
+returns-clause-since c =
+    copied_since c.args.world c.args.steps.now c.loop-step.step-index c.loop-step-test.false (subst IsSoundWorld c.world.view_is c.world.invariant.sound) c.loop-step.invariant.timely
