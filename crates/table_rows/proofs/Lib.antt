@@ -1,3 +1,4 @@
 pub mod EndingLaws
+pub mod FirstLaws
 pub mod ListLaws
 pub mod RowLaws

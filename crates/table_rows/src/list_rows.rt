@@ -4,6 +4,7 @@ ghost use Rattle.std.specs.Prelude.{◌≡◌, [], IfErr, IfOk, option_copied};
 ghost use Rattle.table_rows.specs.Places.{IsGap, IsThere};
 ghost use Rattle.table_rows.specs.Rows.{follows};
 
+use crate::row_end::{first_of, key_of};
 use crate::rows::Rows;
 use std::alloc::Global;
 use std::cmp::Ordering;
@@ -113,6 +114,14 @@ impl Rows for ListRows {
             }
             Err(_) => None,
         }
+    }
+
+    fn first_to_end(&self) -> Option<&Key> {
+        let mut first = None;
+        for entry in &self.rows {
+            first = Some(first_of(first, (&entry.0, &entry.1)));
+        }
+        key_of(first)
     }
 
     fn len(&self) -> usize {

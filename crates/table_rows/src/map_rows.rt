@@ -4,6 +4,7 @@ ghost use Rattle.std.specs.Prelude.{◌≡◌, [], IfOk, OnOk};
 ghost use Rattle.std.specs.BTreeMap.{insert_entry};
 ghost use Rattle.table_types.specs.Keys.{key_cmp};
 
+use crate::row_end::{first_of, key_of};
 use crate::rows::Rows;
 use std::alloc::Global;
 use std::collections::BTreeMap;
@@ -11,8 +12,8 @@ use std::marker::Model;
 use std::ops::Bound;
 use table_types::{Key, Memory, Row};
 
-/// The rows of a table in an ordered map by key. Each call but `list`, `list_after` and `copy` takes time logarithmic in the
-/// number of rows.
+/// The rows of a table in an ordered map by key. Each call but `first_to_end`, `list`, `list_after` and `copy` takes
+/// time logarithmic in the number of rows.
 #[derive(Drop)]
 pub struct MapRows {
     alloc: Global,
@@ -69,6 +70,14 @@ impl Rows for MapRows {
 
     fn take(&mut self, key: &Key) -> Option<Row> {
         self.rows.remove(key)
+    }
+
+    fn first_to_end(&self) -> Option<&Key> {
+        let mut first = None;
+        for entry in &self.rows {
+            first = Some(first_of(first, entry));
+        }
+        key_of(first)
     }
 
     fn len(&self) -> usize {

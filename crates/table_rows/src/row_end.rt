@@ -1,13 +1,15 @@
 //! Where rows stand in the order in which they end.
 
-ghost use Rattle.std.specs.Prelude.{◌≡◌, ◌<◌, ◌^◌, IfSome, refl};
-ghost use Rattle.std.specs.Ordering.{as_partial_cmp};
+ghost use Rattle.std.specs.Prelude.{◌≡◌, ◌<◌, ◌^◌, IfSome, is_some, option_copied, option_map, refl};
+ghost use Rattle.std.specs.Ordering.{as_partial_cmp, is_lt};
 ghost use Rattle.std.specs.Cmp.{partial_order_from_agreeing_total};
 ghost use Rattle.table_rows.specs.Endings.{end_or_last, ending_of, later_cmp};
+ghost use Rattle.table_rows.specs.Rows.{end_cmp};
+ghost use Rattle.table_rows.specs.FirstToEnd.{first_of};
 ghost use Rattle.table_rows.specs.EndingOrder.{later_cmp_ties, later_cmp_total};
 
 use std::cmp::Ordering;
-use table_types::Row;
+use table_types::{Key, Row};
 
 /// Where a row stands in the order in which the rows of a table end: by its end, and then by its number, which no other
 /// row has. The last to end comes first: a new row mostly ends after all others, so a search that begins at the front
@@ -41,6 +43,43 @@ impl RowEnd {
             end: end_of(row),
             number: row.number(),
         }
+    }
+}
+
+/// Returns whether a row comes before another in the order in which rows end, rows that end together by number and then by
+/// key.
+fn ends_before(key: &Key, row: &Row, other: &Key, other_row: &Row) -> bool
+    ensures { result ≡ is_lt (end_cmp (key.now, row.now) (other.now, other_row.now)) }
+{
+    // `RowEnd` has the last to end first.
+    match RowEnd::of(other_row).cmp(&RowEnd::of(row)) {
+        Ordering::Less => true,
+        Ordering::Equal => key.cmp(other).is_lt(),
+        Ordering::Greater => false,
+    }
+}
+
+/// Returns the first to end of the rows so far and the next row, or the next row if there are none so far.
+pub(crate) fn first_of<'a>(
+    first: Option<(&'a Key, &'a Row)>,
+    next: (&'a Key, &'a Row),
+) -> (&'a Key, &'a Row)
+    ensures { (result.0.now, result.1.now) ≡ first_of (option_map (λ e. (e.0.now, e.1.now)) first.entry) (next.entry.0.now, next.entry.1.now) }
+{
+    match first {
+        Some((key, row)) if !ends_before(next.0, next.1, key, row) => (key, row),
+        _ => next,
+    }
+}
+
+/// Returns the key of a row, if there is one.
+pub(crate) fn key_of<'a>(row: Option<(&'a Key, &'a Row)>) -> Option<&'a Key>
+    ensures key { option_copied result ≡ option_map (λ e. e.0.now) row.entry }
+    ensures some { is_some result ≡ is_some row.entry }
+{
+    match row {
+        Some((key, _)) => Some(key),
+        None => None,
     }
 }
 

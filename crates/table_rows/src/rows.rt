@@ -1,13 +1,13 @@
 //! Collections of a table's rows.
 
-ghost use Rattle.std.specs.Prelude.{◌≡◌, IfOk, List, OnErr, OnOk, length, option_copied, take};
+ghost use Rattle.std.specs.Prelude.{◌≡◌, IfOk, IfSome, List, OnErr, OnOk, is_some, length, nat_lt, option_copied, take};
 ghost use Rattle.std.specs.BTreeMap.{insert_entry};
 ghost use Rattle.std.specs.List.Sorted.{IsStrictlySortedBy};
 ghost use Rattle.std.specs.Map.{keys_of};
 ghost use Rattle.table_types.specs.declared.key.Key.{Key};
 ghost use Rattle.table_types.specs.Keys.{key_cmp};
 ghost use Rattle.table_types.specs.Rows.{StoredRow};
-ghost use Rattle.table_rows.specs.Rows.{is_live, row_at, rows_after, rows_without};
+ghost use Rattle.table_rows.specs.Rows.{IsFirstToEnd, is_live, row_at, rows_after, rows_without};
 
 use table_types::{Key, Memory, Moment, Row};
 
@@ -40,6 +40,13 @@ pub trait Rows: Drop {
     fn take(&mut self, key: &Key) -> Option<Row>
         ensures taken { result ≡ row_at key.now (content self.old) }
         ensures others { content self.new ≡ rows_without key.now (content self.old) };
+
+    /// Returns the key of the first row to end, or `None` if there are no rows: of the rows that end first, and rows without an
+    /// end come last, the one with the least number, and of those with that number the one with the least key. Walks all
+    /// rows, and doesn't allocate. A table finds its first row to end in an index of its own, and doesn't call this.
+    fn first_to_end(&self) -> Option<&Key>
+        ensures first { IfSome (option_copied result) (IsFirstToEnd (content self.now)) }
+        ensures some { is_some result ≡ nat_lt 0 (length (content self.now)) };
 
     /// Returns the number of rows.
     fn len(&self) -> usize

@@ -1,4 +1,4 @@
-use Rattle.std.proofs.Common.{◌≡◌, ◌<◌, ◌≤◌, ◌+◌, ◌∷◌, ◌++◌, [], length, option_copied, true, ap, arith, rules, subst, take, List, slice_index_or, ◌∙◌}
+use Rattle.std.proofs.Common.{◌≡◌, ◌<◌, ◌+◌, ◌∷◌, ◌++◌, [], length, option_copied, true, ap, arith, rules, subst, take, List, slice_index_or, ◌∙◌}
 use Rattle.std.proofs.lemmas.List.{length-append}
 use Rattle.table_types.specs.declared.key.Key.{Key}
 use Rattle.table_types.specs.Rows.{StoredRow}
