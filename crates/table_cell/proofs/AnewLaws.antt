@@ -29,7 +29,7 @@ step_keeps s e (events.Track seat key change now) reply (granted, rest, leaves, 
 step_keeps s e (events.Learn session u now) reply (granted, rest, leaves, answer, is) = ap parameters is
 step_keeps s e (events.Copy session kind limit now) reply (granted, answer, is) = ap parameters is
 step_keeps s e (events.Ack session number) reply (granted, answer, is) = ap parameters is
-step_keeps s e (events.Open session) reply (granted, answer, is) = ap parameters is
+step_keeps s e (events.Open session version) reply (granted, answer, is) = ap parameters is
 step_keeps s e (events.Close session) reply (granted, answer, is) = ap parameters is
 step_keeps s e (events.Purge now) reply (granted, answer, is) = ap parameters is
 

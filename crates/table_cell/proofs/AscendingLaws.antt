@@ -8,26 +8,27 @@ use Rattle.std.specs.Cmp.{nat_cmp_is}
 use Rattle.std.specs.declared.cmp.Ordering.TheVariants.{Less}
 use Rattle.table_types.specs.declared.key.Key.{Key}
 use Rattle.table_types.specs.declared.update.Update.{Update}
+use Rattle.table_types.specs.declared.version.Version.{Version}
 use Rattle.table_types.specs.declared.copies.CopyKind.{CopyKind}
 use Rattle.table_types.specs.Rows.{StoredRow}
 use Rattle.table_types.specs.Tables.{Definition}
 use Rattle.table_cell.specs.Copying.{update_of}
-use Rattle.table_cell.specs.Machine.{TableState, acknowledged_by, bound_by, in_reach, is_unacked, progress_of, unacked}
+use Rattle.table_cell.specs.Machine.{TableState, acknowledged_by, bound_by, in_reach, is_unacked, progress_of, unacked, version_by}
 use Rattle.table_cell.specs.Soundness.{NumbersRise}
 use Rattle.table_cell.specs.Histories.{AreAscending}
 use Rattle.table_cell.proofs.RowsLaws.{rise_each, rise_filter}
 use Rattle.table_cell.proofs.ReachLaws.{reach_rise}
 
-all_above : (d : Definition) (now number next : ℕ) (es : List (Key × StoredRow)) → AllByRecursion (λ (e : Key × StoredRow). (number + 1 ≤ e.1.number) × (e.1.number < next)) es
-    → AllByRecursion (λ y. nat_cmp number y ≡ Less) (map (λ (u : Update). u.number) (map (update_of d now) es))
-all_above d now number next [] all = tt
-all_above d now number next (e ∷ es) (first, rest) = (sym (nat_cmp_is number e.1.number Less (omega (arith, first.0))), all_above d now number next es rest)
+all_above : (version : Version) (d : Definition) (now number next : ℕ) (es : List (Key × StoredRow)) → AllByRecursion (λ (e : Key × StoredRow). (number + 1 ≤ e.1.number) × (e.1.number < next)) es
+    → AllByRecursion (λ y. nat_cmp number y ≡ Less) (map (λ (u : Update). u.number) (map (update_of version d now) es))
+all_above version d now number next [] all = tt
+all_above version d now number next (e ∷ es) (first, rest) = (sym (nat_cmp_is number e.1.number Less (omega (arith, first.0))), all_above version d now number next es rest)
 
-updates_ascend : (d : Definition) (now least next : ℕ) (es : List (Key × StoredRow)) → NumbersRise least next es → AreAscending (map (update_of d now) es)
+updates_ascend : (version : Version) (d : Definition) (now least next : ℕ) (es : List (Key × StoredRow)) → NumbersRise least next es → AreAscending (map (update_of version d now) es)
 unfolding IsStrictlySortedBy
-updates_ascend d now least next [] rise = tt
-updates_ascend d now least next (e ∷ es) (first, rest) =
-    (all_above d now e.1.number next es (rise_each (e.1.number + 1) next es rest), updates_ascend d now (e.1.number + 1) next es rest)
+updates_ascend version d now least next [] rise = tt
+updates_ascend version d now least next (e ∷ es) (first, rest) =
+    (all_above version d now e.1.number next es (rise_each (e.1.number + 1) next es rest), updates_ascend version d now (e.1.number + 1) next es rest)
 
 all_taken : (P : ℕ → Type 0) (n : ℕ) (us : List Update) → AllByRecursion P (map (λ (u : Update). u.number) us) → AllByRecursion P (map (λ (u : Update). u.number) (take n us))
 all_taken P zero us all = tt
@@ -45,4 +46,4 @@ unacked_ascend s session kind limit now rise =
     let low = acknowledged_by (progress_of session s) in
     let reach = in_reach kind (bound_by (progress_of session s)) s.rows in
     let due = filter (is_unacked kind low now) reach in
-    taken_ascend limit (map (update_of s.definition now) due) (updates_ascend s.definition now 1 s.next due (rise_filter (is_unacked kind low now) 1 s.next reach (reach_rise kind (bound_by (progress_of session s)) 1 s.next s.rows rise)))
+    taken_ascend limit (map (update_of (version_by (progress_of session s)) s.definition now) due) (updates_ascend (version_by (progress_of session s)) s.definition now 1 s.next due (rise_filter (is_unacked kind low now) 1 s.next reach (reach_rise kind (bound_by (progress_of session s)) 1 s.next s.rows rise)))

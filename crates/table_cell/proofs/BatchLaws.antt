@@ -10,6 +10,8 @@ use Rattle.table_types.specs.declared.data_type.Shape.TheVariants as shapes
 use Rattle.table_types.specs.declared.row.Cell.{Cell}
 use Rattle.table_types.specs.declared.row.Cell.TheVariants as cells
 use Rattle.table_types.specs.declared.update.Value.{Value}
+use Rattle.table_types.specs.declared.version.Version.{Version}
+use Rattle.table_types.specs.declared.version.Version.TheVariants as versions
 use Rattle.table_types.specs.Keys.{key_fits, fits_length}
 use Rattle.table_types.specs.Names.{is_name}
 use Rattle.table_types.specs.DataTypes.{shape_of, is_rate, is_rate_shape}
@@ -22,8 +24,8 @@ use Rattle.table_types.specs.Changes.{cell_types}
 use Rattle.table_types.specs.Batches.{IsUpdateFor, IsBatchFor}
 use Rattle.table_rows.specs.Rows.{is_live}
 use Rattle.table_types.specs.declared.copies.CopyKind.{CopyKind}
-use Rattle.table_cell.specs.Copying.{value_of, life_left, update_of}
-use Rattle.table_cell.specs.Machine.{TableState, bound_by, in_reach, is_unacked, is_copied, acknowledged_by, progress_of, unacked}
+use Rattle.table_cell.specs.Copying.{value_of, life_left, life_of, update_of}
+use Rattle.table_cell.specs.Machine.{TableState, bound_by, in_reach, is_unacked, is_copied, acknowledged_by, progress_of, unacked, version_by}
 use Rattle.table_cell.specs.Soundness.{CellFits, CellsFit, EndFits, EntryFits, IsSound}
 use Rattle.table_cell.proofs.ReachLaws.{reach_all}
 use Rattle.table_cell.proofs.StepLaws.{all_take, later_sound}
@@ -106,8 +108,8 @@ values_copied now (t ∷ ts) cs has fits = elim (cases_Bool (is_name_type t.0)) 
 
 -- ---- lives
 
-life_copied : (d : Definition) (now : ℕ) (row : StoredRow) → EndFits now d.expire row.ends → is_live now row ≡ true → life_fits d (Some (life_left now row.ends)) ≡ true
-life_copied d now row fits live = by row.ends refl
+life_left_fits : (d : Definition) (now : ℕ) (row : StoredRow) → EndFits now d.expire row.ends → is_live now row ≡ true → life_fits d (Some (life_left now row.ends)) ≡ true
+life_left_fits d now row fits live = by row.ends refl
   where
     by : (o : Option ℕ) → row.ends ≡ o → life_fits d (Some (life_left now row.ends)) ≡ true
     by None at =
@@ -126,6 +128,10 @@ life_copied d now row fits live = by row.ends refl
         ∙ cond-false (nat_eq d.expire 0) (nat_eq (end - now) 0) (nat_le 1 (end - now) && nat_le (end - now) d.expire) (ne_eqb d.expire 0 bound.0)
         ∙ and_from (nat_le 1 (end - now)) (nat_le (end - now) d.expire) least within
 
+life_copied : (version : Version) (d : Definition) (now : ℕ) (row : StoredRow) → EndFits now d.expire row.ends → is_live now row ≡ true → life_fits d (life_of version now row.ends) ≡ true
+life_copied versions.V20 d now row fits live = refl
+life_copied versions.V21 d now row fits live = life_left_fits d now row fits live
+
 -- ---- updates
 
 pub periods : (d : Definition) → is_definition d ≡ true → list_all has_its_period d.types ≡ true
@@ -133,28 +139,27 @@ periods d is =
     let all = and_parts (is_id d.id && is_name d.name && fits_length d.kind d.key_length && nat_lt d.expire (2 ^ 32) && list_all has_its_period d.types) (rise_from 0 d.types) is in
     (and_parts (is_id d.id && is_name d.name && fits_length d.kind d.key_length && nat_lt d.expire (2 ^ 32)) (list_all has_its_period d.types) all.0).1
 
-update_fits : (d : Definition) (now : ℕ) (e : Key × StoredRow) → is_definition d ≡ true → EntryFits d now e → is_live now e.1 ≡ true → IsUpdateFor (d ∷ []) (update_of d now e)
-update_fits d now e is (key, row, name, end) live =
-    let u = update_of d now e in
+update_fits : (version : Version) (d : Definition) (now : ℕ) (e : Key × StoredRow) → is_definition d ≡ true → EntryFits d now e → is_live now e.1 ≡ true → IsUpdateFor (d ∷ []) (update_of version d now e)
+update_fits version d now e is (key, row, name, end) live =
+    let u = update_of version d now e in
     let values = values_copied now d.types e.1.cells (periods d is) row in
     let fits_row : row_fits d e.0 u.values ≡ true = and_from (key_fits d.kind d.key_length e.0) (values_fit d.types u.values) key values in
     let named = and_from (row_fits d e.0 u.values) (may_be_named d e.1.name) fits_row name in
-    let lives = life_copied d now e.1 end live in (
+    let lives = life_copied version d now e.1 end live in (
       d,
       cond-true (nat_eq d.id d.id) (Some d) (table_at [] d.id) (eq-eqb d.id d.id refl),
       and_from (row_fits d e.0 u.values && may_be_named d e.1.name) (life_fits d u.life) named lives,
-      (life_left now e.1.ends, refl),
     )
 
-due_fit : (d : Definition) (kind : CopyKind) (low now : ℕ) (es : List (Key × StoredRow)) → is_definition d ≡ true → AllByRecursion (EntryFits d now) es
-    → AllByRecursion (IsUpdateFor (d ∷ [])) (map (update_of d now) (filter (is_unacked kind low now) es))
-due_fit d kind low now [] is all = tt
-due_fit d kind low now (e ∷ es) is (first, rest) =
-    let others = due_fit d kind low now es is rest in
-    cond_both (is_unacked kind low now e) (e ∷ filter (is_unacked kind low now) es) (filter (is_unacked kind low now) es) (λ (l : List (Key × StoredRow)). AllByRecursion (IsUpdateFor (d ∷ [])) (map (update_of d now) l))
+due_fit : (version : Version) (d : Definition) (kind : CopyKind) (low now : ℕ) (es : List (Key × StoredRow)) → is_definition d ≡ true → AllByRecursion (EntryFits d now) es
+    → AllByRecursion (IsUpdateFor (d ∷ [])) (map (update_of version d now) (filter (is_unacked kind low now) es))
+due_fit version d kind low now [] is all = tt
+due_fit version d kind low now (e ∷ es) is (first, rest) =
+    let others = due_fit version d kind low now es is rest in
+    cond_both (is_unacked kind low now e) (e ∷ filter (is_unacked kind low now) es) (filter (is_unacked kind low now) es) (λ (l : List (Key × StoredRow)). AllByRecursion (IsUpdateFor (d ∷ [])) (map (update_of version d now) l))
     (λ due.
     let parts = and_parts (nat_lt low e.1.number && is_copied kind e.1) (is_live now e.1) due in
-    (update_fits d now e is first parts.1, others))
+    (update_fits version d now e is first parts.1, others))
     (λ _. others)
 
 take_short : {A : Type 0} (n : ℕ) (xs : List A) → length (take n xs) ≤ n
@@ -162,11 +167,12 @@ take_short zero xs = omega arith
 take_short (suc n) [] = omega arith
 take_short (suc n) (x ∷ xs) = let rest = take_short n xs in omega arith
 
-pub copied_batch : (s : TableState) (session : ℕ) (kind : CopyKind) (limit now : ℕ) → IsSound s → s.latest ≤ now → limit ≤ 512 → IsBatchFor (s.definition ∷ []) (unacked s session kind now limit)
+pub copied_batch : (s : TableState) (session : ℕ) (kind : CopyKind) (limit now : ℕ) → IsSound s → s.latest ≤ now → limit ≤ 4096 → IsBatchFor (s.definition ∷ []) (unacked s session kind now limit)
 copied_batch s session kind limit now sound later few =
     let d = s.definition in
+    let version = version_by (progress_of session s) in
     let low = acknowledged_by (progress_of session s) in
     let bound = bound_by (progress_of session s) in
-    let all = map (update_of d now) (filter (is_unacked kind low now) (in_reach kind bound s.rows)) in
+    let all = map (update_of version d now) (filter (is_unacked kind low now) (in_reach kind bound s.rows)) in
     let short : length (unacked s session kind now limit) ≤ limit = take_short limit all in
-    (omega arith, all_take (IsUpdateFor (d ∷ [])) limit all (due_fit d kind low now (in_reach kind bound s.rows) sound.definition (reach_all (EntryFits d now) kind bound s.rows (later_sound s now sound later))))
+    (omega arith, all_take (IsUpdateFor (d ∷ [])) limit all (due_fit version d kind low now (in_reach kind bound s.rows) sound.definition (reach_all (EntryFits d now) kind bound s.rows (later_sound s now sound later))))

@@ -10,7 +10,7 @@ use Rattle.table_types.specs.declared.copies.CopyKind.{CopyKind}
 use Rattle.table_cell.specs.declared.errors.CopyError.{CopyError}
 use Rattle.table_cell.specs.declared.errors.CopyError.TheVariants as uncopied
 use Rattle.table_cell.specs.declared.progress.Progress.{Progress}
-use Rattle.table_cell.specs.Machine.{TableState, acknowledged_by, bound_by, in_reach, is_unacked, copied, copy_refusal, is_out, last_number, progress_of, teaching, unacked, with_progress}
+use Rattle.table_cell.specs.Machine.{TableState, acknowledged_by, bound_by, in_reach, is_unacked, copied, copy_refusal, is_out, last_number, progress_of, teaching, unacked, with_progress, version_by}
 use Rattle.table_cell.proofs.RowsLaws.{some_none}
 
 with_same : (session : ℕ) (f g : Progress → Progress) (es : List (ℕ × Progress)) → ((p : Progress) → f p ≡ g p) → with_progress session f es ≡ with_progress session g es
@@ -53,7 +53,7 @@ nothing_unacked s session kind now limit progress at none =
     ap (λ (n : ℕ). filter (is_unacked kind n now) (in_reach kind (bound_by (progress_of session s)) s.rows)) number
     ∙ ap (λ (n : ℕ). filter (is_unacked kind progress.acknowledged now) (in_reach kind n s.rows)) bound
     ∙ empty_list (filter (is_unacked kind progress.acknowledged now) (in_reach kind progress.bound s.rows)) none in
-    ap (λ (l : List (Key × StoredRow)). nat_eq (length (take limit (map (update_of s.definition now) l))) 0) empty ∙ ap (λ (l : List Update). nat_eq (length l) 0) (take_none limit)
+    ap (λ (l : List (Key × StoredRow)). nat_eq (length (take limit (map (update_of (version_by (progress_of session s)) s.definition now) l))) 0) empty ∙ ap (λ (l : List Update). nat_eq (length l) 0) (take_none limit)
 
 pub nothing_refused : (full : Bool) (s : TableState) (session : ℕ) (kind : CopyKind) (limit now : ℕ) (progress : Progress) → progress_of session s ≡ Some progress
     → nat_lt now s.latest ≡ false → is_out progress ≡ false → nat_eq (length (unacked s session kind now limit)) 0 ≡ true → copy_refusal full s session kind limit now ≡ Some uncopied.Nothing
@@ -74,12 +74,10 @@ nothing_refused full s session kind limit now progress at later none_out nothing
 
 -- ---- what is copied
 
-pub unacked_is : (s : TableState) (session : ℕ) (kind : CopyKind) (now limit number bound : ℕ) (us : List Update) → us ≡ take limit (map (update_of s.definition now) (filter (is_unacked kind number now) (in_reach kind bound s.rows)))
-    → number ≡ acknowledged_by (progress_of session s) → bound ≡ bound_by (progress_of session s) → us ≡ unacked s session kind now limit
-unacked_is s session kind now limit number bound us is acknowledged reach =
-    is
-    ∙ ap (λ (n : ℕ). take limit (map (update_of s.definition now) (filter (is_unacked kind n now) (in_reach kind bound s.rows)))) acknowledged
-    ∙ ap (λ (n : ℕ). take limit (map (update_of s.definition now) (filter (is_unacked kind (acknowledged_by (progress_of session s)) now) (in_reach kind n s.rows)))) reach
+pub unacked_is : (s : TableState) (session : ℕ) (kind : CopyKind) (now limit : ℕ) (progress : Progress) (us : List Update) → progress_of session s ≡ Some progress
+    → us ≡ take limit (map (update_of progress.version s.definition now) (filter (is_unacked kind progress.acknowledged now) (in_reach kind progress.bound s.rows))) → us ≡ unacked s session kind now limit
+unacked_is s session kind now limit progress us at is =
+    is ∙ ap (λ (o : Option Progress). take limit (map (update_of (version_by o) s.definition now) (filter (is_unacked kind (acknowledged_by o) now) (in_reach kind (bound_by o) s.rows)))) (sym at)
 
 -- ---- what is taught
 

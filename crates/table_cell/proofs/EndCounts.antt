@@ -19,7 +19,7 @@ use Rattle.table_types.specs.declared.key.Key.{Key}
 use Rattle.table_types.specs.Rows.{StoredRow}
 use Rattle.table_rows.specs.declared.row_end.RowEnd.{RowEnd}
 use Rattle.table_rows.specs.EndingOrder.{later_cmp_total}
-use Rattle.table_rows.specs.Endings.{are_same, end_or_last, ending_of, is_among, later_cmp}
+use Rattle.table_rows.specs.Endings.{are_same, end_or_last, ending_of, later_cmp}
 use Rattle.table_rows.specs.Rows.{is_live}
 use Rattle.table_rows.proofs.EndingLaws.{has_ended, lives, one_ending}
 use Rattle.table_cell.specs.Soundness.{NumbersRise}

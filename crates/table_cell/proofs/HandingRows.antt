@@ -6,6 +6,7 @@ use Rattle.std.specs.Ordering.{is_eq}
 use Rattle.std.proofs.lemmas.Bool.{cond-true, cond_both, ltb-true, lt-ltb, and_parts}
 use Rattle.table_types.specs.declared.key.Key.{Key}
 use Rattle.table_types.specs.declared.update.Update.{Update}
+use Rattle.table_types.specs.declared.version.Version.{Version}
 use Rattle.table_types.specs.declared.copies.CopyKind.{CopyKind}
 use Rattle.table_types.specs.declared.copies.CopyKind.TheVariants as kinds
 use Rattle.table_types.specs.Keys.{key_cmp}
@@ -145,36 +146,36 @@ above_least least (u ∷ us) (first, rest) = (first, below least u.number us fir
 
 -- ---- what a copy takes
 
-filter_ascends : (d : Definition) (now least a next : ℕ) (p : Key × StoredRow → Bool) (es : List (Key × StoredRow)) → least < a → NumbersRise a next es → Ascend least (numbers (map (update_of d now) (filter p es)))
-filter_ascends d now least a next p [] less rise = tt
-filter_ascends d now least a next p (e ∷ es) less (first, rest) =
-    cond_both (p e) (e ∷ filter p es) (filter p es) (λ (l : List (Key × StoredRow)). Ascend least (numbers (map (update_of d now) l)))
-    (λ _. (omega arith, filter_ascends d now e.1.number (e.1.number + 1) next p es (omega arith) rest))
-    (λ _. filter_ascends d now least (e.1.number + 1) next p es (omega arith) rest)
+filter_ascends : (version : Version) (d : Definition) (now least a next : ℕ) (p : Key × StoredRow → Bool) (es : List (Key × StoredRow)) → least < a → NumbersRise a next es → Ascend least (numbers (map (update_of version d now) (filter p es)))
+filter_ascends version d now least a next p [] less rise = tt
+filter_ascends version d now least a next p (e ∷ es) less (first, rest) =
+    cond_both (p e) (e ∷ filter p es) (filter p es) (λ (l : List (Key × StoredRow)). Ascend least (numbers (map (update_of version d now) l)))
+    (λ _. (omega arith, filter_ascends version d now e.1.number (e.1.number + 1) next p es (omega arith) rest))
+    (λ _. filter_ascends version d now least (e.1.number + 1) next p es (omega arith) rest)
 
 -- the rows above a number ascend from it
-pub unacked_ascend : (d : Definition) (kind : CopyKind) (low now a next : ℕ) (es : List (Key × StoredRow)) → NumbersRise a next es → Ascend low (numbers (map (update_of d now) (filter (is_unacked kind low now) es)))
-unacked_ascend d kind low now a next [] rise = tt
-unacked_ascend d kind low now a next (e ∷ es) (first, rest) =
-    cond_both (is_unacked kind low now e) (e ∷ filter (is_unacked kind low now) es) (filter (is_unacked kind low now) es) (λ (l : List (Key × StoredRow)). Ascend low (numbers (map (update_of d now) l)))
+pub unacked_ascend : (version : Version) (d : Definition) (kind : CopyKind) (low now a next : ℕ) (es : List (Key × StoredRow)) → NumbersRise a next es → Ascend low (numbers (map (update_of version d now) (filter (is_unacked kind low now) es)))
+unacked_ascend version d kind low now a next [] rise = tt
+unacked_ascend version d kind low now a next (e ∷ es) (first, rest) =
+    cond_both (is_unacked kind low now e) (e ∷ filter (is_unacked kind low now) es) (filter (is_unacked kind low now) es) (λ (l : List (Key × StoredRow)). Ascend low (numbers (map (update_of version d now) l)))
     (λ due.
     let parts = and_parts (nat_lt low e.1.number && is_copied kind e.1) (is_live now e.1) due in
     let above = ltb-true low e.1.number ((and_parts (nat_lt low e.1.number) (is_copied kind e.1) parts.0).0) in
-    (above, filter_ascends d now e.1.number (e.1.number + 1) next (is_unacked kind low now) es (omega arith) rest))
-    (λ _. unacked_ascend d kind low now (e.1.number + 1) next es rest)
+    (above, filter_ascends version d now e.1.number (e.1.number + 1) next (is_unacked kind low now) es (omega arith) rest))
+    (λ _. unacked_ascend version d kind low now (e.1.number + 1) next es rest)
 
-above_in : (d : Definition) (now least : ℕ) (e : Key × StoredRow) (es : List (Key × StoredRow)) → Ascend least (numbers (map (update_of d now) es)) → IsIn e es → least < e.1.number
-above_in d now least e [] up at = absurd at
-above_in d now least e (x ∷ xs) (first, rest) (inl same) = subst (λ (y : Key × StoredRow). least < y.1.number) (sym same) first
-above_in d now least e (x ∷ xs) (first, rest) (inr later) = let more = above_in d now x.1.number e xs rest later in omega arith
+above_in : (version : Version) (d : Definition) (now least : ℕ) (e : Key × StoredRow) (es : List (Key × StoredRow)) → Ascend least (numbers (map (update_of version d now) es)) → IsIn e es → least < e.1.number
+above_in version d now least e [] up at = absurd at
+above_in version d now least e (x ∷ xs) (first, rest) (inl same) = subst (λ (y : Key × StoredRow). least < y.1.number) (sym same) first
+above_in version d now least e (x ∷ xs) (first, rest) (inr later) = let more = above_in version d now x.1.number e xs rest later in omega arith
 
 -- a row of which the number is at most the last of the first few is one of them
-pub take_covers : (d : Definition) (now least k : ℕ) (e : Key × StoredRow) (es : List (Key × StoredRow)) → Ascend least (numbers (map (update_of d now) es)) → IsIn e es
-    → e.1.number ≤ last_number least (take k (map (update_of d now) es)) → IsHanded (take k (map (update_of d now) es)) e
-take_covers d now least zero e es up at within = let over = above_in d now least e es up at in absurd (omega arith)
-take_covers d now least (suc k) e [] up at within = at
-take_covers d now least (suc k) e (x ∷ xs) up (inl same) within = inl (ap (λ (y : Key × StoredRow). y.0) (sym same), ap (λ (y : Key × StoredRow). y.1.number) (sym same))
-take_covers d now least (suc k) e (x ∷ xs) (first, rest) (inr later) within = inr (take_covers d now x.1.number k e xs rest later within)
+pub take_covers : (version : Version) (d : Definition) (now least k : ℕ) (e : Key × StoredRow) (es : List (Key × StoredRow)) → Ascend least (numbers (map (update_of version d now) es)) → IsIn e es
+    → e.1.number ≤ last_number least (take k (map (update_of version d now) es)) → IsHanded (take k (map (update_of version d now) es)) e
+take_covers version d now least zero e es up at within = let over = above_in version d now least e es up at in absurd (omega arith)
+take_covers version d now least (suc k) e [] up at within = at
+take_covers version d now least (suc k) e (x ∷ xs) up (inl same) within = inl (ap (λ (y : Key × StoredRow). y.0) (sym same), ap (λ (y : Key × StoredRow). y.1.number) (sym same))
+take_covers version d now least (suc k) e (x ∷ xs) (first, rest) (inr later) within = inr (take_covers version d now x.1.number k e xs rest later within)
 
 -- ---- what was handed
 

@@ -7,6 +7,7 @@ use Rattle.std.proofs.lemmas.Bool.{cases_Bool, cases_eq, eq-eqb, ne_eqb, cond-tr
 use Rattle.std.proofs.lemmas.List.{append-nil}
 use Rattle.std.proofs.lemmas.List.Sums.{fold_push}
 use Rattle.table_types.specs.declared.update.Update.{Update}
+use Rattle.table_types.specs.declared.version.Version.{Version}
 use Rattle.table_types.specs.declared.copies.CopyKind.{CopyKind}
 use Rattle.table_types.specs.declared.copies.CopyKind.TheVariants as kinds
 use Rattle.table_cell.specs.declared.events.CellEvent.{CellEvent}
@@ -125,7 +126,7 @@ no_push n (events.Copy id kinds.Standing limit now) none = refl
 no_push n (events.Track seat key change now) none = refl
 no_push n (events.Learn session u now) none = refl
 no_push n (events.Ack session number) none = refl
-no_push n (events.Open session) none = refl
+no_push n (events.Open session version) none = refl
 no_push n (events.Close session) none = refl
 no_push n (events.Purge now) none = refl
 
@@ -158,16 +159,16 @@ resyncs_copy n resyncs kinds.Push limit now reply = ap (λ b. resyncs && not b) 
 resyncs_copy n resyncs kinds.Resync limit now reply = refl
 resyncs_copy n resyncs kinds.Standing limit now reply = refl
 
-pub handed_open : (n : ℕ) (us : List Update) (reply : CellReply) → handed_after n us (events.Open n, reply) ≡ []
-handed_open n us reply = cond-true (nat_eq n n) [] (us ++ []) (eq-eqb n n refl)
+pub handed_open : (n : ℕ) (version : Version) (us : List Update) (reply : CellReply) → handed_after n us (events.Open n version, reply) ≡ []
+handed_open n version us reply = cond-true (nat_eq n n) [] (us ++ []) (eq-eqb n n refl)
 
-pub resyncs_open : (n : ℕ) (resyncs : Bool) (reply : CellReply) → resyncs_after n resyncs (events.Open n, reply) ≡ true
-resyncs_open n resyncs reply = ap (λ b. b || (resyncs && true)) (eq-eqb n n refl)
+pub resyncs_open : (n : ℕ) (version : Version) (resyncs : Bool) (reply : CellReply) → resyncs_after n resyncs (events.Open n version, reply) ≡ true
+resyncs_open n version resyncs reply = ap (λ b. b || (resyncs && true)) (eq-eqb n n refl)
 
 -- ---- an event that isn't about the session
 
 pub no_open : (n : ℕ) (event : CellEvent) → is_about n event ≡ false → is_open_of n event ≡ false
-no_open n (events.Open session) other = other
+no_open n (events.Open session version) other = other
 no_open n (events.Copy session kind limit now) other = refl
 no_open n (events.Track seat key change now) other = refl
 no_open n (events.Learn session u now) other = refl
@@ -177,7 +178,7 @@ no_open n (events.Purge now) other = refl
 
 pub no_copy : (n : ℕ) (event : CellEvent) → is_about n event ≡ false → is_copy_of n event ≡ false
 no_copy n (events.Copy session kind limit now) other = other
-no_copy n (events.Open session) other = refl
+no_copy n (events.Open session version) other = refl
 no_copy n (events.Track seat key change now) other = refl
 no_copy n (events.Learn session u now) other = refl
 no_copy n (events.Ack session number) other = refl
@@ -190,7 +191,7 @@ same_progress_of n s e (events.Learn session u now) reply other (granted, rest, 
 same_progress_of n s e (events.Copy session kind limit now) reply other (granted, answer, is) =
     ap (progress_of n) is ∙ other_with n session (λ (r : Progress). record r { taught = last_number r.taught (unacked s session kind now limit) }) s.sessions other
 same_progress_of n s e (events.Ack session number) reply other (granted, answer, is) = ap (progress_of n) is ∙ other_with n session (acknowledging number) s.sessions other
-same_progress_of n s e (events.Open session) reply other (granted, answer, is) = ap (progress_of n) is ∙ other_end n session (no_progress s.next) s.sessions other
+same_progress_of n s e (events.Open session version) reply other (granted, answer, is) = ap (progress_of n) is ∙ other_end n session (no_progress version s.next) s.sessions other
 same_progress_of n s e (events.Close session) reply other (granted, answer, is) = ap (progress_of n) is ∙ other_without n session s.sessions other
 same_progress_of n s e (events.Purge now) reply other (granted, answer, is) = ap (progress_of n) is
 

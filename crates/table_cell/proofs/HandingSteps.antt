@@ -7,6 +7,7 @@ use Rattle.std.proofs.lemmas.Bool.{cases_eq, cases_lt, ne_eqb, cond_both, lt-ltb
 use Rattle.std.proofs.lemmas.List.Sums.{fold-append, fold_push}
 use Rattle.table_types.specs.declared.key.Key.{Key}
 use Rattle.table_types.specs.declared.update.Update.{Update}
+use Rattle.table_types.specs.declared.version.Version.{Version}
 use Rattle.table_types.specs.declared.copies.CopyKind.{CopyKind}
 use Rattle.table_types.specs.declared.copies.CopyKind.TheVariants as kinds
 use Rattle.table_types.specs.Keys.{key_cmp, key_fits}
@@ -20,7 +21,7 @@ use Rattle.table_cell.specs.declared.events.CellEvent.{CellEvent}
 use Rattle.table_cell.specs.declared.events.CellEvent.TheVariants as events
 use Rattle.table_cell.specs.declared.events.CellReply.{CellReply}
 use Rattle.table_cell.specs.declared.progress.Progress.{Progress}
-use Rattle.table_cell.specs.Machine.{TableState, Leaves, Replays, Step, acknowledged_by, acknowledging, bound_by, copied, copy_refusal, has_room, in_reach, is_copied, is_of_table, is_out, is_unacked, last_number, no_progress, progress_of, stored, unacked, with_progress, without}
+use Rattle.table_cell.specs.Machine.{TableState, Leaves, Replays, Step, acknowledged_by, acknowledging, bound_by, copied, copy_refusal, has_room, in_reach, is_copied, is_of_table, is_out, is_unacked, last_number, no_progress, progress_of, stored, unacked, with_progress, without, version_by}
 use Rattle.table_cell.specs.Histories.{CellState, IsSoundCell, Made, is_copy_of}
 use Rattle.table_cell.specs.Parts.{is_in_reach}
 use Rattle.table_cell.specs.Soundness.{AreTimely, IsSound}
@@ -118,8 +119,8 @@ stays_out us resyncs taught s e (events.Copy session kind limit now) reply below
     subst (IsHandedOut us resyncs taught) (sym is) (rows_leave us resyncs taught s (copied s session (unacked s session kind now limit) now) found.1.later (λ P all. all) out)
 stays_out us resyncs taught s e (events.Ack session number) reply below (granted, answer, is) out =
     subst (IsHandedOut us resyncs taught) (sym is) (rows_leave us resyncs taught s (record s { sessions = with_progress session (acknowledging number) s.sessions }) (omega arith) (λ P all. all) out)
-stays_out us resyncs taught s e (events.Open session) reply below (granted, answer, is) out =
-    subst (IsHandedOut us resyncs taught) (sym is) (rows_leave us resyncs taught s (record s { sessions = s.sessions ++ (session, no_progress s.next) ∷ [] }) (omega arith) (λ P all. all) out)
+stays_out us resyncs taught s e (events.Open session version) reply below (granted, answer, is) out =
+    subst (IsHandedOut us resyncs taught) (sym is) (rows_leave us resyncs taught s (record s { sessions = s.sessions ++ (session, no_progress version s.next) ∷ [] }) (omega arith) (λ P all. all) out)
 stays_out us resyncs taught s e (events.Close session) reply below (granted, answer, is) out =
     subst (IsHandedOut us resyncs taught) (sym is) (rows_leave us resyncs taught s (record s { sessions = filter (λ (entry : ℕ × Progress). not (entry.0 == session)) s.sessions }) (omega arith) (λ P all. all) out)
 stays_out us resyncs taught s e (events.Purge now) reply below (granted, answer, is) out =
@@ -139,20 +140,20 @@ last_low bound low number [] all above within = absurd (omega arith)
 last_low bound low number (u ∷ us) (first, rest) above within = let most = last_most bound u.number us rest first in omega arith
 
 -- the updates of a standing resync have numbers up to its bound
-pub standing_within : (s : TableState) (bound low now limit : ℕ) → AllByRecursion (λ (u : Update). u.number ≤ bound) (take limit (map (update_of s.definition now) (filter (is_unacked kinds.Standing low now) (in_reach kinds.Standing bound s.rows))))
-standing_within s bound low now limit =
+pub standing_within : (version : Version) (s : TableState) (bound low now limit : ℕ) → AllByRecursion (λ (u : Update). u.number ≤ bound) (take limit (map (update_of version s.definition now) (filter (is_unacked kinds.Standing low now) (in_reach kinds.Standing bound s.rows))))
+standing_within version s bound low now limit =
     let rows = filter (is_up_to bound) s.rows in
-    all_take (λ (u : Update). u.number ≤ bound) limit (map (update_of s.definition now) (filter (is_unacked kinds.Standing low now) rows))
-    (all_map (λ (u : Update). u.number ≤ bound) (update_of s.definition now) (filter (is_unacked kinds.Standing low now) rows)
+    all_take (λ (u : Update). u.number ≤ bound) limit (map (update_of version s.definition now) (filter (is_unacked kinds.Standing low now) rows))
+    (all_map (λ (u : Update). u.number ≤ bound) (update_of version s.definition now) (filter (is_unacked kinds.Standing low now) rows)
     (all_filter (λ (e : Key × StoredRow). e.1.number ≤ bound) (is_unacked kinds.Standing low now) rows (all_up_to bound s.rows)))
 
 -- what a copy reaches with its last number is in its reach
-last_in_reach : (s : TableState) (kind : CopyKind) (bound low now limit : ℕ) (row : StoredRow) → low < row.number
-    → row.number ≤ last_number low (take limit (map (update_of s.definition now) (filter (is_unacked kind low now) (in_reach kind bound s.rows)))) → is_in_reach kind bound row ≡ true
-last_in_reach s kinds.Push bound low now limit row above reached = refl
-last_in_reach s kinds.Resync bound low now limit row above reached = refl
-last_in_reach s kinds.Standing bound low now limit row above reached =
-    le-leb row.number bound (last_low bound low row.number (take limit (map (update_of s.definition now) (filter (is_unacked kinds.Standing low now) (in_reach kinds.Standing bound s.rows)))) (standing_within s bound low now limit) above reached)
+last_in_reach : (version : Version) (s : TableState) (kind : CopyKind) (bound low now limit : ℕ) (row : StoredRow) → low < row.number
+    → row.number ≤ last_number low (take limit (map (update_of version s.definition now) (filter (is_unacked kind low now) (in_reach kind bound s.rows)))) → is_in_reach kind bound row ≡ true
+last_in_reach version s kinds.Push bound low now limit row above reached = refl
+last_in_reach version s kinds.Resync bound low now limit row above reached = refl
+last_in_reach version s kinds.Standing bound low now limit row above reached =
+    le-leb row.number bound (last_low bound low row.number (take limit (map (update_of version s.definition now) (filter (is_unacked kinds.Standing low now) (in_reach kinds.Standing bound s.rows)))) (standing_within version s bound low now limit) above reached)
 
 copied_out : (n : ℕ) (us : List Update) (resyncs : Bool) (s : TableState) (kind : CopyKind) (limit now : ℕ) (p : Progress) → IsSound s → IsCopied s n now p → IsHandedOut us resyncs p.taught s
     → IsHandedOut (us ++ unacked s n kind now limit) (resyncs && is_resync kind) (last_number p.taught (unacked s n kind now limit)) (copied s n (unacked s n kind now limit) now)
@@ -163,6 +164,9 @@ copied_out n us resyncs s kind limit now p sound granted out = record {
   no_older = each_in (IsNoOlder (us ++ new)) s.rows no_older_too;
 }
   where
+    version : Version
+    version = version_by (progress_of n s)
+
     low : ℕ
     low = acknowledged_by (progress_of n s)
 
@@ -176,7 +180,7 @@ copied_out n us resyncs s kind limit now p sound granted out = record {
     due = filter (is_unacked kind low now) reach
 
     all : List Update
-    all = map (update_of s.definition now) due
+    all = map (update_of version s.definition now) due
 
     new : List Update
     new = take limit all
@@ -190,7 +194,7 @@ copied_out n us resyncs s kind limit now p sound granted out = record {
         ap acknowledged_by granted.found ∙ same
 
     ascends : Ascend low (numbers all)
-    ascends = unacked_ascend s.definition kind low now 1 s.next reach (reach_rise kind bound 1 s.next s.rows sound.numbers)
+    ascends = unacked_ascend version s.definition kind low now 1 s.next reach (reach_rise kind bound 1 s.next s.rows sound.numbers)
 
     of_kind : (b : Bool) (k : CopyKind) (row : StoredRow) → is_of_each_kind (b && is_resync k) row ≡ true → is_copied k row ≡ true
     of_kind b kinds.Resync row each = refl
@@ -210,7 +214,7 @@ copied_out n us resyncs s kind limit now p sound granted out = record {
           let included : is_unacked kind low now e ≡ true =
           and_from (nat_lt low e.1.number && is_copied kind e.1) (is_live now e.1) (and_from (nat_lt low e.1.number) (is_copied kind e.1) above (of_kind resyncs kind e.1 each)) live in
           let reached : e.1.number ≤ last_number low new = subst (λ k. e.1.number ≤ last_number k new) (sym low_is) within in
-          handed_back e us new (take_covers s.definition now low limit e due ascends (in_filter (is_unacked kind low now) e reach (reach_in kind bound e s.rows at (last_in_reach s kind bound low now limit e.1 (omega arith) reached)) included) reached)
+          handed_back e us new (take_covers version s.definition now low limit e due ascends (in_filter (is_unacked kind low now) e reach (reach_in kind bound e s.rows at (last_in_reach version s kind bound low now limit e.1 (omega arith) reached)) included) reached)
       | inr under ↦
           handed_front e us new (of_each (WasHanded us resyncs p.taught s.latest) e s.rows out.handed at (under, still_live s.latest now e.1 granted.later live, before resyncs (is_resync kind) (not e.1.learned) each))
     ]
@@ -219,7 +223,7 @@ copied_out n us resyncs s kind limit now p sound granted out = record {
     no_older_too e at =
         all_append (λ (u : Update). u.key ≡ e.0 → u.number ≤ e.1.number) us new (of_each (IsNoOlder us) e s.rows out.no_older at)
         (all_take (λ (u : Update). u.key ≡ e.0 → u.number ≤ e.1.number) limit all
-        (all_map (λ (u : Update). u.key ≡ e.0 → u.number ≤ e.1.number) (update_of s.definition now) due
+        (all_map (λ (u : Update). u.key ≡ e.0 → u.number ≤ e.1.number) (update_of version s.definition now) due
         (each_in (λ (x : Key × StoredRow). x.0 ≡ e.0 → x.1.number ≤ e.1.number) due (λ x there same.
         let one = one_row x e s.rows sound.keys (reach_from kind bound x s.rows (from_filter (is_unacked kind low now) x reach there)) at same in
         let number : x.1.number ≡ e.1.number = ap (λ (y : Key × StoredRow). y.1.number) one in
@@ -286,13 +290,13 @@ ack_keeps n us resyncs s e number reply sound (granted, answer, is) keeps =
     (λ q at. acknowledged_taught number (progress_of n s) q (sym (own_with n (acknowledging number) s.sessions) ∙ sym (ap (progress_of n) is) ∙ at))
     sound (granted, answer, is) keeps
 
-open_keeps : (n : ℕ) (us : List Update) (resyncs : Bool) (s e : TableState) (reply : CellReply) → IsSound s → Step s (events.Open n) reply e → Keeps n (handed_after n us (events.Open n, reply)) (resyncs_after n resyncs (events.Open n, reply)) e
-open_keeps n us resyncs s e reply sound (granted, answer, is) q at =
+open_keeps : (n : ℕ) (version : Version) (us : List Update) (resyncs : Bool) (s e : TableState) (reply : CellReply) → IsSound s → Step s (events.Open n version) reply e → Keeps n (handed_after n us (events.Open n version, reply)) (resyncs_after n resyncs (events.Open n version, reply)) e
+open_keeps n version us resyncs s e reply sound (granted, answer, is) q at =
     let o = passes (is_some (progress_of n s)) _ _ granted in
-    let next : progress_of n e ≡ Some (no_progress s.next) = ap (progress_of n) is ∙ own_end n (no_progress s.next) s.sessions (is_absent (progress_of n s) o.0) in
-    let number : 0 ≡ q.taught = ap (λ (r : Progress). r.taught) (same_progress (no_progress s.next) q (sym next ∙ at)) in
-    subst (λ (l : List Update). IsHandedOut l (resyncs_after n resyncs (events.Open n, reply)) q.taught e) (sym (handed_open n us reply))
-    (subst (λ (b : Bool). IsHandedOut [] b q.taught e) (sym (resyncs_open n resyncs reply))
+    let next : progress_of n e ≡ Some (no_progress version s.next) = ap (progress_of n) is ∙ own_end n (no_progress version s.next) s.sessions (is_absent (progress_of n s) o.0) in
+    let number : 0 ≡ q.taught = ap (λ (r : Progress). r.taught) (same_progress (no_progress version s.next) q (sym next ∙ at)) in
+    subst (λ (l : List Update). IsHandedOut l (resyncs_after n resyncs (events.Open n version, reply)) q.taught e) (sym (handed_open n version us reply))
+    (subst (λ (b : Bool). IsHandedOut [] b q.taught e) (sym (resyncs_open n version resyncs reply))
     (subst (λ (t : ℕ). IsHandedOut [] true t e) number (opened_out s e sound (ap (λ (x : TableState). x.rows) is))))
   where
     is_absent : (o : Option Progress) → is_some o ≡ false → o ≡ None
@@ -326,10 +330,10 @@ step_keeps n us resyncs s e (events.Ack session number) reply sound step keeps =
       (ack_keeps session us resyncs s e number reply sound step) keeps
   | inr differs ↦ other_keeps n us resyncs s e (events.Ack session number) reply (ne_eqb session n differs) sound step keeps
 ]
-step_keeps n us resyncs s e (events.Open session) reply sound step keeps = elim (cases_eq session n) [
+step_keeps n us resyncs s e (events.Open session version) reply sound step keeps = elim (cases_eq session n) [
   | inl same ↦
-      subst (λ (k : ℕ). Keeps k (handed_after k us (events.Open session, reply)) (resyncs_after k resyncs (events.Open session, reply)) e) same (open_keeps session us resyncs s e reply sound step)
-  | inr differs ↦ other_keeps n us resyncs s e (events.Open session) reply (ne_eqb session n differs) sound step keeps
+      subst (λ (k : ℕ). Keeps k (handed_after k us (events.Open session version, reply)) (resyncs_after k resyncs (events.Open session version, reply)) e) same (open_keeps session version us resyncs s e reply sound step)
+  | inr differs ↦ other_keeps n us resyncs s e (events.Open session version) reply (ne_eqb session n differs) sound step keeps
 ]
 step_keeps n us resyncs s e (events.Close session) reply sound step keeps = elim (cases_eq session n) [
   | inl same ↦

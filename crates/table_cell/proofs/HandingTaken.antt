@@ -13,7 +13,7 @@ use Rattle.table_cell.specs.Copying.{update_of}
 use Rattle.table_cell.specs.declared.errors.CopyError.{CopyError}
 use Rattle.table_cell.specs.declared.errors.CopyError.TheVariants as uncopied
 use Rattle.table_cell.specs.declared.progress.Progress.{Progress}
-use Rattle.table_cell.specs.Machine.{TableState, acknowledged_by, bound_by, copy_refusal, in_reach, is_copied, is_out, is_unacked, last_number, progress_of, unacked}
+use Rattle.table_cell.specs.Machine.{TableState, acknowledged_by, bound_by, copy_refusal, in_reach, is_copied, is_out, is_unacked, last_number, progress_of, unacked, version_by}
 use Rattle.table_cell.specs.Histories.{CellState, IsSoundCell}
 use Rattle.table_cell.specs.Handing.{Ascend, IsHanded, IsHandedOut, IsLastOfItsKey, IsNoOlder, IsReached, KeepsUp, handed_since, is_of_each_kind, numbers, resyncs_since}
 use Rattle.table_cell.proofs.HandingSessions.{below_next}
@@ -140,7 +140,7 @@ nothing_left c n limit now kind full sound keeps some refused =
           let above = lt-ltb (acknowledged_by (progress_of n c.state)) e.1.number (omega arith) in
           let included : is_unacked kind (acknowledged_by (progress_of n c.state)) now e ≡ true =
           and_from (nat_lt (acknowledged_by (progress_of n c.state)) e.1.number && is_copied kind e.1) (is_live now e.1) (and_from (nat_lt (acknowledged_by (progress_of n c.state)) e.1.number) (is_copied kind e.1) above copied) live in
-          absurd (none_taken (update_of c.state.definition now) e (filter (is_unacked kind (acknowledged_by (progress_of n c.state)) now) reach) limit some
+          absurd (none_taken (update_of (version_by (progress_of n c.state)) c.state.definition now) e (filter (is_unacked kind (acknowledged_by (progress_of n c.state)) now) reach) limit some
           (in_filter (is_unacked kind (acknowledged_by (progress_of n c.state)) now) e reach there included) found.1.nothing)
       | inr under ↦ under
     ]

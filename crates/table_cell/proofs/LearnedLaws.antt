@@ -13,7 +13,6 @@ use Rattle.table_cell.specs.Machine.{TableState, Leaves, has_room, is_copied, is
 use Rattle.table_cell.specs.Soundness.{NumbersRise}
 use Rattle.table_cell.specs.LearnedRuns.{IsLearnedRun, IsPassedWithin, is_passed}
 use Rattle.table_cell.proofs.RowsLaws.{all_end, all_filter, all_so, rise_bound, rise_each}
-use Rattle.table_cell.proofs.UnackedLaws.{is_above}
 
 -- ---- how a push uses a run
 

@@ -89,7 +89,7 @@ one_step s e f (events.Learn session u now) a b (granted, rest, leaves, answer, 
     (answer ∙ sym answer_too, is ∙ ap (stored s u.key (learned s u now) now) (left_unique s u.key rest left leaves leaves_too) ∙ sym is_too)
 one_step s e f (events.Copy session kind limit now) a b (granted, answer, is) (again, answer_too, is_too) = (answer ∙ sym answer_too, is ∙ sym is_too)
 one_step s e f (events.Ack session number) a b (granted, answer, is) (again, answer_too, is_too) = (answer ∙ sym answer_too, is ∙ sym is_too)
-one_step s e f (events.Open session) a b (granted, answer, is) (again, answer_too, is_too) = (answer ∙ sym answer_too, is ∙ sym is_too)
+one_step s e f (events.Open session version) a b (granted, answer, is) (again, answer_too, is_too) = (answer ∙ sym answer_too, is ∙ sym is_too)
 one_step s e f (events.Close session) a b (granted, answer, is) (again, answer_too, is_too) = (answer ∙ sym answer_too, is ∙ sym is_too)
 one_step s e f (events.Purge now) a b (granted, answer, is) (again, answer_too, is_too) = (answer ∙ sym answer_too, is ∙ sym is_too)
 

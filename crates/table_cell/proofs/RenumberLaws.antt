@@ -1,5 +1,5 @@
 -- Rows that get new numbers.
-use Rattle.std.proofs.Common.{◌≡◌, ℕ, suc, ◌+◌, ◌<◌, ◌≤◌, ◌^◌, Bool, true, false, not, List, [], ◌∷◌, ◌++◌, length, Some, None, refl, sym, ap, subst, ◌∙◌, arith, append_assoc, true≢false}
+use Rattle.std.proofs.Common.{◌≡◌, ℕ, suc, ◌+◌, ◌<◌, ◌≤◌, true, false, not, List, [], ◌∷◌, ◌++◌, length, None, refl, sym, ap, subst, ◌∙◌, arith, append_assoc}
 use Rattle.std.specs.Prelude.{nat_lt}
 use Rattle.std.specs.List.{AllByRecursion}
 use Rattle.std.specs.Ordering.{is_eq}
@@ -9,9 +9,8 @@ use Rattle.table_types.specs.Keys.{key_cmp}
 use Rattle.table_types.specs.Tables.{Definition}
 use Rattle.table_types.specs.Rows.{StoredRow}
 use Rattle.table_rows.specs.Rows.{row_at}
-use Rattle.table_cell.specs.declared.progress.Progress.{Progress}
 use Rattle.table_cell.specs.Machine.{TableState, without}
-use Rattle.table_cell.specs.Soundness.{EntryFits, IsBoundBelow, IsProgressBelow, IsSound, KeysDiffer, NumbersRise, SessionsDiffer}
+use Rattle.table_cell.specs.Soundness.{EntryFits, IsBoundBelow, IsProgressBelow, IsSound, KeysDiffer, NumbersRise}
 use Rattle.table_cell.specs.declared.events.CellEvent.{CellEvent}
 use Rattle.table_cell.specs.declared.events.CellReply.{CellReply}
 use Rattle.table_cell.specs.Histories.{CellState, IsSoundCell, begun_anew, events_of}

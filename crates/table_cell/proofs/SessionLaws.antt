@@ -123,7 +123,7 @@ stays_absent session f (e ∷ es) none = elim (cases_Bool (nat_eq e.0 session)) 
     no_next None is = refl
     no_next (Some k) is = absurd (some_none (k + 1) is)
 
-pub acknowledging_above : (number : ℕ) (p : Progress) → p.acknowledged < number → acknowledging number p ≡ record { acknowledged = number; taught = p.taught; bound = p.bound }
+pub acknowledging_above : (number : ℕ) (p : Progress) → p.acknowledged < number → acknowledging number p ≡ record { acknowledged = number; taught = p.taught; bound = p.bound; version = p.version }
 acknowledging_above number p above = cond-false (nat_le number p.acknowledged) p (record p { acknowledged = number }) (lt-leb number p.acknowledged above)
 
 pub acknowledging_older : (number : ℕ) (p : Progress) → (p.acknowledged < number → ⊥) → acknowledging number p ≡ p

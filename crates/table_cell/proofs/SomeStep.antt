@@ -154,6 +154,6 @@ some_step s (events.Track seat key change now) sound granted = let left = some_l
 some_step s (events.Learn session u now) sound granted = let left = some_left s u.key sound in (_, _, (granted, left.0, left.1, refl, refl))
 some_step s (events.Copy session kind limit now) sound granted = (_, _, (granted, refl, refl))
 some_step s (events.Ack session number) sound granted = (_, _, (granted, refl, refl))
-some_step s (events.Open session) sound granted = (_, _, (granted, refl, refl))
+some_step s (events.Open session version) sound granted = (_, _, (granted, refl, refl))
 some_step s (events.Close session) sound granted = (_, _, (granted, refl, refl))
 some_step s (events.Purge now) sound granted = (_, _, (granted, refl, refl))

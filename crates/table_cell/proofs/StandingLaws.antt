@@ -1,5 +1,5 @@
 -- Standing resyncs: no row enters what is left to them, and they end.
-use Rattle.std.proofs.Common.{◌≡◌, ℕ, ◌-◌, ◌<◌, ◌≤◌, Bool, true, false, not, ◌&&◌, List, [], ◌∷◌, ◌++◌, length, Option, Some, None, refl, sym, ap, subst, ◌∙◌, arith, inl, inr, ◌⊎◌, true≢false}
+use Rattle.std.proofs.Common.{◌≡◌, ℕ, ◌-◌, ◌<◌, ◌≤◌, Bool, true, false, not, ◌&&◌, List, [], ◌∷◌, ◌++◌, length, Option, Some, refl, sym, ap, subst, ◌∙◌, arith, inl, inr, ◌⊎◌, true≢false}
 use Rattle.std.specs.Prelude.{filter, nat_lt, nat_le, nat_eq, is_some, MatchBool, option_map}
 use Rattle.std.specs.List.{AllByRecursion, list_any}
 use Rattle.std.specs.Ordering.{is_eq}
@@ -15,13 +15,13 @@ use Rattle.table_cell.specs.declared.events.CellEvent.{CellEvent}
 use Rattle.table_cell.specs.declared.events.CellEvent.TheVariants as events
 use Rattle.table_cell.specs.declared.events.CellReply.{CellReply}
 use Rattle.table_cell.specs.declared.progress.Progress.{Progress}
-use Rattle.table_cell.specs.Machine.{TableState, Leaves, Replays, Step, acknowledged_by, acknowledging, bound_by, has_room, is_out, is_unacked, last_number, learned, progress_of, tracked, unacked, without}
+use Rattle.table_cell.specs.Machine.{TableState, Leaves, Replays, Step, acknowledged_by, acknowledging, bound_by, has_room, is_out, is_unacked, last_number, learned, progress_of, tracked, unacked, without, version_by}
 use Rattle.table_cell.specs.Soundness.{AreTimely, IsSound}
 use Rattle.table_cell.specs.Handing.{is_about}
 use Rattle.table_cell.specs.Standing.{AreAmong, IsAmong, is_close_of, is_standing_of, left_standing, standing_batches}
 use Rattle.table_cell.proofs.ReachLaws.{is_up_to}
 use Rattle.table_cell.proofs.StepLaws.{acknowledging_bound, copied_between, copy_granted, last_of_some, passes, step_sound}
-use Rattle.table_cell.proofs.HandingSessions.{below_next, bound_next, own_with, same_progress, same_progress_of}
+use Rattle.table_cell.proofs.HandingSessions.{bound_next, own_with, same_progress, same_progress_of}
 use Rattle.table_cell.proofs.HandingRows.{IsIn, each_in, from_filter, in_filter, passing, still_live}
 use Rattle.table_cell.proofs.HandingSteps.{copy_of, last_most, standing_within}
 
@@ -41,7 +41,7 @@ no_standing n (events.Copy id kinds.Resync limit now) other = refl
 no_standing n (events.Track seat key change now) other = refl
 no_standing n (events.Learn session u now) other = refl
 no_standing n (events.Ack session number) other = refl
-no_standing n (events.Open session) other = refl
+no_standing n (events.Open session version) other = refl
 no_standing n (events.Close session) other = refl
 no_standing n (events.Purge now) other = refl
 
@@ -69,7 +69,7 @@ standing_last : (n : ℕ) (s : TableState) (kind : CopyKind) (limit now least : 
 standing_last n s kinds.Push limit now least standing some = absurd (true≢false (sym standing))
 standing_last n s kinds.Resync limit now least standing some = absurd (true≢false (sym standing))
 standing_last n s kinds.Standing limit now least standing some =
-    last_bounded (bound_by (progress_of n s)) least (unacked s n kinds.Standing now limit) (standing_within s (bound_by (progress_of n s)) (acknowledged_by (progress_of n s)) now limit) some
+    last_bounded (bound_by (progress_of n s)) least (unacked s n kinds.Standing now limit) (standing_within (version_by (progress_of n s)) s (bound_by (progress_of n s)) (acknowledged_by (progress_of n s)) now limit) some
 
 copy_goes : (n : ℕ) (s e : TableState) (kind : CopyKind) (limit now : ℕ) (reply : CellReply) (p : Progress) → IsSound s → Step s (events.Copy n kind limit now) reply e → progress_of n s ≡ Some p
     → (q : Progress) × (progress_of n e ≡ Some q) × Goes n (events.Copy n kind limit now) p q
@@ -123,11 +123,11 @@ step_goes n s e (events.Ack session number) reply p sound step stays at = elim (
       (ack_goes session s e number reply p step) at
   | inr differs ↦ other_goes n s e (events.Ack session number) reply p (ne_eqb session n differs) step at
 ]
-step_goes n s e (events.Open session) reply p sound (granted, answer, is) stays at = elim (cases_eq session n) [
+step_goes n s e (events.Open session version) reply p sound (granted, answer, is) stays at = elim (cases_eq session n) [
   | inl same ↦
       let o = passes (is_some (progress_of session s)) _ _ granted in
       absurd (true≢false (sym (ap is_some at) ∙ sym (ap (λ (k : ℕ). is_some (progress_of k s)) same) ∙ o.0))
-  | inr differs ↦ other_goes n s e (events.Open session) reply p (ne_eqb session n differs) (granted, answer, is) at
+  | inr differs ↦ other_goes n s e (events.Open session version) reply p (ne_eqb session n differs) (granted, answer, is) at
 ]
 step_goes n s e (events.Close session) reply p sound step stays at = other_goes n s e (events.Close session) reply p stays step at
 step_goes n s e (events.Purge now) reply p sound step stays at = other_goes n s e (events.Purge now) reply p refl step at
@@ -189,7 +189,7 @@ rows_before s e (events.Learn session u now) reply x (granted, rest, leaves, ans
     stored_in s u.key (learned s u now) rest x refl leaves (subst (λ (t : TableState). IsIn x t.rows) is at)
 rows_before s e (events.Copy session kind limit now) reply x (granted, answer, is) at = inl (subst (λ (t : TableState). IsIn x t.rows) is at)
 rows_before s e (events.Ack session number) reply x (granted, answer, is) at = inl (subst (λ (t : TableState). IsIn x t.rows) is at)
-rows_before s e (events.Open session) reply x (granted, answer, is) at = inl (subst (λ (t : TableState). IsIn x t.rows) is at)
+rows_before s e (events.Open session version) reply x (granted, answer, is) at = inl (subst (λ (t : TableState). IsIn x t.rows) is at)
 rows_before s e (events.Close session) reply x (granted, answer, is) at = inl (subst (λ (t : TableState). IsIn x t.rows) is at)
 rows_before s e (events.Purge now) reply x (granted, answer, is) at =
     inl (from_filter (λ (row : Key × StoredRow). is_live now row.1) x s.rows (subst (λ (t : TableState). IsIn x t.rows) is at))

@@ -6,6 +6,7 @@ use Rattle.std.specs.Map.{lookup}
 use Rattle.std.proofs.lemmas.Bool.{cases_Bool, cond-true, cond-false, cond_both, ltb-true, ltb-false, leb-false, and_parts}
 use Rattle.table_types.specs.declared.key.Key.{Key}
 use Rattle.table_types.specs.declared.update.Update.{Update}
+use Rattle.table_types.specs.declared.version.Version.{Version}
 use Rattle.table_types.specs.declared.change.Change.{Change}
 use Rattle.table_types.specs.declared.change.Change.TheVariants as changes
 use Rattle.table_types.specs.Keys.{key_fits}
@@ -27,7 +28,7 @@ use Rattle.std.specs.Ordering.{is_eq}
 use Rattle.std.proofs.lemmas.List.{length-append}
 use Rattle.table_types.specs.Keys.{key_cmp}
 use Rattle.table_cell.specs.Copying.{update_of}
-use Rattle.table_cell.specs.Machine.{TableState, Step, without, has_row, has_room, Leaves, stored, tracked, learned, if_live, live_row, progress_of, with_progress, no_progress, bound_by, in_reach, is_unacked, is_copied, acknowledged_by, unacked, last_number, copied, acknowledging, is_of_table, copy_refusal, ack_refusal, is_out, Replays, new_table}
+use Rattle.table_cell.specs.Machine.{TableState, Step, without, has_row, has_room, Leaves, stored, tracked, learned, if_live, live_row, progress_of, with_progress, no_progress, bound_by, in_reach, is_unacked, is_copied, acknowledged_by, unacked, last_number, copied, acknowledging, is_of_table, copy_refusal, ack_refusal, is_out, Replays, new_table, version_by}
 use Rattle.table_cell.specs.Soundness.{CellsFit, EntryFits, NumbersRise, KeysDiffer, IsBoundBelow, IsProgressBelow, IsTimely, AreTimely, IsSound}
 use Rattle.table_cell.proofs.RowsLaws.{some_none, not_false, all_filter, all_end, all_so, filter_shorter, rise_filter, rise_end, rise_bound, without_none, differ_filter, differ_end, without_shorter}
 use Rattle.table_cell.proofs.ReachLaws.{reach_rise}
@@ -217,12 +218,12 @@ length-with_progress session f (e ∷ es) = cond_both (nat_eq e.0 session) ((e.0
 abbrev pub IsBetween : ℕ → ℕ → Update → Type 0
 IsBetween low next u = (low < u.number) × (u.number < next)
 
-between_unacked : (d : Definition) (kind : CopyKind) (low now a next : ℕ) (es : List (Key × StoredRow)) → NumbersRise a next es → AllByRecursion (IsBetween low next) (map (update_of d now) (filter (is_unacked kind low now) es))
-between_unacked d kind low now a next [] rise = tt
-between_unacked d kind low now a next (e ∷ es) (first, rise) =
-    let rest = between_unacked d kind low now (e.1.number + 1) next es rise in
+between_unacked : (version : Version) (d : Definition) (kind : CopyKind) (low now a next : ℕ) (es : List (Key × StoredRow)) → NumbersRise a next es → AllByRecursion (IsBetween low next) (map (update_of version d now) (filter (is_unacked kind low now) es))
+between_unacked version d kind low now a next [] rise = tt
+between_unacked version d kind low now a next (e ∷ es) (first, rise) =
+    let rest = between_unacked version d kind low now (e.1.number + 1) next es rise in
     let bound = rise_bound (e.1.number + 1) next es rise in
-    cond_both (is_unacked kind low now e) (e ∷ filter (is_unacked kind low now) es) (filter (is_unacked kind low now) es) (λ (l : List (Key × StoredRow)). AllByRecursion (IsBetween low next) (map (update_of d now) l))
+    cond_both (is_unacked kind low now e) (e ∷ filter (is_unacked kind low now) es) (filter (is_unacked kind low now) es) (λ (l : List (Key × StoredRow)). AllByRecursion (IsBetween low next) (map (update_of version d now) l))
     (λ due.
     let parts = and_parts (nat_lt low e.1.number && is_copied kind e.1) (is_live now e.1) due in
     let above = ltb-true low e.1.number ((and_parts (nat_lt low e.1.number) (is_copied kind e.1) parts.0).0) in
@@ -253,8 +254,8 @@ copied_between s session kind limit now sound =
     let low = acknowledged_by (progress_of session s) in
     let bound = bound_by (progress_of session s) in
     let reach = in_reach kind bound s.rows in
-    let due = between_unacked s.definition kind low now 1 s.next reach (reach_rise kind bound 1 s.next s.rows sound.numbers) in
-    all_take (IsBetween low s.next) limit (map (update_of s.definition now) (filter (is_unacked kind low now) reach)) due
+    let due = between_unacked (version_by (progress_of session s)) s.definition kind low now 1 s.next reach (reach_rise kind bound 1 s.next s.rows sound.numbers) in
+    all_take (IsBetween low s.next) limit (map (update_of (version_by (progress_of session s)) s.definition now) (filter (is_unacked kind low now) reach)) due
 
 taught_below : (s : TableState) (session : ℕ) (kind : CopyKind) (limit now : ℕ) (progress : Progress) → progress_of session s ≡ Some progress → IsSound s → nat_eq (length (unacked s session kind now limit)) 0 ≡ false
     → AllByRecursion (IsProgressBelow s.next) (copied s session (unacked s session kind now limit) now).sessions
@@ -374,12 +375,12 @@ step_sound s e (events.Ack session number) reply timely sound (granted, answer, 
       sessions = sessions_differ_with session (acknowledging number) s.sessions sound.sessions;
       few = omega arith;
     })
-step_sound s e (events.Open session) reply timely sound (granted, answer, is) =
+step_sound s e (events.Open session version) reply timely sound (granted, answer, is) =
     let o = passes (is_some (progress_of session s)) _ _ granted in
     let a = passes (nat_le 16 (length s.sessions)) _ _ o.1 in
     let few = leb-false 16 (length s.sessions) a.0 in
     let some = rise_bound 1 s.next s.rows sound.numbers in
-    let sizes : length (s.sessions ++ (session, no_progress s.next) ∷ []) ≡ length s.sessions + 1 = length-append s.sessions ((session, no_progress s.next) ∷ []) in
+    let sizes : length (s.sessions ++ (session, no_progress version s.next) ∷ []) ≡ length s.sessions + 1 = length-append s.sessions ((session, no_progress version s.next) ∷ []) in
     subst IsSound (sym is) (record {
       definition = sound.definition;
       some = sound.some;
@@ -390,9 +391,9 @@ step_sound s e (events.Open session) reply timely sound (granted, answer, is) =
       last = sound.last;
       least = sound.least;
       most = sound.most;
-      progress = all_end (IsProgressBelow s.next) (session, no_progress s.next) s.sessions sound.progress (omega arith, omega arith);
-      bounds = all_end (IsBoundBelow s.next) (session, no_progress s.next) s.sessions sound.bounds (let less : s.next - 1 < s.next = omega arith in less);
-      sessions = sessions_differ_end session (no_progress s.next) s.sessions sound.sessions (is_absent (lookup (λ id. id == session) s.sessions) o.0);
+      progress = all_end (IsProgressBelow s.next) (session, no_progress version s.next) s.sessions sound.progress (omega arith, omega arith);
+      bounds = all_end (IsBoundBelow s.next) (session, no_progress version s.next) s.sessions sound.bounds (let less : s.next - 1 < s.next = omega arith in less);
+      sessions = sessions_differ_end session (no_progress version s.next) s.sessions sound.sessions (is_absent (lookup (λ id. id == session) s.sessions) o.0);
       few = omega arith;
     })
 step_sound s e (events.Close session) reply timely sound (granted, answer, is) =

@@ -1,5 +1,5 @@
--- A row as an update (HAProxy, doc/peers-v2.0.txt, "Update Messages"; that a row that never expires has a life of 0,
--- and that the periods of a rate rotate only in the update, are the profile's choices).
+-- A row as an update (HAProxy, doc/peers-v2.0.txt, "Handshake" and "Update Messages"; that a row that never expires has a
+-- life of 0, and that the periods of a rate rotate only in the update, are the profile's choices).
 use Rattle.std.specs.Prelude.{ℕ, ◌-◌, List, map, Option, Some, None}
 use Rattle.std.specs.List.{zip}
 use Rattle.table_types.specs.declared.key.Key.{Key}
@@ -9,6 +9,8 @@ use Rattle.table_types.specs.declared.row.Cell.TheVariants as cells
 use Rattle.table_types.specs.declared.update.Value.{Value}
 use Rattle.table_types.specs.declared.update.Value.TheVariants as values
 use Rattle.table_types.specs.declared.update.Update.{Update}
+use Rattle.table_types.specs.declared.version.Version.{Version}
+use Rattle.table_types.specs.declared.version.Version.TheVariants as versions
 use Rattle.table_types.specs.Tables.{Definition}
 use Rattle.table_types.specs.Rows.{StoredRow}
 use Rattle.table_types.specs.Rotation.{turned}
@@ -28,7 +30,12 @@ abbrev pub life_left : ℕ → Option ℕ → ℕ
 life_left now None = 0
 life_left now (Some end) = end - now
 
--- a row as an update
-abbrev pub update_of : Definition → ℕ → Key × StoredRow → Update
-update_of d now e =
-    record { table = d.id; number = e.1.number; life = Some (life_left now e.1.ends); key = e.0; values = values_of now d.types e.1.cells; name = e.1.name }
+-- the life of an update: version 2.0 has none
+abbrev pub life_of : Version → ℕ → Option ℕ → Option ℕ
+life_of versions.V20 now ends = None
+life_of versions.V21 now ends = Some (life_left now ends)
+
+-- a row as an update for a session of a version
+abbrev pub update_of : Version → Definition → ℕ → Key × StoredRow → Update
+update_of version d now e =
+    record { table = d.id; number = e.1.number; life = life_of version now e.1.ends; key = e.0; values = values_of now d.types e.1.cells; name = e.1.name }

@@ -17,7 +17,7 @@ use Rattle.table_cell.specs.Histories.{CellState, batch_of}
 
 -- whether an event opens `session`
 abbrev pub is_open_of : ℕ → CellEvent → Bool
-is_open_of session (events.Open id) = id == session
+is_open_of session (events.Open id version) = id == session
 is_open_of session event = false
 
 -- whether an event is a push for `session`
@@ -29,7 +29,7 @@ is_push_of session event = false
 abbrev pub is_about : ℕ → CellEvent → Bool
 is_about session (events.Copy id kind limit now) = id == session
 is_about session (events.Ack id number) = id == session
-is_about session (events.Open id) = id == session
+is_about session (events.Open id version) = id == session
 is_about session (events.Close id) = id == session
 is_about session event = false
 

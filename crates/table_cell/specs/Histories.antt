@@ -5,6 +5,7 @@ use Rattle.std.specs.Ordering.{nat_cmp}
 use Rattle.std.specs.Map.{lookup}
 use Rattle.table_types.specs.declared.key.Key.{Key}
 use Rattle.table_types.specs.declared.update.Update.{Update}
+use Rattle.table_types.specs.declared.version.Version.{Version}
 use Rattle.table_types.specs.Tables.{Definition}
 use Rattle.table_cell.specs.Machine.{TableState, Step, Replays, is_any_out, is_open, new_table, unacked, track_refusal, learn_refusal, copy_refusal, ack_refusal, open_refusal, close_refusal, purge_refusal}
 use Rattle.table_types.specs.declared.change.Change.{Change}
@@ -122,10 +123,10 @@ Acknowledges c session number (Ok answer) e = (is_history_full c ≡ false) × M
 Acknowledges c session number (Err unacknowledged.Memory) e = (ack_refusal (is_history_full c) c.state session number ≡ None) × (e ≡ c)
 Acknowledges c session number (Err error) e = (ack_refusal (is_history_full c) c.state session number ≡ Some error) × (e ≡ c)
 
-abbrev pub Opens : CellState → ℕ → Result (Unit {0}) OpenError → CellState → Type 0
-Opens c session (Ok done) e = (is_history_full c ≡ false) × Made c (events.Open session) replies.Open e
-Opens c session (Err unopened.Memory) e = (open_refusal (is_history_full c) c.state session ≡ None) × (e ≡ c)
-Opens c session (Err error) e = (open_refusal (is_history_full c) c.state session ≡ Some error) × (e ≡ c)
+abbrev pub Opens : CellState → ℕ → Version → Result (Unit {0}) OpenError → CellState → Type 0
+Opens c session version (Ok done) e = (is_history_full c ≡ false) × Made c (events.Open session version) replies.Open e
+Opens c session version (Err unopened.Memory) e = (open_refusal (is_history_full c) c.state session ≡ None) × (e ≡ c)
+Opens c session version (Err error) e = (open_refusal (is_history_full c) c.state session ≡ Some error) × (e ≡ c)
 
 abbrev pub Closes : CellState → ℕ → Result (Unit {0}) CloseError → CellState → Type 0
 Closes c session (Ok done) e = (is_history_full c ≡ false) × Made c (events.Close session) replies.Close e

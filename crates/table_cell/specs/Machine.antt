@@ -1,5 +1,5 @@
 -- A stick table as a state machine: the state of a table, and what each event does to it (HAProxy Configuration Manual,
--- stick-table `size`, `expire` and `nopurge`, and doc/peers-v2.0.txt, "Update Messages" and "Acknowledgement Messages";
+-- stick-table `size`, `expire` and `nopurge`, and doc/peers-v2.0.txt, "Handshake", "Update Messages" and "Acknowledgement Messages";
 -- the order of refusals, and that each change takes the next number, are the profile's choices).
 use Rattle.std.specs.Prelude.{◌≡◌, ℕ, ◌+◌, ◌-◌, ◌^◌, Bool, true, false, not, ◌&&◌, ◌||◌, ◌==◌, nat_lt, nat_le, MatchBool, is_some, is_none, List, [], ◌∷◌, ◌++◌, length, map, filter, take, fold, Option, Some, None, option_and_then, if◌then◌else◌}
 use Rattle.std.specs.List.{list_all, list_any}
@@ -7,6 +7,8 @@ use Rattle.std.specs.Ordering.{is_eq}
 use Rattle.std.specs.Map.{lookup}
 use Rattle.table_types.specs.declared.key.Key.{Key}
 use Rattle.table_types.specs.declared.update.Update.{Update}
+use Rattle.table_types.specs.declared.version.Version.{Version}
+use Rattle.table_types.specs.declared.version.Version.TheVariants as versions
 use Rattle.table_types.specs.Keys.{key_cmp, key_fits}
 use Rattle.table_types.specs.Tables.{Definition}
 use Rattle.table_types.specs.Updates.{row_fits, may_be_named}
@@ -40,7 +42,8 @@ use Rattle.table_cell.specs.declared.errors.PurgeError.{PurgeError}
 use Rattle.table_cell.specs.declared.errors.PurgeError.TheVariants as unpurged
 
 -- The state of a table: its parameters; its rows by key, in ascending order of number; the next number to assign; the
--- latest moment of an event; and the open sessions, each with the number acknowledged and the last number taught.
+-- latest moment of an event; and the open sessions, each with its version, the number acknowledged and the last number
+-- taught.
 pub record TableState : Type 0 where
   pub definition : Definition
   pub size : ℕ
@@ -93,9 +96,10 @@ stored s key row now rest = record s { rows = without key rest ++ (key, row) ∷
 
 -- ---- sessions
 
--- the progress of a new session of a table whose next number is `next`: its bound is the number before that
-abbrev pub no_progress : ℕ → Progress
-no_progress next = record { acknowledged = 0; taught = 0; bound = next - 1 }
+-- the progress of a new session, of this version, of a table whose next number is `next`: its bound is the number before
+-- that
+abbrev pub no_progress : Version → ℕ → Progress
+no_progress version next = record { acknowledged = 0; taught = 0; bound = next - 1; version = version }
 
 abbrev pub progress_of : ℕ → TableState → Option Progress
 progress_of session s = lookup (λ id. id == session) s.sessions
@@ -124,6 +128,11 @@ abbrev pub bound_by : Option Progress → ℕ
 bound_by None = 0
 bound_by (Some progress) = progress.bound
 
+-- the version of a session; nothing is copied for a session that isn't open
+abbrev pub version_by : Option Progress → Version
+version_by None = versions.V21
+version_by (Some progress) = progress.version
+
 -- the sessions with the progress of `session` changed
 abbrev pub with_progress : ℕ → (Progress → Progress) → List (ℕ × Progress) → List (ℕ × Progress)
 with_progress session f [] = []
@@ -147,10 +156,11 @@ in_reach kinds.Standing bound rows = filter (λ e. nat_le e.1.number bound) rows
 abbrev pub is_unacked : CopyKind → ℕ → ℕ → Key × StoredRow → Bool
 is_unacked kind number now e = nat_lt number e.1.number && is_copied kind e.1 && is_live now e.1
 
--- the rows that a session has not acknowledged, in ascending order of number, as updates, at most `limit` of them
+-- the rows that a session has not acknowledged, in ascending order of number, as updates of its version, at most `limit` of
+-- them
 abbrev pub unacked : TableState → ℕ → CopyKind → ℕ → ℕ → List Update
 unacked s session kind now limit =
-    take limit (map (update_of s.definition now) (filter (is_unacked kind (acknowledged_by (progress_of session s)) now) (in_reach kind (bound_by (progress_of session s)) s.rows)))
+    take limit (map (update_of (version_by (progress_of session s)) s.definition now) (filter (is_unacked kind (acknowledged_by (progress_of session s)) now) (in_reach kind (bound_by (progress_of session s)) s.rows)))
 
 abbrev pub last_number : ℕ → List Update → ℕ
 last_number least us = fold (λ number u. u.number) least us
@@ -262,10 +272,10 @@ Step s (events.Ack session number) reply e =
     (ack_refusal false s session number ≡ None)
     × (reply ≡ replies.Ack (settled_by (progress_of session s) number))
     × (e ≡ record s { sessions = with_progress session (acknowledging number) s.sessions })
-Step s (events.Open session) reply e =
+Step s (events.Open session version) reply e =
     (open_refusal false s session ≡ None)
     × (reply ≡ replies.Open)
-    × (e ≡ record s { sessions = s.sessions ++ (session, no_progress s.next) ∷ [] })
+    × (e ≡ record s { sessions = s.sessions ++ (session, no_progress version s.next) ∷ [] })
 Step s (events.Close session) reply e =
     (close_refusal false s session ≡ None)
     × (reply ≡ replies.Close)
@@ -281,7 +291,7 @@ IsGranted s (events.Track seat key change now) = track_refusal false s key chang
 IsGranted s (events.Learn session u now) = learn_refusal false s session u now ≡ None
 IsGranted s (events.Copy session kind limit now) = copy_refusal false s session kind limit now ≡ None
 IsGranted s (events.Ack session number) = ack_refusal false s session number ≡ None
-IsGranted s (events.Open session) = open_refusal false s session ≡ None
+IsGranted s (events.Open session version) = open_refusal false s session ≡ None
 IsGranted s (events.Close session) = close_refusal false s session ≡ None
 IsGranted s (events.Purge now) = purge_refusal false s now ≡ None
 

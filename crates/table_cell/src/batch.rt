@@ -25,8 +25,7 @@ impl Table {
         ensures timely { OnOk result (now < 2 ^ 63) }
     {
         let progress = self.ready_to_copy(session, now)?;
-        let acknowledged = progress.acknowledged;
-        let Ok(updates) = self.unacked(acknowledged, progress.bound, kind, limit, now) else {
+        let Ok(updates) = self.unacked(progress, kind, limit, now) else {
             return Err(CopyError::Memory);
         };
         if updates.is_empty() {
@@ -45,7 +44,7 @@ impl Table {
         now: Moment,
     ) -> Result<Batch, CopyError>
         requires sound { IsSound self.old }
-        requires limit { (1 ≤ limit) × (limit ≤ 512) }
+        requires limit { (1 ≤ limit) × (limit ≤ 4096) }
         ensures batch { IfOk result (IsCopy self.old session kind limit now) }
         ensures for_table { IfOk result (λ batch. IsBatchFor (self.old.definition ∷ []) batch) }
         ensures refused { IfErr result (IsNotCopied self.old session kind limit now) }

@@ -61,7 +61,7 @@ impl TableCell {
         limit: usize,
         now: Moment,
     ) -> Result<Batch, CopyError>
-        requires { (1 ≤ limit) × (limit ≤ 512) }
+        requires { (1 ≤ limit) × (limit ≤ 4096) }
         ensures call { Copies self.old session kind limit now result self.new }
         ensures for_table { IfOk result (λ batch. IsBatchFor (self.old.state.definition ∷ []) batch) }
     {
@@ -77,7 +77,7 @@ impl TableCell {
         limit: usize,
         now: Moment,
     ) -> Result<Entry, CopyError>
-        requires { (1 ≤ limit) × (limit ≤ 512) }
+        requires { (1 ≤ limit) × (limit ≤ 4096) }
         ensures call { Shares (λ r. Copies self.old session kind limit now r self.new) (events.Copy session kind limit now) replies.Copy result }
         ensures for_table { IfOk result (λ entry. IfSome (batch_in entry.1) (IsBatchFor (self.old.state.definition ∷ []))) }
     {
@@ -95,7 +95,7 @@ impl TableCell {
         limit: usize,
         now: Moment,
     ) -> Result<(Batch, Entry), CopyError>
-        requires { (1 ≤ limit) × (limit ≤ 512) }
+        requires { (1 ≤ limit) × (limit ≤ 4096) }
         ensures call { SharesWith (λ r. Copies self.old session kind limit now r self.new) (events.Copy session kind limit now) replies.Copy result }
         ensures for_table { IfOk result (λ pair. IsBatchFor (self.old.state.definition ∷ []) pair.0) }
     {

@@ -14,7 +14,7 @@ use crate::entry::{Entry, prepare};
 use crate::errors::{AckError, CloseError, OpenError, PurgeError};
 use crate::events::{CellEvent, CellReply};
 use crate::table::Table;
-use table_types::{Memory, Moment, Settled};
+use table_types::{Memory, Moment, Settled, Version};
 
 /// Acknowledges `number`, and adds the event to the history. Returns what this settled, and the event's entry. If memory
 /// runs out, nothing has changed.
@@ -39,18 +39,24 @@ fn acknowledge(
     Ok((settled, entry))
 }
 
-/// Opens `session`, and adds the event to the history. Returns its entry. If memory runs out, nothing has changed.
-fn open(table: &mut Table, history: &mut Blocks<Entry>, session: u32) -> Result<Entry, Memory>
+/// Opens `session` with this version, and adds the event to the history. Returns its entry. If memory runs out, nothing has
+/// changed.
+fn open(
+    table: &mut Table,
+    history: &mut Blocks<Entry>,
+    session: u32,
+    version: Version,
+) -> Result<Entry, Memory>
     requires granted { open_refusal false table.old session ≡ None }
-    ensures step { OnOk result (Step table.old (events.Open session) replies.Open table.new) }
-    ensures entry { IfOk result (λ entry. entry ≡ (events.Open session, replies.Open)) }
-    ensures event { OnOk result (history.new.items ≡ history.old.items ++ (events.Open session, replies.Open) ∷ []) }
+    ensures step { OnOk result (Step table.old (events.Open session version) replies.Open table.new) }
+    ensures entry { IfOk result (λ entry. entry ≡ (events.Open session version, replies.Open)) }
+    ensures event { OnOk result (history.new.items ≡ history.old.items ++ (events.Open session version, replies.Open) ∷ []) }
     ensures stays { OnErr result (table.new ≡ table.old) }
     ensures no_event { OnErr result (history.new.items ≡ history.old.items) }
 {
-    let event = CellEvent::Open { session };
+    let event = CellEvent::Open { session, version };
     let (kept, entry) = prepare(table.alloc(), history, event, CellReply::Open)?;
-    table.open(session)?;
+    table.open(session, version)?;
     history.push_reserved(kept);
     Ok(entry)
 }
@@ -130,24 +136,24 @@ impl TableCell {
         Ok(settled)
     }
 
-    /// Opens `session`, which has acknowledged nothing and was taught nothing. If the call is refused, nothing has
-    /// changed.
-    pub fn open_session(&mut self, session: u32) -> Result<(), OpenError>
-        ensures { Opens self.old session result self.new }
+    /// Opens `session`, which has acknowledged nothing and was taught nothing. It speaks `version`, so its copies have lives
+    /// only if that is 2.1. If the call is refused, nothing has changed.
+    pub fn open_session(&mut self, session: u32, version: Version) -> Result<(), OpenError>
+        ensures { Opens self.old session version result self.new }
     {
-        self.open_shared(session)?;
+        self.open_shared(session, version)?;
         Ok(())
     }
 
     /// Opens a session like `open_session`, and returns the entry that the history shares.
-    pub fn open_shared(&mut self, session: u32) -> Result<Entry, OpenError>
-        ensures { Shares (λ r. Opens self.old session r self.new) (events.Open session) (λ _. replies.Open) result }
+    pub fn open_shared(&mut self, session: u32, version: Version) -> Result<Entry, OpenError>
+        ensures { Shares (λ r. Opens self.old session version r self.new) (events.Open session version) (λ _. replies.Open) result }
     {
         let full = self.is_history_full();
         if let Some(error) = self.table.open_refusal(full, session) {
             return Err(error);
         }
-        let Ok(entry) = open(&mut self.table, &mut self.history, session) else {
+        let Ok(entry) = open(&mut self.table, &mut self.history, session, version) else {
             return Err(OpenError::Memory);
         };
         Ok(entry)

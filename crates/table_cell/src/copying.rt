@@ -1,6 +1,6 @@
 //! Copying rows for a session.
 
-ghost use Rattle.std.specs.Prelude.{◌≡◌, ◌≤◌, ◌&&◌, IfOk, OnErr, filter, length, map, option_map, slice_get, take, true};
+ghost use Rattle.std.specs.Prelude.{◌≡◌, ◌<◌, ◌≤◌, ◌&&◌, ◌^◌, IfOk, OnErr, filter, length, map, option_map, slice_get, take, true};
 ghost use Rattle.std.specs.List.{list_all};
 ghost use Rattle.table_types.specs.declared.data_type.Shape.{Shape};
 ghost use Rattle.table_types.specs.Changes.{cell_types};
@@ -10,14 +10,15 @@ ghost use Rattle.table_rows.specs.Rows.{is_live};
 ghost use Rattle.table_cell.specs.Machine.{in_reach, is_copied, is_unacked, last_number};
 ghost use Rattle.table_cell.specs.Parts.{is_in_reach};
 ghost use Rattle.table_cell.specs.Soundness.{CellsFit, EntryFits, IsSound};
-ghost use Rattle.table_cell.specs.Copying.{update_of, value_of, values_of};
+ghost use Rattle.table_cell.specs.Copying.{life_left, life_of, update_of, value_of, values_of};
 
+use crate::progress::Progress;
 use crate::table::Table;
 use std::alloc::Global;
 use table_rows::is_live;
 use table_types::{
     Cell, CopyKind, DataType, Key, Memory, Moment, Row, Shape, ShortList, TableDef, Update, Value,
-    rotate,
+    Version, rotate,
 };
 
 /// Returns whether a copy of `kind` at `now`, for a session with this `bound`, includes the row.
@@ -80,9 +81,25 @@ fn values_of(
     Ok(values)
 }
 
-/// Returns the row as an update at `now`.
+/// Returns the life of an update at `now` for a session of this version: in 2.0 it has none, and in 2.1 the remaining life in
+/// milliseconds, and 0 if the row never expires.
+fn life_of(version: Version, row: &Row, now: Moment) -> Option<u32>
+    requires short { life_left now row.now.ends < 2 ^ 32 }
+    ensures { result ≡ life_of version now row.now.ends }
+{
+    match version {
+        Version::V20 => None,
+        Version::V21 => Some(match row.ends() {
+            Some(end) => end.milliseconds().saturating_sub(now.milliseconds()) as u32,
+            None => 0,
+        }),
+    }
+}
+
+/// Returns the row as an update at `now` for a session of this version.
 fn update_of(
     alloc: Global,
+    version: Version,
     definition: &TableDef,
     key: &Key,
     row: &Row,
@@ -90,13 +107,8 @@ fn update_of(
 ) -> Result<Update, Memory>
     requires defined { is_definition definition.now ≡ true }
     requires fits { EntryFits definition.now now (key.now, row.now) }
-    ensures { IfOk result (λ update. update ≡ update_of definition.now now (key.now, row.now)) }
+    ensures { IfOk result (λ update. update ≡ update_of version definition.now now (key.now, row.now)) }
 {
-    // The remaining life in milliseconds, and 0 if the row never expires.
-    let life = match row.ends() {
-        Some(end) => end.milliseconds().saturating_sub(now.milliseconds()) as u32,
-        None => 0,
-    };
     let values = values_of(alloc, definition.types(), row.cells(), now)?;
     let name = match row.name() {
         Some(name) => Some(name.copy(alloc)?),
@@ -105,7 +117,7 @@ fn update_of(
     Ok(Update {
         table: definition.id(),
         number: row.number(),
-        life: Some(life),
+        life: life_of(version, row, now),
         key: key.copy(alloc)?,
         values,
         name,
@@ -132,12 +144,11 @@ impl Table {
         None
     }
 
-    /// Returns the updates of the rows above `number` that a copy of `kind`, for a session with this `bound`, includes, in
-    /// ascending order of number, at most `limit` of them. Walks these rows once. Memory can run out only if there is one.
+    /// Returns the updates of the rows that a copy of `kind`, for a session with this progress, includes, in ascending order of
+    /// number, at most `limit` of them. Walks these rows once. Memory can run out only if there is one.
     pub(crate) fn unacked(
         &self,
-        number: u32,
-        bound: u32,
+        progress: Progress,
         kind: CopyKind,
         limit: usize,
         now: Moment,
@@ -145,16 +156,22 @@ impl Table {
         requires sound { IsSound self.now }
         requires later { self.now.latest ≤ now }
         requires some { 1 ≤ limit }
-        ensures updates { IfOk result (λ updates. updates.items ≡ take limit (map (update_of self.now.definition now) (filter (is_unacked kind number now) (in_reach kind bound self.now.rows)))) }
-        ensures found { OnErr result (1 ≤ length (take limit (map (update_of self.now.definition now) (filter (is_unacked kind number now) (in_reach kind bound self.now.rows))))) }
+        ensures updates { IfOk result (λ updates. updates.items ≡ take limit (map (update_of progress.version self.now.definition now) (filter (is_unacked kind progress.acknowledged now) (in_reach kind progress.bound self.now.rows)))) }
+        ensures found { OnErr result (1 ≤ length (take limit (map (update_of progress.version self.now.definition now) (filter (is_unacked kind progress.acknowledged now) (in_reach kind progress.bound self.now.rows))))) }
     {
+        let Progress {
+            acknowledged,
+            bound,
+            version,
+            ..
+        } = progress;
         let mut updates = Vec::new(self.alloc);
-        for (key, row) in self.stock.above(self.copy_start(kind, number, now)) {
+        for (key, row) in self.stock.above(self.copy_start(kind, acknowledged, now)) {
             if updates.len() >= limit {
                 break;
             }
             if is_chosen(kind, bound, row, now) {
-                updates.push(update_of(self.alloc, &self.definition, key, row, now)?)?;
+                updates.push(update_of(self.alloc, version, &self.definition, key, row, now)?)?;
             }
         }
         Ok(updates)

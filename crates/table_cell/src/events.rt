@@ -4,7 +4,7 @@ ghost use Rattle.std.specs.Prelude.{◌≡◌, IfOk};
 ghost use Rattle.table_cell.specs.Parts.{reply_of};
 
 use std::alloc::Global;
-use table_types::{Batch, Change, CopyKind, Key, Memory, Moment, Row, Settled, Update};
+use table_types::{Batch, Change, CopyKind, Key, Memory, Moment, Row, Settled, Update, Version};
 
 /// The reply to a change of a row.
 #[derive(Debug, Drop)]
@@ -72,6 +72,8 @@ pub enum CellEvent {
     Open {
         /// The session.
         session: u32,
+        /// The version of the protocol that it speaks.
+        version: Version,
     },
     /// A session was closed.
     Close {

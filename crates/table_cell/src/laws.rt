@@ -45,7 +45,7 @@ pub fn a_table_stays_sound()
 /// which the table's id denotes it: each update has a life of 1 to the table's expire, or 0 if its rows never expire,
 /// and everything else is in its range.
 pub fn what_is_copied_is_a_batch()
-    ensures { (s : TableState) (session limit now : ℕ) (kind : CopyKind) → IsSound s → s.latest ≤ now → limit ≤ 512 →
+    ensures { (s : TableState) (session limit now : ℕ) (kind : CopyKind) → IsSound s → s.latest ≤ now → limit ≤ 4096 →
         IsBatchFor (s.definition ∷ []) (unacked s session kind now limit) }
 {}
 

@@ -8,7 +8,7 @@ ghost use Rattle.table_cell.specs.Machine.{acknowledged_by, acknowledging, is_an
 
 use crate::progress::Progress;
 use crate::table::Table;
-use table_types::{Memory, Moment, Settled};
+use table_types::{Memory, Moment, Settled, Version};
 
 /// Returns the progress of `session`, or `None` if it isn't open.
 fn progress_in(sessions: &[(u32, Progress)], session: u32) -> Option<Progress>
@@ -105,16 +105,17 @@ impl Table {
         }
     }
 
-    /// Opens `session`, which isn't open: it has acknowledged nothing and was taught nothing, and its bound is the last
-    /// number assigned. If memory runs out, nothing has changed.
-    pub(crate) fn open(&mut self, session: u32) -> Result<(), Memory>
-        ensures open { OnOk result (self.new ≡ record self.old { sessions = self.old.sessions ++ (session, no_progress self.old.next) ∷ [] }) }
+    /// Opens `session`, which isn't open, with this version: it has acknowledged nothing and was taught nothing, and its
+    /// bound is the last number assigned. If memory runs out, nothing has changed.
+    pub(crate) fn open(&mut self, session: u32, version: Version) -> Result<(), Memory>
+        ensures open { OnOk result (self.new ≡ record self.old { sessions = self.old.sessions ++ (session, no_progress version self.old.next) ∷ [] }) }
         ensures stays { OnErr result (self.new ≡ self.old) }
     {
         let progress = Progress {
             acknowledged: 0,
             taught: 0,
             bound: self.stock.last_number(),
+            version,
         };
         self.sessions.push((session, progress))?;
         Ok(())

@@ -9,6 +9,6 @@ use Rattle.table_cell.proofs.table.Table.unacked.Given as goal
 
 abbrev pub invariant-loop-key : goal.invariant-loop-key
 invariant-loop-key l =
-    (l.updates.items ++ take (l.fn.limit - length l.updates.items) (map (update_of l.fn.self.definition l.fn.now) (filter (is_chosen l.fn.kind l.fn.bound l.fn.now) l.key-iterator))
-    ≡ take l.fn.limit (map (update_of l.fn.self.definition l.fn.now) (filter (is_unacked l.fn.kind l.fn.number l.fn.now) (in_reach l.fn.kind l.fn.bound l.fn.self.rows))))
+    (l.updates.items ++ take (l.fn.limit - length l.updates.items) (map (update_of l.fn.progress.version l.fn.self.definition l.fn.now) (filter (is_chosen l.fn.kind l.fn.progress.bound l.fn.now) l.key-iterator))
+    ≡ take l.fn.limit (map (update_of l.fn.progress.version l.fn.self.definition l.fn.now) (filter (is_unacked l.fn.kind l.fn.progress.acknowledged l.fn.now) (in_reach l.fn.kind l.fn.progress.bound l.fn.self.rows))))
     × AllByRecursion (EntryFits l.fn.self.definition l.fn.now) l.key-iterator
